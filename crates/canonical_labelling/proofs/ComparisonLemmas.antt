@@ -8,7 +8,7 @@ use Rattle.std.proofs.lemmas.List.Elements.{All-append}
 use Rattle.plain_facts.proofs.Truths.{by_bool}
 use Rattle.table_definitions.specs.Table.{Gluing}
 use Rattle.signature_definitions.specs.Labellings.{Start}
-use Rattle.signature_laws.specs.Orders.{start_at, is_met, start_behind, follow}
+use Rattle.signature_laws.specs.Orders.{start_at, is_visited, start_behind, follow}
 use Rattle.canonical_labelling.specs.Comparisons.{ComparisonView, IsComparison, numbered, crossed}
 use Rattle.signature_laws.proofs.Growing.{met_from, met_at}
 use Rattle.signature_laws.proofs.Marking.{met_inside, follow_met}
@@ -31,7 +31,7 @@ number_place k s h t e =
     (omega (arith, n, low), ap (λ j. (start_at s.order j).tet) n ∙ at.2)
 
 -- one that isn't gets the next number
-fresh_numbers : (k : ℕ) (s : ComparisonView) (b : Start) → IsComparison k s → b.tet < length s.numbers → is_met s.order b.tet ≡ false
+fresh_numbers : (k : ℕ) (s : ComparisonView) (b : Start) → IsComparison k s → b.tet < length s.numbers → is_visited s.order b.tet ≡ false
     → (i : ℕ) → i < length (s.order ++ b ∷ []) → slice_index (slice_set s.numbers b.tet (length s.order)) (start_at (s.order ++ b ∷ []) i).tet ≡ i
 fresh_numbers k s b h l unmet i m = ⊎_elim
     (λ (low : i < length s.order).

@@ -9,7 +9,7 @@ use Rattle.std.proofs.lemmas.List.FromFn.{get_or-map-range_with_len, length-map-
 use Rattle.table_definitions.specs.Lists.{below}
 use Rattle.table_definitions.specs.Permutation.{IsPermutationOfFour, image, preimage}
 use Rattle.table_definitions.specs.Table.{Gluing, Row, Face, face_number, glue}
-use Rattle.table_definitions.specs.Relabelling.{Relabelling, stand_in, face_under, gluing_under}
+use Rattle.table_definitions.specs.Relabelling.{Relabelling, relabelled_place, face_under, gluing_under}
 use Rattle.table_definitions.specs.Places.{face_of, is_boundary}
 use Rattle.table_definitions.proofs.Bijections.{onto, IsDistinct-from_before, below-push}
 use Rattle.table_definitions.proofs.Permutations.{image_below, preimage-image}
@@ -55,7 +55,7 @@ module _ (rows new : List Row) (by : Relabelling) (r : Relabels rows new by) whe
 
   -- the face that stands for the face of a number
   abbrev face_there : ℕ → ℕ
-  face_there k = face_number (face_under (stand_in by (k / 4)) (face_of k))
+  face_there k = face_number (face_under (relabelled_place by (k / 4)) (face_of k))
 
   perm_at : (k : ℕ) → k < 4 * n → IsPermutationOfFour (slice_index_or by.perms (k / 4) [])
   perm_at k l = perm_permutes n by r.0 (k / 4) (omega arith)
@@ -98,14 +98,14 @@ module _ (rows new : List Row) (by : Relabelling) (r : Relabels rows new by) whe
   -- it is a boundary face where that is
   alike : (k : ℕ) → k < 4 * n → is_boundary new (face_of (face_there k)) ≡ is_boundary rows (face_of k)
   alike k l =
-      let y : Face = face_under (stand_in by (k / 4)) (face_of k) in
+      let y : Face = face_under (relabelled_place by (k / 4)) (face_of k) in
       let b = small k l in
       let tet : face_there k / 4 ≡ y.tet = omega (arith, b) in
       let face : face_there k % 4 ≡ y.face = omega (arith, b) in
       let is : face_of (face_there k) ≡ y = λ i. record { tet = tet i; face = face i } in
       ap (is_boundary new) is ∙ ap is_none (r.1.glued (face_of k) (omega arith) (omega arith)) ∙ none_of (glue rows (face_of k))
     where
-      none_of : (o : Option Gluing) → is_none (option_map (λ g. gluing_under (stand_in by (k / 4)) (stand_in by g.tet) g) o) ≡ is_none o
+      none_of : (o : Option Gluing) → is_none (option_map (λ g. gluing_under (relabelled_place by (k / 4)) (relabelled_place by g.tet) g) o) ≡ is_none o
       none_of None = refl
       none_of (Some g) = refl
 

@@ -5,7 +5,7 @@ use Rattle.std.proofs.lemmas.Bool.{cases_lt}
 use Rattle.std.proofs.lemmas.List.{length-append, get_or_append_left, get_or_push}
 use Rattle.table_definitions.specs.Permutation.{IsPermutationOfFour, identity, inverse, compose}
 use Rattle.table_definitions.specs.Table.{Gluing, Row, Face, IsTable, glue}
-use Rattle.table_definitions.specs.Relabelling.{Relabelling, stand_in, face_under, gluing_under}
+use Rattle.table_definitions.specs.Relabelling.{Relabelling, relabelled_place, face_under, gluing_under}
 use Rattle.table_definitions.specs.Places.{face_of}
 use Rattle.table_definitions.proofs.Permutations.{preimage_below, image-preimage, inverse_permutes, compose_permutes}
 use Rattle.table_definitions.proofs.Carried.{perm_permutes, images_apart}
@@ -25,7 +25,7 @@ module _ (n : ℕ) (order : List Start) (from : Start) (g wanted : Gluing) (by :
   mapped there is l =
       let at : Start = start_at order wanted.tet in
       let tet : at.tet ≡ g.tet = same_tet wanted.tet l refl in
-      let stands : stand_in by g.tet ≡ record { tet = wanted.tet; perm = at.perm } = ap (stand_in by) (sym tet) ∙ h.numbers wanted.tet l in
+      let stands : relabelled_place by g.tet ≡ record { tet = wanted.tet; perm = at.perm } = ap (relabelled_place by) (sym tet) ∙ h.numbers wanted.tet l in
       let perm : compose at.perm (compose g.perm (inverse from.perm)) ≡ wanted.perm =
       ap (λ (q : Gluing). compose q.perm (compose g.perm (inverse from.perm))) (sym stands) ∙ ap (λ (q : Gluing). q.perm) h.becomes in
       subst (λ (s : Start). (g.tet ≡ s.tet) × (compose s.perm (compose g.perm (inverse from.perm)) ≡ wanted.perm)) (sym is) (sym tet, perm)
@@ -38,23 +38,23 @@ module _ (n : ℕ) (order : List Start) (from : Start) (g wanted : Gluing) (by :
       omega (arith, image, there, next, l)
 
   -- the tetrahedron across is mapped to its index by the start behind the gluing
-  next_stands : wanted.tet ≡ length order → wanted.perm ≡ identity → stand_in by g.tet ≡ record { tet = length order; perm = compose from.perm (inverse g.perm) }
+  next_stands : wanted.tet ≡ length order → wanted.perm ≡ identity → relabelled_place by g.tet ≡ record { tet = length order; perm = compose from.perm (inverse g.perm) }
   next_stands next identical =
       let s : Gluing = record { tet = 0; perm = from.perm } in
       let r : Gluing = record { tet = length order; perm = compose from.perm (inverse g.perm) } in
       let undone : compose r.perm (compose g.perm (inverse from.perm)) ≡ identity = met_by_identity from from g r (length order) refl refl h.from_permutes h.permutes in
       let tets : slice_index by.images g.tet ≡ length order = ap (λ (q : Gluing). q.tet) h.becomes ∙ next in
-      let perms : (gluing_under s (stand_in by g.tet) g).perm ≡ compose r.perm (compose g.perm (inverse from.perm)) = ap (λ (q : Gluing). q.perm) h.becomes ∙ identical ∙ sym undone in
-      let alike : gluing_under s (stand_in by g.tet) g ≡ gluing_under s r g = λ i. record { tet = tets i; perm = perms i } in
-      one_behind s (stand_in by g.tet) r g h.from_permutes (perm_permutes n by h.bijection g.tet h.in_range) (compose_permutes from.perm (inverse g.perm) h.from_permutes (inverse_permutes g.perm h.permutes)) h.permutes alike
+      let perms : (gluing_under s (relabelled_place by g.tet) g).perm ≡ compose r.perm (compose g.perm (inverse from.perm)) = ap (λ (q : Gluing). q.perm) h.becomes ∙ identical ∙ sym undone in
+      let alike : gluing_under s (relabelled_place by g.tet) g ≡ gluing_under s r g = λ i. record { tet = tets i; perm = perms i } in
+      one_behind s (relabelled_place by g.tet) r g h.from_permutes (perm_permutes n by h.bijection g.tet h.in_range) (compose_permutes from.perm (inverse g.perm) h.from_permutes (inverse_permutes g.perm h.permutes)) h.permutes alike
 
   pub visited_numbers : wanted.tet ≡ length order → wanted.perm ≡ identity → Numbers (order ++ start_behind from g ∷ []) by
   visited_numbers next identical i l = ⊎_elim
       (λ (low : i < length order).
-      subst (λ (r : Start). stand_in by r.tet ≡ record { tet = i; perm = r.perm }) (sym (get_or_append_left order (start_behind from g ∷ []) (record { tet = 0; perm = [] }) i low)) (h.numbers i low))
+      subst (λ (r : Start). relabelled_place by r.tet ≡ record { tet = i; perm = r.perm }) (sym (get_or_append_left order (start_behind from g ∷ []) (record { tet = 0; perm = [] }) i low)) (h.numbers i low))
       (λ (high : length order ≤ i).
       let same : length order ≡ i = omega (arith, length-append order (start_behind from g ∷ [])) in
-      subst (λ (r : Start). stand_in by r.tet ≡ record { tet = i; perm = r.perm }) (sym (get_or_push order (start_behind from g) (record { tet = 0; perm = [] }) i same))
+      subst (λ (r : Start). relabelled_place by r.tet ≡ record { tet = i; perm = r.perm }) (sym (get_or_push order (start_behind from g) (record { tet = 0; perm = [] }) i same))
       (next_stands next identical ∙ ap (λ (m : ℕ). record { tet = m; perm = compose from.perm (inverse g.perm) }) same))
       (cases_lt i (length order))
 
@@ -71,37 +71,37 @@ module _ (rows target : List Row) (order : List Start) (k : ℕ) (from : Start) 
   stands_here = record { tet = k / 4; perm = from.perm }
 
   -- what the face of the target is glued by
-  pub target_face : glue target (face_of k) ≡ option_map (λ g. gluing_under stands_here (stand_in by g.tet) g) (glue rows (face_from from (k % 4)))
+  pub target_face : glue target (face_of k) ≡ option_map (λ g. gluing_under stands_here (relabelled_place by g.tet) g) (glue rows (face_from from (k % 4)))
   target_face =
       let here : Face = face_from from (k % 4) in
       let p : IsPermutationOfFour from.perm = h.permutes in
       let small : k % 4 < 4 = omega arith in
-      let stands : stand_in by from.tet ≡ stands_here = subst (λ (s : Start). stand_in by s.tet ≡ record { tet = k / 4; perm = s.perm }) (sym h.is) (numbers (k / 4) h.numbered) in
+      let stands : relabelled_place by from.tet ≡ stands_here = subst (λ (s : Start). relabelled_place by s.tet ≡ record { tet = k / 4; perm = s.perm }) (sym h.is) (numbers (k / 4) h.numbered) in
       let inside : from.tet < length rows = subst (λ (s : Start). s.tet < length rows) (sym h.is) (h.below (k / 4) h.numbered) in
-      let there : face_under (stand_in by from.tet) here ≡ face_of k =
+      let there : face_under (relabelled_place by from.tet) here ≡ face_of k =
       ap (λ (q : Gluing). face_under q here) stands ∙ ap (λ (f : ℕ). record { tet = k / 4; face = f }) (image-preimage from.perm p (k % 4) small) in
       ap (glue target) (sym there) ∙ r.1.glued here inside (preimage_below from.perm p (k % 4) small)
-      ∙ ap (λ (q : Gluing). option_map (λ g. gluing_under q (stand_in by g.tet) g) (glue rows here)) stands
+      ∙ ap (λ (q : Gluing). option_map (λ g. gluing_under q (relabelled_place by g.tet) g) (glue rows here)) stands
 
   pub target_none : glue rows (face_from from (k % 4)) ≡ None → glue target (face_of k) ≡ None
-  target_none e = target_face ∙ ap (option_map (λ g. gluing_under stands_here (stand_in by g.tet) g)) e
+  target_none e = target_face ∙ ap (option_map (λ g. gluing_under stands_here (relabelled_place by g.tet) g)) e
 
-  target_some : (g : Gluing) → glue rows (face_from from (k % 4)) ≡ Some g → glue target (face_of k) ≡ Some (gluing_under stands_here (stand_in by g.tet) g)
-  target_some g e = target_face ∙ ap (option_map (λ g. gluing_under stands_here (stand_in by g.tet) g)) e
+  target_some : (g : Gluing) → glue rows (face_from from (k % 4)) ≡ Some g → glue target (face_of k) ≡ Some (gluing_under stands_here (relabelled_place by g.tet) g)
+  target_some g e = target_face ∙ ap (option_map (λ g. gluing_under stands_here (relabelled_place by g.tet) g)) e
 
   pub not_boundary : (g : Gluing) → glue rows (face_from from (k % 4)) ≡ Some g → glue target (face_of k) ≡ None → ⊥
   not_boundary g e f = let z = sym f ∙ target_some g e in cc
 
   pub becomes : (g wanted : Gluing) → glue rows (face_from from (k % 4)) ≡ Some g → glue target (face_of k) ≡ Some wanted → Becomes (length rows) order from g wanted by
   becomes g wanted e f =
-      let z : Some (gluing_under stands_here (stand_in by g.tet) g) ≡ Some wanted = sym (target_some g e) ∙ f in
+      let z : Some (gluing_under stands_here (relabelled_place by g.tet) g) ≡ Some wanted = sym (target_some g e) ∙ f in
       record {
         in_range = h.table.in_range (face_from from (k % 4)) g e;
         from_permutes = h.permutes;
         permutes = h.table.permutes (face_from from (k % 4)) g e;
         bijection = r.0;
         numbers = numbers;
-        becomes = let s : gluing_under stands_here (stand_in by g.tet) g ≡ wanted = cc in s;
+        becomes = let s : gluing_under stands_here (relabelled_place by g.tet) g ≡ wanted = cc in s;
       }
 
 -- an answer about two glued faces is one about the place
@@ -115,7 +115,7 @@ pub begun_numbers : (rows target : List Row) (start : Start) (order : List Start
 begun_numbers rows target start order by e w = subst (λ (o : List Start). Numbers o by) (sym e) one
   where
     one : Numbers (start ∷ []) by
-    one i l = let z : 0 ≡ i = omega arith in subst (λ j. stand_in by (start_at (start ∷ []) j).tet ≡ record { tet = j; perm = (start_at (start ∷ []) j).perm }) z w.begins
+    one i l = let z : 0 ≡ i = omega arith in subst (λ j. relabelled_place by (start_at (start ∷ []) j).tet ≡ record { tet = j; perm = (start_at (start ∷ []) j).perm }) z w.begins
 
 pub begun_below : (n : ℕ) (start : Start) (order : List Start) → order ≡ start ∷ [] → start.tet < n → AreBelow n order
 begun_below n start order e h = subst (AreBelow n) (sym e) one

@@ -10,8 +10,8 @@ use Rattle.signature_definitions.specs.Labellings.{Start, IsWalked}
 use Rattle.table_definitions.specs.Lists.{is_list_before}
 use Rattle.table_definitions.specs.Places.{face_of}
 use Rattle.signature_definitions.specs.Spelling.{seen_gluings}
-use Rattle.signature_text_laws.specs.Walks.{IsWalk}
-use Rattle.signature_laws.specs.Orders.{start_at, face_from, follow, AreMet, Numbers}
+use Rattle.signature_text_laws.specs.Walks.{IsWalkTo}
+use Rattle.signature_laws.specs.Orders.{start_at, face_from, follow, AreVisited, Numbers}
 use Rattle.canonical_labelling.specs.declared.comparison.Comparison.{Comparison}
 
 -- the state of a traversal: the order and its marks, the new number of each tetrahedron, the new faces reached from
@@ -128,7 +128,7 @@ comparison_view t = record { order = t.walking.order.items; met = t.walking.met.
 pub record IsComparison (k : ℕ) (s : ComparisonView) : Type 0 where
   pub few : length s.numbers ≤ max_tets
   pub marks : length s.met ≡ length s.numbers
-  pub met : AreMet s.order s.met
+  pub met : AreVisited s.order s.met
   pub numbers : (i : ℕ) → i < length s.order → slice_index s.numbers (start_at s.order i).tet ≡ i
   pub crossed : length s.crossed ≡ 4 * length s.numbers
   pub small : All (λ t. t < 3) s.types
@@ -142,7 +142,7 @@ leads_before k y (Some g) = nat_lt (face_number (other_side y g)) k
 -- before the face at k is taken, the state is that of the new table's walk, and a face from k on is marked as crossed
 -- if and only if it is glued to one before k
 pub record Follows (by : Relabelling) (new : List Row) (k : ℕ) (s : ComparisonView) : Type 0 where
-  pub walk : IsWalk new k (record { seen = length s.order; types = s.types; gluings = s.gluings })
+  pub walk : IsWalkTo new k (record { seen = length s.order; types = s.types; gluings = s.gluings })
   pub stands : Numbers s.order by
   pub crossed : (p : ℕ) → k ≤ p → p < 4 * length new → slice_index_or s.crossed p false ≡ leads_before k (face_of p) (glue new (face_of p))
 

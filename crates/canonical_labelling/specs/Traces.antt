@@ -2,7 +2,7 @@
 use Rattle.std.specs.Prelude.{◌≡◌, ℕ, ◌<◌, List, length, Bool, true}
 use Rattle.table_definitions.specs.Permutation.{IsPermutationOfFour}
 use Rattle.table_definitions.specs.Table.{Gluing, Row}
-use Rattle.table_definitions.specs.Relabelling.{Relabelling, IsRelabelling, stand_in, gluing_under}
+use Rattle.table_definitions.specs.Relabelling.{Relabelling, IsRelabelling, relabelled_place, gluing_under}
 use Rattle.signature_definitions.specs.Labellings.{Start, Relabels}
 use Rattle.signature_laws.specs.Orders.{start_at, Numbers}
 
@@ -21,7 +21,7 @@ pub record Becomes (n : ℕ) (order : List Start) (from : Start) (g wanted : Glu
   pub permutes : IsPermutationOfFour g.perm
   pub bijection : IsRelabelling n by
   pub numbers : Numbers order by
-  pub becomes : gluing_under (record { tet = 0; perm = from.perm }) (stand_in by g.tet) g ≡ wanted
+  pub becomes : gluing_under (record { tet = 0; perm = from.perm }) (relabelled_place by g.tet) g ≡ wanted
 
 -- each relabelling that maps the gluing to wanted agrees, and maps the new order so too
 abbrev pub AgreesGlued : ℕ → List Start → List Start → Start → Gluing → Gluing → Bool → Type 0

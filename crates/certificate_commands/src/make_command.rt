@@ -1,6 +1,6 @@
 //! The command `make`: makes a table with its certificate.
 ghost use Rattle.std.specs.Prelude.{◌≡◌, IfOk};
-ghost use Rattle.outcome_definitions.specs.Certificates.{moves_behind};
+ghost use Rattle.outcome_definitions.specs.Certificates.{table_then_moves};
 ghost use Rattle.outcome_definitions.specs.Makings.{IsMakeAnswer};
 
 use command_answers::Outcome;
@@ -14,7 +14,7 @@ use tri_build::Made;
 /// The text of a table and the moves of its certificate.
 #[tactic(auto, unfolding(outcome_definitions::specs::Certificates::moves_text))]
 fn text_of(alloc: Global, made: &Made) -> Result<Vec<u8>, NoMemory>
-    ensures { IfOk result (λ text. text.items ≡ moves_behind made.now.table made.now.certificate.items) }
+    ensures { IfOk result (λ text. text.items ≡ table_then_moves made.now.table made.now.certificate.items) }
 {
     let mut text = Vec::new(alloc);
     write_table(alloc, &made.table, &mut text)?;

@@ -4,9 +4,9 @@ use Rattle.std.specs.List.{list_all}
 use Rattle.table_definitions.specs.Lists.{below, has}
 use Rattle.table_definitions.specs.Permutation.{identity, image}
 use Rattle.table_definitions.specs.Table.{Row}
-use Rattle.table_definitions.specs.Relabelling.{Relabelling, IsRelabelling, stand_in}
+use Rattle.table_definitions.specs.Relabelling.{Relabelling, IsRelabelling, relabelled_place}
 use Rattle.move_definitions.specs.Moves.{Move, Facet, old_facets, facet, new_facet, inverse_move, Plays}
-use Rattle.certificate_definitions.specs.CarriedMoves.{move_under, by_labels, is_taken, number_then}
+use Rattle.certificate_definitions.specs.CarriedMoves.{move_under, by_labels, is_removed_by, number_then}
 
 -- the facet, of those that a move takes out, that is tetrahedron t
 abbrev pub facet_at : List Row → Move → ℕ → Option Facet
@@ -22,8 +22,8 @@ is_renaming labels = (length labels == 5) && list_all (has labels) (below 5)
 pub record Correspond (old : List Row) (m : Move) (now : List Row) (back : Move) (on : Relabelling) (labels : List ℕ) : Type 0 where
   pub each_once : IsTrue (is_renaming labels)
   pub held : (j : ℕ) → j < length m.core
-      → (f : Facet) × (facet_at now back (stand_in on (new_facet old m j).tet).tet ≡ Some f)
-      × ((v : ℕ) → v < 4 → slice_index labels (image (new_facet old m j).labels v) ≡ image f.labels (image (stand_in on (new_facet old m j).tet).perm v))
+      → (f : Facet) × (facet_at now back (relabelled_place on (new_facet old m j).tet).tet ≡ Some f)
+      × ((v : ℕ) → v < 4 → slice_index labels (image (new_facet old m j).labels v) ≡ image f.labels (image (relabelled_place on (new_facet old m j).tet).perm v))
 
 -- The relabelling `by` of the table before step m, made from the relabelling `on` of the table behind it, which carries that
 -- to `now`. A tetrahedron that the step kept goes where what it became goes, and one that it took out, which lacks a label,
@@ -32,10 +32,10 @@ pub record IsCarriedBack (old : List Row) (m : Move) (now : List Row) (back : Mo
   pub labels : List ℕ
   pub correspond : Correspond old m now back on labels
   pub relabels : IsRelabelling (length old) by
-  pub kept : (t : ℕ) → t < length old → is_taken old m t ≡ false
-      → stand_in by t ≡ record { tet = number_then now back (stand_in on (number_then old m t)).tet; perm = (stand_in on (number_then old m t)).perm }
+  pub kept : (t : ℕ) → t < length old → is_removed_by old m t ≡ false
+      → relabelled_place by t ≡ record { tet = number_then now back (relabelled_place on (number_then old m t)).tet; perm = (relabelled_place on (number_then old m t)).perm }
   pub replaced : (i : ℕ) → length m.core ≤ i → i < 5
-      → (f : Facet) × (facet old m i ≡ Some f) × (stand_in by f.tet ≡ by_labels (slice_index labels) f (new_facet now back (slice_index labels i)))
+      → (f : Facet) × (facet old m i ≡ Some f) × (relabelled_place by f.tet ≡ by_labels (slice_index labels) f (new_facet now back (slice_index labels i)))
 
 -- each tetrahedron stays
 abbrev pub staying : ℕ → Relabelling

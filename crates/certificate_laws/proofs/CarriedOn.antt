@@ -2,9 +2,9 @@
 use Rattle.std.proofs.Common.{◌≡◌, ℕ, ◌<◌, List, length, sym, ap, ◌∙◌, subst, arith, inl, inr}
 use Rattle.std.specs.Prelude.{◌⊎◌, option_map}
 use Rattle.table_definitions.specs.Table.{Row, Face, glue, IsTable}
-use Rattle.table_definitions.specs.Relabelling.{Relabelling, IsRelabelling, Carries, stand_in, face_under, gluing_under}
+use Rattle.table_definitions.specs.Relabelling.{Relabelling, IsRelabelling, Carries, relabelled_place, face_under, gluing_under}
 use Rattle.move_definitions.specs.Moves.{Move, new_length, IsMoved}
-use Rattle.certificate_definitions.specs.CarriedMoves.{move_under, GoesOn}
+use Rattle.certificate_definitions.specs.CarriedMoves.{move_under, CarriesAfterMove}
 use Rattle.move_laws.proofs.Legal.{no_fault}
 use Rattle.move_laws.proofs.Covered.{StandsForOld, IsInner, covered}
 use Rattle.move_laws.proofs.LedOn.{legal_moves_lead_on_lem}
@@ -30,8 +30,8 @@ carried_on by old other m new next h moved moved' = record {
     long : new_length other (move_under by m) ≡ new_length old m
     long = omega (arith, kept_same by old other m h, other_size by old other m h)
 
-    glued_at : (y : Face) → y.face < 4 → StandsForOld old m y ⊎ IsInner old m y → glue next (face_under (stand_in R y.tet) y) ≡ option_map (λ g. gluing_under (stand_in R y.tet) (stand_in R g.tet) g) (glue new y)
-    glued_at y lf (inl o) = subst (λ (z : Face). glue next (face_under (stand_in R z.tet) z) ≡ option_map (λ g. gluing_under (stand_in R z.tet) (stand_in R g.tet) g) (glue new z)) o.is (outer_on by old other m new next h moved moved' o.old o.by o.tet o.face o.stands)
+    glued_at : (y : Face) → y.face < 4 → StandsForOld old m y ⊎ IsInner old m y → glue next (face_under (relabelled_place R y.tet) y) ≡ option_map (λ g. gluing_under (relabelled_place R y.tet) (relabelled_place R g.tet) g) (glue new y)
+    glued_at y lf (inl o) = subst (λ (z : Face). glue next (face_under (relabelled_place R z.tet) z) ≡ option_map (λ g. gluing_under (relabelled_place R z.tet) (relabelled_place R g.tet) g) (glue new z)) o.is (outer_on by old other m new next h moved moved' o.old o.by o.tet o.face o.stands)
     glued_at y lf (inr n) = inner_on by old other m new next h moved moved' y n
 
 pub is_carried : (by : Relabelling) (old other : List Row) (m : Move) (new : List Row) → IsTable old → IsRelabelling (length old) by → Carries by old other → IsMoved old m new → IsCarried by old other m
@@ -44,12 +44,12 @@ moves_go_on_lem by old other m new table r k moved =
     (led.0, on by old other m, led.1, on_goes_on by old other m h, subst (λ n. IsRelabelling n (on by old other m)) (sym moved.length_is) (on_relabelling by old other m h), carried_on by old other m new led.0 h moved led.1)
 
 -- what goes on so is one
-pub goes_on_once : (by : Relabelling) (old other : List Row) (m : Move) (r r' : Relabelling) → IsCarried by old other m → IsRelabelling (new_length old m) r → IsRelabelling (new_length old m) r' → GoesOn by old m other r → GoesOn by old m other r' → r ≡ r'
+pub goes_on_once : (by : Relabelling) (old other : List Row) (m : Move) (r r' : Relabelling) → IsCarried by old other m → IsRelabelling (new_length old m) r → IsRelabelling (new_length old m) r' → CarriesAfterMove by old m other r → CarriesAfterMove by old m other r' → r ≡ r'
 goes_on_once by old other m r r' h k k' g g' = same_relabelling (new_length old m) r r' k k' (λ u l. at u (number_cases old m h.table h.fine h.core u l))
   where
-    at : (u : ℕ) → IsKeptNumber old m u ⊎ IsNewNumber old m u → stand_in r u ≡ stand_in r' u
-    at u (inl n) = ap (stand_in r) (sym n.is) ∙ g.kept n.tet n.in_range n.stays ∙ sym (g'.kept n.tet n.in_range n.stays) ∙ ap (stand_in r') n.is
-    at u (inr n) = ap (stand_in r) (sym n.is) ∙ g.put_in n.label n.small ∙ sym (g'.put_in n.label n.small) ∙ ap (stand_in r') n.is
+    at : (u : ℕ) → IsKeptNumber old m u ⊎ IsNewNumber old m u → relabelled_place r u ≡ relabelled_place r' u
+    at u (inl n) = ap (relabelled_place r) (sym n.is) ∙ g.kept n.tet n.in_range n.stays ∙ sym (g'.kept n.tet n.in_range n.stays) ∙ ap (relabelled_place r') n.is
+    at u (inr n) = ap (relabelled_place r) (sym n.is) ∙ g.put_in n.label n.small ∙ sym (g'.put_in n.label n.small) ∙ ap (relabelled_place r') n.is
 
 pub moves_go_on_once_lem : MovesGoOnOnce
 moves_go_on_once_lem by old other m new r r' table relabels carries moved k k' g g' =

@@ -9,7 +9,7 @@ use Rattle.std.proofs.lemmas.List.Sorted.{IsPermutation-refl}
 use Rattle.table_definitions.specs.Lists.{below}
 use Rattle.table_definitions.specs.Permutation.{IsPermutationOfFour, inverse, compose, identity}
 use Rattle.table_definitions.specs.Table.{max_tets, Gluing, Row, Face, glue, IsTable}
-use Rattle.table_definitions.specs.Relabelling.{Relabelling, IsRelabelling, Carries, stand_in, face_under, gluing_under}
+use Rattle.table_definitions.specs.Relabelling.{Relabelling, IsRelabelling, Carries, relabelled_place, face_under, gluing_under}
 use Rattle.table_definitions.proofs.Permutations.{identity_permutes, inverse-identity, image-identity, identity-compose, compose-identity}
 use Rattle.table_definitions.proofs.Faces.{face_at, gluing_to}
 use Rattle.move_definitions.specs.Moves.{Move, new_length, Plays, PlaysAll}
@@ -28,7 +28,7 @@ use Rattle.move_laws.proofs.Played.{played_table}
 
 -- each tetrahedron stays
 
-stays_there : (n t : ℕ) → t < n → stand_in (staying n) t ≡ gluing_to t identity
+stays_there : (n t : ℕ) → t < n → relabelled_place (staying n) t ≡ gluing_to t identity
 stays_there n t l =
     let a : get_or (below n) t 0 ≡ t = get_or-range_with_len 0 n t 0 l ∙ omega arith in
     let b : get_or (map (λ t. identity) (below n)) t [] ≡ identity = get_or-map-range_with_len (λ t. identity) 0 n t t [] l (omega arith) in
@@ -46,7 +46,7 @@ pub staying_carries : (rows : List Row) → IsTable rows → Carries (staying (l
 staying_carries rows table = record { same_length = refl; four_faces = table.four_faces; glued = λ x lt lf. glued_at x lt lf }
   where
     s : ℕ → Gluing
-    s t = stand_in (staying (length rows)) t
+    s t = relabelled_place (staying (length rows)) t
 
     glued_at : (x : Face) → x.tet < length rows → x.face < 4 → glue rows (face_under (s x.tet) x) ≡ option_map (λ g. gluing_under (s x.tet) (s g.tet) g) (glue rows x)
     glued_at x lt lf = ap (λ (g : Gluing). glue rows (face_under g x)) (stays_there (length rows) x.tet lt) ∙ ap (λ v. glue rows (face_at x.tet v)) (image-identity x.face lf) ∙ cases (glue rows x) refl

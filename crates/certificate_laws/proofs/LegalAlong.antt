@@ -4,7 +4,7 @@ use Rattle.std.specs.List.{list_all}
 use Rattle.table_definitions.specs.Lists.{same_list}
 use Rattle.table_definitions.specs.Permutation.{IsPermutationOfFour, preimage, inverse, words}
 use Rattle.table_definitions.specs.Table.{Gluing, Row, IsTable}
-use Rattle.table_definitions.specs.Relabelling.{Relabelling, IsRelabelling, Carries, stand_in}
+use Rattle.table_definitions.specs.Relabelling.{Relabelling, IsRelabelling, Carries, relabelled_place}
 use Rattle.move_definitions.specs.Moves.{Move, IsCore, move_fault}
 use Rattle.table_definitions.proofs.ListFacts.{same_list-true}
 use Rattle.table_definitions.proofs.Permutations.{by_words}
@@ -41,13 +41,13 @@ module _ (by : Relabelling) (old other : List Row) (m : Move) (table : IsTable o
   abbrev back : Relabelling
   back = inverted (length old) by
 
-  stands : stand_in back (stand_in by m.tet).tet ≡ record { tet = m.tet; perm = inverse (stand_in by m.tet).perm }
+  stands : relabelled_place back (relabelled_place by m.tet).tet ≡ record { tet = m.tet; perm = inverse (relabelled_place by m.tet).perm }
   stands = inverted_stands (length old) by relabels m.tet low
 
   move_back_again : move_under back (move_under by m) ≡ m
   move_back_again = λ i. record {
     tet = (stands i).tet;
-    core = (ap (λ (g : Gluing). core_under g.perm (core_under (stand_in by m.tet).perm m.core)) stands ∙ core_back (stand_in by m.tet).perm m.core (perm_permutes (length old) by relabels m.tet low) core) i;
+    core = (ap (λ (g : Gluing). core_under g.perm (core_under (relabelled_place by m.tet).perm m.core)) stands ∙ core_back (relabelled_place by m.tet).perm m.core (perm_permutes (length old) by relabels m.tet low) core) i;
   }
 
   legal_goes_back : move_fault other (move_under by m) ≡ None → move_fault old m ≡ None
@@ -56,7 +56,7 @@ module _ (by : Relabelling) (old other : List Row) (m : Move) (table : IsTable o
       subst (λ (n : Move). move_fault old n ≡ None) move_back_again
       (legal_goes_on back other old (move_under by m) (carried_is_table old other by table relabels carries)
       (subst (λ n. IsRelabelling n back) (sym same) (inverted_relabelling (length old) by relabels)) (carries_back old other by table relabels carries)
-      (core_goes (stand_in by m.tet).perm m.core (perm_permutes (length old) by relabels m.tet low) core) legal)
+      (core_goes (relabelled_place by m.tet).perm m.core (perm_permutes (length old) by relabels m.tet low) core) legal)
 
 pub legal_along : LegalMovesGoAlong
 legal_along by old other table relabels carries m low core = (legal_goes_on by old other m table relabels carries core, legal_goes_back by old other m table relabels carries low core)

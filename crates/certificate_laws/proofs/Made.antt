@@ -3,7 +3,7 @@ use Rattle.std.proofs.Common.{◌≡◌, ℕ, zero, suc, true, List, [], ◌∷�
 use Rattle.std.specs.Prelude.{◌⊎◌, filter, is_none, nat_lt, if◌then◌else◌}
 use Rattle.plain_facts.proofs.Options.{both_none}
 use Rattle.table_definitions.specs.Table.{max_tets, Row, IsTable}
-use Rattle.table_definitions.specs.Relabelling.{IsRelabelled}
+use Rattle.table_definitions.specs.Relabelling.{AreIsomorphic}
 use Rattle.table_definitions.proofs.TableLaws.{Among}
 use Rattle.table_definitions.proofs.Listed.{filter-among}
 use Rattle.move_definitions.specs.Moves.{Move, IsCore, move_fault, play_fault, new_length, Plays, PlaysAll}
@@ -98,7 +98,7 @@ one_is_made_lem seed most table table' certificate certificate' (moves, making, 
 pub made_are_certified_lem : MadeAreCertified
 made_are_certified_lem seed most table certificate (moves, making, (end, by, are)) =
     let t : IsThere standard_sphere table certificate end by = carried_leads standard_sphere moves table certificate end by sphere_table are in
-    let r : IsRelabelled standard_sphere end = (by, t.relabels, t.carries) in
+    let r : AreIsomorphic standard_sphere end = (by, t.relabels, t.carries) in
     (end, t.leads, relabels_back standard_sphere end sphere_table r)
 
 -- what is made is a table

@@ -8,10 +8,10 @@ use Rattle.std.proofs.lemmas.List.{length-append}
 use Rattle.table_definitions.specs.Lists.{below, has}
 use Rattle.table_definitions.specs.Permutation.{image}
 use Rattle.table_definitions.specs.Table.{Row, IsTable}
-use Rattle.table_definitions.specs.Relabelling.{Relabelling, IsRelabelling, Carries, stand_in}
+use Rattle.table_definitions.specs.Relabelling.{Relabelling, IsRelabelling, Carries, relabelled_place}
 use Rattle.table_definitions.proofs.Permutations.{OneIs, one_is}
 use Rattle.move_definitions.specs.Moves.{Move, IsCore, Facet, facet, new_facet, Plays, PlaysAll}
-use Rattle.certificate_definitions.specs.CarriedMoves.{by_labels, is_taken}
+use Rattle.certificate_definitions.specs.CarriedMoves.{by_labels, is_removed_by}
 use Rattle.certificate_definitions.specs.CarriedBack.{is_renaming, facet_at, Correspond, IsCarriedBack, staying, move_back, AreCarriedBack}
 use Rattle.table_definitions.proofs.ListFacts.{list_all-below}
 use Rattle.signature_laws.proofs.Standing.{same_relabelling}
@@ -92,28 +92,28 @@ correspond_once old m now back on ls ls' c h h' = same_renaming ls ls' h.each_on
         let a = h.held 0 some in
         let b = h'.held 0 some in
         let v = ascends l low high in
-        let facets : a.0 ≡ b.0 = same_some (facet_at now back (stand_in on (new_facet old m 0).tet).tet) a.0 b.0 a.1 b.1 in
-        ap (slice_index ls) (sym v.2) ∙ a.2 v.0 v.1 ∙ ap (λ (f : Facet). image f.labels (image (stand_in on (new_facet old m 0).tet).perm v.0)) facets ∙ sym (b.2 v.0 v.1) ∙ ap (slice_index ls') v.2
+        let facets : a.0 ≡ b.0 = same_some (facet_at now back (relabelled_place on (new_facet old m 0).tet).tet) a.0 b.0 a.1 b.1 in
+        ap (slice_index ls) (sym v.2) ∙ a.2 v.0 v.1 ∙ ap (λ (f : Facet). image f.labels (image (relabelled_place on (new_facet old m 0).tet).perm v.0)) facets ∙ sym (b.2 v.0 v.1) ∙ ap (slice_index ls') v.2
 
 pub carried_once : (old : List Row) (m : Move) (now : List Row) (back : Move) (on by by' : Relabelling) → IsCore m.core → IsCarriedBack old m now back on by → IsCarriedBack old m now back on by' → by ≡ by'
-carried_once old m now back on by by' c h h' = same_relabelling (length old) by by' h.relabels h'.relabels (λ t l. by_test t l (is_taken old m t) refl)
+carried_once old m now back on by by' c h h' = same_relabelling (length old) by by' h.relabels h'.relabels (λ t l. by_test t l (is_removed_by old m t) refl)
   where
     labels : h.labels ≡ h'.labels
     labels = correspond_once old m now back on h.labels h'.labels c h.correspond h'.correspond
 
-    by_facet : (t : ℕ) → OldFacet old m t → stand_in by t ≡ stand_in by' t
+    by_facet : (t : ℕ) → OldFacet old m t → relabelled_place by t ≡ relabelled_place by' t
     by_facet t o =
         let a = h.replaced o.label o.low o.high in
         let b = h'.replaced o.label o.low o.high in
         let facets : a.0 ≡ b.0 = same_some (facet old m o.label) a.0 b.0 a.1 b.1 in
         let tet : a.0.tet ≡ t = ap (λ (f : Facet). f.tet) (same_some (facet old m o.label) a.0 o.facet_of a.1 o.is) ∙ o.tet in
         let tet' : b.0.tet ≡ t = ap (λ (f : Facet). f.tet) (sym facets) ∙ tet in
-        ap (stand_in by) (sym tet) ∙ a.2
+        ap (relabelled_place by) (sym tet) ∙ a.2
         ∙ ap (λ (f : Facet). by_labels (slice_index h.labels) f (new_facet now back (slice_index h.labels o.label))) facets
         ∙ ap (λ (ls : List ℕ). by_labels (slice_index ls) b.0 (new_facet now back (slice_index ls o.label))) labels
-        ∙ sym b.2 ∙ ap (stand_in by') tet'
+        ∙ sym b.2 ∙ ap (relabelled_place by') tet'
 
-    by_test : (t : ℕ) → t < length old → (b : Bool) → is_taken old m t ≡ b → stand_in by t ≡ stand_in by' t
+    by_test : (t : ℕ) → t < length old → (b : Bool) → is_removed_by old m t ≡ b → relabelled_place by t ≡ relabelled_place by' t
     by_test t l false e = h.kept t l e ∙ sym (h'.kept t l e)
     by_test t l true e = by_facet t (old_tet_facet old m t c e)
 

@@ -2,14 +2,14 @@
 use Rattle.std.proofs.Common.{◌≡◌, ℕ, zero, suc, ◌+◌, ◌<◌, ◌≤◌, Bool, true, false, List, [], ◌∷◌, length, Option, Some, Ok, Err, None, refl, sym, ap, ◌∙◌, subst, arith, inl, inr}
 use Rattle.std.specs.Prelude.{◌⊎◌, ◌≢◌, option_map, option_and_then, if◌then◌else◌}
 use Rattle.std.proofs.lemmas.Bool.{cases_lt}
-use Rattle.table_definitions.specs.Lists.{has, closed_up}
+use Rattle.table_definitions.specs.Lists.{has, rank_without}
 use Rattle.table_definitions.specs.Permutation.{image}
 use Rattle.table_definitions.specs.Table.{Gluing, Row, Face, glue, other_side, IsTable}
 use Rattle.table_definitions.specs.Relabelling.{face_under, gluing_under}
 use Rattle.table_definitions.specs.Places.{Place, whole, across, SameComponent, IsConnected}
 use Rattle.table_definitions.proofs.TableLaws.{glued_tet, glued_face}
 use Rattle.table_definitions.proofs.ChainLaws.{kept_along, joined_refl, joined_trans, Crossed, crossed, gluing_joins, joins_back, one_unreached, connected_or_not}
-use Rattle.move_definitions.specs.Moves.{Move, IsCore, Facet, own_facet, opposite, facet, new_facet, kept, old_labels, old_tets, facet_stand_in, stand_in_at, moved_gluing, IsMoved, facet_gluing}
+use Rattle.move_definitions.specs.Moves.{Move, IsCore, Facet, own_facet, opposite, facet, new_facet, kept, old_labels, old_tets, facet_place_after, place_after, moved_gluing, IsMoved, facet_gluing}
 use Rattle.certificate_definitions.specs.Answers.{Descended}
 use Rattle.signature_laws.proofs.Connected.{connected_or_unreached_lem}
 use Rattle.table_definitions.proofs.Permutations.{image_below}
@@ -39,15 +39,15 @@ record IsStep (old : List Row) (m : Move) (new : List Row) : Type 0 where
 
 -- where a tetrahedron is then: all that are taken out are with the first that is put in
 unfoldable where_then : List Row → Move → ℕ → ℕ
-where_then old m t = if has (old_tets old m) t then kept old m else closed_up (old_tets old m) t
+where_then old m t = if has (old_tets old m) t then kept old m else rank_without (old_tets old m) t
 
-then_kept : (old : List Row) (m : Move) (t : ℕ) → has (old_tets old m) t ≡ false → where_then old m t ≡ closed_up (old_tets old m) t
+then_kept : (old : List Row) (m : Move) (t : ℕ) → has (old_tets old m) t ≡ false → where_then old m t ≡ rank_without (old_tets old m) t
 unfolding where_then
-then_kept old m t e = ap (λ (b : Bool). if b then kept old m else closed_up (old_tets old m) t) e
+then_kept old m t e = ap (λ (b : Bool). if b then kept old m else rank_without (old_tets old m) t) e
 
 then_taken : (old : List Row) (m : Move) (t : ℕ) → has (old_tets old m) t ≡ true → where_then old m t ≡ kept old m
 unfolding where_then
-then_taken old m t e = ap (λ (b : Bool). if b then kept old m else closed_up (old_tets old m) t) e
+then_taken old m t e = ap (λ (b : Bool). if b then kept old m else rank_without (old_tets old m) t) e
 
 go_on : (rows : List Row) (t u v : ℕ) → SameComponent rows t u → SameComponent rows u v → SameComponent rows t v
 go_on rows t u v j k = joined_trans rows (whole t) (whole u) (whole v) j k
@@ -63,7 +63,7 @@ new_joined old m new h (suc j) l =
     go_on new (kept old m + suc j) (kept old m + 0) (kept old m) to (same_place new (kept old m + 0) (kept old m) (omega arith))
 
 -- what stands for a face is where its tetrahedron is then
-stands_then : (old : List Row) (m : Move) (new : List Row) → IsStep old m new → (x : Face) (s : Gluing) → x.tet < length old → x.face < 4 → stand_in_at old m x ≡ Some s → SameComponent new s.tet (where_then old m x.tet)
+stands_then : (old : List Row) (m : Move) (new : List Row) → IsStep old m new → (x : Face) (s : Gluing) → x.tet < length old → x.face < 4 → place_after old m x ≡ Some s → SameComponent new s.tet (where_then old m x.tet)
 stands_then old m new h x s lt lf stands = elim (shape old m h.table h.fine h.core x s lt lf stands) [
   | inl k ↦ same_place new s.tet (where_then old m x.tet) (ap (λ (g : Gluing). g.tet) k.by ∙ sym (then_kept old m x.tet k.stays))
   | inr f ↦ (let at : s.tet ≡ kept old m + f.j = ap (λ (g : Gluing). g.tet) f.by in
@@ -74,7 +74,7 @@ stands_then old m new h x s lt lf stands = elim (shape old m h.table h.fine h.co
 ]
 
 -- where nothing stands for a face, it lies between tetrahedra that are taken out
-both_taken : (old : List Row) (m : Move) (new : List Row) → IsStep old m new → (x : Face) (g : Gluing) → x.tet < length old → x.face < 4 → glue old x ≡ Some g → stand_in_at old m x ≡ None → (has (old_tets old m) x.tet ≡ true) × (has (old_tets old m) g.tet ≡ true)
+both_taken : (old : List Row) (m : Move) (new : List Row) → IsStep old m new → (x : Face) (g : Gluing) → x.tet < length old → x.face < 4 → glue old x ≡ Some g → place_after old m x ≡ None → (has (old_tets old m) x.tet ≡ true) × (has (old_tets old m) g.tet ≡ true)
 both_taken old m new h x g lt lf e none = by_test (has (old_tets old m) x.tet) refl
   where
     never : (o : Option Gluing) (k : Gluing) → o ≡ Some k → o ≡ None → ⊥
@@ -92,7 +92,7 @@ both_taken old m new h x g lt lf e none = by_test (has (old_tets old m) x.tet) r
         by_size : (f : Facet) (l : ℕ) → l < 5 → l ≢ o.label → IsFacet old o.label f → face_at f.tet x.face ≡ x → opposite f l ≡ x → image f.labels x.face ≡ l → (l < length m.core) ⊎ (length m.core ≤ l) → facet old m o.label ≡ Some f
             → (has (old_tets old m) x.tet ≡ true) × (has (old_tets old m) g.tet ≡ true)
         by_size f l small apart is face at label (inl less) found =
-            absurd (never (stand_in_at old m x) (facet_gluing old m f l) (ap (stand_in_at old m) (sym face) ∙ stand_in-old old m o.label f x.face h.fine h.core o.low o.high found ∙ ap (facet_stand_in old m f) label ∙ facet_stand_in-new old m f l less) none)
+            absurd (never (place_after old m x) (facet_gluing old m f l) (ap (place_after old m) (sym face) ∙ stand_in-old old m o.label f x.face h.fine h.core o.low o.high found ∙ ap (facet_place_after old m f) label ∙ facet_stand_in-new old m f l less) none)
         by_size f l small apart is face at label (inr more) found =
             let other = old_facet old m l h.fine h.core more small in
             let a : AreGlued old o.label l f other.0 = old_glued old m o.label l f other.0 h.table h.fine h.core o.low o.high more small (λ e. apart (sym e)) found other.1 in
@@ -101,12 +101,12 @@ both_taken old m new h x g lt lf e none = by_test (has (old_tets old m) x.tet) r
             (taken, ap (has (old_tets old m)) (sym tet) ∙ has_tet (facet old m) (old_labels m) l other.0 (old_label (length m.core) l (core_size m.core h.core).1 more small) other.1)
 
     by_test : (b : Bool) → has (old_tets old m) x.tet ≡ b → (has (old_tets old m) x.tet ≡ true) × (has (old_tets old m) g.tet ≡ true)
-    by_test false s = absurd (never (stand_in_at old m x) _ (stand_in-kept old m x s) none)
+    by_test false s = absurd (never (place_after old m x) _ (stand_in-kept old m x s) none)
     by_test true s = by_facet (old_tet_facet old m x.tet h.core s) s
 
 -- each step of a chain goes along
 step_then : (old : List Row) (m : Move) (new : List Row) → IsStep old m new → (x : Face) (g : Gluing) → glue old x ≡ Some g → SameComponent new (where_then old m x.tet) (where_then old m g.tet)
-step_then old m new h x g e = by_stand (stand_in_at old m x) refl
+step_then old m new h x g e = by_stand (place_after old m x) refl
   where
     lt : x.tet < length old
     lt = glued_tet old x g e
@@ -114,7 +114,7 @@ step_then old m new h x g e = by_stand (stand_in_at old m x) refl
     lf : x.face < 4
     lf = glued_face old x g h.table.four_faces e
 
-    by_stand : (o : Option Gluing) → stand_in_at old m x ≡ o → SameComponent new (where_then old m x.tet) (where_then old m g.tet)
+    by_stand : (o : Option Gluing) → place_after old m x ≡ o → SameComponent new (where_then old m x.tet) (where_then old m g.tet)
     by_stand None none =
         let both = both_taken old m new h x g lt lf e none in
         same_place new (where_then old m x.tet) (where_then old m g.tet) (then_taken old m x.tet both.0 ∙ sym (then_taken old m g.tet both.1))

@@ -6,10 +6,10 @@ use Rattle.std.proofs.lemmas.Bool.{le-ltb}
 use Rattle.std.proofs.lemmas.List.{length-map}
 use Rattle.table_definitions.specs.Permutation.{IsPermutationOfFour, image, preimage, compose, identity}
 use Rattle.table_definitions.specs.Table.{max_tets, Gluing, Row}
-use Rattle.table_definitions.specs.Relabelling.{Relabelling, IsRelabelling, Carries, stand_in}
+use Rattle.table_definitions.specs.Relabelling.{Relabelling, IsRelabelling, Carries, relabelled_place}
 use Rattle.move_definitions.specs.Moves.{Move, Facet, facet, kept, new_length, new_facet, move_fault, play_fault, IsMoved, Plays}
 use Rattle.move_definitions.specs.declared.MoveFault.TheVariants.{TooMany}
-use Rattle.certificate_definitions.specs.CarriedMoves.{by_labels, is_taken, number_then, GoesOn}
+use Rattle.certificate_definitions.specs.CarriedMoves.{by_labels, is_removed_by, number_then, CarriesAfterMove}
 use Rattle.certificate_definitions.specs.CarriedBack.{IsCarriedBack, move_back}
 use Rattle.signature_laws.specs.Between.{after}
 use Rattle.signature_laws.proofs.Back.{after_stands, after_relabelling, carries_on}
@@ -38,18 +38,18 @@ abbrev pub back_by : List Row → Move → List Row → List Row → Relabelling
 back_by old m new now on = after (length old) (carried_by on new now (inverse_of old m)) (relabelling old m)
 
 back_stands : (old : List Row) (m : Move) (new now : List Row) (on : Relabelling) → (t : ℕ) → t < length old → (s : Gluing) → place old m t ≡ s
-    → stand_in (back_by old m new now on) t ≡ gluing_to (stand_in (carried_by on new now (inverse_of old m)) s.tet).tet (compose (stand_in (carried_by on new now (inverse_of old m)) s.tet).perm s.perm)
+    → relabelled_place (back_by old m new now on) t ≡ gluing_to (relabelled_place (carried_by on new now (inverse_of old m)) s.tet).tet (compose (relabelled_place (carried_by on new now (inverse_of old m)) s.tet).perm s.perm)
 back_stands old m new now on t l s e =
     let r : Relabelling = carried_by on new now (inverse_of old m) in
     after_stands (length old) r (relabelling old m) t l
-    ∙ ap (λ (g : Gluing). gluing_to (stand_in r g.tet).tet (compose (stand_in r g.tet).perm g.perm)) (stand_in-placed old m t l ∙ e)
+    ∙ ap (λ (g : Gluing). gluing_to (relabelled_place r g.tet).tet (compose (relabelled_place r g.tet).perm g.perm)) (stand_in-placed old m t l ∙ e)
 
-kept_back : (old : List Row) (m : Move) (new now : List Row) (on : Relabelling) → IsSteppedOn old m new now on → (t : ℕ) → t < length old → is_taken old m t ≡ false
-    → stand_in (back_by old m new now on) t ≡ record { tet = number_then now (move_back old m on) (stand_in on (number_then old m t)).tet; perm = (stand_in on (number_then old m t)).perm }
+kept_back : (old : List Row) (m : Move) (new now : List Row) (on : Relabelling) → IsSteppedOn old m new now on → (t : ℕ) → t < length old → is_removed_by old m t ≡ false
+    → relabelled_place (back_by old m new now on) t ≡ record { tet = number_then now (move_back old m on) (relabelled_place on (number_then old m t)).tet; perm = (relabelled_place on (number_then old m t)).perm }
 kept_back old m new now on h t l e =
     back_stands old m new now on t l (gluing_to u identity) (place-kept old m t e)
-    ∙ ap (λ (g : Gluing). gluing_to g.tet (compose g.perm identity)) (ap (λ z. stand_in r z) (sym (closed_up_low old m new h.played u small)) ∙ goes.kept u in_new (stays_low old m new h.played u small))
-    ∙ ap (gluing_to (number_then now (move_back old m on) (stand_in on u).tet)) (compose-identity (perm_at on u) (perm_fine on new now (inv old m) k u in_new))
+    ∙ ap (λ (g : Gluing). gluing_to g.tet (compose g.perm identity)) (ap (λ z. relabelled_place r z) (sym (closed_up_low old m new h.played u small)) ∙ goes.kept u in_new (stays_low old m new h.played u small))
+    ∙ ap (gluing_to (number_then now (move_back old m on) (relabelled_place on u).tet)) (compose-identity (perm_at on u) (perm_fine on new now (inv old m) k u in_new))
   where
     u : ℕ
     u = number_then old m t
@@ -66,7 +66,7 @@ kept_back old m new now on h t l e =
     in_new : u < length new
     in_new = let a : u < kept old m = small in omega (arith, h.played.moved.length_is)
 
-    goes : GoesOn on new (inv old m) now r
+    goes : CarriesAfterMove on new (inv old m) now r
     goes = on_goes_on on new now (inv old m) k
 
 -- the vertices of an old facet, along both
@@ -104,7 +104,7 @@ moved_named p hp s i a f small low ha names' =
         ∙ sym (image-map (λ l. preimage (ascending (f i)) (f l)) a v (rw (length-labels i a ha) l))
 
 replaced_back : (old : List Row) (m : Move) (new now : List Row) (on : Relabelling) → IsSteppedOn old m new now on → (i : ℕ) → length m.core ≤ i → i < 5
-    → (f : Facet) × (facet old m i ≡ Some f) × (stand_in (back_by old m new now on) f.tet ≡ by_labels (slice_index (back_labels old m on)) f (new_facet now (move_back old m on) (slice_index (back_labels old m on) i)))
+    → (f : Facet) × (facet old m i ≡ Some f) × (relabelled_place (back_by old m new now on) f.tet ≡ by_labels (slice_index (back_labels old m on)) f (new_facet now (move_back old m on) (slice_index (back_labels old m on) i)))
 replaced_back old m new now on h i low high =
     let o : (f : Facet) × (facet old m i ≡ Some f) = old_facet old m i (no_fault old m h.played.moved.legal) h.played.core low high in
     (o.0, o.1, stands o.0 o.1)
@@ -124,12 +124,12 @@ replaced_back old m new now on h i low high =
     label : (l : ℕ) → l < 5 → slice_index (back_labels old m on) l ≡ named p (renamed s l)
     label l small = at_label (back_label old m on) l small
 
-    stands : (f : Facet) → facet old m i ≡ Some f → stand_in (back_by old m new now on) f.tet ≡ by_labels (slice_index (back_labels old m on)) f (new_facet now (move_back old m on) (slice_index (back_labels old m on) i))
+    stands : (f : Facet) → facet old m i ≡ Some f → relabelled_place (back_by old m new now on) f.tet ≡ by_labels (slice_index (back_labels old m on)) f (new_facet now (move_back old m on) (slice_index (back_labels old m on) i))
     stands f e =
         let fine : HasNoFault old m = no_fault old m h.played.moved.legal in
         let is : IsFacet old i f = facet_is old m i f h.played.table h.played.core fine.in_range high e in
         let inside : kept old m + (i - s) < new_length new (inv old m) = (let few = h.played.few in let some = h.played.some in omega (arith, kept-inverse old m new h.played, h.played.inverse_core.size)) in
-        let at : stand_in r (kept old m + (i - s)) ≡ new_over on now (inv old m) (i - s) =
+        let at : relabelled_place r (kept old m + (i - s)) ≡ new_over on now (inv old m) (i - s) =
         on_stands on new now (inv old m) (kept old m + (i - s)) inside ∙ ap (λ z. over on new now (inv old m) (z + (i - s))) (sym (kept-inverse old m new h.played)) ∙ over_new on new now (inv old m) (i - s) in
         let tet : named p (i - s) ≡ slice_index (back_labels old m on) i = ap (named p) (sym (renamed-old s i low)) ∙ sym (label i high) in
         back_stands old m new now on f.tet is.in_range (facet_place old m i f.labels) (place-old old m i f h.played.table fine h.played.core low high e)

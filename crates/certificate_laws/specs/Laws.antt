@@ -6,7 +6,7 @@ use Rattle.table_definitions.specs.Relabelling.{Relabelling, IsRelabelling, Carr
 use Rattle.signature_definitions.specs.Spelling.{Spells, IsSignature}
 use Rattle.move_definitions.specs.Moves.{Move, IsCore, move_fault, IsMoved, Plays, PlaysAll}
 use Rattle.move_definitions.specs.Certificates.{standard_sphere, IsStandard, IsCertificate, descent_move, IsDescent}
-use Rattle.certificate_definitions.specs.CarriedMoves.{move_under, GoesOn}
+use Rattle.certificate_definitions.specs.CarriedMoves.{move_under, CarriesAfterMove}
 use Rattle.certificate_definitions.specs.CarriedBack.{IsCarriedBack, move_back, AreCarriedBack}
 use Rattle.certificate_definitions.specs.Makings.{IsMade}
 use Rattle.certificate_definitions.specs.Answers.{CheckAnswer, IsChecked, sphere_text, Descended, IsDescended, DescentAnswer, IsDescentAnswer}
@@ -16,13 +16,13 @@ use Rattle.certificate_definitions.specs.Answers.{CheckAnswer, IsChecked, sphere
 abbrev pub MovesGoOn : Type 0
 MovesGoOn =
     (by : Relabelling) (old other : List Row) (m : Move) (new : List Row) → IsTable old → IsRelabelling (length old) by → Carries by old other → IsMoved old m new
-    → (next : List Row) × (on : Relabelling) × IsMoved other (move_under by m) next × GoesOn by old m other on × IsRelabelling (length new) on × Carries on new next
+    → (next : List Row) × (on : Relabelling) × IsMoved other (move_under by m) next × CarriesAfterMove by old m other on × IsRelabelling (length new) on × Carries on new next
 
 -- that relabelling is the only one
 abbrev pub MovesGoOnOnce : Type 0
 MovesGoOnOnce =
     (by : Relabelling) (old other : List Row) (m : Move) (new : List Row) (on on' : Relabelling) → IsTable old → IsRelabelling (length old) by → Carries by old other → IsMoved old m new
-    → IsRelabelling (length new) on → IsRelabelling (length new) on' → GoesOn by old m other on → GoesOn by old m other on' → on ≡ on'
+    → IsRelabelling (length new) on → IsRelabelling (length new) on' → CarriesAfterMove by old m other on → CarriesAfterMove by old m other on' → on ≡ on'
 
 -- where a relabelling carries the table, a move is legal exactly if the move that stands for it is
 abbrev pub IsLegalAlong : Relabelling → List Row → List Row → Type 0

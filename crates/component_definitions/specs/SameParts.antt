@@ -3,7 +3,7 @@ use Rattle.std.specs.Prelude.{◌≡◌, ℕ, ◌<◌, true, List, [], length, s
 use Rattle.std.specs.List.{slice_index_or, AllZip}
 use Rattle.table_definitions.specs.Lists.{below, is_list_before}
 use Rattle.table_definitions.specs.Table.{Row}
-use Rattle.table_definitions.specs.Relabelling.{Relabelling, IsRelabelling, stand_in}
+use Rattle.table_definitions.specs.Relabelling.{Relabelling, IsRelabelling, relabelled_place}
 use Rattle.signature_definitions.specs.Spelling.{IsSignature}
 use Rattle.signature_definitions.specs.Labellings.{IsLeastRelabelling}
 use Rattle.component_definitions.specs.Parts.{Part, first_of, AreParts}
@@ -30,7 +30,7 @@ pub record ArePartsInOrder (rows : List Row) (parts : List Part) (order : List �
 abbrev pub GoesBy : Relabelling → Part → Part → Relabelling → Type 0
 GoesBy by part other r =
     (k : ℕ) → k < length part.numbers
-    → stand_in by (slice_index part.numbers k) ≡ record { tet = slice_index other.numbers (slice_index r.images k); perm = slice_index_or r.perms k [] }
+    → relabelled_place by (slice_index part.numbers k) ≡ record { tet = slice_index other.numbers (slice_index r.images k); perm = slice_index_or r.perms k [] }
 
 -- with the components in order, each is carried to the component of the other table with the same index, by the
 -- relabelling defined for the two

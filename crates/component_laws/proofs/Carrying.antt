@@ -5,7 +5,7 @@ use Rattle.plain_facts.proofs.Members.{contains_at}
 use Rattle.table_definitions.specs.Permutation.{image, inverse, compose}
 use Rattle.table_definitions.specs.Table.{Gluing, Row, Face, IsTable, glue}
 use Rattle.table_definitions.specs.Places.{whole, IsJoined, SameComponent}
-use Rattle.table_definitions.specs.Relabelling.{Relabelling, IsRelabelling, IsRelabelled, Carries, stand_in, face_under, gluing_under}
+use Rattle.table_definitions.specs.Relabelling.{Relabelling, IsRelabelling, AreIsomorphic, Carries, relabelled_place, face_under, gluing_under}
 use Rattle.table_definitions.proofs.Carried.{image_in_range, images_apart, perm_permutes, comes_from}
 use Rattle.signature_laws.specs.Between.{made, inverted}
 use Rattle.signature_laws.proofs.Standing.{made_stands, made_relabelling}
@@ -113,7 +113,7 @@ module _ (first second : List Row) (by : Relabelling) (tf : IsTable first) (ts :
     pub part_by : Relabelling
     part_by = made (length p.numbers) stand
 
-    stands : (k : ℕ) → k < length p.numbers → stand_in part_by k ≡ stand k
+    stands : (k : ℕ) → k < length p.numbers → relabelled_place part_by k ≡ stand k
     unfolding part_by
     stands k l = made_stands (length p.numbers) stand k l
 
@@ -125,7 +125,7 @@ module _ (first second : List Row) (by : Relabelling) (tf : IsTable first) (ts :
       permutes = λ k l. perm_permutes (length first) by r (slice_index p.numbers k) (member_below first tf p hp (slice_index p.numbers k) (entry_p k l));
     }))
 
-    part_glued : (x : Face) → x.tet < length p.numbers → x.face < 4 → glue q.rows (face_under (stand_in part_by x.tet) x) ≡ option_map (λ g. gluing_under (stand_in part_by x.tet) (stand_in part_by g.tet) g) (glue p.rows x)
+    part_glued : (x : Face) → x.tet < length p.numbers → x.face < 4 → glue q.rows (face_under (relabelled_place part_by x.tet) x) ≡ option_map (λ g. gluing_under (relabelled_place part_by x.tet) (relabelled_place part_by g.tet) g) (glue p.rows x)
     unfolding stand there to
     part_glued x l lf =
         ap (λ (b : Gluing). glue q.rows (face_under b x)) (stands x.tet l)
@@ -133,7 +133,7 @@ module _ (first second : List Row) (by : Relabelling) (tf : IsTable first) (ts :
         ∙ ap (λ v. option_map (renumbered q.numbers) (glue second (record { tet = v; face = f' }))) (there_is x.tet l).1
         ∙ ap (option_map (renumbered q.numbers)) (c.glued (record { tet = u; face = x.face }) (member_below first tf p hp u (entry_p x.tet l)) lf)
         ∙ cases (glue first (record { tet = u; face = x.face })) refl
-        ∙ ap (option_map (λ (g : Gluing). gluing_under (stand_in part_by x.tet) (stand_in part_by g.tet) g)) (sym (glue-part first tf p hp x.tet x.face l))
+        ∙ ap (option_map (λ (g : Gluing). gluing_under (relabelled_place part_by x.tet) (relabelled_place part_by g.tet) g)) (sym (glue-part first tf p hp x.tet x.face l))
       where
         u : ℕ
         u = slice_index p.numbers x.tet
@@ -142,13 +142,13 @@ module _ (first second : List Row) (by : Relabelling) (tf : IsTable first) (ts :
         f' = image (slice_index_or by.perms u []) x.face
 
         cases : (o : Option Gluing) → glue first (record { tet = u; face = x.face }) ≡ o
-            → option_map (renumbered q.numbers) (option_map (λ (g : Gluing). gluing_under (stand_in by u) (stand_in by g.tet) g) (glue first (record { tet = u; face = x.face })))
-            ≡ option_map (λ (g : Gluing). gluing_under (stand_in part_by x.tet) (stand_in part_by g.tet) g) (option_map (renumbered p.numbers) (glue first (record { tet = u; face = x.face })))
+            → option_map (renumbered q.numbers) (option_map (λ (g : Gluing). gluing_under (relabelled_place by u) (relabelled_place by g.tet) g) (glue first (record { tet = u; face = x.face })))
+            ≡ option_map (λ (g : Gluing). gluing_under (relabelled_place part_by x.tet) (relabelled_place part_by g.tet) g) (option_map (renumbered p.numbers) (glue first (record { tet = u; face = x.face })))
         cases None e = rw e refl
         cases (Some g) e = rw e (ap (λ (b : Gluing). Some b) (same (place_of p.numbers hp.ascending g.tet (glued_member first tf p hp u x.face g (entry_p x.tet l) e))))
           where
             same : (place_in p.numbers g.tet < length p.numbers) × (slice_index p.numbers (place_in p.numbers g.tet) ≡ g.tet) →
-                renumbered q.numbers (gluing_under (stand_in by u) (stand_in by g.tet) g) ≡ gluing_under (stand_in part_by x.tet) (stand_in part_by (place_in p.numbers g.tet)) (renumbered p.numbers g)
+                renumbered q.numbers (gluing_under (relabelled_place by u) (relabelled_place by g.tet) g) ≡ gluing_under (relabelled_place part_by x.tet) (relabelled_place part_by (place_in p.numbers g.tet)) (renumbered p.numbers g)
             same w = ap (λ v. record { tet = place_in q.numbers (slice_index by.images v); perm = compose (slice_index_or by.perms v []) (compose g.perm (inverse (slice_index_or by.perms u []))) }) (sym w.1)
                 ∙ ap₂ (λ (b d : Gluing). gluing_under b d (renumbered p.numbers g)) (sym (stands x.tet l)) (sym (stands (place_in p.numbers g.tet) w.0))
 
@@ -191,7 +191,7 @@ module _ (first second : List Row) (by : Relabelling) (tf : IsTable first) (ts :
         (subst (λ k. Contains (numbers_at Q k) (to (first_of (part_at P j)))) (sym e) (part_holds j lj).1))
         (first_at j lj)
 
-    part_relabelled : (i : ℕ) → i < length P → IsRelabelled (part_at P i).rows (part_at Q (part_to i)).rows
+    part_relabelled : (i : ℕ) → i < length P → AreIsomorphic (part_at P i).rows (part_at Q (part_to i)).rows
     part_relabelled i l = (
       part_by (part_at P i) (part_at Q (part_to i)) hp hq t (first_at i l) (part_holds i l).1,
       part_relabelling (part_at P i) (part_at Q (part_to i)) hp hq t (first_at i l) (part_holds i l).1,

@@ -6,7 +6,7 @@ use Rattle.std.proofs.lemmas.List.FromFn.{get_or-map-range_with_len, length-map-
 use Rattle.table_definitions.specs.Lists.{below}
 use Rattle.table_definitions.specs.Permutation.{IsPermutationOfFour}
 use Rattle.table_definitions.specs.Table.{Gluing}
-use Rattle.table_definitions.specs.Relabelling.{Relabelling, IsRelabelling, stand_in}
+use Rattle.table_definitions.specs.Relabelling.{Relabelling, IsRelabelling, relabelled_place}
 use Rattle.table_definitions.proofs.Carried.{image_in_range, images_apart, perm_permutes}
 use Rattle.signature_definitions.specs.Labellings.{IsLeastRelabelling}
 use Rattle.signature_laws.specs.Between.{made}
@@ -63,8 +63,8 @@ module _ (n : ℕ) (P : List Part) (E : List Entry) (Q : List Part) (F : List En
     abbrev stand : ℕ → ℕ → Gluing
     stand i k = record { tet = slice_index (part_in Q F i).numbers (slice_index (by_at i).images k); perm = slice_index_or (by_at i).perms k [] }
 
-    stands : (t : ℕ) (g : Goes t) → stand_in by t ≡ stand g.i g.k
-    stands t g = ap (stand_in by) (sym g.is) ∙ (by_at_is g.i g.in_order).1 g.k g.in_numbers
+    stands : (t : ℕ) (g : Goes t) → relabelled_place by t ≡ stand g.i g.k
+    stands t g = ap (relabelled_place by) (sym g.is) ∙ (by_at_is g.i g.in_order).1 g.k g.in_numbers
 
     row_below : (i k : ℕ) → i < length E → k < length (part_in P E i).numbers → k < length (part_in P E i).rows
     row_below i k l lk = subst (λ j. k < j) (sym (length-part m.first m.first_table (part_in P E i) (is_part m.first P E m.first_table m.are_parts m.in_order i l))) lk
@@ -79,13 +79,13 @@ module _ (n : ℕ) (P : List Part) (E : List Entry) (Q : List Part) (F : List En
     stands_there : (i k : ℕ) → i < length E → k < length (part_in P E i).numbers → StandsAt Q (stand i k).tet
     stands_there i k l lk = record { i = slice_index (numbers_of F) i; in_parts = number_below Q F m.others_in_order i (there n P E Q F m i l); k = slice_index (by_at i).images k; in_numbers = image_below i k l lk; is = refl }
 
-    in_range : (t : ℕ) → t < n → (stand_in by t).tet < n
+    in_range : (t : ℕ) → t < n → (relabelled_place by t).tet < n
     unfolding stands_there
     in_range t l =
         let g = goes t l in
         let b : (stand g.i g.k).tet < length m.second = member_below m.second m.second_table (part_in Q F g.i) (is_part m.second Q F m.second_table m.are_others m.others_in_order g.i (there n P E Q F m g.i g.in_order)) (stand g.i g.k).tet
         (member_of m.second m.second_table Q m.are_others (stand g.i g.k).tet (stands_there g.i g.k g.in_order g.in_numbers)) in
-        subst (λ j. (stand_in by t).tet < j) (second_size n P E Q F m) (subst (λ (x : Gluing). x.tet < length m.second) (sym (stands t g)) b)
+        subst (λ j. (relabelled_place by t).tet < j) (second_size n P E Q F m) (subst (λ (x : Gluing). x.tet < length m.second) (sym (stands t g)) b)
 
     -- from one place of the order
     same_place : (i j k l : ℕ) → i ≡ j → i < length E → k < length (part_in P E i).numbers → l < length (part_in P E j).numbers → slice_index (by_at i).images k ≡ slice_index (by_at j).images l → k ≡ l
@@ -113,15 +113,15 @@ module _ (n : ℕ) (P : List Part) (E : List Entry) (Q : List Part) (F : List En
         places : g.k ≡ h.k
         places = same_place g.i h.i g.k h.k orders g.in_order g.in_numbers h.in_numbers both.1
 
-    apart : (t u : ℕ) → t < n → u < n → (stand_in by t).tet ≡ (stand_in by u).tet → t ≡ u
+    apart : (t u : ℕ) → t < n → u < n → (relabelled_place by t).tet ≡ (relabelled_place by u).tet → t ≡ u
     apart t u l k e = let g = goes t l in let h = goes u k in
         apart_from t u g h (ap (λ (x : Gluing). x.tet) (sym (stands t g)) ∙ e ∙ ap (λ (x : Gluing). x.tet) (stands u h))
 
-    permuted : (t : ℕ) → t < n → IsPermutationOfFour (stand_in by t).perm
+    permuted : (t : ℕ) → t < n → IsPermutationOfFour (relabelled_place by t).perm
     permuted t l = let g = goes t l in subst (λ (x : Gluing). IsPermutationOfFour x.perm) (sym (stands t g))
         (perm_permutes (length (part_in P E g.i).rows) (by_at g.i) (by_at_is g.i g.in_order).0.relabels.0 g.k (row_below g.i g.k g.in_order g.in_numbers))
 
-    made_same : made n (stand_in by) ≡ by
+    made_same : made n (relabelled_place by) ≡ by
     unfolding made
     made_same = λ j. record { images = same_images j; perms = same_perms j }
       where
@@ -136,7 +136,7 @@ module _ (n : ℕ) (P : List Part) (E : List Entry) (Q : List Part) (F : List En
             (λ t l. get_or-map-range_with_len (λ t. slice_index_or by.perms t []) 0 n t t [] (omega (arith, long)) (omega arith))
 
     pub is_relabelling : IsRelabelling n by
-    is_relabelling = subst (IsRelabelling n) made_same (made_relabelling n (stand_in by) (record { in_range = in_range; apart = apart; permutes = permuted }))
+    is_relabelling = subst (IsRelabelling n) made_same (made_relabelling n (relabelled_place by) (record { in_range = in_range; apart = apart; permutes = permuted }))
 
     pub is_same_parts : IsSameParts m.first m.second by
     is_same_parts = record {

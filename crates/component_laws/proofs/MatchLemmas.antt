@@ -4,7 +4,7 @@ use Rattle.std.proofs.lemmas.List.{length-map}
 use Rattle.std.proofs.lemmas.List.Sorted.{IsPermutation-sym, IsPermutation-trans}
 use Rattle.table_definitions.specs.Table.{Row, IsTable}
 use Rattle.table_definitions.specs.Places.{IsConnected}
-use Rattle.table_definitions.specs.Relabelling.{IsRelabelled}
+use Rattle.table_definitions.specs.Relabelling.{AreIsomorphic}
 use Rattle.signature_definitions.specs.Spelling.{IsSignature}
 use Rattle.signature_laws.proofs.Uniqueness.{tells_tables}
 use Rattle.component_definitions.specs.Parts.{Part, IsPart, AreParts}
@@ -41,7 +41,7 @@ module _ (rows : List Row) (parts : List Part) (entries : List Entry) (table : I
 
 -- other signatures tell that there is no relabelling
 pub differ : (first second : List Row) (P Q : List Part) (E F : List Entry) → IsTable first → IsTable second → AreParts first P → AreParts second Q → AreInOrder P E → AreInOrder Q F
-    → (texts_of E ≡ texts_of F → ⊥) → IsRelabelled first second → ⊥
+    → (texts_of E ≡ texts_of F → ⊥) → AreIsomorphic first second → ⊥
 differ first second P Q E F tf ts p q o o' other r =
     let a = signed first P E tf p o in
     let b = signed second Q F ts q o' in
@@ -55,7 +55,7 @@ module _ (n : ℕ) (P : List Part) (E : List Entry) (Q : List Part) (F : List En
   pub there : (i : ℕ) → i < length E → i < length F
   there i l = omega (arith, as_many)
 
-  pub relabelled_at : (i : ℕ) → i < length E → IsRelabelled (part_in P E i).rows (part_in Q F i).rows
+  pub relabelled_at : (i : ℕ) → i < length E → AreIsomorphic (part_in P E i).rows (part_in Q F i).rows
   relabelled_at i l = (tells_tables (part_in P E i).rows (part_in Q F i).rows (slice_index_or (texts_of E) i []) (slice_index_or (texts_of F) i [])
       (is_table m.first P E m.first_table m.are_parts m.in_order i l) (is_table m.second Q F m.second_table m.are_others m.others_in_order i (there i l))
       (is_signature m.first P E m.first_table m.are_parts m.in_order i l) (is_signature m.second Q F m.second_table m.are_others m.others_in_order i (there i l))).0

@@ -4,7 +4,7 @@ use Rattle.std.proofs.lemmas.Bool.{cases_lt}
 use Rattle.plain_facts.proofs.Members.{contains_at}
 use Rattle.table_definitions.specs.Permutation.{IsPermutationOfFour, image, inverse, compose}
 use Rattle.table_definitions.specs.Table.{Gluing, Row, Face, IsTable, glue}
-use Rattle.table_definitions.specs.Relabelling.{Relabelling, IsRelabelling, IsRelabelled, Carries, stand_in, face_under, gluing_under}
+use Rattle.table_definitions.specs.Relabelling.{Relabelling, IsRelabelling, AreIsomorphic, Carries, relabelled_place, face_under, gluing_under}
 use Rattle.table_definitions.proofs.Carried.{image_in_range, images_apart, perm_permutes}
 use Rattle.table_definitions.proofs.Faces.{face_at}
 use Rattle.signature_laws.specs.Between.{made}
@@ -27,7 +27,7 @@ pub record IsMatching (P Q : List Part) : Type 0 where
   pub to : ℕ → ℕ
   pub in_range : (i : ℕ) → i < length P → to i < length Q
   pub apart : (i j : ℕ) → i < length P → j < length P → to i ≡ to j → i ≡ j
-  pub relabelled : (i : ℕ) → i < length P → IsRelabelled (part_at P i).rows (part_at Q (to i)).rows
+  pub relabelled : (i : ℕ) → i < length P → AreIsomorphic (part_at P i).rows (part_at Q (to i)).rows
 
 module _ (P Q : List Part) (m : IsMatching P Q) where
   taken : (i : ℕ) → (i < length P) ⊎ (length P ≤ i) → Relabelling
@@ -141,18 +141,18 @@ module _ (first second : List Row) (P Q : List Part) (tf : IsTable first) (ts : 
 
   -- what stands for a gluing of part i, in its part and in the whole
   in_part : (i k : ℕ) → Gluing → Gluing
-  in_part i k g = gluing_under (stand_in (m.by i) k) (stand_in (m.by i) (place_in (numbers_at P i) g.tet)) (renumbered (numbers_at P i) g)
+  in_part i k g = gluing_under (relabelled_place (m.by i) k) (relabelled_place (m.by i) (place_in (numbers_at P i) g.tet)) (renumbered (numbers_at P i) g)
 
   carried_in_part : (i k f : ℕ) → i < length P → k < length (numbers_at P i) → f < 4 →
       option_map (renumbered (numbers_at Q (m.to i))) (glue second (face_at (stand i k).tet (image (stand i k).perm f))) ≡ option_map (in_part i k) (glue first (face_at (slice_index (numbers_at P i) k) f))
   unfolding in_part
   carried_in_part i k f l lk lf = sym (glue-part second ts (part_at Q (m.to i)) (part_q i l) (slice_index (m.by i).images k) (image (slice_index_or (m.by i).perms k []) f) (image_below i k l lk))
       ∙ (m.carries i l).glued (face_at k f) (row_below i k l lk) lf
-      ∙ ap (option_map (λ g. gluing_under (stand_in (m.by i) k) (stand_in (m.by i) g.tet) g)) (glue-part first tf (part_at P i) (part_p i l) k f lk)
+      ∙ ap (option_map (λ g. gluing_under (relabelled_place (m.by i) k) (relabelled_place (m.by i) g.tet) g)) (glue-part first tf (part_at P i) (part_p i l) k f lk)
       ∙ twice (glue first (face_at (slice_index (numbers_at P i) k) f))
     where
-      twice : (o : Option Gluing) → option_map (λ g. gluing_under (stand_in (m.by i) k) (stand_in (m.by i) g.tet) g) (option_map (renumbered (numbers_at P i)) o) ≡
-          option_map (λ (g : Gluing). gluing_under (stand_in (m.by i) k) (stand_in (m.by i) (place_in (numbers_at P i) g.tet)) (renumbered (numbers_at P i) g)) o
+      twice : (o : Option Gluing) → option_map (λ g. gluing_under (relabelled_place (m.by i) k) (relabelled_place (m.by i) g.tet) g) (option_map (renumbered (numbers_at P i)) o) ≡
+          option_map (λ (g : Gluing). gluing_under (relabelled_place (m.by i) k) (relabelled_place (m.by i) (place_in (numbers_at P i) g.tet)) (renumbered (numbers_at P i) g)) o
       twice None = refl
       twice (Some g) = refl
 
@@ -198,21 +198,21 @@ module _ (first second : List Row) (P Q : List Part) (tf : IsTable first) (ts : 
   whole : Relabelling
   whole = made (length first) stand_for
 
-  whole_glued : (x : Face) → x.tet < length first → x.face < 4 → glue second (face_under (stand_in whole x.tet) x) ≡ option_map (λ g. gluing_under (stand_in whole x.tet) (stand_in whole g.tet) g) (glue first x)
+  whole_glued : (x : Face) → x.tet < length first → x.face < 4 → glue second (face_under (relabelled_place whole x.tet) x) ≡ option_map (λ g. gluing_under (relabelled_place whole x.tet) (relabelled_place whole g.tet) g) (glue first x)
   unfolding whole
   whole_glued x lt lf = ap (λ (b : Gluing). glue second (face_under b x)) here ∙ there ∙ cases (glue first x) refl
     where
       s : StandsAt P x.tet
       s = stands_at first tf P p x.tet lt
 
-      here : stand_in (made (length first) stand_for) x.tet ≡ stand s.i s.k
+      here : relabelled_place (made (length first) stand_for) x.tet ≡ stand s.i s.k
       here = made_stands (length first) stand_for x.tet lt ∙ stand_is x.tet s lt
 
       there : glue second (face_at (stand s.i s.k).tet (image (stand s.i s.k).perm x.face)) ≡ option_map (λ g. gluing_under (stand s.i s.k) (stand_for g.tet) g) (glue first x)
       there = glued_alike s.i s.k x.face s.in_parts s.in_numbers lf ∙ ap (λ t. option_map (λ g. gluing_under (stand s.i s.k) (stand_for g.tet) g) (glue first (face_at t x.face))) s.is
 
       cases : (o : Option Gluing) → glue first x ≡ o → option_map (λ g. gluing_under (stand s.i s.k) (stand_for g.tet) g) (glue first x) ≡
-          option_map (λ (g : Gluing). gluing_under (stand_in (made (length first) stand_for) x.tet) (stand_in (made (length first) stand_for) g.tet) g) (glue first x)
+          option_map (λ (g : Gluing). gluing_under (relabelled_place (made (length first) stand_for) x.tet) (relabelled_place (made (length first) stand_for) g.tet) g) (glue first x)
       cases None e = rw e refl
       cases (Some g) e = rw e (ap₂ (λ (b c : Gluing). Some (gluing_under b c g)) (sym here) (sym (made_stands (length first) stand_for g.tet (tf.in_range x g e))))
 
@@ -223,9 +223,9 @@ module _ (first second : List Row) (P Q : List Part) (tf : IsTable first) (ts : 
     record { same_length = le_antisymm back matched_fits; four_faces = ts.four_faces; glued = whole_glued },
   )
 
-  pub matched_relabels : length second ≤ length first → IsRelabelled first second
+  pub matched_relabels : length second ≤ length first → AreIsomorphic first second
   matched_relabels back = let c = matched_carries back in (made (length first) stand_for, c.0, c.1)
 
 -- parts that are matched both ways
-pub matched_tables : (first second : List Row) (P Q : List Part) → IsTable first → IsTable second → AreParts first P → AreParts second Q → IsMatching P Q → IsMatching Q P → IsRelabelled first second
+pub matched_tables : (first second : List Row) (P Q : List Part) → IsTable first → IsTable second → AreParts first P → AreParts second Q → IsMatching P Q → IsMatching Q P → AreIsomorphic first second
 matched_tables first second P Q tf ts p q there back = matched_relabels first second P Q tf ts p q (matches P Q there) (matched_fits second first Q P ts tf q p (matches Q P back))

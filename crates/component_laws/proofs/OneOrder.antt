@@ -8,7 +8,7 @@ use Rattle.std.proofs.lemmas.Slice.Zip.{AllZip-long}
 use Rattle.plain_facts.proofs.Members.{Within, contains_nil, contains_head, contains_tail, contains_cases}
 use Rattle.table_definitions.specs.Lists.{below, is_list_before}
 use Rattle.table_definitions.specs.Table.{Row, IsTable}
-use Rattle.table_definitions.specs.Relabelling.{Relabelling, stand_in}
+use Rattle.table_definitions.specs.Relabelling.{Relabelling, relabelled_place}
 use Rattle.table_definitions.proofs.ListLaws.{not_before_itself}
 use Rattle.signature_definitions.specs.Spelling.{IsSignature}
 use Rattle.signature_definitions.specs.Labellings.{IsLeastRelabelling}
@@ -105,9 +105,9 @@ module _ (first second : List Row) (by by' : Relabelling) (tf : IsTable first) (
   each_b : Each by' a.parts a.order a.others a.other_order
   each_b = subst₂ (λ ps os. Each by' ps os a.others a.other_order) (sym same_parts) (sym same_orders) (subst₂ (λ ps os. Each by' b.parts b.order ps os) (sym same_others) (sym same_other_orders) b.each)
 
-  same_stand : (t : ℕ) → t < length first → stand_in by t ≡ stand_in by' t
-  same_stand t l = ap (stand_in by) (sym is) ∙ one.2 k lk ∙ ap (λ (r : Relabelling). record { tet = slice_index (numbers_at a.others (slice_index a.other_order i)) (slice_index r.images k); perm = slice_index_or r.perms k [] }) same
-      ∙ sym (other.2 k lk) ∙ ap (stand_in by') is
+  same_stand : (t : ℕ) → t < length first → relabelled_place by t ≡ relabelled_place by' t
+  same_stand t l = ap (relabelled_place by) (sym is) ∙ one.2 k lk ∙ ap (λ (r : Relabelling). record { tet = slice_index (numbers_at a.others (slice_index a.other_order i)) (slice_index r.images k); perm = slice_index_or r.perms k [] }) same
+      ∙ sym (other.2 k lk) ∙ ap (relabelled_place by') is
     where
       s : StandsAt a.parts t
       s = stands_at first tf a.parts a.in_order.are_parts t l

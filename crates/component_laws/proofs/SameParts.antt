@@ -6,7 +6,7 @@ use Rattle.std.proofs.lemmas.List.FromFn.{length-range_with_len}
 use Rattle.std.proofs.lemmas.List.Sorted.{IsPermutation-sym, Contains-permutation, length_permutation}
 use Rattle.table_definitions.specs.Lists.{below}
 use Rattle.table_definitions.specs.Table.{Row, IsTable}
-use Rattle.table_definitions.specs.Relabelling.{Relabelling, IsRelabelling, IsRelabelled, Carries, stand_in}
+use Rattle.table_definitions.specs.Relabelling.{Relabelling, IsRelabelling, AreIsomorphic, Carries, relabelled_place}
 use Rattle.signature_definitions.specs.Labellings.{IsLeastRelabelling}
 use Rattle.table_definitions.proofs.Bijections.{below_contains}
 use Rattle.table_definitions.proofs.Carried.{permutation_below, permutation_apart}
@@ -92,9 +92,9 @@ module _ (first second : List Row) (by : Relabelling) (tf : IsTable first) (ts :
     carries = λ a l. (taken_is a (cases_lt a count) l).0.relabels.1;
   }
 
-  stands_same : (t : ℕ) → t < length first → stand_in by t ≡ stand_for first second h.parts h.others tf ts h.in_order.are_parts h.others_in_order.are_parts matches t
+  stands_same : (t : ℕ) → t < length first → relabelled_place by t ≡ stand_for first second h.parts h.others tf ts h.in_order.are_parts h.others_in_order.are_parts matches t
   unfolding matches
-  stands_same t l = ap (stand_in by) (sym s.is) ∙ (taken_is s.i (cases_lt s.i count) s.in_parts).1 s.k s.in_numbers
+  stands_same t l = ap (relabelled_place by) (sym s.is) ∙ (taken_is s.i (cases_lt s.i count) s.in_parts).1 s.k s.in_numbers
       ∙ sym (stand_is first second h.parts h.others tf ts h.in_order.are_parts h.others_in_order.are_parts matches t s l)
     where
       s : StandsAt h.parts t
@@ -127,11 +127,11 @@ module _ (first second : List Row) (by : Relabelling) (tf : IsTable first) (ts :
   part_table : (a : ℕ) → a < count → IsTable (part_at h.parts a).rows
   part_table a l = part_is_table first tf (part_at h.parts a) (part_is first tf h.parts h.in_order.are_parts a l)
 
-  told_back : (b : ℕ) → b < count → IsRelabelled (part_at h.others b).rows (part_at h.parts (part_of b)).rows
+  told_back : (b : ℕ) → b < count → AreIsomorphic (part_at h.others b).rows (part_at h.parts (part_of b)).rows
   unfolding part_of
   told_back b l = let w = at_back_is b l in let i = at_back b in
       let r = h.each i (subst (λ n. i < n) (sym (order_long count h.order h.in_order.permutes)) w.0) in
-      subst (λ c. IsRelabelled (part_at h.others c).rows (part_at h.parts (slice_index h.order i)).rows) w.1
+      subst (λ c. AreIsomorphic (part_at h.others c).rows (part_at h.parts (slice_index h.order i)).rows) w.1
       (relabels_back (part_at h.parts (slice_index h.order i)).rows (part_at h.others (slice_index h.other_order i)).rows (part_table (slice_index h.order i) (order_below count h.order h.in_order.permutes i w.0))
       (r.0, r.1.relabels.0, r.1.relabels.1))
 

@@ -5,7 +5,7 @@ use Rattle.std.proofs.lemmas.List.Elements.{All-from_get_or, All-head, All-tail}
 use Rattle.std.proofs.lemmas.List.Sorted.{IsPermutation-sym, IsPermutation-trans, All-permutation}
 use Rattle.std.proofs.lemmas.Slice.Zip.{AllZip-long}
 use Rattle.table_definitions.specs.Table.{Row, IsTable}
-use Rattle.table_definitions.specs.Relabelling.{IsRelabelled}
+use Rattle.table_definitions.specs.Relabelling.{AreIsomorphic}
 use Rattle.signature_definitions.specs.Spelling.{IsSignature}
 use Rattle.signature_laws.proofs.Uniqueness.{tells_tables}
 use Rattle.signature_laws.proofs.Invariance.{relabels_back, relabels_on}
@@ -81,7 +81,7 @@ same_signatures first second text other tf ts a b e = IsPermutation-trans a.sign
     ordered : a.ordered ≡ b.ordered
     ordered = texts_apart a.ordered b.ordered (ordered_plain first text tf a) (ordered_plain second other ts b) (sym a.joined ∙ e ∙ b.joined)
 
-pub same_text_relabels : (first second : List Row) (text other : List ℕ) → IsTable first → IsTable second → IsComponentSignature first text → IsComponentSignature second other → text ≡ other → IsRelabelled first second
+pub same_text_relabels : (first second : List Row) (text other : List ℕ) → IsTable first → IsTable second → IsComponentSignature first text → IsComponentSignature second other → text ≡ other → AreIsomorphic first second
 same_text_relabels first second text other tf ts a b e = matched_tables first second a.parts b.parts tf ts a.are_parts b.are_parts
     (matching_from first second text other tf ts a b (taken_from b.signatures a.signatures (IsPermutation-sym a.signatures b.signatures p)))
     (matching_from second first other text ts tf b a (taken_from a.signatures b.signatures p))
@@ -89,11 +89,11 @@ same_text_relabels first second text other tf ts a b e = matched_tables first se
     p : IsPermutation a.signatures b.signatures
     p = same_signatures first second text other tf ts a b e
 
-pub relabelled_same_text : (first second : List Row) (text other : List ℕ) → IsTable first → IsTable second → IsComponentSignature first text → IsComponentSignature second other → IsRelabelled first second → text ≡ other
+pub relabelled_same_text : (first second : List Row) (text other : List ℕ) → IsTable first → IsTable second → IsComponentSignature first text → IsComponentSignature second other → AreIsomorphic first second → text ≡ other
 relabelled_same_text first second text other tf ts a b r = a.joined ∙ ap component_text (one_order a.ordered b.ordered a.in_order b.in_order
     (IsPermutation-trans a.ordered a.signatures b.ordered (IsPermutation-sym a.signatures a.ordered a.same) (IsPermutation-trans a.signatures b.signatures b.ordered p b.same))) ∙ sym b.joined
   where
-    back : IsRelabelled second first
+    back : AreIsomorphic second first
     back = relabels_back first second tf r
 
     there_taken : TakenFrom b.signatures a.signatures
@@ -105,13 +105,13 @@ relabelled_same_text first second text other tf ts a b r = a.joined ∙ ap compo
     p : IsPermutation a.signatures b.signatures
     p = permuted_from a.signatures b.signatures back_taken (fits (length a.signatures) (length b.signatures) there_taken.to there_taken.in_range there_taken.apart)
 
-pub component_signatures_tell : (first second : List Row) (text other : List ℕ) → IsTable first → IsTable second → IsComponentSignature first text → IsComponentSignature second other → (text ≡ other) ↔ IsRelabelled first second
+pub component_signatures_tell : (first second : List Row) (text other : List ℕ) → IsTable first → IsTable second → IsComponentSignature first text → IsComponentSignature second other → (text ≡ other) ↔ AreIsomorphic first second
 component_signatures_tell first second text other tf ts a b = (same_text_relabels first second text other tf ts a b, relabelled_same_text first second text other tf ts a b)
 
 -- ---- one component signature
 
 -- a table with a signature can be relabelled to itself
-itself : (rows : List Row) (text : List ℕ) → IsTable rows → IsSignature rows text → IsRelabelled rows rows
+itself : (rows : List Row) (text : List ℕ) → IsTable rows → IsSignature rows text → AreIsomorphic rows rows
 itself rows text table s = relabels_on rows s.found.0 rows table s.found.1 (relabels_back rows s.found.0 table s.found.1)
 
 pub one_component_signature : (rows : List Row) (text other : List ℕ) → IsTable rows → IsComponentSignature rows text → IsComponentSignature rows other → text ≡ other

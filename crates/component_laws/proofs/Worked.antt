@@ -5,7 +5,7 @@ use Rattle.table_definitions.specs.Lists.{is_list_before}
 use Rattle.table_definitions.specs.Permutation.{identity, IsPermutationOfFour}
 use Rattle.table_definitions.specs.Table.{Row, IsTable, glue}
 use Rattle.table_definitions.specs.Places.{Place, whole, across, along, SameComponent}
-use Rattle.table_definitions.specs.Relabelling.{Relabelling, IsRelabelled, stand_in, gluing_under}
+use Rattle.table_definitions.specs.Relabelling.{Relabelling, AreIsomorphic, relabelled_place, gluing_under}
 use Rattle.table_definitions.proofs.Tests.{Carries-passed}
 use Rattle.table_definitions.proofs.Carried.{stands_for}
 use Rattle.table_definitions.proofs.ChainLaws.{crossed}
@@ -56,7 +56,7 @@ one_table = record {
 same : Relabelling
 same = record { images = 0 ∷ []; perms = identity ∷ [] }
 
-same_relabels : IsRelabelled one one
+same_relabels : AreIsomorphic one one
 unfolding computed same
 same_relabels = (same, record { images = IsPermutation-refl (0 ∷ []); perms = refl; permutes = permutes }, Carries-passed same one one refl refl refl)
   where
@@ -65,12 +65,12 @@ same_relabels = (same, record { images = IsPermutation-refl (0 ∷ []); perms = 
     permutes (suc k) d l = absurd (omega arith)
 
 -- a table that it can be relabelled to is the same
-only_one : (new : List Row) → IsRelabelled one new → new ≡ one
+only_one : (new : List Row) → AreIsomorphic one new → new ≡ one
 only_one new r = ext_get_or [] new one r.2.same_length (λ k l. row_at k (subst (λ n. k < n) r.2.same_length l))
   where
     free : (f : ℕ) → f < 4 → slice_index_or (slice_index_or new 0 []) f None ≡ None
     free f l = let w = stands_for one new r.0 r.1 r.2 (record { tet = 0; face = f }) (lit< tt) l in
-        w.1.glued ∙ ap (option_map (λ g. gluing_under (stand_in r.0 w.0.tet) (stand_in r.0 g.tet) g)) (one_free w.0.tet w.0.face)
+        w.1.glued ∙ ap (option_map (λ g. gluing_under (relabelled_place r.0 w.0.tet) (relabelled_place r.0 g.tet) g)) (one_free w.0.tet w.0.face)
 
     row_at : (k : ℕ) → k < 1 → slice_index_or new k [] ≡ slice_index_or one k []
     row_at zero l = ext_get_or None (slice_index_or new 0 []) free_row (r.2.four_faces 0 [] (subst (λ n. 0 < n) (sym r.2.same_length) (lit< tt)))

@@ -2,7 +2,7 @@
 use Rattle.std.specs.Prelude.{◌≡◌, ◌↔◌, ℕ, List}
 use Rattle.table_definitions.specs.Table.{Row, IsTable}
 use Rattle.table_definitions.specs.Places.{IsConnected}
-use Rattle.table_definitions.specs.Relabelling.{Relabelling, IsRelabelled, Carries}
+use Rattle.table_definitions.specs.Relabelling.{Relabelling, AreIsomorphic, Carries}
 use Rattle.signature_definitions.specs.Spelling.{IsSignature}
 use Rattle.component_definitions.specs.Parts.{Part, IsPart, AreParts}
 use Rattle.component_definitions.specs.ComponentSignature.{IsComponentSignature}
@@ -23,7 +23,7 @@ OneListOfParts = (rows : List Row) (parts others : List Part) → IsTable rows �
 abbrev pub ComponentSignaturesTellTables : Type 0
 ComponentSignaturesTellTables =
     (first second : List Row) (text other : List ℕ) → IsTable first → IsTable second → IsComponentSignature first text → IsComponentSignature second other
-    → (text ≡ other) ↔ IsRelabelled first second
+    → (text ≡ other) ↔ AreIsomorphic first second
 
 -- so a table has one component signature at most
 abbrev pub OneComponentSignature : Type 0

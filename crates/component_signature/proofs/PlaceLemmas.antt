@@ -4,7 +4,7 @@ use Rattle.std.proofs.lemmas.Bool.{cases_order}
 use Rattle.std.proofs.lemmas.List.{get_or_default, length-map}
 use Rattle.plain_facts.proofs.Members.{contains_at}
 use Rattle.table_definitions.specs.Table.{Row, IsTable}
-use Rattle.table_definitions.specs.Relabelling.{Relabelling, stand_in}
+use Rattle.table_definitions.specs.Relabelling.{Relabelling, relabelled_place}
 use Rattle.table_definitions.proofs.Carried.{length-images, image_in_range, permutation_apart}
 use Rattle.signature_definitions.specs.Labellings.{IsLeastRelabelling}
 use Rattle.component_definitions.specs.Parts.{Part, IsPart}
@@ -66,7 +66,7 @@ module _ (n : ℕ) (P : List Part) (E : List Entry) (Q : List Part) (F : List En
       (one_part m.first m.first_table P m.are_parts (slice_index (numbers_of E) k) (slice_index (numbers_of E) i) t (number_below P E m.in_order k (omega arith)) (number_below P E m.in_order i l) a b)
 
   pub written_more : (i : ℕ) (old new by : Relabelling) → i < length E → IsLeastRelabelling (part_in P E i).rows (part_in Q F i).rows by → GoesBy new (part_in P E i) (part_in Q F i) by
-      → ((t : ℕ) → (Contains (part_in P E i).numbers t → ⊥) → stand_in new t ≡ stand_in old t) → AreWritten P (numbers_of E) Q (numbers_of F) i old → AreWritten P (numbers_of E) Q (numbers_of F) (i + 1) new
+      → ((t : ℕ) → (Contains (part_in P E i).numbers t → ⊥) → relabelled_place new t ≡ relabelled_place old t) → AreWritten P (numbers_of E) Q (numbers_of F) i old → AreWritten P (numbers_of E) Q (numbers_of F) (i + 1) new
   written_more i old new by l least goes others w k lk = elim (cases_order k i) [
     | inl same ↦ subst (λ j. (r : Relabelling) × IsLeastRelabelling (part_in P E j).rows (part_in Q F j).rows r × GoesBy new (part_in P E j) (part_in Q F j) r) (sym same) (by, least, goes)
     | inr (inl less) ↦ let v = w k less in

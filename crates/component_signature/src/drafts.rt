@@ -2,7 +2,7 @@
 
 ghost use Rattle.std.specs.Prelude.{◌≡◌, ◌<◌, ◌^◌, ℕ, length, slice_index, slice_set, All, AllPairs, Contains, IfOk};
 ghost use Rattle.table_definitions.specs.Permutation.{identity};
-ghost use Rattle.table_definitions.specs.Relabelling.{IsRelabelling, stand_in};
+ghost use Rattle.table_definitions.specs.Relabelling.{IsRelabelling, relabelled_place};
 ghost use Rattle.component_definitions.specs.SameParts.{GoesBy};
 
 use crate::split::Part;
@@ -46,7 +46,7 @@ pub fn write_part(draft: &mut Draft, part: &Part, other: &Part, by: &Relabelling
     requires one_each { length by.now.images ≡ length part.now.numbers }
     requires there { (k : ℕ) → k < length part.now.numbers → slice_index by.now.images k < length other.now.numbers }
     ensures goes { GoesBy draft.new part.now other.now by.now }
-    ensures others { (t : ℕ) → (Contains part.now.numbers t → ⊥) → stand_in draft.new t ≡ stand_in draft.old t }
+    ensures others { (t : ℕ) → (Contains part.now.numbers t → ⊥) → relabelled_place draft.new t ≡ relabelled_place draft.old t }
     ensures images { length draft.new.images ≡ length draft.old.images }
     ensures perms { length draft.new.perms ≡ length draft.old.perms }
 {

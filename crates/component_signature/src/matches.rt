@@ -2,7 +2,7 @@
 
 ghost use Rattle.std.specs.Prelude.{◌≡◌, ◌<◌, ◌+◌, ◌↔◌, length, IsTrue, IfOk, OnOk, IfSome, IfNone};
 ghost use Rattle.table_definitions.specs.Places.{IsConnected};
-ghost use Rattle.table_definitions.specs.Relabelling.{IsRelabelled};
+ghost use Rattle.table_definitions.specs.Relabelling.{AreIsomorphic};
 ghost use Rattle.signature_definitions.specs.Labellings.{IsLeastRelabelling, Relabels};
 ghost use Rattle.component_definitions.specs.SameParts.{IsSameParts};
 ghost use Rattle.component_signature.specs.Entries.{entries_of};
@@ -39,7 +39,7 @@ fn relabelling_of_connected(
 ) -> Result<Relabelling, NoMemory>
     requires connected { IsConnected first.now }
     requires second_connected { IsConnected second.now }
-    requires relabelled { IsRelabelled first.now second.now }
+    requires relabelled { AreIsomorphic first.now second.now }
     ensures { IfOk result (IsLeastRelabelling first.now second.now) }
 {
     match same_of_connected(alloc, first, second)? {
@@ -101,7 +101,7 @@ pub fn same_parts(
     ensures told { IfOk result (λ r. IfSome r (IsSameParts first.now second.now)) }
     ensures relabels { IfOk result (λ r. IfSome r (Relabels first.now second.now)) }
     ensures size { IfOk result (λ r. IfSome r (λ by. length by.images ≡ length first.now)) }
-    ensures none { IfOk result (λ r. IfNone r (IsRelabelled first.now second.now → ⊥)) }
+    ensures none { IfOk result (λ r. IfNone r (AreIsomorphic first.now second.now → ⊥)) }
 {
     let parts = in_order(alloc, first)?;
     let others = in_order(alloc, second)?;

@@ -2,7 +2,7 @@
 use Rattle.std.specs.Prelude.{ℕ, ◌<◌, List, [], length, slice_index_or}
 use Rattle.cone_definitions.specs.Rows.{Row, IsZeroAt}
 use Rattle.cone_definitions.specs.Elimination.{HasLargePart, HasPartsWithin}
-use Rattle.cone_definitions.specs.Met.{AreMetBefore}
+use Rattle.cone_definitions.specs.Met.{HoldWithinBefore}
 use Rattle.cone_arithmetic.specs.Combinations.{HasFirstPast, IsFirstPast}
 use Rattle.cone_arithmetic.specs.declared.ray.CombineFault.{CombineFault}
 use Rattle.cone_arithmetic.specs.declared.ray.CombineFault.TheVariants.{Passed as CombinePassed, NoMemory}
@@ -22,13 +22,13 @@ PassesAt limit z NoMemory = Unit {0}
 -- at the first row that isn't met a part passes the limit
 pub record IsPastAt (limit : ℕ) (rows : List Row) (x : List ℕ) (i : ℕ) : Type 0 where
   pub in_range : i < length rows
-  pub earlier : AreMetBefore limit rows x i
+  pub earlier : HoldWithinBefore limit rows x i
   pub past : HasLargePart limit (slice_index_or rows i []) x
 
 -- or else the row isn't 0 there
 pub record IsNotZeroAt (limit : ℕ) (rows : List Row) (x : List ℕ) (i : ℕ) : Type 0 where
   pub in_range : i < length rows
-  pub earlier : AreMetBefore limit rows x i
+  pub earlier : HoldWithinBefore limit rows x i
   pub within : HasPartsWithin limit (slice_index_or rows i []) x
   pub not_zero : ¬ IsZeroAt (slice_index_or rows i []) x
 

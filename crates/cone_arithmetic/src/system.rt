@@ -5,7 +5,7 @@ ghost use Rattle.std.specs.List.{All};
 ghost use Rattle.cone_arithmetic.specs.Sparse.{IsInRange};
 ghost use Rattle.cone_arithmetic.specs.Faults.{SolutionFails};
 ghost use Rattle.cone_definitions.specs.Rows.{IsSolution};
-ghost use Rattle.cone_definitions.specs.Met.{IsMet};
+ghost use Rattle.cone_definitions.specs.Met.{HoldsWithin};
 
 use crate::numbers::{MAX_ENTRY, Passed, parts};
 use crate::row::SparseRow;
@@ -95,7 +95,7 @@ impl System {
 /// exceeds `MAX_ENTRY` (`Passed`), or which is not 0 at `x` (`NotZero`).
 pub fn is_solution(system: &System, x: &[u128]) -> Result<(), SolutionFault>
     requires { length x.now ≡ system.now.columns }
-    ensures ok { IsOk result ↔ All (IsMet MAX_ENTRY x.now) system.now.rows }
+    ensures ok { IsOk result ↔ All (HoldsWithin MAX_ENTRY x.now) system.now.rows }
     ensures solution { OnOk result (IsSolution system.now.columns system.now.rows x.now) }
     ensures err { IfErr result (SolutionFails MAX_ENTRY system.now.rows x.now) }
 {

@@ -4,10 +4,10 @@ use Rattle.cone_definitions.specs.Rows.{Row, IsZeroAt}
 use Rattle.cone_definitions.specs.Elimination.{HasPartsWithin}
 
 -- the row is 0 at the vector, and no part passes the limit
-pub record IsMet (limit : ℕ) (x : List ℕ) (row : Row) : Type 0 where
+pub record HoldsWithin (limit : ℕ) (x : List ℕ) (row : Row) : Type 0 where
   pub within : HasPartsWithin limit row x
   pub zero : IsZeroAt row x
 
 -- so are the first i rows
-abbrev pub AreMetBefore : ℕ → List Row → List ℕ → ℕ → Type 0
-AreMetBefore limit rows x i = (j : ℕ) → j < i → IsMet limit x (slice_index_or rows j [])
+abbrev pub HoldWithinBefore : ℕ → List Row → List ℕ → ℕ → Type 0
+HoldWithinBefore limit rows x i = (j : ℕ) → j < i → HoldsWithin limit x (slice_index_or rows j [])

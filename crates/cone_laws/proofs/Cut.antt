@@ -5,7 +5,7 @@ use Rattle.std.proofs.lemmas.List.{length_push}
 use Rattle.std.proofs.lemmas.List.Elements.{All-contains}
 use Rattle.std.proofs.lemmas.List.Sums.{AllPass-from_list_all}
 use Rattle.cone_definitions.specs.Rows.{Row, IsZeroAt}
-use Rattle.cone_definitions.specs.Surfaces.{Clash, PairsAreApart, IsVertexSurface, IsAdmissibleUnion, IsSurfaceList}
+use Rattle.cone_definitions.specs.Surfaces.{Clash, PairsAreOfTwoColumns, IsVertexSurface, IsAdmissibleUnion, IsSurfaceList}
 use Rattle.cone_definitions.specs.Elimination.{Step, step_at, IsRay, IsPair}
 use Rattle.cone_definitions.specs.Enumeration.{ComesFromPair, IsNextList, unit_vectors}
 use Rattle.cone_definitions.proofs.Ascending.{same_ascending}
@@ -20,7 +20,7 @@ use Rattle.cone_laws.proofs.Places.{large_third_place}
 
 -- ---- the first list, and a step whose row is 0 at all rays
 
-pub units_of_no_row : (columns : ℕ) (pairs : List Clash) → PairsAreApart pairs → IsListOfFew columns pairs 0 (unit_vectors columns)
+pub units_of_no_row : (columns : ℕ) (pairs : List Clash) → PairsAreOfTwoColumns pairs → IsListOfFew columns pairs 0 (unit_vectors columns)
 units_of_no_row columns pairs apart = record { rows = []; few = omega arith; surfaces = unit_vectors_list columns pairs apart }
 
 zero_no_pair : (step : Step) (rays : List (List ℕ)) → IsSurfaceList step.columns step.before step.pairs rays → All (IsZeroAt step.row) rays → (u w : List ℕ) → IsPair step u w → ⊥

@@ -3,7 +3,7 @@ use Rattle.std.proofs.Common.{◌≡◌, ℕ, ◌+◌, ◌<◌, ◌≤◌, ◌�
 use Rattle.std.specs.List.{take-map}
 use Rattle.std.proofs.lemmas.List.{length-take-le, get_or-take}
 use Rattle.cone_definitions.specs.Rows.{Row}
-use Rattle.cone_definitions.specs.Surfaces.{Clash, PairsAreApart}
+use Rattle.cone_definitions.specs.Surfaces.{Clash, PairsAreOfTwoColumns}
 use Rattle.cone_definitions.specs.Elimination.{Step, in_order, IsWithin, Named, IsNamedAt, IsLarge}
 use Rattle.cone_definitions.specs.Systems.{System}
 use Rattle.cone_definitions.specs.Orders.{IsNamedTurn, AreNamed}
@@ -28,7 +28,7 @@ large_shorter limit columns rows pairs n k named less within h = record {
   at_step = subst (λ (s : Step). IsNamedAt limit s named) (sym (step_same columns rows pairs n k less within)) h.at_step;
 }
 
-module _ (e : Enumeration) (apart : PairsAreApart e.pairs) where
+module _ (e : Enumeration) (apart : PairsAreOfTwoColumns e.pairs) where
   abbrev Ends : Type 0
   Ends = ((taken : List ℕ) × (list : List (List ℕ)) × IsListed e taken list) ⊎ ((taken : List ℕ) × (kind : Named) × IsPastLimit e taken kind)
 

@@ -2,7 +2,7 @@
 use Rattle.std.specs.Prelude.{◌≡◌, ◌==◌, ℕ, ◌+◌, ◌<◌, ◌≤◌, Bool, not, List, [], length, slice_index_or}
 use Rattle.std.specs.List.{All, count_by, list_all, range_with_len}
 use Rattle.cone_definitions.specs.Rows.{Row, plus_part, minus_part, IsZeroAt}
-use Rattle.cone_definitions.specs.Surfaces.{Clash, PairsAreApart, IsAdmissibleUnion, IsSurfaceList}
+use Rattle.cone_definitions.specs.Surfaces.{Clash, PairsAreOfTwoColumns, IsAdmissibleUnion, IsSurfaceList}
 use Rattle.cone_definitions.specs.Elimination.{Step, step_at, IsPair}
 use Rattle.cone_definitions.specs.Enumeration.{IsNextList, unit_vectors}
 use Rattle.cone_definitions.specs.Vectors.{ray_at}
@@ -21,7 +21,7 @@ pub record IsStepOn (step : Step) (rays next : List (List ℕ)) : Type 0 where
 
 -- the first list needs no row
 abbrev pub UnitVectorsAreOfNoRow : Type 0
-UnitVectorsAreOfNoRow = (columns : ℕ) (pairs : List Clash) → PairsAreApart pairs → IsListOfFew columns pairs 0 (unit_vectors columns)
+UnitVectorsAreOfNoRow = (columns : ℕ) (pairs : List Clash) → PairsAreOfTwoColumns pairs → IsListOfFew columns pairs 0 (unit_vectors columns)
 
 -- where the row is 0 at all rays, the next list is the same
 abbrev pub FlatStepsKeepTheList : Type 0
@@ -53,7 +53,7 @@ cuts_before rows lists k = count_by (λ i. not (is_flat (slice_index_or rows i [
 
 -- an enumeration: from the unit vectors through a next list at each step
 pub record AreLists (columns : ℕ) (rows : List Row) (pairs : List Clash) (lists : ℕ → List (List ℕ)) : Type 0 where
-  pub apart : PairsAreApart pairs
+  pub apart : PairsAreOfTwoColumns pairs
   pub first : lists 0 ≡ unit_vectors columns
   pub next : (k : ℕ) → k < length rows → IsNextList (step_at columns rows pairs k) (lists k) (lists (k + 1))
 

@@ -2,7 +2,7 @@
 use Rattle.std.specs.Prelude.{ℕ, List, length, ◌⊎◌}
 use Rattle.std.specs.List.{range_with_len}
 use Rattle.std.specs.List.Sorted.{IsPermutation}
-use Rattle.cone_definitions.specs.Surfaces.{PairsAreApart}
+use Rattle.cone_definitions.specs.Surfaces.{PairsAreOfTwoColumns}
 use Rattle.cone_definitions.specs.Elimination.{Named}
 use Rattle.cone_definitions.specs.Systems.{System}
 use Rattle.cone_definitions.specs.Orders.{AreNamed}
@@ -15,5 +15,5 @@ RowsAreTaken = (order : Order) (system : System) → (taken : List ℕ) × IsPer
 
 -- where each pair is of two different columns, there is a list, or a number passes the limit
 abbrev pub EnumerationsEnd : Type 0
-EnumerationsEnd = (e : Enumeration) → PairsAreApart e.pairs →
+EnumerationsEnd = (e : Enumeration) → PairsAreOfTwoColumns e.pairs →
     ((taken : List ℕ) × (list : List (List ℕ)) × IsListed e taken list) ⊎ ((taken : List ℕ) × (kind : Named) × IsPastLimit e taken kind)

@@ -25,12 +25,12 @@ abbrev pub other_sheet : ℕ → ℕ
 other_sheet s = 1 - s
 
 -- the sheet across a gluing: the same sheet if the gluing is odd, the other one if it is even
-abbrev pub sheet_behind : Gluing → ℕ → ℕ
-sheet_behind g s = if is_odd g.perm then s else other_sheet s
+abbrev pub sheet_across : Gluing → ℕ → ℕ
+sheet_across g s = if is_odd g.perm then s else other_sheet s
 
 -- the gluing of the cover over a gluing that leaves a tetrahedron on a sheet
 abbrev pub lifted : ℕ → ℕ → Gluing → Gluing
-lifted n s g = record { tet = above n g.tet (sheet_behind g s); perm = g.perm }
+lifted n s g = record { tet = above n g.tet (sheet_across g s); perm = g.perm }
 
 -- each face is glued as the face below it, if that is glued
 unfoldable pub cover_row : List Row → ℕ → Row

@@ -8,7 +8,7 @@ use Rattle.table_definitions.specs.Permutation.{IsPermutationOfFour, image, is_o
 use Rattle.table_definitions.specs.Table.{max_tets, Gluing, Row, Face, IsTable, glue, other_side, way_back, same_face}
 use Rattle.skeleton_definitions.specs.Orientation.{sign_of, sign_across, AreSigns}
 use Rattle.table_definitions.proofs.Carried.{not_from, same_from, same_to}
-use Rattle.cover_definitions.specs.Cover.{over, sheet, above, other_sheet, sheet_behind, lifted, cover, face_below, sheet_signs}
+use Rattle.cover_definitions.specs.Cover.{over, sheet, above, other_sheet, sheet_across, lifted, cover, face_below, sheet_signs}
 use Rattle.cover_laws.specs.Laws.{ProjectsTo}
 use Rattle.cover_laws.proofs.Sheets.{over_below, sheet_small, above_over, over_above, sheet_above, above_below, behind_small, behind_back, cases_sheet, length-cover, row-cover, glue-cover, GluedBelow, glued_below}
 
@@ -20,16 +20,16 @@ module _ (rows : List Row) (table : IsTable rows) where
   below_n x h d = table.in_range (face_below n x) d.g d.glued
 
   pub behind_over : (x : Face) (h : Gluing) (d : GluedBelow rows x h) → over n h.tet ≡ d.g.tet
-  behind_over x h d = ap (λ (b : Gluing). over n b.tet) (sym d.is) ∙ over_above n d.g.tet (sheet_behind d.g (sheet n x.tet)) (below_n x h d) (behind_small d.g (sheet n x.tet) (sheet_small n x.tet))
+  behind_over x h d = ap (λ (b : Gluing). over n b.tet) (sym d.is) ∙ over_above n d.g.tet (sheet_across d.g (sheet n x.tet)) (below_n x h d) (behind_small d.g (sheet n x.tet) (sheet_small n x.tet))
 
-  pub behind_sheet : (x : Face) (h : Gluing) (d : GluedBelow rows x h) → sheet n h.tet ≡ sheet_behind d.g (sheet n x.tet)
-  behind_sheet x h d = ap (λ (b : Gluing). sheet n b.tet) (sym d.is) ∙ sheet_above n d.g.tet (sheet_behind d.g (sheet n x.tet)) (below_n x h d) (behind_small d.g (sheet n x.tet) (sheet_small n x.tet))
+  pub behind_sheet : (x : Face) (h : Gluing) (d : GluedBelow rows x h) → sheet n h.tet ≡ sheet_across d.g (sheet n x.tet)
+  behind_sheet x h d = ap (λ (b : Gluing). sheet n b.tet) (sym d.is) ∙ sheet_above n d.g.tet (sheet_across d.g (sheet n x.tet)) (below_n x h d) (behind_small d.g (sheet n x.tet) (sheet_small n x.tet))
 
   pub same_perm : (x : Face) (h : Gluing) (d : GluedBelow rows x h) → h.perm ≡ d.g.perm
   same_perm x h d = ap (λ (b : Gluing). b.perm) (sym d.is)
 
   pub behind_below : (x : Face) (h : Gluing) → glue (cover rows) x ≡ Some h → h.tet < 2 * n
-  behind_below x h e = let d = glued_below rows x h e in subst (λ (b : Gluing). b.tet < 2 * n) d.is (above_below n d.g.tet (sheet_behind d.g (sheet n x.tet)) (below_n x h d) (behind_small d.g (sheet n x.tet) (sheet_small n x.tet)))
+  behind_below x h e = let d = glued_below rows x h e in subst (λ (b : Gluing). b.tet < 2 * n) d.is (above_below n d.g.tet (sheet_across d.g (sheet n x.tet)) (below_n x h d) (behind_small d.g (sheet n x.tet) (sheet_small n x.tet)))
 
   cover_apart : (x : Face) (h : Gluing) → glue (cover rows) x ≡ Some h → same_face (other_side x h) x ≡ true → ⊥
   cover_apart x h e s =
@@ -46,8 +46,8 @@ module _ (rows : List Row) (table : IsTable rows) where
       let p : IsPermutationOfFour d.g.perm = table.permutes (face_below n x) d.g d.glued in
       glue-cover rows (other_side x h) (behind_below x h e)
       ∙ ap₂ (λ s t. option_map (lifted n s) (glue rows (record { tet = t; face = image h.perm x.face }))) (behind_sheet x h d) (behind_over x h d)
-      ∙ ap (λ q. option_map (lifted n (sheet_behind d.g (sheet n x.tet))) (glue rows (record { tet = d.g.tet; face = image q x.face }))) (same_perm x h d)
-      ∙ ap (option_map (lifted n (sheet_behind d.g (sheet n x.tet)))) (table.leads_back (face_below n x) d.g d.glued)
+      ∙ ap (λ q. option_map (lifted n (sheet_across d.g (sheet n x.tet))) (glue rows (record { tet = d.g.tet; face = image q x.face }))) (same_perm x h d)
+      ∙ ap (option_map (lifted n (sheet_across d.g (sheet n x.tet)))) (table.leads_back (face_below n x) d.g d.glued)
       ∙ ap₂ (λ s q. Some (record { tet = above n (over n x.tet) s; perm = inverse q })) (behind_back d.g (over n x.tet) (sheet n x.tet) p (sheet_small n x.tet)) (sym (same_perm x h d))
       ∙ ap (λ t. Some (record { tet = t; perm = inverse h.perm })) (above_over n x.tet)
 

@@ -4,7 +4,7 @@ use Rattle.std.specs.List.{range_with_len}
 use Rattle.table_definitions.specs.Lists.{below}
 use Rattle.table_definitions.specs.Permutation.{IsPermutationOfFour, compose, identity}
 use Rattle.table_definitions.specs.Table.{Gluing, Row, Face, glue}
-use Rattle.table_definitions.specs.Relabelling.{Relabelling, IsRelabelling, Carries, stand_in, face_under, gluing_under}
+use Rattle.table_definitions.specs.Relabelling.{Relabelling, IsRelabelling, Carries, relabelled_place, face_under, gluing_under}
 use Rattle.table_definitions.proofs.Permutations.{compose-identity, identity-compose, identity_permutes, inverse-identity, image-identity}
 use Rattle.signature_laws.specs.Between.{made}
 use Rattle.signature_laws.proofs.Standing.{made_stands, made_relabelling}
@@ -40,7 +40,7 @@ module _ (old new : List Row) (f : ℕ → ℕ) (small : (t : ℕ) → t < lengt
   abbrev whole : Relabelling
   whole = made (length old) (stands_plain f)
 
-  stands : (t : ℕ) → t < length old → stand_in whole t ≡ stands_plain f t
+  stands : (t : ℕ) → t < length old → relabelled_place whole t ≡ stands_plain f t
   stands t l = made_stands (length old) (stands_plain f) t l
 
   plain_under : (t u : ℕ) (g : Gluing) → IsPermutationOfFour g.perm → gluing_under (stands_plain f t) (stands_plain f g.tet) g ≡ moved_to f g
@@ -48,12 +48,12 @@ module _ (old new : List Row) (f : ℕ → ℕ) (small : (t : ℕ) → t < lengt
   plain_under t u g h = ap (λ p. record { tet = f g.tet; perm = compose identity (compose g.perm p) }) inverse-identity
       ∙ ap (λ p. record { tet = f g.tet; perm = compose identity p }) (compose-identity g.perm h) ∙ ap (λ p. record { tet = f g.tet; perm = p }) (identity-compose g.perm h)
 
-  plain_glued : (x : Face) → x.tet < length old → x.face < 4 → glue new (face_under (stand_in whole x.tet) x) ≡ option_map (λ g. gluing_under (stand_in whole x.tet) (stand_in whole g.tet) g) (glue old x)
+  plain_glued : (x : Face) → x.tet < length old → x.face < 4 → glue new (face_under (relabelled_place whole x.tet) x) ≡ option_map (λ g. gluing_under (relabelled_place whole x.tet) (relabelled_place whole g.tet) g) (glue old x)
   unfolding stands_plain
   plain_glued x lt lf = ap (λ (b : Gluing). glue new (face_under b x)) (stands x.tet lt) ∙ ap (λ v. glue new (record { tet = f x.tet; face = v })) (image-identity x.face lf)
       ∙ moved x.tet x.face lt ∙ cases (glue old x) refl
     where
-      cases : (o : Option Gluing) → glue old x ≡ o → option_map (moved_to f) (glue old x) ≡ option_map (λ (g : Gluing). gluing_under (stand_in whole x.tet) (stand_in whole g.tet) g) (glue old x)
+      cases : (o : Option Gluing) → glue old x ≡ o → option_map (moved_to f) (glue old x) ≡ option_map (λ (g : Gluing). gluing_under (relabelled_place whole x.tet) (relabelled_place whole g.tet) g) (glue old x)
       cases None e = rw e refl
       cases (Some g) e = rw e (ap (λ (b : Gluing). Some b) (sym (plain_under x.tet x.tet g (permutes x g e)) ∙ ap₂ (λ (b c : Gluing). gluing_under b c g) (sym (stands x.tet lt)) (sym (stands g.tet (in_range x g e)))))
 

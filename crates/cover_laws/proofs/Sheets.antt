@@ -8,7 +8,7 @@ use Rattle.table_definitions.specs.Permutation.{IsPermutationOfFour, is_odd, inv
 use Rattle.table_definitions.specs.Table.{Gluing, Row, Face, glue}
 use Rattle.table_definitions.proofs.TableLaws.{glued_tet}
 use Rattle.table_definitions.proofs.Permutations.{is_odd-inverse}
-use Rattle.cover_definitions.specs.Cover.{over, sheet, above, other_sheet, sheet_behind, lifted, cover_row, cover, face_below}
+use Rattle.cover_definitions.specs.Cover.{over, sheet, above, other_sheet, sheet_across, lifted, cover_row, cover, face_below}
 
 low : (a b : ℕ) → a < b → nat_lt a b ≡ true
 low a b l = grind arith
@@ -76,14 +76,14 @@ other_other s l = omega arith
 
 -- ---- sheets behind gluings
 
-pub behind_small : (g : Gluing) (s : ℕ) → s ≤ 1 → sheet_behind g s ≤ 1
+pub behind_small : (g : Gluing) (s : ℕ) → s ≤ 1 → sheet_across g s ≤ 1
 behind_small g s l = by_parity (is_odd g.perm)
   where
     by_parity : (b : Bool) → (if b then s else other_sheet s) ≤ 1
     by_parity true = l
     by_parity false = other_small s
 
-pub behind_other : (g : Gluing) (s : ℕ) → s ≤ 1 → sheet_behind g (other_sheet s) ≡ other_sheet (sheet_behind g s)
+pub behind_other : (g : Gluing) (s : ℕ) → s ≤ 1 → sheet_across g (other_sheet s) ≡ other_sheet (sheet_across g s)
 behind_other g s l = by_parity (is_odd g.perm)
   where
     by_parity : (b : Bool) → (if b then other_sheet s else other_sheet (other_sheet s)) ≡ other_sheet (if b then s else other_sheet s)
@@ -91,8 +91,8 @@ behind_other g s l = by_parity (is_odd g.perm)
     by_parity false = refl
 
 -- the way back leads to the first sheet
-pub behind_back : (g : Gluing) (t s : ℕ) → IsPermutationOfFour g.perm → s ≤ 1 → sheet_behind (record { tet = t; perm = inverse g.perm }) (sheet_behind g s) ≡ s
-behind_back g t s h l = ap (λ b. if b then sheet_behind g s else other_sheet (sheet_behind g s)) (is_odd-inverse g.perm h) ∙ by_parity (is_odd g.perm)
+pub behind_back : (g : Gluing) (t s : ℕ) → IsPermutationOfFour g.perm → s ≤ 1 → sheet_across (record { tet = t; perm = inverse g.perm }) (sheet_across g s) ≡ s
+behind_back g t s h l = ap (λ b. if b then sheet_across g s else other_sheet (sheet_across g s)) (is_odd-inverse g.perm h) ∙ by_parity (is_odd g.perm)
   where
     by_parity : (b : Bool) → (if b then (if b then s else other_sheet s) else other_sheet (if b then s else other_sheet s)) ≡ s
     by_parity true = refl

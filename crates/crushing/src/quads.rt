@@ -1,7 +1,7 @@
 //! The quads of a tetrahedron, and what its faces become if it is removed.
 
 ghost use Rattle.std.specs.Prelude.{◌≡◌, ◌<◌, length, true, false, IfNone, IfSome, if◌then◌else◌, ◌==◌};
-ghost use Rattle.table_definitions.specs.Lists.{in_place_of};
+ghost use Rattle.table_definitions.specs.Lists.{substitute};
 ghost use Rattle.std.specs.List.{position_or_len};
 ghost use Rattle.table_definitions.specs.Permutation.{IsPermutationOfFour};
 ghost use Rattle.surface_definitions.specs.Coordinates.{three};
@@ -45,7 +45,7 @@ impl Surface<'_> {
 
 /// The image of `u` under the transposition of `v` and `w`.
 fn exchange_image(v: u8, w: u8, u: u8) -> u8
-    ensures { result ≡ (if u == v then w else in_place_of w v u) }
+    ensures { result ≡ (if u == v then w else substitute w v u) }
 {
     if u == v {
         w

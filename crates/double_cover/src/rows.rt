@@ -12,7 +12,7 @@ use std::alloc::{AllocError, Global};
 
 /// The sheet across `glue` from `sheet`: the same one if the gluing is odd, otherwise the other one.
 fn sheet_behind(glue: Glue, sheet: Sheet) -> Sheet
-    ensures { result.number ≡ definition.sheet_behind glue sheet.number }
+    ensures { result.number ≡ definition.sheet_across glue sheet.number }
 {
     if glue.perm.is_odd() {
         sheet

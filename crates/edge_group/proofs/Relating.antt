@@ -16,7 +16,7 @@ use Rattle.table_definitions.specs.Places.{is_boundary_edge}
 use Rattle.table_definitions.proofs.TableLaws.{glued_tet, glued_face}
 use Rattle.table_definitions.proofs.ListFacts.{below_next}
 use Rattle.table_definitions.proofs.Bijections.{contains_has}
-use Rattle.skeleton_definitions.specs.Corners.{Corner, step, corner_behind, first_corner, GoesRound, IsWalk, inner_edges, left_through}
+use Rattle.skeleton_definitions.specs.Corners.{Corner, step, corner_across, first_corner, GoesAround, IsTourFrom, internal_edges, left_through}
 use Rattle.skeleton_definitions.specs.Skeleton.{Skeleton, IsAround}
 use Rattle.presentation_definitions.specs.declared.Letter.{Letter}
 use Rattle.presentation_laws.specs.Classes.{generator_number, LeavesInRange}
@@ -65,35 +65,35 @@ module _ (s : Skeleton) where
   leaves h k l e = cases (glue s.rows (left_through k)) refl
     where
       cases : (o : Option Gluing) → glue s.rows (left_through k) ≡ o → LeavesInRange s.rows k
-      cases None d = let z : None ≡ Some l = ap (option_map (corner_behind k)) (sym d) ∙ e in absurd cc
+      cases None d = let z : None ≡ Some l = ap (option_map (corner_across k)) (sym d) ∙ e in absurd cc
       cases (Some g) d = (glued_tet s.rows (left_through k) g d, glued_face s.rows (left_through k) g h.four_faces d)
 
-  round_leaves : (h : IsTable s.rows) (first k : Corner) (ls : List Corner) → GoesRound s.rows first k ls → All (LeavesInRange s.rows) (k ∷ ls)
+  round_leaves : (h : IsTable s.rows) (first k : Corner) (ls : List Corner) → GoesAround s.rows first k ls → All (LeavesInRange s.rows) (k ∷ ls)
   round_leaves h first k [] w = All-cons (LeavesInRange s.rows) k [] (leaves h k first w) (All-nil (LeavesInRange s.rows))
   round_leaves h first k (l ∷ ls) w = All-cons (LeavesInRange s.rows) k (l ∷ ls) (leaves h k l w.0) (round_leaves h first l ls w.2)
 
-  walk_leaves : (h : IsTable s.rows) (first : Corner) (corners : List Corner) → IsWalk s.rows first corners → All (LeavesInRange s.rows) corners
+  walk_leaves : (h : IsTable s.rows) (first : Corner) (corners : List Corner) → IsTourFrom s.rows first corners → All (LeavesInRange s.rows) corners
   walk_leaves h first [] w = absurd w
   walk_leaves h first (k ∷ ks) w = round_leaves h first k ks w.1
 
   pub around_leaves : (h : IsTable s.rows) (c : ℕ) (corners : List Corner) → IsAround s c corners → All (LeavesInRange s.rows) corners
   around_leaves h c corners a = by_boundary (is_boundary_edge s.rows s.edges.classes c) a
     where
-      by_boundary : (b : Bool) → MatchBool b (corners ≡ []) (IsWalk s.rows (first_corner (least s.edges.classes c)) corners) → All (LeavesInRange s.rows) corners
+      by_boundary : (b : Bool) → MatchBool b (corners ≡ []) (IsTourFrom s.rows (first_corner (least s.edges.classes c)) corners) → All (LeavesInRange s.rows) corners
       by_boundary true e = subst (All (LeavesInRange s.rows)) (sym e) (All-nil (LeavesInRange s.rows))
       by_boundary false w = walk_leaves h (first_corner (least s.edges.classes c)) corners w
 
 -- ---- inner edges
 
-edges_more : (rows : List Row) (classes : List ℕ) (c : ℕ) (b : Bool) → is_boundary_edge rows classes c ≡ b → inner_edges rows classes (c + 1) ≡ inner_edges rows classes c ++ cond (not b) (c ∷ []) []
+edges_more : (rows : List Row) (classes : List ℕ) (c : ℕ) (b : Bool) → is_boundary_edge rows classes c ≡ b → internal_edges rows classes (c + 1) ≡ internal_edges rows classes c ++ cond (not b) (c ∷ []) []
 edges_more rows classes c b e =
     ap (filter (λ d. not (is_boundary_edge rows classes d))) (below_next c) ∙ filter-append (λ d. not (is_boundary_edge rows classes d)) (below c) (c ∷ [])
-    ∙ ap (λ a. inner_edges rows classes c ++ cond (not a) (c ∷ []) []) e
+    ∙ ap (λ a. internal_edges rows classes c ++ cond (not a) (c ∷ []) []) e
 
-pub edge_passes : (rows : List Row) (classes : List ℕ) (c : ℕ) → is_boundary_edge rows classes c ≡ true → inner_edges rows classes (c + 1) ≡ inner_edges rows classes c
-edge_passes rows classes c e = edges_more rows classes c true e ∙ append-nil (inner_edges rows classes c)
+pub edge_passes : (rows : List Row) (classes : List ℕ) (c : ℕ) → is_boundary_edge rows classes c ≡ true → internal_edges rows classes (c + 1) ≡ internal_edges rows classes c
+edge_passes rows classes c e = edges_more rows classes c true e ∙ append-nil (internal_edges rows classes c)
 
-pub edge_grows : (rows : List Row) (classes : List ℕ) (c : ℕ) → is_boundary_edge rows classes c ≡ false → inner_edges rows classes (c + 1) ≡ inner_edges rows classes c ++ c ∷ []
+pub edge_grows : (rows : List Row) (classes : List ℕ) (c : ℕ) → is_boundary_edge rows classes c ≡ false → internal_edges rows classes (c + 1) ≡ internal_edges rows classes c ++ c ∷ []
 edge_grows rows classes c e = edges_more rows classes c false e
 
 -- ---- lists side by side

@@ -18,7 +18,7 @@ use std::alloc::{AllocError, Global};
 
 /// The internal edge classes of `skeleton`, ascending.
 pub fn inner_edges(alloc: Global, skeleton: &Skeleton) -> Result<Vec<u32>, AllocError>
-    ensures edges { IfOk result (λ edges. edges.items ≡ definition.inner_edges skeleton.now.rows skeleton.now.edges.classes skeleton.now.edges.count) }
+    ensures edges { IfOk result (λ edges. edges.items ≡ definition.internal_edges skeleton.now.rows skeleton.now.edges.classes skeleton.now.edges.count) }
     ensures in_range { IfOk result (λ edges. All (λ c. c < skeleton.now.edges.count) edges.items) }
     ensures few { IfOk result (λ edges. length edges.items < 2 ^ 32) }
 {

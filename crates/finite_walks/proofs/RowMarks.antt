@@ -3,7 +3,7 @@ use Rattle.std.proofs.Common.{◌≡◌, ℕ, ◌+◌, ◌<◌, ◌≤◌, List,
 use Rattle.std.specs.List.{slice_index_or}
 use Rattle.std.proofs.lemmas.List.{length-set, length_push, drop-append-le, get_or_default}
 use Rattle.table_walk_laws.specs.Joined.{HasNeighboursBelow, present, neighbours_of}
-use Rattle.table_walk_laws.specs.Search.{IsMarked, IsSearch, IsTurn, AreMembers, work_left}
+use Rattle.table_walk_laws.specs.Search.{IsMarked, IsSearch, IsSearchStep, AreMembers, work_left}
 use Rattle.finite_walks.specs.Rows.{IsRowMarked}
 use Rattle.table_walk_laws.proofs.Rows.{entry_marks, entry_passes, entry_skips}
 use Rattle.table_walk_laws.proofs.SearchLemmas.{turn_ends, has_few_turns}
@@ -56,6 +56,6 @@ module _ (table : List (List (Option ℕ))) (x : ℕ) (row : List (Option ℕ)) 
 
   -- where it is marked, its turn is over
   pub turn_over : (first before after : List Bool) (pending longer : List ℕ) (k : ℕ) → IsRowMarked (present row) (present row) before after pending longer → k ≤ length pending →
-      IsTurn (neighbours_of table) first x [] before (drop k pending) → IsSearch (neighbours_of table) first after (drop k longer)
+      IsSearchStep (neighbours_of table) first x [] before (drop k pending) → IsSearch (neighbours_of table) first after (drop k longer)
   turn_over first before after pending longer k h l t =
       turn_ends (neighbours_of table) first x (present row) after (drop k longer) (h.turn (neighbours_of table) first x k same l t) same

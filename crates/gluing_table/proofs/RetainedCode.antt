@@ -2,7 +2,7 @@
 use Rattle.std.proofs.Common.{◌≡◌, ℕ, zero, suc, ◌+◌, ◌^◌, ◌<◌, ◌≤◌, Bool, true, false, cond, List, [], ◌∷◌, ◌++◌, map, length, Option, Some, None, refl, sym, ap, ◌∙◌, arith, inl, inr}
 use Rattle.std.specs.Prelude.{◌⊎◌, not, if◌then◌else◌}
 use Rattle.std.proofs.lemmas.Bool.{cases_lt}
-use Rattle.table_definitions.specs.Lists.{has, first_some, below, closed_up}
+use Rattle.table_definitions.specs.Lists.{has, first_some, below, rank_without}
 use Rattle.table_definitions.specs.Table.{Gluing, Row, Face, glue, IsTable}
 use Rattle.table_definitions.specs.Replacing.{Replacement, replaced_length, number_of_kept, kept_gluing, kept_row, replaced_row, fresh_row, back_to_fresh, replaced}
 use Rattle.table_definitions.specs.Replaceable.{fresh_numbers, gone_before, row_back, CanReplace}
@@ -37,7 +37,7 @@ pub few_fresh : (rows : List Row) (r : Replacement) → CanReplace rows r → le
 few_fresh rows r can = omega (arith, can.few)
 
 -- the number that is opened up over the fresh ones is that of a row that is kept
-pub number_opened : (rows : List Row) (r : Replacement) → CanReplace rows r → (t closed u : ℕ) → t < length rows → has r.removed t ≡ false → closed ≡ closed_up r.removed t
+pub number_opened : (rows : List Row) (r : Replacement) → CanReplace rows r → (t closed u : ℕ) → t < length rows → has r.removed t ≡ false → closed ≡ rank_without r.removed t
     → has (fresh_numbers r) u ≡ false → u ≡ closed + gone_before (fresh_numbers r) u → u ≡ number_of_kept rows r t
 number_opened rows r can t closed u lt st is free value =
     let a : rank (stays (fresh_numbers r)) u ≡ closed = opened_up (fresh_numbers r) closed u (fresh_up rows r can) value in
@@ -47,7 +47,7 @@ number_opened rows r can t closed u lt st is free value =
     sym (kept_by rows r can t u lt st lu free (sym (a ∙ b))).number
 
 -- and the one that is opened up over those that are taken out is the old number of a row that is kept
-pub place_opened : (rows : List Row) (r : Replacement) → CanReplace rows r → (u closed t : ℕ) → u < replaced_length rows r → has (fresh_numbers r) u ≡ false → closed ≡ closed_up (fresh_numbers r) u
+pub place_opened : (rows : List Row) (r : Replacement) → CanReplace rows r → (u closed t : ℕ) → u < replaced_length rows r → has (fresh_numbers r) u ≡ false → closed ≡ rank_without (fresh_numbers r) u
     → has r.removed t ≡ false → t ≡ closed + gone_before r.removed t → IsKeptAs rows r t u
 place_opened rows r can u closed t lu free is st value =
     let a : rank (stays r.removed) t ≡ closed = opened_up r.removed closed t (removed_up rows r can) value in
@@ -72,7 +72,7 @@ glued_on rows r y o g new e stays is same =
 
 -- the same, by what the calls give
 
-pub closed_fits : (rows : List Row) (r : Replacement) → IsTable rows → CanReplace rows r → (x : Face) (g : Gluing) (tet closed : ℕ) → Some g ≡ glue rows x → tet ≡ g.tet → closed ≡ closed_up r.removed tet
+pub closed_fits : (rows : List Row) (r : Replacement) → IsTable rows → CanReplace rows r → (x : Face) (g : Gluing) (tet closed : ℕ) → Some g ≡ glue rows x → tet ≡ g.tet → closed ≡ rank_without r.removed tet
     → closed + length r.fresh < 2 ^ 32
 closed_fits rows r table can x g tet closed e same is = let l = table.in_range x g (sym e) in omega (arith, few_fresh rows r can, table.few)
 
@@ -82,12 +82,12 @@ glued_back_by rows r can y t f tet g back e same face gone is =
     glued_back rows r can y (glue rows (face_at t y.face)) g back (e ∙ ap (λ k. glue rows (face_at t k)) face) (gone ∙ ap (has r.removed) same) is
 
 pub glued_on_by : (rows : List Row) (r : Replacement) → IsTable rows → CanReplace rows r → (y : Face) (t f tet closed u : ℕ) (p : List ℕ) (g : Gluing) → Some g ≡ glue rows (face_at t f) → tet ≡ g.tet → p ≡ g.perm → f ≡ y.face
-    → false ≡ has r.removed tet → closed ≡ closed_up r.removed tet → has (fresh_numbers r) u ≡ false → u ≡ closed + gone_before (fresh_numbers r) u
+    → false ≡ has r.removed tet → closed ≡ rank_without r.removed tet → has (fresh_numbers r) u ≡ false → u ≡ closed + gone_before (fresh_numbers r) u
     → Some (record { tet = u; perm = p }) ≡ kept_gluing rows r y (glue rows (face_at t y.face))
 glued_on_by rows r table can y t f tet closed u p g e same perm face stays is free value =
     let st : has r.removed g.tet ≡ false = sym (stays ∙ ap (has r.removed) same) in
     let lt : g.tet < length rows = table.in_range (face_at t f) g (sym e) in
-    let number : u ≡ number_of_kept rows r g.tet = number_opened rows r can g.tet closed u lt st (is ∙ ap (closed_up r.removed) same) free value in
+    let number : u ≡ number_of_kept rows r g.tet = number_opened rows r can g.tet closed u lt st (is ∙ ap (rank_without r.removed) same) free value in
     glued_on rows r y (glue rows (face_at t y.face)) g (record { tet = u; perm = p }) (e ∙ ap (λ k. glue rows (face_at t k)) face) (sym st) number perm
 
 -- a row of the new table
@@ -113,7 +113,7 @@ pub new_kept : (rows : List Row) (r : Replacement) (t u : ℕ) (row : Row) → I
 new_kept rows r t u row k e =
     e ∙ ap (λ v. kept_row rows r v u) (sym k.back) ∙ ap (λ b. cond b (fresh_row r u) (kept_row rows r (kept_at rows r u) u)) (sym k.free)
 
-pub place_fits : (rows : List Row) (r : Replacement) → IsTable rows → CanReplace rows r → (u closed : ℕ) → u < replaced_length rows r → closed ≡ closed_up (fresh_numbers r) u → closed + length r.removed < 2 ^ 32
+pub place_fits : (rows : List Row) (r : Replacement) → IsTable rows → CanReplace rows r → (u closed : ℕ) → u < replaced_length rows r → closed ≡ rank_without (fresh_numbers r) u → closed + length r.removed < 2 ^ 32
 place_fits rows r table can u closed l is = omega (arith, can.few, table.few, fewer_removed rows r can)
 
 -- one more row is written

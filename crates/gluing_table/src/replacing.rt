@@ -2,7 +2,7 @@
 
 ghost use Rattle.std.specs.Prelude.{◌≡◌, false, ◌==◌, ◌+◌, ◌<◌, ◌≤◌, ◌^◌, [], length, vec_capacity, if◌then◌else◌, Some, None, option_and_then};
 ghost use Rattle.std.specs.List.Sorted.{IsStrictlyIncreasing};
-ghost use Rattle.table_definitions.specs.Lists.{has, first_some, closed_up};
+ghost use Rattle.table_definitions.specs.Lists.{has, first_some, rank_without};
 ghost use Rattle.table_definitions.specs.Table as gluings;
 ghost use Rattle.table_definitions.specs.Table.{max_tets, IsTable};
 ghost use Rattle.table_definitions.specs.Replacing as exchange;
@@ -41,7 +41,7 @@ fn is_among(numbers: &[u32], number: u32) -> bool
 
 /// `number` less the count of smaller numbers in `gone`: its position among the numbers that are not in `gone`.
 fn closed_number(gone: &[u32], number: u32) -> u32
-    ensures { result ≡ closed_up gone.now number }
+    ensures { result ≡ rank_without gone.now number }
 {
     let before = gone.iter().filter(|n| **n < number).count();
     (number as usize).saturating_sub(before) as u32
@@ -49,7 +49,7 @@ fn closed_number(gone: &[u32], number: u32) -> u32
 
 /// As `closed_number`, for the numbers of the rows in `gone`.
 fn closed_row(gone: &[(u32, Row)], number: u32) -> u32
-    ensures { result ≡ closed_up (numbers_of gone.now) number }
+    ensures { result ≡ rank_without (numbers_of gone.now) number }
 {
     let before = gone.iter().filter(|row| row.0 < number).count();
     (number as usize).saturating_sub(before) as u32

@@ -5,7 +5,7 @@ use Rattle.std.proofs.lemmas.List.{take_more}
 use Rattle.std.proofs.lemmas.List.Elements.{All-push, All-weaker}
 use Rattle.cone_definitions.specs.Vectors.{IsInsideUnion, ray_at, unit}
 use Rattle.cone_definitions.specs.Rows.{Row, plus_part, minus_part, IsZeroAt, IsPrimitiveExtreme}
-use Rattle.cone_definitions.specs.Surfaces.{Clash, PairsAreApart, IsVertexSurface}
+use Rattle.cone_definitions.specs.Surfaces.{Clash, PairsAreOfTwoColumns, IsVertexSurface}
 use Rattle.cone_definitions.proofs.Rays.{IsSolution-front, IsSolution-last, IsSolution-push}
 use Rattle.cone_definitions.proofs.Unions.{third_ray}
 use Rattle.cone_row_laws.specs.Solutions.{HaveSameSolutions}
@@ -62,7 +62,7 @@ few_unions columns most rows pairs late few h i j i_in j_in face =
     let small = small_unions columns rows pairs late.seen.items (rays_of late.ray_list.items) h.surfaces i j i_in j_in face in omega (arith, small, few)
 
 -- the clashing columns differ
-pub pairs_apart : (columns : ℕ) (pairs : List Clash) → AreClashes columns pairs → PairsAreApart pairs
+pub pairs_apart : (columns : ℕ) (pairs : List Clash) → AreClashes columns pairs → PairsAreOfTwoColumns pairs
 pairs_apart columns pairs h = All-weaker (λ (pair : Clash). (pair.0 < columns) × (pair.1 < columns) × (pair.0 ≢ pair.1)) (λ (pair : Clash). pair.0 ≢ pair.1) (λ pair k. k.2) pairs h
 
 -- ---- widths

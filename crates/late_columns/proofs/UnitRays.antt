@@ -6,7 +6,7 @@ use Rattle.std.proofs.lemmas.List.Elements.{All-nil, All-push, All-weaker, Conta
 use Rattle.std.proofs.lemmas.List.Quantifiers.{all_pairs_push}
 use Rattle.cone_definitions.specs.Vectors.{unit}
 use Rattle.cone_definitions.specs.Rows.{Row, plus_part, minus_part}
-use Rattle.cone_definitions.specs.Surfaces.{Clash, PairsAreApart, IsVertexSurface}
+use Rattle.cone_definitions.specs.Surfaces.{Clash, PairsAreOfTwoColumns, IsVertexSurface}
 use Rattle.cone_definitions.proofs.Units.{entry-unit_same}
 use Rattle.cone_definitions.proofs.Entries.{nonzero_before}
 use Rattle.cone_definitions.specs.Unordered.{HasSurfaces}
@@ -17,7 +17,7 @@ use Rattle.late_columns.proofs.Held.{held_solution, seen_before, unseen_after, u
 use Rattle.late_columns.proofs.Faces.{surface_of_face, surface_in_face, gone_in_face, column_face}
 
 module _ (columns : ℕ) (rows : List Row) (pairs : List Clash) (seen : List Bool) (rays : List (List ℕ)) (column : ℕ) (unseen : IsUnseen seen column)
-    (apart : PairsAreApart pairs) (untouched : IsUntouched columns rows column) (h : HasSurfaces columns (rows ++ held_rows 0 seen) pairs rays) where
+    (apart : PairsAreOfTwoColumns pairs) (untouched : IsUntouched columns rows column) (h : HasSurfaces columns (rows ++ held_rows 0 seen) pairs rays) where
   abbrev after : List Bool
   after = set seen column true
 

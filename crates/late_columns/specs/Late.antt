@@ -2,7 +2,7 @@
 use Rattle.std.specs.Prelude.{◌≡◌, ℕ, ◌+◌, ◌≤◌, ◌++◌, List, [], ◌∷◌, pos, Bool, true, false, length, slice_index_or}
 use Rattle.std.specs.List.{All}
 use Rattle.cone_definitions.specs.Rows.{Row}
-use Rattle.cone_definitions.specs.Surfaces.{Clash, PairsAreApart}
+use Rattle.cone_definitions.specs.Surfaces.{Clash, PairsAreOfTwoColumns}
 use Rattle.ray_steps.specs.Rays.{rays_of}
 use Rattle.cone_definitions.specs.Unordered.{HasSurfaces}
 use Rattle.cone_row_laws.specs.Fresh.{IsUntouched}
@@ -26,14 +26,14 @@ pub record AreLate (columns : ℕ) (rows : List Row) (pairs : List Clash) (late 
 
 -- such rays of rows of which there are so few that the union of a pair has at most so many columns, where no column clashes with itself
 pub record AreLateOfFew (columns most : ℕ) (pairs : List Clash) (late : LateRays) : Type 0 where
-  pub apart : PairsAreApart pairs
+  pub apart : PairsAreOfTwoColumns pairs
   pub rows : List Row
   pub few : length rows + 2 ≤ most
   pub so_far : AreLate columns rows pairs late
 
 -- they are still such rays, and no further column is unseen
 pub record HaveEntered (columns : ℕ) (old new : LateRays) : Type 0 where
-  pub late : (rows : List Row) (pairs : List Clash) → PairsAreApart pairs → AreLate columns rows pairs old → AreLate columns rows pairs new
+  pub late : (rows : List Row) (pairs : List Clash) → PairsAreOfTwoColumns pairs → AreLate columns rows pairs old → AreLate columns rows pairs new
   pub unseen : (column : ℕ) → IsUnseen new.seen.items column → IsUnseen old.seen.items column
 
 -- each column of the row is seen

@@ -5,7 +5,7 @@ use Rattle.std.specs.List.{AllZip}
 use Rattle.plain_facts.proofs.Lists.{zip_more}
 use Rattle.table_definitions.specs.Places.{is_boundary_edge}
 use Rattle.table_definitions.specs.Table.{Row}
-use Rattle.skeleton_definitions.specs.Corners.{Corner, inner_edges}
+use Rattle.skeleton_definitions.specs.Corners.{Corner, internal_edges}
 use Rattle.skeleton_definitions.specs.Skeleton.{Skeleton}
 use Rattle.cone_definitions.specs.Rows.{Row as EquationRow}
 use Rattle.surface_definitions.specs.Coordinates.{columns}
@@ -24,23 +24,23 @@ row_appended s c n corners before now inner round e f =
     (row_of n (quad_equation corners), (corners, round.all, ap (λ m. row_of m (quad_equation corners)) e), f)
 
 -- the rows so far, with one class more
-pub rows_more : (rows : List Row) (classes : List ℕ) (c : ℕ) (before now : List EquationRow) → AllZip (IsQuadRow rows classes) (inner_edges rows classes c) before
-    → IsRowAppended rows classes c before now → AllZip (IsQuadRow rows classes) (inner_edges rows classes (c + 1)) now × (length now ≤ length before + 1)
+pub rows_more : (rows : List Row) (classes : List ℕ) (c : ℕ) (before now : List EquationRow) → AllZip (IsQuadRow rows classes) (internal_edges rows classes c) before
+    → IsRowAppended rows classes c before now → AllZip (IsQuadRow rows classes) (internal_edges rows classes (c + 1)) now × (length now ≤ length before + 1)
 rows_more rows classes c before now h r = by_test (is_boundary_edge rows classes c) refl r
   where
     inner : ℕ → Bool
     inner d = not (is_boundary_edge rows classes d)
 
-    more : (b : Bool) → is_boundary_edge rows classes c ≡ b → inner_edges rows classes (c + 1) ≡ inner_edges rows classes c ++ cond (not b) (c ∷ []) []
-    more b e = filter-more (λ d. not (is_boundary_edge rows classes d)) c ∙ ap (λ a. inner_edges rows classes c ++ cond (not a) (c ∷ []) []) e
+    more : (b : Bool) → is_boundary_edge rows classes c ≡ b → internal_edges rows classes (c + 1) ≡ internal_edges rows classes c ++ cond (not b) (c ∷ []) []
+    more b e = filter-more (λ d. not (is_boundary_edge rows classes d)) c ∙ ap (λ a. internal_edges rows classes c ++ cond (not a) (c ∷ []) []) e
 
     by_test : (b : Bool) → is_boundary_edge rows classes c ≡ b → MatchBool b (now ≡ before) ((row : EquationRow) × IsQuadRow rows classes c row × (now ≡ before ++ row ∷ []))
-        → AllZip (IsQuadRow rows classes) (inner_edges rows classes (c + 1)) now × (length now ≤ length before + 1)
+        → AllZip (IsQuadRow rows classes) (internal_edges rows classes (c + 1)) now × (length now ≤ length before + 1)
     by_test true e same =
         let size : length now ≡ length before = ap length same in
         let short : length now ≤ length before + 1 = omega arith in
-        (subst₂ (AllZip (IsQuadRow rows classes)) (sym (more true e ∙ append-nil (inner_edges rows classes c))) (sym same) h, short)
+        (subst₂ (AllZip (IsQuadRow rows classes)) (sym (more true e ∙ append-nil (internal_edges rows classes c))) (sym same) h, short)
     by_test false e some =
         let size : length now ≡ length before + 1 = ap length some.2 ∙ length-append before (some.0 ∷ []) in
         let short : length now ≤ length before + 1 = omega arith in
-        (subst₂ (AllZip (IsQuadRow rows classes)) (sym (more false e)) (sym some.2) (zip_more (IsQuadRow rows classes) (inner_edges rows classes c) before c some.0 h some.1), short)
+        (subst₂ (AllZip (IsQuadRow rows classes)) (sym (more false e)) (sym some.2) (zip_more (IsQuadRow rows classes) (internal_edges rows classes c) before c some.0 h some.1), short)

@@ -9,7 +9,7 @@ use Rattle.text_definitions.specs.Written.{line}
 use Rattle.text_document_definitions.specs.Documents.{each_line_from}
 use Rattle.move_definitions.specs.Moves as moves
 use Rattle.move_definitions.specs.MoveText as text
-use Rattle.move_definitions.specs.Sessions.{Session, StepAnswer, illegal, IsStep, AreSteps, move_fault_text, step_answer_text}
+use Rattle.move_definitions.specs.Sessions.{Session, StepAnswer, illegal, IsSessionStep, AreSteps, move_fault_text, step_answer_text}
 use Rattle.move_definitions.specs.declared.MoveFault.{MoveFault}
 use Rattle.move_undo.specs.declared.reader.Step.{Step}
 use Rattle.move_undo.specs.declared.session.PlayFault.{PlayFault}
@@ -40,9 +40,9 @@ unfolding answers_text
 plays-none s written e = ([], refl, e)
 
 -- one step more
-steps-more : (s : Session) (steps : List text.Step) (answers : List StepAnswer) (mid : Session) (step : text.Step) (a : StepAnswer) (last : Session) → AreSteps s steps answers mid → IsStep mid step a last
+steps-more : (s : Session) (steps : List text.Step) (answers : List StepAnswer) (mid : Session) (step : text.Step) (a : StepAnswer) (last : Session) → AreSteps s steps answers mid → IsSessionStep mid step a last
     → AreSteps s (steps ++ step ∷ []) (answers ++ a ∷ []) last
-steps-more s [] [] mid step a last h k = (last, subst (λ (t : Session). IsStep t step a last) (sym h) k, refl)
+steps-more s [] [] mid step a last h k = (last, subst (λ (t : Session). IsSessionStep t step a last) (sym h) k, refl)
 steps-more s [] (b ∷ answers) mid step a last h k = absurd h
 steps-more s (p ∷ steps) [] mid step a last h k = absurd h
 steps-more s (p ∷ steps) (b ∷ answers) mid step a last h k = (h.0, h.1, steps-more h.0 steps answers mid step a last h.2 k)

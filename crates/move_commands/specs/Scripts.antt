@@ -2,7 +2,7 @@
 use Rattle.std.specs.Prelude.{◌≡◌, ℕ, List, map, ◌++◌, Vec}
 use Rattle.std.specs.declared.alloc.Global.{Global}
 use Rattle.move_definitions.specs.MoveText as text
-use Rattle.move_definitions.specs.Sessions.{Session, StepAnswer, IsStep, AreSteps, step_answer_text}
+use Rattle.move_definitions.specs.Sessions.{Session, StepAnswer, IsSessionStep, AreSteps, step_answer_text}
 use Rattle.move_undo.specs.declared.reader.Step.{Step}
 use Rattle.move_undo.specs.Steps.{step_value}
 use Rattle.outcome_definitions.specs.Scripts.{answers_text}
@@ -16,7 +16,7 @@ steps_of steps = all_steps steps.items
 
 -- a step is answered, and the answer is written behind a text
 abbrev pub Steps : Session → text.Step → Session → List ℕ → List ℕ → Type 0
-Steps before step after written now = (a : StepAnswer) × IsStep before step a after × (now ≡ written ++ line (step_answer_text a))
+Steps before step after written now = (a : StepAnswer) × IsSessionStep before step a after × (now ≡ written ++ line (step_answer_text a))
 
 -- steps are answered one after another, and these are the answers
 abbrev pub Plays : Session → List text.Step → Session → List ℕ → Type 0

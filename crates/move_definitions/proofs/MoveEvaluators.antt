@@ -6,12 +6,12 @@ use Rattle.table_definitions.specs.Permutation.{four}
 use Rattle.table_definitions.specs.Table.{Gluing, Row, Face, glue, faces, same_face}
 use Rattle.table_definitions.specs.Relabelling.{face_under}
 use Rattle.move_definitions.specs.declared.MoveFault.{MoveFault}
-use Rattle.move_definitions.specs.Moves.{Move, Facet, kept, new_length, new_facet, label_by_label, stand_in_at, moved_gluing, play_fault}
+use Rattle.move_definitions.specs.Moves.{Move, Facet, kept, new_length, new_facet, label_by_label, place_after, moved_gluing, play_fault}
 
 -- what a face y of the new table is glued by, if x stands for it
 abbrev pub outer_gluing : List Row → Move → Face → Face → Option (Option Gluing)
 outer_gluing rows m y x =
-    option_and_then (λ (s : Gluing). if same_face (face_under s x) y then Some (option_and_then (moved_gluing rows m x s) (glue rows x)) else None) (stand_in_at rows m x)
+    option_and_then (λ (s : Gluing). if same_face (face_under s x) y then Some (option_and_then (moved_gluing rows m x s) (glue rows x)) else None) (place_after rows m x)
 
 abbrev pub inner_gluing_at : List Row → Move → Facet → Facet → Option Gluing
 inner_gluing_at rows m f g = Some (record { tet = g.tet; perm = label_by_label f g })

@@ -6,7 +6,7 @@ use Rattle.table_definitions.specs.Places.{edge_ends}
 use Rattle.text_definitions.specs.Text.{Token, word, stray}
 use Rattle.text_definitions.specs.declared.LexFault.{LexFault}
 use Rattle.text_definitions.specs.Reading.{Reading, ◌>>=◌, word_at, number_at, end_from, end_line_at}
-use Rattle.table_definitions.specs.Grammar.{AreWords, IsNumber}
+use Rattle.table_definitions.specs.Grammar.{AreWords, IsDecimalUpTo}
 use Rattle.table_definitions.proofs.ReadingLaws.{with_tokens, behind, one_number}
 use Rattle.move_definitions.specs.Moves.{Move}
 use Rattle.move_definitions.specs.MoveText.{MoveKind, one_four, two_three, three_two, four_one, move_kind, spelled, spelled_at, single, vertices_at, core_at, kind_at, move_at, Step, play, undo, redo, step_word, named_step_at, step_at, played}
@@ -84,7 +84,7 @@ pub record FindsKind (k : MoveKind) (ts : List Token) (c : Reading) (m : Move) :
   pub later : left.later ≡ c.later
   pub at_end : left.current.tokens ≡ []
 
-kind_found : (k : MoveKind) (tet : List ℕ) (ws : List (List ℕ)) (ts : List Token) (c : Reading) (m : Move) → AreWords ts (tet ∷ ws) → IsNumber (2 ^ 32 - 1) tet m.tet
+kind_found : (k : MoveKind) (tet : List ℕ) (ws : List (List ℕ)) (ts : List Token) (c : Reading) (m : Move) → AreWords ts (tet ∷ ws) → IsDecimalUpTo (2 ^ 32 - 1) tet m.tet
     → ((us : List Token) (d : Reading) → AreWords us ws → FindsCore k us d m.core) → FindsKind k ts c m
 unfolding kind_at
 kind_found k tet ws [] c m a n f = absurd a
@@ -92,7 +92,7 @@ kind_found k tet ws (stray column ∷ ts) c m a n f = absurd a.0
 kind_found k tet ws (word column v ∷ ts) c m a n f =
     let core : FindsCore k ts (behind column c) m.core = f ts (behind column c) a.1 in
     let number : number_at (2 ^ 32 - 1) (with_tokens (word column v ∷ ts) c) ≡ Ok (m.tet, with_tokens ts (behind column c)) =
-    one_number (2 ^ 32 - 1) column v m.tet ts c (subst (λ (u : List ℕ). IsNumber (2 ^ 32 - 1) u m.tet) (sym a.0) n) in
+    one_number (2 ^ 32 - 1) column v m.tet ts c (subst (λ (u : List ℕ). IsDecimalUpTo (2 ^ 32 - 1) u m.tet) (sym a.0) n) in
     record {
       left = core.left;
       read =
@@ -114,7 +114,7 @@ pub record FindsNamed (ts : List Token) (c : Reading) (m : Move) : Type 0 where
   pub later : left.later ≡ c.later
   pub at_end : left.current.tokens ≡ []
 
-named_found : (ts : List Token) (c : Reading) (m : Move) (kind tet : List ℕ) (ws : List (List ℕ)) → AreWords ts (kind ∷ tet ∷ ws) → IsNumber (2 ^ 32 - 1) tet m.tet → IsCoreText kind ws m.core → FindsNamed ts c m
+named_found : (ts : List Token) (c : Reading) (m : Move) (kind tet : List ℕ) (ws : List (List ℕ)) → AreWords ts (kind ∷ tet ∷ ws) → IsDecimalUpTo (2 ^ 32 - 1) tet m.tet → IsCoreText kind ws m.core → FindsNamed ts c m
 unfolding word_at
 named_found [] c m kind tet ws a n t = absurd a
 named_found (stray column ∷ ts) c m kind tet ws a n t = absurd a.0

@@ -7,7 +7,7 @@ use Rattle.text_definitions.specs.Text.{Token}
 use Rattle.text_definitions.specs.declared.LexFault.{LexFault}
 use Rattle.text_definitions.specs.Reading.{Reading, ◌>>=◌, word_at, number_at, end_line_at}
 use Rattle.text_definitions.proofs.Readers.{bind_ok}
-use Rattle.table_definitions.specs.Grammar.{AreWords, IsNumber}
+use Rattle.table_definitions.specs.Grammar.{AreWords, IsDecimalUpTo}
 use Rattle.table_definitions.proofs.ReadingLaws.{ok_parts, with_tokens, behind, TakesWord, word_taken, TakesNumber, number_read}
 use Rattle.table_definitions.proofs.LineLaws.{line_ended}
 use Rattle.move_definitions.specs.Moves.{Move}
@@ -104,7 +104,7 @@ pub record KindRead (k : MoveKind) (ts : List Token) (c : Reading) (m : Move) (d
   pub tet : List ℕ
   pub core : List (List ℕ)
   pub are_words : AreWords ts (tet ∷ core)
-  pub number : IsNumber (2 ^ 32 - 1) tet m.tet
+  pub number : IsDecimalUpTo (2 ^ 32 - 1) tet m.tet
   pub core_text : IsCoreText (kind_word k) core m.core
   pub later : d.later ≡ c.later
   pub at_end : d.current.tokens ≡ []

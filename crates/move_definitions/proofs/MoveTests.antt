@@ -6,7 +6,7 @@ use Rattle.std.proofs.lemmas.Bool.{eqb-true, or_cases}
 use Rattle.table_definitions.specs.Lists.{below, pairs_of}
 use Rattle.table_definitions.specs.Table.{Gluing, Row, Face, glue, faces}
 use Rattle.table_definitions.specs.Relabelling.{face_under}
-use Rattle.move_definitions.specs.Moves.{Move, IsCore, move_fault, new_length, new_facet, opposite, label_by_label, stand_in_at, moved_gluing, IsMoved}
+use Rattle.move_definitions.specs.Moves.{Move, IsCore, move_fault, new_length, new_facet, opposite, label_by_label, place_after, moved_gluing, IsMoved}
 use Rattle.table_definitions.proofs.TableLaws.{Among-below, Among-pairs}
 use Rattle.table_definitions.proofs.Tests.{list_all-among, each_face, same_glue, same_glue-true, has_fours, fours_from}
 
@@ -25,7 +25,7 @@ pub record PassesMove (old : List Row) (m : Move) (new : List Row) : Type 0 wher
   pub length_is : length new ≡ new_length old m
   pub fours : has_fours new ≡ true
   pub inner : list_all (is_inner_moved old m new) (pairs_of (below (length m.core)) (below (length m.core))) ≡ true
-  pub outer : list_all (λ x. is_outer_moved old m new x (stand_in_at old m x)) (faces (length old)) ≡ true
+  pub outer : list_all (λ x. is_outer_moved old m new x (place_after old m x)) (faces (length old)) ≡ true
 
 pub IsMoved-passed : (old : List Row) (m : Move) (new : List Row) → PassesMove old m new → IsMoved old m new
 IsMoved-passed old m new p = record {
@@ -35,7 +35,7 @@ IsMoved-passed old m new p = record {
   four_faces = fours_from new p.fours;
   inner = λ j l hj hl apart. inner_at j l apart (list_all-among (is_inner_moved old m new) (j, l) (pairs_of (below (length m.core)) (below (length m.core))) p.inner
       (Among-pairs j l (below (length m.core)) (below (length m.core)) (Among-below j (length m.core) hj) (Among-below l (length m.core) hl)));
-  outer = λ x s ht hf is. outer_at x s is (each_face (λ y. is_outer_moved old m new y (stand_in_at old m y)) (length old) p.outer x ht hf);
+  outer = λ x s ht hf is. outer_at x s is (each_face (λ y. is_outer_moved old m new y (place_after old m y)) (length old) p.outer x ht hf);
 }
   where
     inner_at : (j l : ℕ) → j ≢ l → is_inner_moved old m new (j, l) ≡ true
@@ -49,7 +49,7 @@ IsMoved-passed old m new p = record {
         pick (inl same) = absurd (apart (eqb-true j l same))
         pick (inr s) = same_glue-true (glue new (opposite (new_facet old m j) l)) (Some (record { tet = (new_facet old m l).tet; perm = label_by_label (new_facet old m j) (new_facet old m l) })) s
 
-    outer_at : (x : Face) (s : Gluing) → stand_in_at old m x ≡ Some s → is_outer_moved old m new x (stand_in_at old m x) ≡ true
+    outer_at : (x : Face) (s : Gluing) → place_after old m x ≡ Some s → is_outer_moved old m new x (place_after old m x) ≡ true
         → glue new (face_under s x) ≡ option_and_then (moved_gluing old m x s) (glue old x)
     outer_at x s is e =
         same_glue-true (glue new (face_under s x)) (option_and_then (moved_gluing old m x s) (glue old x)) (subst (λ (o : Option Gluing). is_outer_moved old m new x o ≡ true) is e)

@@ -4,7 +4,7 @@ use Rattle.std.specs.Prelude.{◌==◌, ◌||◌, if◌then◌else◌, find}
 use Rattle.std.proofs.lemmas.Bool.{lt-ltb, le-ltb}
 use Rattle.table_definitions.specs.Lists.{has}
 use Rattle.table_definitions.specs.Table.{Gluing, Row, Face}
-use Rattle.move_definitions.specs.Moves.{Move, Facet, new_facet, label_by_label, facet_stand_in, kept_stand_in, stand_in_of, stand_in_at, old_facets, old_tets}
+use Rattle.move_definitions.specs.Moves.{Move, Facet, new_facet, label_by_label, facet_place_after, kept_place_after, place_after_of, place_after, old_facets, old_tets}
 
 -- where no facet of a list is of this tetrahedron
 pub find-none : (fs : List Facet) (t : ℕ) → has (map (λ (f : Facet). f.tet) fs) t ≡ false → find (λ (f : Facet). f.tet == t) fs ≡ None
@@ -16,15 +16,15 @@ find-none (f ∷ fs) t h = by_test (f.tet == t) h (λ later. find-none fs t late
     by_test true h later = absurd cc
     by_test false h later = later h
 
-pub stand_in-kept : (rows : List Row) (m : Move) (x : Face) → has (old_tets rows m) x.tet ≡ false → stand_in_at rows m x ≡ Some (kept_stand_in rows m x.tet)
-stand_in-kept rows m x h = ap (stand_in_of rows m x) (find-none (old_facets rows m) x.tet h)
+pub stand_in-kept : (rows : List Row) (m : Move) (x : Face) → has (old_tets rows m) x.tet ≡ false → place_after rows m x ≡ Some (kept_place_after rows m x.tet)
+stand_in-kept rows m x h = ap (place_after_of rows m x) (find-none (old_facets rows m) x.tet h)
 
-pub facet_stand_in-new : (rows : List Row) (m : Move) (f : Facet) (j : ℕ) → j < length m.core → facet_stand_in rows m f j ≡ Some (record { tet = (new_facet rows m j).tet; perm = label_by_label f (new_facet rows m j) })
+pub facet_stand_in-new : (rows : List Row) (m : Move) (f : Facet) (j : ℕ) → j < length m.core → facet_place_after rows m f j ≡ Some (record { tet = (new_facet rows m j).tet; perm = label_by_label f (new_facet rows m j) })
 facet_stand_in-new rows m f j l =
     let by : Gluing = record { tet = (new_facet rows m j).tet; perm = label_by_label f (new_facet rows m j) } in
     ap (λ (b : Bool). if◌then◌else◌ {A = Option Gluing} b (Some by) None) (lt-ltb j (length m.core) l)
 
-pub facet_stand_in-old : (rows : List Row) (m : Move) (f : Facet) (j : ℕ) → length m.core ≤ j → facet_stand_in rows m f j ≡ None
+pub facet_stand_in-old : (rows : List Row) (m : Move) (f : Facet) (j : ℕ) → length m.core ≤ j → facet_place_after rows m f j ≡ None
 facet_stand_in-old rows m f j l =
     let by : Gluing = record { tet = (new_facet rows m j).tet; perm = label_by_label f (new_facet rows m j) } in
     ap (λ (b : Bool). if◌then◌else◌ {A = Option Gluing} b (Some by) None) (le-ltb j (length m.core) l)

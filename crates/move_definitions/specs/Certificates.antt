@@ -6,7 +6,7 @@ use Rattle.table_definitions.specs.Lists.{below, pairs_of}
 use Rattle.table_definitions.specs.Permutation.{four, others}
 use Rattle.table_definitions.specs.Table.{Gluing, Row}
 use Rattle.table_definitions.specs.Places.{edge_ends}
-use Rattle.table_definitions.specs.Relabelling.{IsRelabelled}
+use Rattle.table_definitions.specs.Relabelling.{AreIsomorphic}
 use Rattle.move_definitions.specs.Moves.{Move, play_fault, Plays, PlaysAll}
 
 -- the standard sphere, 0:1023 0:1023 0:1230 0:3012
@@ -17,7 +17,7 @@ abbrev pub standard_sphere : List Row
 standard_sphere = (to_itself (1 ∷ 0 ∷ 2 ∷ 3 ∷ []) ∷ to_itself (1 ∷ 0 ∷ 2 ∷ 3 ∷ []) ∷ to_itself (1 ∷ 2 ∷ 3 ∷ 0 ∷ []) ∷ to_itself (3 ∷ 0 ∷ 1 ∷ 2 ∷ []) ∷ []) ∷ []
 
 abbrev pub IsStandard : List Row → Type 0
-IsStandard rows = IsRelabelled rows standard_sphere
+IsStandard rows = AreIsomorphic rows standard_sphere
 
 -- the moves lead to a table isomorphic to the standard sphere
 abbrev pub IsCertificate : List Row → List Move → Type 0

@@ -4,7 +4,7 @@ use Rattle.table_definitions.specs.Permutation.{four, digits_of, others}
 use Rattle.text_definitions.specs.Text.{Line}
 use Rattle.move_definitions.specs.Moves.{Move}
 use Rattle.move_definitions.specs.MoveText.{Step, play, undo, redo}
-use Rattle.table_definitions.specs.Grammar.{AreWords, IsNumber}
+use Rattle.table_definitions.specs.Grammar.{AreWords, IsDecimalUpTo}
 
 -- the words after the tetrahedron number of a move, for each kind
 pub data IsCoreText : List ℕ → List (List ℕ) → List ℕ → Type 0 where
@@ -19,7 +19,7 @@ pub record IsMoveLine (line : Line) (m : Move) : Type 0 where
   pub tet : List ℕ
   pub core : List (List ℕ)
   pub are_words : AreWords line.tokens (kind ∷ tet ∷ core)
-  pub number : IsNumber (2 ^ 32 - 1) tet m.tet
+  pub number : IsDecimalUpTo (2 ^ 32 - 1) tet m.tet
   pub core_text : IsCoreText kind core m.core
 
 -- a step line

@@ -2,7 +2,7 @@
 use Rattle.std.specs.Prelude.{◌≡◌, ℕ, ◌≤◌, List, length, None}
 use Rattle.text_definitions.specs.Text.{Line}
 use Rattle.table_definitions.specs.Table.{max_tets, Row, IsTable}
-use Rattle.table_definitions.specs.Relabelling.{IsRelabelled}
+use Rattle.table_definitions.specs.Relabelling.{AreIsomorphic}
 use Rattle.move_definitions.specs.Moves.{Move, IsCore, move_fault, IsMoved, inverse_move, PlaysAll}
 use Rattle.move_definitions.specs.Grammar.{IsMoveLine}
 use Rattle.move_definitions.specs.Certificates.{IsDescent, IsMaking}
@@ -26,12 +26,12 @@ InversesHaveCores = (n : ℕ) (m : Move) → IsCore m.core → IsCore (inverse_m
 abbrev pub InversesLeadBackUpToLabels : Type 0
 InversesLeadBackUpToLabels =
     (old : List Row) (m : Move) (new : List Row) → IsTable old → IsMoved old m new
-    → (back : List Row) × IsMoved new (inverse_move (length old) m) back × IsRelabelled old back
+    → (back : List Row) × IsMoved new (inverse_move (length old) m) back × AreIsomorphic old back
 
 abbrev pub InversesLeadOnlyBack : Type 0
 InversesLeadOnlyBack =
     (old : List Row) (m : Move) (new back : List Row) → IsTable old → length new ≤ max_tets → IsMoved old m new
-    → IsMoved new (inverse_move (length old) m) back → IsRelabelled old back
+    → IsMoved new (inverse_move (length old) m) back → AreIsomorphic old back
 
 -- a move that a line spells has a core
 abbrev pub MoveLinesHaveCores : Type 0

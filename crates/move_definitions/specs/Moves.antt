@@ -5,7 +5,7 @@ use Rattle.std.specs.Option.{option_or}
 use Rattle.std.specs.List.{FoldsTo}
 use Rattle.move_definitions.specs.declared.MoveFault.{MoveFault}
 use Rattle.move_definitions.specs.declared.MoveFault.TheVariants.{NoSuchTet, Boundary, Repeated, NotMatched, TooMany}
-use Rattle.table_definitions.specs.Lists.{below, has, same_list, first_some, pairs_of, in_place_of, closed_up}
+use Rattle.table_definitions.specs.Lists.{below, has, same_list, first_some, pairs_of, substitute, rank_without}
 use Rattle.table_definitions.specs.Permutation.{four, image, preimage, inverse, compose, identity}
 use Rattle.table_definitions.specs.Table.{max_tets, Gluing, Row, Face, glue, other_side, IsTable}
 use Rattle.table_definitions.specs.Relabelling.{face_under, gluing_under}
@@ -42,12 +42,12 @@ abbrev pub opposite : Facet → ℕ → Face
 opposite f l = record { tet = f.tet; face = vertex_of f l }
 
 -- the facet across the face opposite label i: labels are carried by the gluing, and the remaining vertex has label 4
-abbrev pub facet_behind : Facet → ℕ → Gluing → Facet
-facet_behind f i g = record { tet = g.tet; missing = i; labels = map (λ v. in_place_of i 4 (image f.labels (preimage g.perm v))) four }
+abbrev pub facet_across : Facet → ℕ → Gluing → Facet
+facet_across f i g = record { tet = g.tet; missing = i; labels = map (λ v. substitute i 4 (image f.labels (preimage g.perm v))) four }
 
 -- facet i of the table
 abbrev pub facet : List Row → Move → ℕ → Option Facet
-facet rows m i = if i == 4 then Some (own_facet m) else option_map (facet_behind (own_facet m) i) (glue rows (opposite (own_facet m) i))
+facet rows m i = if i == 4 then Some (own_facet m) else option_map (facet_across (own_facet m) i) (glue rows (opposite (own_facet m) i))
 
 -- the labels of the facets that are removed, and of those that are found across faces; the other labels are those of
 -- new facets
@@ -77,7 +77,7 @@ facet_fault rows m i (Some f) = if has (tets_before rows m i) f.tet then Some (R
 -- whether the face of facet f opposite label j is glued to facet g, label j going to the missing label of f and the others staying
 abbrev pub is_matched : Facet → Facet → Option Gluing → Bool
 is_matched f g None = false
-is_matched f g (Some p) = (p.tet == g.tet) && same_list (compose g.labels p.perm) (map (in_place_of g.missing f.missing) f.labels)
+is_matched f g (Some p) = (p.tet == g.tet) && same_list (compose g.labels p.perm) (map (substitute g.missing f.missing) f.labels)
 
 abbrev pub pair_fault : List Row → Option Facet → Option Facet → Option MoveFault
 pair_fault rows None g = None
@@ -108,7 +108,7 @@ new_facet rows m j = record { tet = kept rows m + j; missing = j; labels = filte
 
 -- the map of the vertices of f to those of g by labels, with the missing label of g mapped to that of f
 abbrev pub label_by_label : Facet → Facet → List ℕ
-label_by_label f g = map (λ l. vertex_of g (in_place_of g.missing f.missing l)) f.labels
+label_by_label f g = map (λ l. vertex_of g (substitute g.missing f.missing l)) f.labels
 
 -- the map of the vertices of the old facet f to those of the new facet j
 abbrev pub facet_gluing : List Row → Move → Facet → ℕ → Gluing
@@ -116,24 +116,24 @@ facet_gluing rows m f j = record { tet = (new_facet rows m j).tet; perm = label_
 
 -- the replacement of the old facet f at its face opposite label j: none if the face is between old facets, otherwise
 -- the new facet j
-abbrev pub facet_stand_in : List Row → Move → Facet → ℕ → Option Gluing
-facet_stand_in rows m f j =
+abbrev pub facet_place_after : List Row → Move → Facet → ℕ → Option Gluing
+facet_place_after rows m f j =
     if nat_lt j (length m.core) then Some (facet_gluing rows m f j) else None
 
-abbrev pub kept_stand_in : List Row → Move → ℕ → Gluing
-kept_stand_in rows m t = record { tet = closed_up (old_tets rows m) t; perm = identity }
+abbrev pub kept_place_after : List Row → Move → ℕ → Gluing
+kept_place_after rows m t = record { tet = rank_without (old_tets rows m) t; perm = identity }
 
-abbrev pub stand_in_of : List Row → Move → Face → Option Facet → Option Gluing
-stand_in_of rows m x None = Some (kept_stand_in rows m x.tet)
-stand_in_of rows m x (Some f) = facet_stand_in rows m f (image f.labels x.face)
+abbrev pub place_after_of : List Row → Move → Face → Option Facet → Option Gluing
+place_after_of rows m x None = Some (kept_place_after rows m x.tet)
+place_after_of rows m x (Some f) = facet_place_after rows m f (image f.labels x.face)
 
 -- the replacement of the tetrahedron of x at this face, in the new table
-abbrev pub stand_in_at : List Row → Move → Face → Option Gluing
-stand_in_at rows m x = stand_in_of rows m x (find (λ (f : Facet). f.tet == x.tet) (old_facets rows m))
+abbrev pub place_after : List Row → Move → Face → Option Gluing
+place_after rows m x = place_after_of rows m x (find (λ (f : Facet). f.tet == x.tet) (old_facets rows m))
 
 -- the gluing that corresponds to the gluing g of x, if s replaces the tetrahedron of x
 abbrev pub moved_gluing : List Row → Move → Face → Gluing → Gluing → Option Gluing
-moved_gluing rows m x s g = option_map (λ r. gluing_under s r g) (stand_in_at rows m (other_side x g))
+moved_gluing rows m x s g = option_map (λ r. gluing_under s r g) (place_after rows m (other_side x g))
 
 -- the move, played on `old`, results in `new`
 pub record IsMoved (old : List Row) (m : Move) (new : List Row) : Type 0 where
@@ -145,7 +145,7 @@ pub record IsMoved (old : List Row) (m : Move) (new : List Row) : Type 0 where
   pub inner : (j l : ℕ) → j < length m.core → l < length m.core → j ≢ l
       → glue new (opposite (new_facet old m j) l) ≡ Some (record { tet = (new_facet old m l).tet; perm = label_by_label (new_facet old m j) (new_facet old m l) })
   -- each other face is glued as the face that it replaces was
-  pub outer : (x : Face) (s : Gluing) → x.tet < length old → x.face < 4 → stand_in_at old m x ≡ Some s
+  pub outer : (x : Face) (s : Gluing) → x.tet < length old → x.face < 4 → place_after old m x ≡ Some s
       → glue new (face_under s x) ≡ option_and_then (moved_gluing old m x s) (glue old x)
 
 -- the move that leads back, up to relabelling, from the table to which the move m led from a table of n tetrahedra

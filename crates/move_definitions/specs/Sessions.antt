@@ -49,29 +49,29 @@ pub data StepAnswer : Type 0 where
   nothing : StepAnswer
 
 -- a step of a session is answered so, and the session is this one then
-abbrev pub IsStep : Session → text.Step → StepAnswer → Session → Type 0
-IsStep s (text.play m) done after = IsAccepted s m × (after ≡ with_move s m)
-IsStep s (text.play m) (illegal fault) after = IsRefused s m fault × (after ≡ s)
-IsStep s (text.play m) undone after = ⊥
-IsStep s (text.play m) redone after = ⊥
-IsStep s (text.play m) nothing after = ⊥
-IsStep s text.undo undone after = (0 < s.played) × (after ≡ one_less s)
-IsStep s text.undo nothing after = (s.played ≡ 0) × (after ≡ s)
-IsStep s text.undo done after = ⊥
-IsStep s text.undo redone after = ⊥
-IsStep s text.undo (illegal fault) after = ⊥
-IsStep s text.redo redone after = (s.played < length s.moves) × (after ≡ one_more s)
-IsStep s text.redo nothing after = (s.played ≡ length s.moves) × (after ≡ s)
-IsStep s text.redo done after = ⊥
-IsStep s text.redo undone after = ⊥
-IsStep s text.redo (illegal fault) after = ⊥
+abbrev pub IsSessionStep : Session → text.Step → StepAnswer → Session → Type 0
+IsSessionStep s (text.play m) done after = IsAccepted s m × (after ≡ with_move s m)
+IsSessionStep s (text.play m) (illegal fault) after = IsRefused s m fault × (after ≡ s)
+IsSessionStep s (text.play m) undone after = ⊥
+IsSessionStep s (text.play m) redone after = ⊥
+IsSessionStep s (text.play m) nothing after = ⊥
+IsSessionStep s text.undo undone after = (0 < s.played) × (after ≡ one_less s)
+IsSessionStep s text.undo nothing after = (s.played ≡ 0) × (after ≡ s)
+IsSessionStep s text.undo done after = ⊥
+IsSessionStep s text.undo redone after = ⊥
+IsSessionStep s text.undo (illegal fault) after = ⊥
+IsSessionStep s text.redo redone after = (s.played < length s.moves) × (after ≡ one_more s)
+IsSessionStep s text.redo nothing after = (s.played ≡ length s.moves) × (after ≡ s)
+IsSessionStep s text.redo done after = ⊥
+IsSessionStep s text.redo undone after = ⊥
+IsSessionStep s text.redo (illegal fault) after = ⊥
 
 -- the steps are answered one after another
 abbrev pub AreSteps : Session → List text.Step → List StepAnswer → Session → Type 0
 AreSteps s [] [] last = s ≡ last
 AreSteps s [] (a ∷ answers) last = ⊥
 AreSteps s (step ∷ steps) [] last = ⊥
-AreSteps s (step ∷ steps) (a ∷ answers) last = (next : Session) × IsStep s step a next × AreSteps next steps answers last
+AreSteps s (step ∷ steps) (a ∷ answers) last = (next : Session) × IsSessionStep s step a next × AreSteps next steps answers last
 
 -- what is written for the fault of a move
 abbrev pub move_fault_text : MoveFault → List ℕ

@@ -4,7 +4,7 @@ use Rattle.std.proofs.Common.{◌≡◌, ◌<◌, Bool, true, [], ◌∷◌, len
 use Rattle.std.specs.Prelude.{option_map}
 use Rattle.table_definitions.specs.Permutation.{is_odd, inversions}
 use Rattle.table_definitions.specs.Table.{Gluing, Face, glue}
-use Rattle.table_definitions.specs.Relabelling.{stand_in, face_under, gluing_under}
+use Rattle.table_definitions.specs.Relabelling.{relabelled_place, face_under, gluing_under}
 use Rattle.table_definitions.proofs.TableLaws.{glued_tet, glued_face}
 use Rattle.table_definitions.proofs.Tests.{each_face, fours_from}
 use Rattle.table_definitions.proofs.Permutations.{bool_equal, image_below}
@@ -41,9 +41,9 @@ relabelled_from_closed old new table (by, is, c) e = is_closed-from old at
   where
     at : (x : Face) → x.tet < length old → x.face < 4 → IsGlued old x
     at x lt lf =
-        let there = all_glued new e (face_under (stand_in by x.tet) x) (let n = c.same_length in let l = image_in_range (length old) by is x.tet lt in omega arith)
-        (image_below (stand_in by x.tet).perm (perm_permutes (length old) by is x.tet lt) x.face lf) in
-        some_from (λ (g : Gluing). gluing_under (stand_in by x.tet) (stand_in by g.tet) g) (glue old x) there.0 (sym (c.glued x lt lf) ∙ there.1)
+        let there = all_glued new e (face_under (relabelled_place by x.tet) x) (let n = c.same_length in let l = image_in_range (length old) by is x.tet lt in omega arith)
+        (image_below (relabelled_place by x.tet).perm (perm_permutes (length old) by is x.tet lt) x.face lf) in
+        some_from (λ (g : Gluing). gluing_under (relabelled_place by x.tet) (relabelled_place by g.tet) g) (glue old x) there.0 (sym (c.glued x lt lf) ∙ there.1)
 
 pub certified_are_closed : CertifiedAreClosed
 certified_are_closed rows moves table (last, p, standard) =

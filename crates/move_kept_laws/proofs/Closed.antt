@@ -13,7 +13,7 @@ use Rattle.table_definitions.specs.Relabelling.{face_under, gluing_under}
 use Rattle.table_definitions.proofs.Tests.{each_face}
 use Rattle.table_definitions.proofs.Listed.{faces-among, among_contains}
 use Rattle.table_definitions.proofs.Faces.{face_at}
-use Rattle.move_definitions.specs.Moves.{Move, Facet, IsMoved, stand_in_at, kept_stand_in, moved_gluing, facet_gluing, old_tets}
+use Rattle.move_definitions.specs.Moves.{Move, Facet, IsMoved, place_after, kept_place_after, moved_gluing, facet_gluing, old_tets}
 use Rattle.move_definitions.proofs.StandIns.{facet_stand_in-new, stand_in-kept}
 use Rattle.move_laws.proofs.Labels.{HasLabel, label_at}
 use Rattle.move_laws.proofs.Legal.{IsFacet, facet_is, HasNoFault, no_fault, old_tet_facet, OldFacet, old_facet}
@@ -59,7 +59,7 @@ module _ (old : List Row) (m : Move) (new : List Row) (table : IsTable old) (h :
 
   module _ (all : AreGluedAll new) (x : Face) (lt : x.tet < length old) (lf : x.face < 4) where
     -- where something stands for the face
-    where_stands : (s : Gluing) → stand_in_at old m x ≡ Some s → IsGlued old x
+    where_stands : (s : Gluing) → place_after old m x ≡ Some s → IsGlued old x
     where_stands s e = by_glue (glue old x) refl
       where
         by_glue : (o : Option Gluing) → glue old x ≡ o → IsGlued old x
@@ -90,7 +90,7 @@ module _ (old : List Row) (m : Move) (new : List Row) (table : IsTable old) (h :
         same = ap (λ t. face_at t x.face) o.tet
 
         by_label : (j < length m.core) ⊎ (length m.core ≤ j) → IsGlued old x
-        by_label (inl new_label) = where_stands (facet_gluing old m f j) (subst (λ (y : Face). stand_in_at old m y ≡ Some (facet_gluing old m f j)) same
+        by_label (inl new_label) = where_stands (facet_gluing old m f j) (subst (λ (y : Face). place_after old m y ≡ Some (facet_gluing old m f j)) same
             (stand_in-old old m o.label f x.face fine h.core o.low o.high o.is ∙ facet_stand_in-new old m f j new_label))
         by_label (inr old_label) =
             let g = old_facet old m j fine h.core old_label at.small in
@@ -102,7 +102,7 @@ module _ (old : List Row) (m : Move) (new : List Row) (table : IsTable old) (h :
     old_glued_at = by_test (has (old_tets old m) x.tet) refl
       where
         by_test : (b : Bool) → has (old_tets old m) x.tet ≡ b → IsGlued old x
-        by_test false e = where_stands (kept_stand_in old m x.tet) (stand_in-kept old m x e)
+        by_test false e = where_stands (kept_place_after old m x.tet) (stand_in-kept old m x e)
         by_test true e = of_facet (old_tet_facet old m x.tet h.core e)
 
 pub moves_keep_closed_lem : MovesKeepClosed

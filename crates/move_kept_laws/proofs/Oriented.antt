@@ -12,7 +12,7 @@ use Rattle.table_definitions.proofs.TableLaws.{glued_tet, glued_face}
 use Rattle.table_definitions.proofs.Permutations.{image_below}
 use Rattle.table_definitions.proofs.Faces.{face_at}
 use Rattle.skeleton_definitions.specs.Orientation.{sign_of, AreSigns, IsOrientable}
-use Rattle.move_definitions.specs.Moves.{Move, Facet, IsMoved, own_facet, opposite, facet, kept, new_length, new_facet, stand_in_at, kept_stand_in, moved_gluing}
+use Rattle.move_definitions.specs.Moves.{Move, Facet, IsMoved, own_facet, opposite, facet, kept, new_length, new_facet, place_after, kept_place_after, moved_gluing}
 use Rattle.move_definitions.proofs.CoreTests.{core_size, own_permutes}
 use Rattle.move_laws.proofs.ListedFacets.{same_some}
 use Rattle.move_laws.proofs.Legal.{IsFacet, facet-four, HasNoFault, no_fault}
@@ -64,11 +64,11 @@ module _ (old : List Row) (m : Move) (new : List Row) (table : IsTable old) (h :
   unfolding new_sign
   kept_value x s lt k = at (cases_lt s.tet (kept old m))
     where
-      here : IsKeptFace old m (face_at x.tet 0) (face_at s.tet 0) (kept_stand_in old m x.tet)
+      here : IsKeptFace old m (face_at x.tet 0) (face_at s.tet 0) (kept_place_after old m x.tet)
       here = record { stays = k.stays; by = refl; tet = k.tet; face = refl; small = k.small }
 
       same : (o : StandsForOld old m (face_at s.tet 0)) → o.old ≡ face_at x.tet 0
-      same o = stands_for_one old m table fine h.core o.old (face_at x.tet 0) (face_at s.tet 0) o.by (kept_stand_in old m x.tet) o.tet lt
+      same o = stands_for_one old m table fine h.core o.old (face_at x.tet 0) (face_at s.tet 0) o.by (kept_place_after old m x.tet) o.tet lt
           (subst (λ (y : Face). IsKeptFace old m o.old y o.by ⊎ IsFacetFace old m o.old y o.by) o.is (shape old m table fine h.core o.old o.by o.tet o.face o.stands)) (inl here)
 
       at : (c : (s.tet < kept old m) ⊎ (kept old m ≤ s.tet)) → sign_by s.tet c ≡ sign_of signs x.tet
@@ -96,7 +96,7 @@ module _ (old : List Row) (m : Move) (new : List Row) (table : IsTable old) (h :
   even : is_odd identity ≡ false
   even = unfold is_odd inversions in refl
 
-  standing : (x : Face) (s : Gluing) → x.tet < length old → x.face < 4 → stand_in_at old m x ≡ Some s → new_sign s.tet ≡ flip (is_odd s.perm) (sign_of signs x.tet)
+  standing : (x : Face) (s : Gluing) → x.tet < length old → x.face < 4 → place_after old m x ≡ Some s → new_sign s.tet ≡ flip (is_odd s.perm) (sign_of signs x.tet)
   standing x s lt lf stands = elim (shape old m table fine h.core x s lt lf stands) [
     | inl k ↦ kept_value x s lt k ∙ sym (ap (λ (g : Gluing). flip (is_odd g.perm) (sign_of signs x.tet)) k.by ∙ ap (λ o. flip o (sign_of signs x.tet)) even)
     | inr f ↦ ap (λ (g : Gluing). new_sign g.tet) f.by ∙ put_value f.j ∙ facet_sign f.i f.j f.facet_of f.low f.high f.less f.found f.facet_is
@@ -119,7 +119,7 @@ module _ (old : List Row) (m : Move) (new : List Row) (table : IsTable old) (h :
     put_value l ∙ both_put_in j l lj ll d ∙ ap (behind (is_odd (across j l))) (sym (put_value j)),
   )
 
-  outer_agrees : (x : Face) (s g r : Gluing) → x.tet < length old → x.face < 4 → stand_in_at old m x ≡ Some s → glue old x ≡ Some g → stand_in_at old m (other_side x g) ≡ Some r
+  outer_agrees : (x : Face) (s g r : Gluing) → x.tet < length old → x.face < 4 → place_after old m x ≡ Some s → glue old x ≡ Some g → place_after old m (other_side x g) ≡ Some r
       → Agrees (face_under s x) (gluing_under s r g)
   outer_agrees x s g r lt lf stands glued stands' =
       let hg : IsPermutationOfFour g.perm = table.permutes x g glued in
@@ -145,7 +145,7 @@ module _ (old : List Row) (m : Move) (new : List Row) (table : IsTable old) (h :
       by_gluing : (q : Option Gluing) → glue old o.old ≡ q → Agrees (face_under o.by o.old) g'
       by_gluing None f = absurd (let none : None ≡ Some g' = sym (ap (option_and_then (moved_gluing old m o.old o.by)) f) ∙ moved in cc)
       by_gluing (Some g) f =
-          let there : (r : Gluing) × (stand_in_at old m (other_side o.old g) ≡ Some r) = other_stands old m table fine h.core o.old o.by g o.face o.stands f in
+          let there : (r : Gluing) × (place_after old m (other_side o.old g) ≡ Some r) = other_stands old m table fine h.core o.old o.by g o.face o.stands f in
           let made : Some (gluing_under o.by there.0 g) ≡ Some g' = sym (ap (option_map (λ r. gluing_under o.by r g)) there.1) ∙ sym (ap (option_and_then (moved_gluing old m o.old o.by)) f) ∙ moved in
           let is : gluing_under o.by there.0 g ≡ g' = cc in
           subst (λ (k : Gluing). Agrees (face_under o.by o.old) k) is (outer_agrees o.old o.by g there.0 o.tet o.face o.stands f there.1)

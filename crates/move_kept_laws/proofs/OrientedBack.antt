@@ -6,7 +6,7 @@ use Rattle.std.proofs.lemmas.List.FromFn.{length-range_with_len, get_or-map-rang
 use Rattle.table_definitions.specs.Lists.{below}
 use Rattle.table_definitions.specs.Permutation.{is_odd}
 use Rattle.table_definitions.specs.Table.{Gluing, Row, Face, glue, IsTable}
-use Rattle.table_definitions.specs.Relabelling.{Relabelling, IsRelabelling, stand_in, face_under, gluing_under, Carries}
+use Rattle.table_definitions.specs.Relabelling.{Relabelling, IsRelabelling, relabelled_place, face_under, gluing_under, Carries}
 use Rattle.table_definitions.proofs.TableLaws.{glued_tet, glued_face}
 use Rattle.table_definitions.proofs.Carried.{perm_permutes}
 use Rattle.skeleton_definitions.specs.Orientation.{sign_of, AreSigns, IsOrientable}
@@ -21,7 +21,7 @@ use Rattle.move_kept_laws.proofs.Oriented.{moves_keep_orientable_lem}
 module _ (old new : List Row) (table : IsTable old) (by : Relabelling) (is : IsRelabelling (length old) by) (c : Carries by old new) (signs : List Bool) (are : AreSigns new signs) where
   -- the sign of what stands for a tetrahedron, turned where its vertices are turned
   old_sign_of : ℕ → Bool
-  old_sign_of t = flip (is_odd (stand_in by t).perm) (sign_of signs (stand_in by t).tet)
+  old_sign_of t = flip (is_odd (relabelled_place by t).perm) (sign_of signs (relabelled_place by t).tet)
 
   abbrev old_signs : List Bool
   old_signs = map old_sign_of (below (length old))
@@ -34,9 +34,9 @@ module _ (old new : List Row) (table : IsTable old) (by : Relabelling) (is : IsR
   agrees x g e =
       let lt : x.tet < length old = glued_tet old x g e in
       let lf : x.face < 4 = glued_face old x g table.four_faces e in
-      let s : Gluing = stand_in by x.tet in
-      let r : Gluing = stand_in by g.tet in
-      let there : glue new (face_under s x) ≡ Some (gluing_under s r g) = c.glued x lt lf ∙ ap (option_map (λ (k : Gluing). gluing_under (stand_in by x.tet) (stand_in by k.tet) k)) e in
+      let s : Gluing = relabelled_place by x.tet in
+      let r : Gluing = relabelled_place by g.tet in
+      let there : glue new (face_under s x) ≡ Some (gluing_under s r g) = c.glued x lt lf ∙ ap (option_map (λ (k : Gluing). gluing_under (relabelled_place by x.tet) (relabelled_place by k.tet) k)) e in
       ap (flip (is_odd r.perm)) (are.agree (face_under s x) (gluing_under s r g) there)
       ∙ back_sign r.perm g.perm s.perm (perm_permutes (length old) by is g.tet (table.in_range x g e)) (table.permutes x g e) (perm_permutes (length old) by is x.tet lt) (sign_of signs s.tet)
 

@@ -7,7 +7,7 @@ use Rattle.std.proofs.lemmas.List.{length-map}
 use Rattle.std.proofs.lemmas.List.Elements.{All-map, All-get_or}
 use Rattle.std.proofs.lemmas.List.FromFn.{length-range_with_len}
 use Rattle.std.proofs.lemmas.List.Kept.{AllPairs-from_increasing}
-use Rattle.table_definitions.specs.Lists.{has, below, closed_up}
+use Rattle.table_definitions.specs.Lists.{has, below, rank_without}
 use Rattle.table_definitions.specs.Permutation.{image, IsPermutationOfFour}
 use Rattle.table_definitions.specs.Table.{Gluing, Row, Face, glue, other_side, way_back, IsTable}
 use Rattle.table_definitions.specs.Replacing.{Replacement, replaced_length, number_of_kept, free_numbers, kept_gluing, back_to_fresh, replaced}
@@ -19,7 +19,7 @@ use Rattle.table_definitions.specs.Replaceable.{fresh_numbers, fresh_glue, IsFre
 use Rattle.table_definitions.proofs.Ranks.{rank, stays, closed_up-rank, at_rank, rank_all}
 use Rattle.table_definitions.proofs.Retained.{IsKeptAs, kept_as, length-replaced, fresh_row_at, kept_row_at, glue-fresh, glue-kept}
 use Rattle.table_definitions.proofs.FreshRows.{fresh_tet, length-fresh_row, back_is}
-use Rattle.move_definitions.specs.Moves.{Move, Facet, kept, kept_stand_in, stand_in_at, moved_gluing, IsMoved, Plays, facet_gluing, old_tets}
+use Rattle.move_definitions.specs.Moves.{Move, Facet, kept, kept_place_after, place_after, moved_gluing, IsMoved, Plays, facet_gluing, old_tets}
 use Rattle.move_definitions.proofs.StandIns.{stand_in-kept}
 use Rattle.move_definitions.specs.Undos.{Undo, taken_numbers, undo_of, back_exchange, former, CanTakeBack, IsTakenBack, TakesBack}
 use Rattle.move_laws.specs.Facets.{numbered}
@@ -82,14 +82,14 @@ saved-face old m x g legal e =
 gone-not : (old : List Row) (m : Move) (u : ℕ) → u < kept old m → has (range_with_len (kept old m) (length m.core)) u ≡ false
 gone-not old m u l = not-has (range_with_len (kept old m) (length m.core)) u (λ h. (let r = range-has (kept old m) (length m.core) u h in let r0 = r.0 in absurd (omega arith)))
 
-number-back : (old : List Row) (m : Move) (new : List Row) (t : ℕ) → HasMoved old m new → t < length old → has (old_tets old m) t ≡ false → number_of_kept new (back old m) (closed_up (old_tets old m) t) ≡ t
+number-back : (old : List Row) (m : Move) (new : List Row) (t : ℕ) → HasMoved old m new → t < length old → has (old_tets old m) t ≡ false → number_of_kept new (back old m) (rank_without (old_tets old m) t) ≡ t
 number-back old m new t h l free =
     let c = closes old m t h.legal l free in
     let fewer = c.fewer in
-    let u : ℕ = closed_up (old_tets old m) t in
+    let u : ℕ = rank_without (old_tets old m) t in
     let gone : List ℕ = range_with_len (kept old m) (length m.core) in
     let ascends = AllPairs-from_increasing gone (range-up (kept old m) (length m.core)) in
-    let place : closed_up gone u ≡ rank (stays (taken_numbers old m)) t =
+    let place : rank_without gone u ≡ rank (stays (taken_numbers old m)) t =
     closed_up-rank gone u ascends ∙ rank_all (stays gone) u (λ v q. ap not (gone-not old m v (omega arith))) ∙ sym c.rank_is in
     let same : rank (stays (taken_numbers old m)) t ≡ rank (stays (fresh_numbers (back old m))) t = ap (λ (ns : List ℕ). rank (stays ns) t) (sym (saved-numbers old m)) in
     let n = back-length old m new h in
@@ -99,16 +99,16 @@ number-back old m new t h l free =
 -- what the kept faces are glued by in the new table
 
 kept-glue : (old : List Row) (m : Move) (new : List Row) (x : Face) → HasMoved old m new → x.tet < length old → x.face < 4 → has (old_tets old m) x.tet ≡ false
-    → glue new (kept_place old m x) ≡ option_and_then (moved_gluing old m x (kept_stand_in old m x.tet)) (glue old x)
+    → glue new (kept_place old m x) ≡ option_and_then (moved_gluing old m x (kept_place_after old m x.tet)) (glue old x)
 kept-glue old m new x h lt l free =
-    ap (glue new) (sym (kept_under old m x l)) ∙ h.moved.outer x (kept_stand_in old m x.tet) lt l (stand_in-kept old m x free)
+    ap (glue new) (sym (kept_under old m x l)) ∙ h.moved.outer x (kept_place_after old m x.tet) lt l (stand_in-kept old m x free)
 
 -- a kept face that led to an old facet
 record LedTo (old : List Row) (m : Move) (x : Face) (g : Gluing) : Type 0 where
   f : Facet
   j : ℕ
   new : j < length m.core
-  at : stand_in_at old m (other_side x g) ≡ Some (facet_gluing old m f j)
+  at : place_after old m (other_side x g) ≡ Some (facet_gluing old m f j)
 
 led_to : (old : List Row) (m : Move) (x : Face) (g : Gluing) → IsLegal old m → x.face < 4 → has (old_tets old m) x.tet ≡ false → glue old x ≡ Some g → has (old_tets old m) g.tet ≡ true → LedTo old m x g
 led_to old m x g legal l free e h =
@@ -119,7 +119,7 @@ led_to old m x g legal l free e h =
     let permutes = legal.table.permutes x g e in
     let ly : y.face < 4 = image_below g.perm permutes x.face l in
     let new : image f.labels y.face < length m.core = outer_label old m i f y (way_back x g) legal q.2 (sym q.3) ly (legal.table.leads_back x g e) free in
-    record { f = f; j = image f.labels y.face; new = new; at = ap (stand_in_at old m) (face_at f y q.2.labelled (sym q.3) ly) ∙ stand_put old m i (image f.labels y.face) f legal q.2 new }
+    record { f = f; j = image f.labels y.face; new = new; at = ap (place_after old m) (face_at f y q.2.labelled (sym q.3) ly) ∙ stand_put old m i (image f.labels y.face) f legal q.2 new }
 
 freed_back : (old : List Row) (m : Move) (new : List Row) (x : Face) (g : Gluing) → HasMoved old m new → Saved old m x g → has (old_tets old m) g.tet ≡ false → IsFreed new (back old m) (other_side x g)
 freed_back old m new x g h s free =
@@ -130,16 +130,16 @@ freed_back old m new x g h s free =
     let ly : y.face < 4 = image_below g.perm permutes x.face s.face in
     let home : glue old y ≡ Some (way_back x g) = table.leads_back x g s.glued in
     let led = led_to old m y (way_back x g) h.legal ly free home s.taken in
-    let k : Gluing = kept_stand_in old m g.tet in
+    let k : Gluing = kept_place_after old m g.tet in
     let put : Gluing = gluing_under k (facet_gluing old m led.f led.j) (way_back x g) in
     let fewer = (closes old m g.tet h.legal inside free).fewer in
     let n = h.moved.length_is in
     let new_label = led.new in
     record {
-      old = closed_up (old_tets old m) g.tet;
+      old = rank_without (old_tets old m) g.tet;
       gluing = put;
       in_range = omega arith;
-      is_kept = gone-not old m (closed_up (old_tets old m) g.tet) fewer;
+      is_kept = gone-not old m (rank_without (old_tets old m) g.tet) fewer;
       number = number-back old m new g.tet h inside free;
       glued = kept-glue old m new y h inside ly free ∙ ap (option_and_then (moved_gluing old m y k)) home ∙ ap (option_map (λ r. gluing_under k r (way_back x g))) led.at;
       led_to_removed = has-range (kept old m) (length m.core) (kept old m + led.j) (omega arith) (omega arith);
@@ -174,7 +174,7 @@ can_take_back old m new h = record {
 -- row for row
 
 kept_again : (old : List Row) (m : Move) (new : List Row) (x : Face) (o : Option Gluing) → HasMoved old m new → x.tet < length old → x.face < 4 → has (old_tets old m) x.tet ≡ false → glue old x ≡ o
-    → kept_gluing new (back old m) x (option_and_then (moved_gluing old m x (kept_stand_in old m x.tet)) o) ≡ o
+    → kept_gluing new (back old m) x (option_and_then (moved_gluing old m x (kept_place_after old m x.tet)) o) ≡ o
 kept_again old m new x None h lt l free e = refl
 kept_again old m new x (Some g) h lt l free e = by_test (has (old_tets old m) g.tet) refl
   where
@@ -188,11 +188,11 @@ kept_again old m new x (Some g) h lt l free e = by_test (has (old_tets old m) g.
         → kept_gluing new (back old m) x (Some k) ≡ cond b (back_to_fresh (back old m) x) (Some (record { tet = number_of_kept new (back old m) k.tet; perm = k.perm }))
     shown k b q = ap (λ c. cond c (back_to_fresh (back old m) x) (Some (record { tet = number_of_kept new (back old m) k.tet; perm = k.perm }))) q
 
-    by_test : (b : Bool) → has (old_tets old m) g.tet ≡ b → kept_gluing new (back old m) x (moved_gluing old m x (kept_stand_in old m x.tet) g) ≡ Some g
+    by_test : (b : Bool) → has (old_tets old m) g.tet ≡ b → kept_gluing new (back old m) x (moved_gluing old m x (kept_place_after old m x.tet) g) ≡ Some g
     by_test true q =
         let led = led_to old m x g h.legal l free e q in
         let new_label = led.new in
-        let s : Gluing = kept_stand_in old m x.tet in
+        let s : Gluing = kept_place_after old m x.tet in
         let put : Gluing = gluing_under s (facet_gluing old m led.f led.j) g in
         let y : Face = other_side x g in
         let home : fresh_glue (back old m) y ≡ Some (way_back x g) = saved-glue old m y inside q ∙ h.legal.table.leads_back x g e in
@@ -203,12 +203,12 @@ kept_again old m new x (Some g) h lt l free e = by_test (has (old_tets old m) g.
         ∙ back_is new (back old m) (can_take_back old m new h) y (way_back x g) home to_kept
         ∙ ap (λ (k : Gluing). Some k) (back_again x g permutes)
     by_test false q =
-        let s : Gluing = kept_stand_in old m x.tet in
-        let k : Gluing = record { tet = closed_up (old_tets old m) g.tet; perm = g.perm } in
+        let s : Gluing = kept_place_after old m x.tet in
+        let k : Gluing = record { tet = rank_without (old_tets old m) g.tet; perm = g.perm } in
         let fewer = (closes old m g.tet h.legal inside q).fewer in
         ap (λ (r : Option Gluing). kept_gluing new (back old m) x (option_map (λ t. gluing_under s t g) r)) (stand_in-kept old m (other_side x g) q)
-        ∙ ap (λ (t : Gluing). kept_gluing new (back old m) x (Some t)) (under_kept (closed_up (old_tets old m) x.tet) (closed_up (old_tets old m) g.tet) g permutes)
-        ∙ shown k false (gone-not old m (closed_up (old_tets old m) g.tet) fewer)
+        ∙ ap (λ (t : Gluing). kept_gluing new (back old m) x (Some t)) (under_kept (rank_without (old_tets old m) x.tet) (rank_without (old_tets old m) g.tet) g permutes)
+        ∙ shown k false (gone-not old m (rank_without (old_tets old m) g.tet) fewer)
         ∙ ap (λ n. Some (record { tet = n; perm = g.perm })) (number-back old m new g.tet h inside q)
 
 glue-again : (old : List Row) (m : Move) (new : List Row) (x : Face) → HasMoved old m new → x.tet < length old → x.face < 4 → glue (former new (undo_of old m)) x ≡ glue old x
@@ -219,7 +219,7 @@ glue-again old m new x h lt l = by_test (has (old_tets old m) x.tet) refl
         let n = back-length old m new h in
         glue-fresh new (back old m) x (omega arith) (saved-has old m x.tet lt ∙ q) ∙ saved-glue old m x lt q
     by_test false q =
-        let c : ℕ = closed_up (old_tets old m) x.tet in
+        let c : ℕ = rank_without (old_tets old m) x.tet in
         let fewer = (closes old m x.tet h.legal lt q).fewer in
         let n = h.moved.length_is in
         let k : IsKeptAs new (back old m) c x.tet =

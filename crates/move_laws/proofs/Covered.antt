@@ -2,14 +2,14 @@
 use Rattle.std.proofs.Common.{◌≡◌, ℕ, ◌+◌, ◌-◌, ◌<◌, ◌≤◌, false, List, length, Some, sym, ap, ◌∙◌, subst, arith, inl, inr, refl}
 use Rattle.std.specs.Prelude.{◌⊎◌, ◌≢◌}
 use Rattle.std.proofs.lemmas.Bool.{cases_lt}
-use Rattle.table_definitions.specs.Lists.{has, in_place_of, closed_up}
+use Rattle.table_definitions.specs.Lists.{has, substitute, rank_without}
 use Rattle.table_definitions.specs.Permutation.{image, preimage}
 use Rattle.table_definitions.specs.Table.{Gluing, Row, Face, IsTable}
 use Rattle.table_definitions.specs.Relabelling.{face_under}
 use Rattle.table_definitions.proofs.Permutations.{image-identity}
 use Rattle.table_definitions.proofs.InPlace.{in_place-same}
 use Rattle.table_definitions.proofs.Faces.{face_at}
-use Rattle.move_definitions.specs.Moves.{Move, IsCore, Facet, opposite, facet, old_labels, old_tets, new_length, new_facet, label_by_label, facet_stand_in, kept_stand_in, stand_in_of, stand_in_at, kept, facet_gluing}
+use Rattle.move_definitions.specs.Moves.{Move, IsCore, Facet, opposite, facet, old_labels, old_tets, new_length, new_facet, label_by_label, facet_place_after, kept_place_after, place_after_of, place_after, kept, facet_gluing}
 use Rattle.move_definitions.proofs.CoreTests.{core_size}
 use Rattle.move_definitions.proofs.StandIns.{facet_stand_in-new, stand_in-kept}
 use Rattle.move_laws.proofs.Labels.{ascending, new_labels, HasLabel, label_at, HasVertex, vertex_at, length-labels, image-map}
@@ -18,9 +18,9 @@ use Rattle.move_laws.proofs.Legal.{IsFacet, facet_is, HasNoFault, old_facet, old
 
 -- what stands for an old facet
 pub stand_in-old : (rows : List Row) (m : Move) (i : ℕ) (f : Facet) (v : ℕ) → HasNoFault rows m → IsCore m.core → length m.core ≤ i → i < 5 → facet rows m i ≡ Some f
-    → stand_in_at rows m (face_at f.tet v) ≡ facet_stand_in rows m f (image f.labels v)
+    → place_after rows m (face_at f.tet v) ≡ facet_place_after rows m f (image f.labels v)
 stand_in-old rows m i f v h c low high e =
-    ap (stand_in_of rows m (face_at f.tet v)) (is_found (facet rows m) (old_labels m) i f (facets_apart rows m h c) (old_label (length m.core) i (core_size m.core c).1 low high) e)
+    ap (place_after_of rows m (face_at f.tet v)) (is_found (facet rows m) (old_labels m) i f (facets_apart rows m h c) (old_label (length m.core) i (core_size m.core c).1 low high) e)
 
 -- as many tetrahedra are kept as stay, and no fewer than those that are taken out were there
 pub kept-count : (rows : List Row) (m : Move) → IsTable rows → HasNoFault rows m → IsCore m.core → 5 - length m.core ≤ length rows
@@ -33,7 +33,7 @@ pub record StandsForOld (rows : List Row) (m : Move) (y : Face) : Type 0 where
   pub by : Gluing
   pub tet : old.tet < length rows
   pub face : old.face < 4
-  pub stands : stand_in_at rows m old ≡ Some by
+  pub stands : place_after rows m old ≡ Some by
   pub is : face_under by old ≡ y
 
 -- a face between facets j and l that are put in
@@ -49,8 +49,8 @@ pub record IsInner (rows : List Row) (m : Move) (y : Face) : Type 0 where
 pub crossed : (rows : List Row) (m : Move) (i j : ℕ) (f : Facet) → IsFacet rows i f → j < 5 → j ≢ i → image (label_by_label f (new_facet rows m j)) (preimage f.labels j) ≡ preimage (ascending j) i
 crossed rows m i j f is l apart =
     let at : HasVertex f.labels j = vertex_at i f.labels is.labels j l apart in
-    image-map (λ l. preimage (ascending j) (in_place_of j f.missing l)) f.labels (preimage f.labels j) (rw (length-labels i f.labels is.labels) at.small)
-    ∙ ap (λ l. preimage (ascending j) (in_place_of j f.missing l)) at.label
+    image-map (λ l. preimage (ascending j) (substitute j f.missing l)) f.labels (preimage f.labels j) (rw (length-labels i f.labels is.labels) at.small)
+    ∙ ap (λ l. preimage (ascending j) (substitute j f.missing l)) at.label
     ∙ ap (preimage (ascending j)) (in_place-same j f.missing j refl ∙ is.missing)
 
 -- a face of a new facet opposite an old label
@@ -68,7 +68,7 @@ facet_covered rows m i j table h c low high less =
       by = facet_gluing rows m f j;
       tet = is.in_range;
       face = at.small;
-      stands = stand_in-old rows m i f (preimage f.labels j) h c low high o.1 ∙ ap (facet_stand_in rows m f) at.label ∙ facet_stand_in-new rows m f j less;
+      stands = stand_in-old rows m i f (preimage f.labels j) h c low high o.1 ∙ ap (facet_place_after rows m f) at.label ∙ facet_stand_in-new rows m f j less;
       is = ap (face_at (kept rows m + j)) (crossed rows m i j f is small apart);
     }
 
@@ -79,14 +79,14 @@ kept_covered rows m y table h c lt lf = from (comes_from (old_tets rows m) (leng
     few : y.tet + length (old_tets rows m) < length rows
     few = let size : length m.core < 5 = (core_size m.core c).1 in let k : 5 - length m.core ≤ length rows = kept-count rows m table h c in omega (arith, length-old_tets rows m h c)
 
-    from : (t : ℕ) × (t < length rows) × (has (old_tets rows m) t ≡ false) × (closed_up (old_tets rows m) t ≡ y.tet) → StandsForOld rows m y
+    from : (t : ℕ) × (t < length rows) × (has (old_tets rows m) t ≡ false) × (rank_without (old_tets rows m) t ≡ y.tet) → StandsForOld rows m y
     from (t, l, stays, is) = record {
       old = face_at t y.face;
-      by = kept_stand_in rows m t;
+      by = kept_place_after rows m t;
       tet = l;
       face = lf;
       stands = stand_in-kept rows m (face_at t y.face) stays;
-      is = ap (λ v. face_at (closed_up (old_tets rows m) t) v) (image-identity y.face lf) ∙ ap (λ u. face_at u y.face) is;
+      is = ap (λ v. face_at (rank_without (old_tets rows m) t) v) (image-identity y.face lf) ∙ ap (λ u. face_at u y.face) is;
     }
 
 -- each face is one or the other

@@ -7,7 +7,7 @@ use Rattle.std.proofs.lemmas.List.{length-map}
 use Rattle.std.proofs.lemmas.List.Elements.{All-map}
 use Rattle.std.proofs.lemmas.List.FromFn.{length-range_with_len, get_or-range_with_len}
 use Rattle.std.proofs.lemmas.List.Kept.{AllPairs-from_increasing}
-use Rattle.table_definitions.specs.Lists.{has, closed_up}
+use Rattle.table_definitions.specs.Lists.{has, rank_without}
 use Rattle.table_definitions.specs.Permutation.{image, IsPermutationOfFour}
 use Rattle.table_definitions.specs.Table.{max_tets, Gluing, Row, Face, glue, other_side, way_back, same_face, IsTable}
 use Rattle.table_definitions.specs.Replacing.{replaced_length, number_of_kept, free_numbers}
@@ -18,7 +18,7 @@ use Rattle.table_definitions.proofs.Faces.{there_and_back}
 use Rattle.table_definitions.specs.Replaceable.{fresh_numbers, fresh_glue, IsFreed, CanReplace}
 use Rattle.table_definitions.proofs.Ranks.{rank, stays, closed_up-rank, at_rank, rank_all}
 use Rattle.table_definitions.proofs.Carried.{not_from, same_from, same_to}
-use Rattle.move_definitions.specs.Moves.{Move, Facet, vertex_of, opposite, kept, new_length, new_facet, label_by_label, stand_in_at, moved_gluing, facet_gluing, old_tets}
+use Rattle.move_definitions.specs.Moves.{Move, Facet, vertex_of, opposite, kept, new_length, new_facet, label_by_label, place_after, moved_gluing, facet_gluing, old_tets}
 use Rattle.move_definitions.specs.Undos.{taken_numbers}
 use Rattle.move_laws.specs.Facets.{IsOldFacet, fresh_gluing, put_row, put_rows, exchange}
 use Rattle.move_laws.proofs.LabelLaws.{by_permutes, by_back, vertex_by}
@@ -30,14 +30,14 @@ use Rattle.move_laws.proofs.StandLaws.{side_under, way_under, under_permutes, cl
 use Rattle.move_laws.proofs.PutLaws.{put-numbers, put-length, is-put, put-is, not-put, glue-inner, glue-outer, LeadsIn, LeadsOut, leads, Leads}
 
 -- the new number of a tetrahedron that is kept
-pub number-kept : (rows : List Row) (m : Move) (t : ℕ) → IsLegal rows m → t < length rows → has (old_tets rows m) t ≡ false → number_of_kept rows (exchange rows m) t ≡ closed_up (old_tets rows m) t
+pub number-kept : (rows : List Row) (m : Move) (t : ℕ) → IsLegal rows m → t < length rows → has (old_tets rows m) t ≡ false → number_of_kept rows (exchange rows m) t ≡ rank_without (old_tets rows m) t
 number-kept rows m t legal l free =
     let c = closes rows m t legal l free in
     let r = c.rank_is in
     let fewer = c.fewer in
-    let u : ℕ = closed_up (old_tets rows m) t in
+    let u : ℕ = rank_without (old_tets rows m) t in
     let up = AllPairs-from_increasing (taken_numbers rows m) (picked-up (has (old_tets rows m)) (length rows)) in
-    let place : closed_up (taken_numbers rows m) t ≡ rank (stays (fresh_numbers (exchange rows m))) u =
+    let place : rank_without (taken_numbers rows m) t ≡ rank (stays (fresh_numbers (exchange rows m))) u =
     closed_up-rank (taken_numbers rows m) t up ∙ r ∙ sym (rank_all (stays (fresh_numbers (exchange rows m))) u (λ v q. ap not (not-put rows m v (omega arith)))) in
     let n = put-length rows m legal in
     ap (λ i. get_or (free_numbers rows (exchange rows m)) i 0) place
@@ -56,7 +56,7 @@ record Outer (rows : List Row) (m : Move) (x : Face) (g : Gluing) : Type 0 where
   at : x ≡ face_under (facet_gluing rows m f j) (opposite f j)
   is : g ≡ gluing_under (facet_gluing rows m f j) there before
   glued : glue rows (opposite f j) ≡ Some before
-  stands : stand_in_at rows m (other_side (opposite f j) before) ≡ Some there
+  stands : place_after rows m (other_side (opposite f j) before) ≡ Some there
   small : vertex_of f j < 4
   permutes : IsPermutationOfFour before.perm
   here_permutes : IsPermutationOfFour (facet_gluing rows m f j).perm
@@ -113,7 +113,7 @@ tet_of g h e = ap (λ (k : Gluing). k.tet) e
 own_tet : (rows : List Row) (m : Move) (x : Face) (g : Gluing) (o : Outer rows m x g) → x.tet ≡ kept rows m + o.j
 own_tet rows m x g o = ap (λ (y : Face). y.tet) o.at
 
-kept_tet : (rows : List Row) (m : Move) (x : Face) (g : Gluing) → IsLegal rows m → (o : Outer rows m x g) → StandsKept rows m (other_side (opposite o.f o.j) o.before) o.there → (g.tet ≡ closed_up (old_tets rows m) o.before.tet) × (closed_up (old_tets rows m) o.before.tet < kept rows m)
+kept_tet : (rows : List Row) (m : Move) (x : Face) (g : Gluing) → IsLegal rows m → (o : Outer rows m x g) → StandsKept rows m (other_side (opposite o.f o.j) o.before) o.there → (g.tet ≡ rank_without (old_tets rows m) o.before.tet) × (rank_without (old_tets rows m) o.before.tet < kept rows m)
 kept_tet rows m x g legal o k = (tet_of g _ o.is ∙ tet_of o.there _ k.is, (closes rows m o.before.tet legal o.there_in_range k.free).fewer)
 
 put_tet : (rows : List Row) (m : Move) (x : Face) (g : Gluing) → (o : Outer rows m x g) → (p : StandsPut rows m (other_side (opposite o.f o.j) o.before) o.there) → g.tet ≡ kept rows m + p.j
@@ -244,7 +244,7 @@ back_in rows m x g legal (inr l) h = by_stand (outer_stands rows m x g legal o)
         let back : glue rows (opposite p.f p.j) ≡ Some (way_back a o.before) = ap (glue rows) (sym p.at) ∙ legal.table.leads_back a o.before o.glued in
         let home : other_side (opposite p.f p.j) (way_back a o.before) ≡ a = ap (λ (y : Face). other_side y (way_back a o.before)) (sym p.at) ∙ there_and_back a o.before o.permutes o.small in
         let carried : moved_gluing rows m (opposite p.f p.j) r (way_back a o.before) ≡ Some (gluing_under r s (way_back a o.before)) =
-        ap (λ (y : Face). option_map (λ t. gluing_under r t (way_back a o.before)) (stand_in_at rows m y)) home ∙ ap (option_map (λ t. gluing_under r t (way_back a o.before))) (stand_put rows m o.i o.j o.f legal o.old o.own) in
+        ap (λ (y : Face). option_map (λ t. gluing_under r t (way_back a o.before)) (place_after rows m y)) home ∙ ap (option_map (λ t. gluing_under r t (way_back a o.before))) (stand_put rows m o.i o.j o.f legal o.old o.own) in
         let way : way_back x g ≡ gluing_under r s (way_back a o.before) = o.back ∙ ap (λ (t : Gluing). gluing_under t s (way_back a o.before)) p.is in
         ap (fresh_glue (exchange rows m)) (put_side rows m x g legal o p) ∙ glue-outer rows m p.i p.j p.f legal p.old p.new ∙ ap (option_and_then (moved_gluing rows m (opposite p.f p.j) r)) back ∙ carried
         ∙ ap (λ (k : Gluing). Some k) (sym way)
@@ -271,10 +271,10 @@ not_in rows m x g legal (inr l) h = by_stand (outer_stands rows m x g legal o)
         absurd cc
 
 kept_side : (rows : List Row) (m : Move) (x : Face) (g : Gluing) (o : Outer rows m x g) → StandsKept rows m (other_side (opposite o.f o.j) o.before) o.there
-    → other_side x g ≡ record { tet = closed_up (old_tets rows m) o.before.tet; face = (other_side (opposite o.f o.j) o.before).face }
+    → other_side x g ≡ record { tet = rank_without (old_tets rows m) o.before.tet; face = (other_side (opposite o.f o.j) o.before).face }
 kept_side rows m x g o k =
     o.side ∙ ap (λ (s : Gluing). face_under s (other_side (opposite o.f o.j) o.before)) k.is
-    ∙ ap (λ v. record { tet = closed_up (old_tets rows m) o.before.tet; face = v }) (image-identity (other_side (opposite o.f o.j) o.before).face o.there_small)
+    ∙ ap (λ v. record { tet = rank_without (old_tets rows m) o.before.tet; face = v }) (image-identity (other_side (opposite o.f o.j) o.before).face o.there_small)
 
 freed_by : (rows : List Row) (m : Move) (x : Face) (g : Gluing) → IsLegal rows m → Leads rows m x g → has (fresh_numbers (exchange rows m)) g.tet ≡ false → IsFreed rows (exchange rows m) (other_side x g)
 freed_by rows m x g legal kind h =
@@ -283,7 +283,7 @@ freed_by rows m x g legal kind h =
     let k = p.1 in
     let a : Face = opposite o.f o.j in
     let y : Face = other_side a o.before in
-    let at : other_side x g ≡ record { tet = closed_up (old_tets rows m) o.before.tet; face = y.face } = kept_side rows m x g o k in
+    let at : other_side x g ≡ record { tet = rank_without (old_tets rows m) o.before.tet; face = y.face } = kept_side rows m x g o k in
     let inside = o.old.in_range in
     record {
       old = o.before.tet;
@@ -313,7 +313,7 @@ one_by rows m x z g h legal kx kz kept_x e =
     let a : Face = opposite o.f o.j in
     let b : Face = opposite u.f u.j in
     let mk : ℕ → ℕ → Face = λ t v. record { tet = t; face = v } in
-    let both : mk (closed_up (old_tets rows m) o.before.tet) (other_side a o.before).face ≡ mk (closed_up (old_tets rows m) u.before.tet) (other_side b u.before).face = sym (kept_side rows m x g o p.1) ∙ e ∙ kept_side rows m z h u q.1 in
+    let both : mk (rank_without (old_tets rows m) o.before.tet) (other_side a o.before).face ≡ mk (rank_without (old_tets rows m) u.before.tet) (other_side b u.before).face = sym (kept_side rows m x g o p.1) ∙ e ∙ kept_side rows m z h u q.1 in
     let t : o.before.tet ≡ u.before.tet = closed-apart rows m o.before.tet u.before.tet legal o.there_in_range u.there_in_range p.1.free q.1.free (face_tet _ _ both) in
     let sides : other_side a o.before ≡ other_side b u.before = ap (λ n. mk n (other_side a o.before).face) t ∙ ap (mk u.before.tet) (face_vertex _ _ both) in
     let faces : a ≡ b = one_face rows legal.table a b o.before u.before o.glued u.glued o.small u.small sides in

@@ -4,13 +4,13 @@ use Rattle.std.specs.Prelude.{◌⊎◌, ◌==◌, ◌&&◌, ◌||◌, ◌≢◌
 use Rattle.std.specs.List.{list_all}
 use Rattle.std.proofs.lemmas.Bool.{eqb-true, ltb-true, or_cases, cases_eq}
 use Rattle.plain_facts.proofs.Numbers.{not_equal}
-use Rattle.table_definitions.specs.Lists.{below, in_place_of}
+use Rattle.table_definitions.specs.Lists.{below, substitute}
 use Rattle.table_definitions.specs.Permutation.{image, preimage, inverse, IsPermutationOfFour}
 use Rattle.table_definitions.specs.Table.{Gluing, Row}
 use Rattle.table_definitions.proofs.InPlace.{in_place-back}
 use Rattle.table_definitions.proofs.ListFacts.{list_all-below, both_true}
 use Rattle.table_definitions.proofs.Permutations.{length-permutation, image_below, preimage_below, image-preimage, preimage-image}
-use Rattle.move_definitions.specs.Moves.{Move, Facet, IsCore, vertices_by_label, own_facet, vertex_of, facet_behind, new_facet, label_by_label}
+use Rattle.move_definitions.specs.Moves.{Move, Facet, IsCore, vertices_by_label, own_facet, vertex_of, facet_across, new_facet, label_by_label}
 use Rattle.move_definitions.proofs.CoreTests.{core_size, own_permutes}
 use Rattle.move_laws.specs.Facets.{IsFacet}
 use Rattle.move_laws.proofs.LabelLaws.{facet_from, goes_below, goes_other, by_is}
@@ -87,24 +87,24 @@ pub own_is_facet : (m : Move) → IsCore m.core → IsFacet (own_facet m)
 own_is_facet m h = permuted m.tet (inverse (vertices_by_label m.core)) (own_permutes m.core h)
 
 -- the facet behind a face of the move's own
-behind_at : (own : Facet) (i : ℕ) (g : Gluing) (v : ℕ) → v < 4 → image (facet_behind own i g).labels v ≡ in_place_of i 4 (image own.labels (preimage g.perm v))
+behind_at : (own : Facet) (i : ℕ) (g : Gluing) (v : ℕ) → v < 4 → image (facet_across own i g).labels v ≡ substitute i 4 (image own.labels (preimage g.perm v))
 behind_at own i g zero l = refl
 behind_at own i g (suc zero) l = refl
 behind_at own i g (suc (suc zero)) l = refl
 behind_at own i g (suc (suc (suc zero))) l = refl
 behind_at own i g (suc (suc (suc (suc v)))) l = absurd (omega arith)
 
-pub behind_is_facet : (own : Facet) (i : ℕ) (g : Gluing) → IsFacet own → own.missing ≡ 4 → i < 4 → IsPermutationOfFour g.perm → IsFacet (facet_behind own i g)
+pub behind_is_facet : (own : Facet) (i : ℕ) (g : Gluing) → IsFacet own → own.missing ≡ 4 → i < 4 → IsPermutationOfFour g.perm → IsFacet (facet_across own i g)
 behind_is_facet own i g O four_missing small h =
-    facet_from (facet_behind own i g) (λ l. image g.perm (vertex_of own (in_place_of 4 i l))) (omega arith) refl
+    facet_from (facet_across own i g) (λ l. image g.perm (vertex_of own (substitute 4 i l))) (omega arith) refl
     (λ v l. (let e = behind_at own i g v l in let b = goes_below 4 i (label v) (omega arith) (O.label_below (preimage g.perm v) (back v l)) in omega arith))
     (λ v l e. goes_other 4 i (label v) (λ q. absurd (omega arith)) (sym (behind_at own i g v l) ∙ e))
-    (λ v l. ap (λ k. image g.perm (vertex_of own (in_place_of 4 i k))) (behind_at own i g v l) ∙ ap (λ k. image g.perm (vertex_of own k)) (in_place-back 4 i (label v) (other v l))
+    (λ v l. ap (λ k. image g.perm (vertex_of own (substitute 4 i k))) (behind_at own i g v l) ∙ ap (λ k. image g.perm (vertex_of own k)) (in_place-back 4 i (label v) (other v l))
     ∙ ap (image g.perm) (O.vertex_back (preimage g.perm v) (back v l)) ∙ image-preimage g.perm h v l)
-    (λ l b d. image_below g.perm h (vertex_of own (in_place_of 4 i l)) (inside l b d))
-    (λ l b d. behind_at own i g (image g.perm (vertex_of own (in_place_of 4 i l))) (image_below g.perm h (vertex_of own (in_place_of 4 i l)) (inside l b d))
-    ∙ ap (λ v. in_place_of i 4 (image own.labels v)) (preimage-image g.perm h (vertex_of own (in_place_of 4 i l)) (inside l b d))
-    ∙ ap (in_place_of i 4) (O.label_back (in_place_of 4 i l) (goes_below i 4 l (omega arith) b) (not_four l d)) ∙ in_place-back i 4 l d)
+    (λ l b d. image_below g.perm h (vertex_of own (substitute 4 i l)) (inside l b d))
+    (λ l b d. behind_at own i g (image g.perm (vertex_of own (substitute 4 i l))) (image_below g.perm h (vertex_of own (substitute 4 i l)) (inside l b d))
+    ∙ ap (λ v. substitute i 4 (image own.labels v)) (preimage-image g.perm h (vertex_of own (substitute 4 i l)) (inside l b d))
+    ∙ ap (substitute i 4) (O.label_back (substitute 4 i l) (goes_below i 4 l (omega arith) b) (not_four l d)) ∙ in_place-back i 4 l d)
   where
     label : ℕ → ℕ
     label v = image own.labels (preimage g.perm v)
@@ -115,14 +115,14 @@ behind_is_facet own i g O four_missing small h =
     other : (v : ℕ) → v < 4 → label v ≢ 4
     other v l e = O.label_other (preimage g.perm v) (back v l) (e ∙ sym four_missing)
 
-    not_four : (l : ℕ) → l ≢ i → in_place_of 4 i l ≢ own.missing
+    not_four : (l : ℕ) → l ≢ i → substitute 4 i l ≢ own.missing
     not_four l d e = goes_other i 4 l (λ q. absurd (omega arith)) (e ∙ four_missing)
 
-    inside : (l : ℕ) → l < 5 → l ≢ i → vertex_of own (in_place_of 4 i l) < 4
-    inside l b d = O.vertex_below (in_place_of 4 i l) (goes_below i 4 l (omega arith) b) (not_four l d)
+    inside : (l : ℕ) → l < 5 → l ≢ i → vertex_of own (substitute 4 i l) < 4
+    inside l b d = O.vertex_below (substitute 4 i l) (goes_below i 4 l (omega arith) b) (not_four l d)
 
 -- and it is glued to it label by label
-pub behind_glued : (own : Facet) (i : ℕ) (g : Gluing) → IsFacet own → own.missing ≡ 4 → i < 4 → IsPermutationOfFour g.perm → g.perm ≡ label_by_label own (facet_behind own i g)
+pub behind_glued : (own : Facet) (i : ℕ) (g : Gluing) → IsFacet own → own.missing ≡ 4 → i < 4 → IsPermutationOfFour g.perm → g.perm ≡ label_by_label own (facet_across own i g)
 behind_glued own i g O four_missing small h =
-    by_is own (facet_behind own i g) g.perm O (behind_is_facet own i g O four_missing small h) (λ e. absurd (let q : 4 ≡ i = sym four_missing ∙ e in omega arith)) h (λ v l. image_below g.perm h v l)
-    (λ v l. behind_at own i g (image g.perm v) (image_below g.perm h v l) ∙ ap (λ w. in_place_of i 4 (image own.labels w)) (preimage-image g.perm h v l) ∙ ap (λ k. in_place_of i k (image own.labels v)) (sym four_missing))
+    by_is own (facet_across own i g) g.perm O (behind_is_facet own i g O four_missing small h) (λ e. absurd (let q : 4 ≡ i = sym four_missing ∙ e in omega arith)) h (λ v l. image_below g.perm h v l)
+    (λ v l. behind_at own i g (image g.perm v) (image_below g.perm h v l) ∙ ap (λ w. substitute i 4 (image own.labels w)) (preimage-image g.perm h v l) ∙ ap (λ k. substitute i k (image own.labels v)) (sym four_missing))

@@ -14,7 +14,7 @@ use Rattle.table_definitions.specs.Table.{Gluing, Row, glue, IsTable}
 use Rattle.table_definitions.proofs.Bijections.{range-push}
 use Rattle.move_definitions.specs.declared.MoveFault.{MoveFault}
 use Rattle.move_definitions.specs.declared.MoveFault.TheVariants.{Boundary, Repeated, NoSuchTet}
-use Rattle.move_definitions.specs.Moves.{Move, Facet, facet, facet_fault, found_labels, tets_before, own_facet, opposite, facet_behind, pair_fault, move_fault}
+use Rattle.move_definitions.specs.Moves.{Move, Facet, facet, facet_fault, found_labels, tets_before, own_facet, opposite, facet_across, pair_fault, move_fault}
 use Rattle.table_definitions.proofs.ListFacts.{list_all-below, same_list-true, first_some-from, first_some-none_from, first_some-is_none}
 use Rattle.move_laws.specs.Faults.{facets_below, first_facet_fault, found_facets, pairs_fault, verdict, IsPattern}
 
@@ -215,14 +215,14 @@ facets_in rows m table (i ∷ ls) small k d l = by_head (facet rows m i) refl k 
             by_test true t = let q = eqb-true i 4 t in absurd (omega (arith, i_small))
             by_test false t = t
 
-        shown : option_map (facet_behind (own_facet m) i) (glue rows (opposite (own_facet m) i)) ≡ Some f
-        shown = sym (ap (λ b. if◌then◌else◌ {A = Option Facet} b (Some (own_facet m)) (option_map (facet_behind (own_facet m) i) (glue rows (opposite (own_facet m) i)))) not_four) ∙ e
+        shown : option_map (facet_across (own_facet m) i) (glue rows (opposite (own_facet m) i)) ≡ Some f
+        shown = sym (ap (λ b. if◌then◌else◌ {A = Option Facet} b (Some (own_facet m)) (option_map (facet_across (own_facet m) i) (glue rows (opposite (own_facet m) i)))) not_four) ∙ e
 
         by_glue : (o : Option Gluing) → glue rows (opposite (own_facet m) i) ≡ o → f.tet < length rows
-        by_glue None h = let z : None ≡ Some f = sym (ap (option_map (facet_behind (own_facet m) i)) h) ∙ shown in absurd cc
+        by_glue None h = let z : None ≡ Some f = sym (ap (option_map (facet_across (own_facet m) i)) h) ∙ shown in absurd cc
         by_glue (Some g) h =
-            let z : Some (facet_behind (own_facet m) i g) ≡ Some f = sym (ap (option_map (facet_behind (own_facet m) i)) h) ∙ shown in
-            let y : facet_behind (own_facet m) i g ≡ f = cc in
+            let z : Some (facet_across (own_facet m) i g) ≡ Some f = sym (ap (option_map (facet_across (own_facet m) i)) h) ∙ shown in
+            let y : facet_across (own_facet m) i g ≡ f = cc in
             subst (λ (x : Facet). x.tet < length rows) y (table.in_range (opposite (own_facet m) i) g h)
 
     by_head : (o : Option Facet) → facet rows m i ≡ o → (k : ℕ) → k < length (cons_option o (filter_map (facet rows m) ls))

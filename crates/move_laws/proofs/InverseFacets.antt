@@ -2,14 +2,14 @@
 use Rattle.std.proofs.Common.{◌≡◌, ℕ, zero, suc, ◌+◌, ◌-◌, ◌<◌, ◌≤◌, Bool, true, false, List, length, map, drop, Option, Some, None, refl, sym, ap, ◌∙◌, subst, arith, inl, inr}
 use Rattle.std.specs.Prelude.{◌==◌, ◌≢◌, nat_lt, filter, option_map, if◌then◌else◌}
 use Rattle.std.proofs.lemmas.Bool.{eqb-true, eq-eqb, lt-ltb, ltb-true, and_from, or_cases}
-use Rattle.table_definitions.specs.Lists.{has, same_list, in_place_of, pairs_of}
+use Rattle.table_definitions.specs.Lists.{has, same_list, substitute, pairs_of}
 use Rattle.table_definitions.specs.Permutation.{four, image, preimage, compose}
 use Rattle.table_definitions.specs.Table.{Row, glue, IsTable}
 use Rattle.table_definitions.proofs.TableLaws.{Among}
 use Rattle.table_definitions.proofs.Listed.{filter-among, pairs-among, first_some-nowhere}
 use Rattle.table_definitions.proofs.Faces.{face_at}
 use Rattle.move_definitions.specs.declared.MoveFault.TheVariants.{Repeated, NotMatched}
-use Rattle.move_definitions.specs.Moves.{Move, IsCore, Facet, own_facet, opposite, facet_behind, facet, found_labels, tets_before, facet_fault, pair_fault, is_matched, move_fault, kept, inverse_move, IsMoved}
+use Rattle.move_definitions.specs.Moves.{Move, IsCore, Facet, own_facet, opposite, facet_across, facet, found_labels, tets_before, facet_fault, pair_fault, is_matched, move_fault, kept, inverse_move, IsMoved}
 use Rattle.move_definitions.proofs.CoreTests.{core_size}
 use Rattle.move_laws.proofs.Labels.{ascending, new_labels, label_at, HasVertex, vertex_at, length-labels, image-map}
 use Rattle.move_laws.proofs.ListedFacets.{same_some, tets_of, IsOf, facet_with}
@@ -89,8 +89,8 @@ found_inverse old m new p j low high =
     let few : length m.core < 5 = p.few in
     let small : renamed s j < 4 = (let e = renamed_found s j low high in omega arith) in
     facet-found new (inverse_of old m) (renamed s j) small
-    ∙ ap (λ (f : Facet). option_map (facet_behind f (renamed s j)) (glue new (opposite f (renamed s j)))) (own_inverse old m new p)
-    ∙ ap (option_map (facet_behind (new_as_old old m 0) (renamed s j))) (opposite-new old m new p 0 j p.some high (λ e. absurd (omega arith)))
+    ∙ ap (λ (f : Facet). option_map (facet_across f (renamed s j)) (glue new (opposite f (renamed s j)))) (own_inverse old m new p)
+    ∙ ap (option_map (facet_across (new_as_old old m 0) (renamed s j))) (opposite-new old m new p 0 j p.some high (λ e. absurd (omega arith)))
     ∙ ap (λ ls. Some (facet_by (kept old m + j) (renamed s j) ls)) (behind-renamed s j few low high)
 
 pub facet-inverse : (old : List Row) (m : Move) (new : List Row) → IsPlayed old m new → (j : ℕ) → j < length m.core → facet new (inverse_of old m) (renamed (length m.core) j) ≡ Some (new_as_old old m j)
@@ -189,7 +189,7 @@ pair_fine old m new p a b ha hb d =
     let g : Facet = new_as_old old m b in
     let matched : is_matched f g (glue new (opposite f (renamed s b))) ≡ true =
     ap (is_matched f g) (opposite-new old m new p a b ha hb d)
-    ∙ and_from (kept old m + b == kept old m + b) (same_list (compose (new_as_old_labels s b) (across a b)) (map (in_place_of (renamed s b) (renamed s a)) (new_as_old_labels s a))) (eq-eqb (kept old m + b) (kept old m + b) refl)
+    ∙ and_from (kept old m + b == kept old m + b) (same_list (compose (new_as_old_labels s b) (across a b)) (map (substitute (renamed s b) (renamed s a)) (new_as_old_labels s a))) (eq-eqb (kept old m + b) (kept old m + b) refl)
     (match-renamed s a b few (omega arith) (omega arith) d) in
     ap (λ (c : Bool). if c then None else Some (NotMatched (renamed s a) (renamed s b))) matched
 

@@ -5,7 +5,7 @@ use Rattle.std.proofs.lemmas.Bool.{eq-eqb, cases_eq, ne_eqb}
 use Rattle.std.proofs.lemmas.List.{get_or-map, length-map}
 use Rattle.std.proofs.lemmas.List.Folds.{list_any_at}
 use Rattle.std.proofs.lemmas.List.Sums.{position_or_len_is}
-use Rattle.table_definitions.specs.Lists.{has, in_place_of}
+use Rattle.table_definitions.specs.Lists.{has, substitute}
 use Rattle.table_definitions.specs.Permutation.{image, preimage, inverse, IsPermutationOfFour}
 use Rattle.table_definitions.proofs.InPlace.{in_place-same, in_place-other, in_place-back}
 use Rattle.table_definitions.proofs.Permutations.{is_permutation-four, same_images, image-inverse, preimage_at, inverse_permutes}
@@ -41,14 +41,14 @@ facet_from f back few long small other there inside here = record {
     place l b d = ap (preimage f.labels) (sym (here l b d)) ∙ vertex_is (back l) (inside l b d)
 
 -- the label to which a label goes, where the labels a and b are missing on the two sides
-pub goes_below : (a b l : ℕ) → a < 5 → l < 5 → in_place_of b a l < 5
+pub goes_below : (a b l : ℕ) → a < 5 → l < 5 → substitute b a l < 5
 goes_below a b l la ll = by_case (cases_eq l b)
   where
-    by_case : (l ≡ b) ⊎ (l ≢ b) → in_place_of b a l < 5
+    by_case : (l ≡ b) ⊎ (l ≢ b) → substitute b a l < 5
     by_case (inl e) = let q = in_place-same b a l e in omega arith
     by_case (inr d) = let q = in_place-other b a l d in omega arith
 
-pub goes_other : (a b l : ℕ) → a ≢ b → in_place_of b a l ≢ b
+pub goes_other : (a b l : ℕ) → a ≢ b → substitute b a l ≢ b
 goes_other a b l apart s = by_case (cases_eq l b)
   where
     by_case : (l ≡ b) ⊎ (l ≢ b) → ⊥
@@ -66,27 +66,27 @@ permutes_from p back long inside here = is_permutation-four p long ∙ all (at 0
     all a b c d = rw (a, b, c, d) refl
 
 -- label by label
-pub image_by : (f g : Facet) (v : ℕ) → IsFacet f → v < 4 → image (label_by_label f g) v ≡ vertex_of g (in_place_of g.missing f.missing (image f.labels v))
-image_by f g v F l = get_or-map (λ l. vertex_of g (in_place_of g.missing f.missing l)) f.labels v 0 0 (let e = F.four_labels in omega arith)
+pub image_by : (f g : Facet) (v : ℕ) → IsFacet f → v < 4 → image (label_by_label f g) v ≡ vertex_of g (substitute g.missing f.missing (image f.labels v))
+image_by f g v F l = get_or-map (λ l. vertex_of g (substitute g.missing f.missing l)) f.labels v 0 0 (let e = F.four_labels in omega arith)
 
 pub length_by : (f g : Facet) → IsFacet f → length (label_by_label f g) ≡ 4
-length_by f g F = length-map f.labels (λ l. vertex_of g (in_place_of g.missing f.missing l)) ∙ F.four_labels
+length_by f g F = length-map f.labels (λ l. vertex_of g (substitute g.missing f.missing l)) ∙ F.four_labels
 
-pub vertex_by : (f g : Facet) (l : ℕ) → IsFacet f → l < 5 → l ≢ f.missing → image (label_by_label f g) (vertex_of f l) ≡ vertex_of g (in_place_of g.missing f.missing l)
-vertex_by f g l F b d = image_by f g (vertex_of f l) F (F.vertex_below l b d) ∙ ap (λ k. vertex_of g (in_place_of g.missing f.missing k)) (F.label_back l b d)
+pub vertex_by : (f g : Facet) (l : ℕ) → IsFacet f → l < 5 → l ≢ f.missing → image (label_by_label f g) (vertex_of f l) ≡ vertex_of g (substitute g.missing f.missing l)
+vertex_by f g l F b d = image_by f g (vertex_of f l) F (F.vertex_below l b d) ∙ ap (λ k. vertex_of g (substitute g.missing f.missing k)) (F.label_back l b d)
 
 -- the vertex that goes to w
 abbrev from_vertex : Facet → Facet → ℕ → ℕ
-from_vertex f g w = vertex_of f (in_place_of f.missing g.missing (image g.labels w))
+from_vertex f g w = vertex_of f (substitute f.missing g.missing (image g.labels w))
 
 from_below : (f g : Facet) (w : ℕ) → IsFacet f → IsFacet g → f.missing ≢ g.missing → w < 4 → from_vertex f g w < 4
 from_below f g w F G apart l =
-    F.vertex_below (in_place_of f.missing g.missing (image g.labels w)) (goes_below g.missing f.missing (image g.labels w) G.missing_below (G.label_below w l))
+    F.vertex_below (substitute f.missing g.missing (image g.labels w)) (goes_below g.missing f.missing (image g.labels w) G.missing_below (G.label_below w l))
     (goes_other g.missing f.missing (image g.labels w) (λ e. apart (sym e)))
 
 to_vertex : (f g : Facet) (w : ℕ) → IsFacet f → IsFacet g → f.missing ≢ g.missing → w < 4 → image (label_by_label f g) (from_vertex f g w) ≡ w
 to_vertex f g w F G apart l =
-    let label : ℕ = in_place_of f.missing g.missing (image g.labels w) in
+    let label : ℕ = substitute f.missing g.missing (image g.labels w) in
     let small : label < 5 = goes_below g.missing f.missing (image g.labels w) G.missing_below (G.label_below w l) in
     let other : label ≢ f.missing = goes_other g.missing f.missing (image g.labels w) (λ e. apart (sym e)) in
     vertex_by f g label F small other ∙ ap (vertex_of g) (in_place-back g.missing f.missing (image g.labels w) (G.label_other w l)) ∙ G.vertex_back w l
@@ -102,6 +102,6 @@ by_back f g F G apart =
 
 -- a permutation that keeps labels is the one label by label
 pub by_is : (f g : Facet) (p : List ℕ) → IsFacet f → IsFacet g → f.missing ≢ g.missing → IsPermutationOfFour p → ((v : ℕ) → v < 4 → image p v < 4)
-    → ((v : ℕ) → v < 4 → image g.labels (image p v) ≡ in_place_of g.missing f.missing (image f.labels v)) → p ≡ label_by_label f g
+    → ((v : ℕ) → v < 4 → image g.labels (image p v) ≡ substitute g.missing f.missing (image f.labels v)) → p ≡ label_by_label f g
 by_is f g p F G apart permutes small labels =
     same_images p (label_by_label f g) permutes (by_permutes f g F G apart) (λ v l. sym (G.vertex_back (image p v) (small v l)) ∙ ap (vertex_of g) (labels v l) ∙ sym (image_by f g v F l))

@@ -5,14 +5,14 @@ use Rattle.std.specs.List.{list_all}
 use Rattle.std.proofs.lemmas.Bool.{eqb-true, ltb-true, and_parts}
 use Rattle.std.proofs.lemmas.List.{get_or-map, length-map}
 use Rattle.plain_facts.proofs.Numbers.{not_equal, given_apart}
-use Rattle.table_definitions.specs.Lists.{below, same_list, in_place_of}
+use Rattle.table_definitions.specs.Lists.{below, same_list, substitute}
 use Rattle.table_definitions.specs.Permutation.{IsPermutationOfFour, is_permutation, image, preimage, words}
 use Rattle.table_definitions.proofs.ListFacts.{list_all-below, same_list-true}
 use Rattle.table_definitions.proofs.Permutations.{by_words, length-permutation}
 
 -- a permutation with 4 in the place of i
 abbrev pub labels_by : ℕ → List ℕ → List ℕ
-labels_by i q = map (in_place_of i 4) q
+labels_by i q = map (substitute i 4) q
 
 -- labels of facet i
 pub record AreLabels (i : ℕ) (labels : List ℕ) : Type 0 where
@@ -32,7 +32,7 @@ on_labels t all i labels h =
     subst P (sym h.is) at
 
 pub length-labels : (i : ℕ) (labels : List ℕ) → AreLabels i labels → length labels ≡ 4
-length-labels i labels h = ap length h.is ∙ length-map h.perm (in_place_of i 4) ∙ length-permutation h.perm h.permutes
+length-labels i labels h = ap length h.is ∙ length-map h.perm (substitute i 4) ∙ length-permutation h.perm h.permutes
 
 -- a vertex has a label below 5 other than the missing one, and that label leads back to it
 vertex_test : ℕ → List ℕ → Bool
@@ -91,9 +91,9 @@ pub new_labels : (j : ℕ) → j < 5 → AreLabels j (ascending j)
 unfolding is_permutation
 new_labels j l = record {
   missing = l;
-  perm = map (in_place_of 4 j) (ascending j);
-  permutes = list_all-below (λ k. is_permutation (map (in_place_of 4 k) (ascending k))) 5 refl j l;
-  is = same_list-true (ascending j) (labels_by j (map (in_place_of 4 j) (ascending j))) (list_all-below (λ k. same_list (ascending k) (labels_by k (map (in_place_of 4 k) (ascending k)))) 5 refl j l);
+  perm = map (substitute 4 j) (ascending j);
+  permutes = list_all-below (λ k. is_permutation (map (substitute 4 k) (ascending k))) 5 refl j l;
+  is = same_list-true (ascending j) (labels_by j (map (substitute 4 j) (ascending j))) (list_all-below (λ k. same_list (ascending k) (labels_by k (map (substitute 4 k) (ascending k)))) 5 refl j l);
 }
 
 -- where a vertex goes label by label

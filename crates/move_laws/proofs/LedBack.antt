@@ -3,11 +3,11 @@ use Rattle.std.proofs.Common.{◌≡◌, ℕ, ◌+◌, ◌-◌, ◌<◌, ◌≤�
 use Rattle.std.specs.Prelude.{◌⊎◌, ◌==◌, ◌||◌, ◌≢◌, option_map, option_and_then}
 use Rattle.std.specs.List.{list_all}
 use Rattle.plain_facts.proofs.Numbers.{given_apart}
-use Rattle.table_definitions.specs.Lists.{below, in_place_of}
+use Rattle.table_definitions.specs.Lists.{below, substitute}
 use Rattle.table_definitions.specs.Permutation.{IsPermutationOfFour, is_permutation, image, preimage, inverse, compose}
 use Rattle.table_definitions.specs.Table.{Gluing, Row, Face, glue, other_side}
-use Rattle.table_definitions.specs.Relabelling.{Carries, stand_in, face_under, gluing_under}
-use Rattle.move_definitions.specs.Moves.{Move, Facet, opposite, facet, kept, facet_stand_in, stand_in_at, moved_gluing, new_facet, IsMoved}
+use Rattle.table_definitions.specs.Relabelling.{Carries, relabelled_place, face_under, gluing_under}
+use Rattle.move_definitions.specs.Moves.{Move, Facet, opposite, facet, kept, facet_place_after, place_after, moved_gluing, new_facet, IsMoved}
 use Rattle.move_definitions.specs.Laws.{InversesHaveCores, InversesLeadBackUpToLabels}
 use Rattle.table_definitions.proofs.ListFacts.{list_all-below}
 use Rattle.table_definitions.proofs.Permutations.{image_below, preimage_below, image-preimage, preimage-image, image-inverse, inverse_permutes, compose_permutes, image-compose, same_images, carried_twice}
@@ -30,15 +30,15 @@ carried_at : (old : List Row) (m : Move) (new : List Row) → IsPlayed old m new
     → glue (led_back old m) (face_under (place old m x.tet) x) ≡ option_map (λ g. gluing_under (place old m x.tet) (place old m g.tet) g) o
 carried_at old m new p x lt lf o e =
     let c : Carries (relabelling old m) old (led_back old m) = carries_back old m p.table (no_fault old m p.moved.legal) p.core in
-    let at : stand_in (relabelling old m) x.tet ≡ place old m x.tet = stand_in-placed old m x.tet lt in
+    let at : relabelled_place (relabelling old m) x.tet ≡ place old m x.tet = stand_in-placed old m x.tet lt in
     let here = c.glued x lt lf in
-    ap (λ (s : Gluing). glue (led_back old m) (face_under s x)) (sym at) ∙ here ∙ ap (λ (s : Gluing). option_map (λ g. gluing_under s (stand_in (relabelling old m) g.tet) g) (glue old x)) at
+    ap (λ (s : Gluing). glue (led_back old m) (face_under s x)) (sym at) ∙ here ∙ ap (λ (s : Gluing). option_map (λ g. gluing_under s (relabelled_place (relabelling old m) g.tet) g) (glue old x)) at
     ∙ reached o e
   where
-    reached : (o : Option Gluing) → glue old x ≡ o → option_map (λ g. gluing_under (place old m x.tet) (stand_in (relabelling old m) g.tet) g) (glue old x) ≡ option_map (λ g. gluing_under (place old m x.tet) (place old m g.tet) g) o
-    reached None e = ap (option_map (λ g. gluing_under (place old m x.tet) (stand_in (relabelling old m) g.tet) g)) e
+    reached : (o : Option Gluing) → glue old x ≡ o → option_map (λ g. gluing_under (place old m x.tet) (relabelled_place (relabelling old m) g.tet) g) (glue old x) ≡ option_map (λ g. gluing_under (place old m x.tet) (place old m g.tet) g) o
+    reached None e = ap (option_map (λ g. gluing_under (place old m x.tet) (relabelled_place (relabelling old m) g.tet) g)) e
     reached (Some g) e =
-        ap (option_map (λ g. gluing_under (place old m x.tet) (stand_in (relabelling old m) g.tet) g)) e
+        ap (option_map (λ g. gluing_under (place old m x.tet) (relabelled_place (relabelling old m) g.tet) g)) e
         ∙ ap (λ (r : Gluing). Some (gluing_under (place old m x.tet) r g)) (stand_in-placed old m g.tet (p.table.in_range x g e))
 
 -- between the facets that the inverse puts in
@@ -51,7 +51,7 @@ across_permutes j l hj hl d =
     tests = unfold is_permutation preimage in refl
 
 -- a gluing label by label, relabelled
-moved_across : (s i k : ℕ) (a b q : List ℕ) → s < 5 → s ≤ i → s ≤ k → i ≢ k → AreLabels i a → AreLabels k b → IsPermutationOfFour q → compose b q ≡ map (in_place_of k i) a
+moved_across : (s i k : ℕ) (a b q : List ℕ) → s < 5 → s ≤ i → s ≤ k → i ≢ k → AreLabels i a → AreLabels k b → IsPermutationOfFour q → compose b q ≡ map (substitute k i) a
     → compose (moved_perm s k b) (compose q (inverse (moved_perm s i a))) ≡ across (i - s) (k - s)
 moved_across s i k a b q small low low' d ha hb hq e =
     same_images (compose pk (compose q (inverse pi))) (across j l) (compose_permutes pk (compose q (inverse pi)) hk (compose_permutes q (inverse pi) hq (inverse_permutes pi hi))) (across_permutes j l (let m = ha.missing in omega arith) (let m = hb.missing in omega arith) (λ z. d (omega arith))) at
@@ -94,8 +94,8 @@ moved_across s i k a b q small low low' d ha hb hq e =
         ∙ image-map (λ x. preimage (ascending l) (renamed s x)) b (image q w) (rw (length-labels k b hb) (image_below q hq w lw))
         ∙ ap (λ x. preimage (ascending l) (renamed s x)) (label_across i k a b q w ha hq e lw)
         ∙ ap (preimage (ascending l)) (renamed-place s i k (image a w) small ha.missing hb.missing hv.small low low')
-        ∙ ap (λ x. preimage (ascending l) (in_place_of l j x)) (sym is)
-        ∙ sym (image-map (λ x. preimage (ascending l) (in_place_of l j x)) (ascending j) v (rw (length-labels j (ascending j) (new_labels j (let m = ha.missing in omega arith))) lv))
+        ∙ ap (λ x. preimage (ascending l) (substitute l j x)) (sym is)
+        ∙ sym (image-map (λ x. preimage (ascending l) (substitute l j x)) (ascending j) v (rw (length-labels j (ascending j) (new_labels j (let m = ha.missing in omega arith))) lv))
 
 -- the face of the facet for old facet i that lies behind that for old facet k
 inner_at : (old : List Row) (m : Move) (new : List Row) → IsPlayed old m new → (i k : ℕ) → length m.core ≤ i → i < 5 → length m.core ≤ k → k < 5 → i ≢ k
@@ -172,7 +172,7 @@ inner_back old m new p j l hj hl d =
 -- each other face
 
 -- nothing stands again for a face between new facets
-inner_none : (old : List Row) (m : Move) (new : List Row) → IsPlayed old m new → (x : Face) → IsInner old m x → stand_in_at new (inverse_of old m) x ≡ None
+inner_none : (old : List Row) (m : Move) (new : List Row) → IsPlayed old m new → (x : Face) → IsInner old m x → place_after new (inverse_of old m) x ≡ None
 inner_none old m new p x n =
     let s : ℕ = length m.core in
     let few : length m.core < 5 = p.few in
@@ -182,9 +182,9 @@ inner_none old m new p x n =
     let label : image (new_as_old_labels s n.j) (preimage (ascending n.j) n.l) ≡ renamed s n.l =
     image-map (renamed s) (ascending n.j) (preimage (ascending n.j) n.l) (rw (length-labels n.j (ascending n.j) (new_labels n.j hj)) v.small) ∙ ap (renamed s) v.label in
     let low : (j : ℕ) → j < s → length (inverse_of old m).core ≤ renamed s j = λ j l. subst (λ k. k ≤ renamed s j) (sym p.inverse_core.size) (renamed-new s j p.few l) in
-    ap (stand_in_at new (inverse_of old m)) (sym n.is)
+    ap (place_after new (inverse_of old m)) (sym n.is)
     ∙ stand_in-old new (inverse_of old m) (renamed s n.j) (new_as_old old m n.j) (preimage (ascending n.j) n.l) (no_fault new (inverse_of old m) (inverse_legal old m new p)) p.inverse_core.is_core (low n.j n.j_small) (renamed_below s n.j p.few hj) (facet-inverse old m new p n.j n.j_small)
-    ∙ ap (facet_stand_in new (inverse_of old m) (new_as_old old m n.j)) label
+    ∙ ap (facet_place_after new (inverse_of old m) (new_as_old old m n.j)) label
     ∙ facet_stand_in-old new (inverse_of old m) (new_as_old old m n.j) (renamed s n.l) (low n.l n.l_small)
 
 -- where the face that stands for x leads
@@ -197,7 +197,7 @@ over_there x s r g hs hr hg l =
     ∙ ap (image r.perm) (image-compose g.perm (inverse s.perm) q (image s.perm x.face) k ∙ ap (image g.perm) (image-inverse s.perm (image s.perm x.face) k ∙ preimage-image s.perm hs x.face l)))
 
 -- a face that stands for the old face x
-outer_at : (old : List Row) (m : Move) (new : List Row) → IsPlayed old m new → (x : Face) (s s' : Gluing) → x.tet < length old → x.face < 4 → stand_in_at old m x ≡ Some s → stand_in_at new (inverse_of old m) (face_under s x) ≡ Some s'
+outer_at : (old : List Row) (m : Move) (new : List Row) → IsPlayed old m new → (x : Face) (s s' : Gluing) → x.tet < length old → x.face < 4 → place_after old m x ≡ Some s → place_after new (inverse_of old m) (face_under s x) ≡ Some s'
     → glue (led_back old m) (face_under s' (face_under s x)) ≡ option_and_then (moved_gluing new (inverse_of old m) (face_under s x) s') (glue new (face_under s x))
 outer_at old m new p x s s' lt lf stands stands' = by_gluing (glue old x) refl
   where
@@ -205,7 +205,7 @@ outer_at old m new p x s s' lt lf stands stands' = by_gluing (glue old x) refl
     again = stands_again old m new p x s lt lf stands
 
     second : again.second ≡ s'
-    second = same_some (stand_in_at new (inverse_of old m) (face_under s x)) again.second s' again.stands stands'
+    second = same_some (place_after new (inverse_of old m) (face_under s x)) again.second s' again.stands stands'
 
     tet : s'.tet ≡ (place old m x.tet).tet
     tet = ap (λ (g : Gluing). g.tet) (sym second) ∙ again.tet
@@ -241,7 +241,7 @@ outer_at old m new p x s s' lt lf stands stands' = by_gluing (glue old x) refl
         yf : y.face < 4
         yf = image_below g.perm hg x.face lf
 
-        reached : (r : Gluing) × (stand_in_at old m y ≡ Some r)
+        reached : (r : Gluing) × (place_after old m y ≡ Some r)
         reached = other_stands old m p.table (no_fault old m p.moved.legal) p.core x s g lf stands e
 
         r : Gluing
@@ -256,8 +256,8 @@ outer_at old m new p x s s' lt lf stands stands' = by_gluing (glue old x) refl
         glued : glue new (face_under s x) ≡ Some g'
         glued = moved (Some g) e ∙ ap (option_map (λ r. gluing_under s r g)) reached.1
 
-        side : stand_in_at new (inverse_of old m) (other_side (face_under s x) g') ≡ Some again'.second
-        side = ap (stand_in_at new (inverse_of old m)) (over_there x s r g again.first_permutes again'.first_permutes hg lf) ∙ again'.stands
+        side : place_after new (inverse_of old m) (other_side (face_under s x) g') ≡ Some again'.second
+        side = ap (place_after new (inverse_of old m)) (over_there x s r g again.first_permutes again'.first_permutes hg lf) ∙ again'.stands
 
         perms : compose again'.second.perm (compose g'.perm (inverse s'.perm)) ≡ compose (place old m g.tet).perm (compose g.perm (inverse (place old m x.tet).perm))
         perms =
@@ -271,7 +271,7 @@ outer_at old m new p x s s' lt lf stands stands' = by_gluing (glue old x) refl
         there : option_and_then (moved_gluing new (inverse_of old m) (face_under s x) s') (glue new (face_under s x)) ≡ Some (gluing_under (place old m x.tet) (place old m g.tet) g)
         there = ap (option_and_then (moved_gluing new (inverse_of old m) (face_under s x) s')) glued ∙ ap (option_map (λ r. gluing_under s' r g')) side ∙ ap (λ (q : Gluing). Some q) whole
 
-outer_back : (old : List Row) (m : Move) (new : List Row) → IsPlayed old m new → (x : Face) (s' : Gluing) → x.tet < length new → x.face < 4 → stand_in_at new (inverse_of old m) x ≡ Some s'
+outer_back : (old : List Row) (m : Move) (new : List Row) → IsPlayed old m new → (x : Face) (s' : Gluing) → x.tet < length new → x.face < 4 → place_after new (inverse_of old m) x ≡ Some s'
     → glue (led_back old m) (face_under s' x) ≡ option_and_then (moved_gluing new (inverse_of old m) x s') (glue new x)
 outer_back old m new p x s' lt lf stands = by_cover (covered old m x p.table (no_fault old m p.moved.legal) p.core (rw (← p.moved.length_is) lt) lf)
   where
@@ -279,8 +279,8 @@ outer_back old m new p x s' lt lf stands = by_cover (covered old m x p.table (no
     none o a b = cc
 
     by_cover : StandsForOld old m x ⊎ IsInner old m x → glue (led_back old m) (face_under s' x) ≡ option_and_then (moved_gluing new (inverse_of old m) x s') (glue new x)
-    by_cover (inl o) = subst (λ (y : Face). stand_in_at new (inverse_of old m) y ≡ Some s' → glue (led_back old m) (face_under s' y) ≡ option_and_then (moved_gluing new (inverse_of old m) y s') (glue new y)) o.is (λ st. outer_at old m new p o.old o.by s' o.tet o.face o.stands st) stands
-    by_cover (inr n) = absurd (none (stand_in_at new (inverse_of old m) x) (inner_none old m new p x n) stands)
+    by_cover (inl o) = subst (λ (y : Face). place_after new (inverse_of old m) y ≡ Some s' → glue (led_back old m) (face_under s' y) ≡ option_and_then (moved_gluing new (inverse_of old m) y s') (glue new y)) o.is (λ st. outer_at old m new p o.old o.by s' o.tet o.face o.stands st) stands
+    by_cover (inr n) = absurd (none (place_after new (inverse_of old m) x) (inner_none old m new p x n) stands)
 
 pub led_back_moved : (old : List Row) (m : Move) (new : List Row) → IsPlayed old m new → IsMoved new (inverse_of old m) (led_back old m)
 led_back_moved old m new p =

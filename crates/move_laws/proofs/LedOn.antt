@@ -10,7 +10,7 @@ use Rattle.table_definitions.specs.Permutation.{four, image}
 use Rattle.table_definitions.specs.Table.{Gluing, Row, Face, glue, IsTable}
 use Rattle.table_definitions.specs.Relabelling.{face_under}
 use Rattle.table_definitions.proofs.Faces.{face_at}
-use Rattle.move_definitions.specs.Moves.{Move, IsCore, opposite, new_length, new_facet, label_by_label, moved_gluing, stand_in_at}
+use Rattle.move_definitions.specs.Moves.{Move, IsCore, opposite, new_length, new_facet, label_by_label, moved_gluing, place_after}
 use Rattle.move_definitions.specs.Laws.{LegalMovesLeadOn}
 use Rattle.move_definitions.proofs.CoreTests.{core_size}
 use Rattle.move_laws.proofs.ListedFacets.{same_some}
@@ -42,14 +42,14 @@ made : (rows : List Row) (m : Move) → IsTable rows → HasNoFault rows m → I
 made rows m table h c = map (made_row rows m table h c) (below (new_length rows m))
 
 -- it is the same, however the face is found to stand for another
-outer_value : (rows : List Row) (m : Move) → IsTable rows → HasNoFault rows m → IsCore m.core → (x : Face) (s : Gluing) → x.tet < length rows → x.face < 4 → stand_in_at rows m x ≡ Some s
+outer_value : (rows : List Row) (m : Move) → IsTable rows → HasNoFault rows m → IsCore m.core → (x : Face) (s : Gluing) → x.tet < length rows → x.face < 4 → place_after rows m x ≡ Some s
     → (k : StandsForOld rows m (face_under s x) ⊎ IsInner rows m (face_under s x)) → gluing_of rows m (face_under s x) k ≡ option_and_then (moved_gluing rows m x s) (glue rows x)
 unfolding gluing_of
 outer_value rows m table h c x s lt lf stands (inl o) =
     let there : IsKeptFace rows m o.old (face_under s x) o.by ⊎ IsFacetFace rows m o.old (face_under s x) o.by =
     subst (λ (y : Face). IsKeptFace rows m o.old y o.by ⊎ IsFacetFace rows m o.old y o.by) o.is (shape rows m table h c o.old o.by o.tet o.face o.stands) in
     let same : o.old ≡ x = stands_for_one rows m table h c o.old x (face_under s x) o.by s o.tet lt there (shape rows m table h c x s lt lf stands) in
-    let by : o.by ≡ s = same_some (stand_in_at rows m x) o.by s (ap (stand_in_at rows m) (sym same) ∙ o.stands) stands in
+    let by : o.by ≡ s = same_some (place_after rows m x) o.by s (ap (place_after rows m) (sym same) ∙ o.stands) stands in
     ap (λ (z : Face). option_and_then (moved_gluing rows m z o.by) (glue rows z)) same ∙ ap (λ (g : Gluing). option_and_then (moved_gluing rows m x g) (glue rows x)) by
 outer_value rows m table h c x s lt lf stands (inr n) = absurd (inner_stands_for_none rows m c x (face_under s x) s (shape rows m table h c x s lt lf stands) n)
 

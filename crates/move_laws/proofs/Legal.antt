@@ -5,13 +5,13 @@ use Rattle.std.specs.List.{list_all}
 use Rattle.std.specs.Option.{option_or}
 use Rattle.std.proofs.lemmas.Bool.{eqb-true, eq-eqb, ltb-true, lt-ltb, le-ltb, and_parts, false≢true, cases_eq, cases_lt, not-false}
 use Rattle.plain_facts.proofs.Options.{both_none}
-use Rattle.table_definitions.specs.Lists.{below, has, in_place_of, first_some, pairs_of}
+use Rattle.table_definitions.specs.Lists.{below, has, substitute, first_some, pairs_of}
 use Rattle.table_definitions.specs.Permutation.{four, IsPermutationOfFour, image, preimage, inverse, compose}
 use Rattle.table_definitions.specs.Table.{Gluing, Row, glue, IsTable}
 use Rattle.table_definitions.proofs.TableLaws.{Among, first_some-none, guarded}
 use Rattle.move_definitions.specs.declared.MoveFault.{MoveFault}
 use Rattle.move_definitions.specs.declared.MoveFault.TheVariants.{NoSuchTet, Repeated}
-use Rattle.move_definitions.specs.Moves.{Move, IsCore, Facet, own_facet, opposite, facet_behind, facet, old_labels, old_tets, found_labels, tets_before, facet_fault, pair_fault, move_fault, vertices_by_label}
+use Rattle.move_definitions.specs.Moves.{Move, IsCore, Facet, own_facet, opposite, facet_across, facet, old_labels, old_tets, found_labels, tets_before, facet_fault, pair_fault, move_fault, vertices_by_label}
 use Rattle.table_definitions.proofs.ListFacts.{list_all-below}
 use Rattle.table_definitions.proofs.Permutations.{inverse_permutes, compose_permutes}
 use Rattle.move_definitions.proofs.CoreTests.{core_size, own_permutes}
@@ -92,34 +92,34 @@ own_is : (rows : List Row) (m : Move) → IsCore m.core → m.tet < length rows 
 own_is rows m c l = record { missing = refl; in_range = l; labels = own_labels (inverse (vertices_by_label m.core)) (own_permutes m.core c) }
 
 -- the labels behind a face, by a permutation
-behind_labels : (i : ℕ) (q p : List ℕ) → i < 5 → IsPermutationOfFour q → IsPermutationOfFour p → AreLabels i (map (λ v. in_place_of i 4 (image q (preimage p v))) four)
+behind_labels : (i : ℕ) (q p : List ℕ) → i < 5 → IsPermutationOfFour q → IsPermutationOfFour p → AreLabels i (map (λ v. substitute i 4 (image q (preimage p v))) four)
 unfolding compose inverse
 behind_labels i q p l hq hp = record { missing = l; perm = compose q (inverse p); permutes = compose_permutes q (inverse p) hq (inverse_permutes p hp); is = refl }
 
-behind_is : (rows : List Row) (m : Move) (i : ℕ) (g : Gluing) → IsTable rows → IsCore m.core → i < 5 → glue rows (opposite (own_facet m) i) ≡ Some g → IsFacet rows i (facet_behind (own_facet m) i g)
+behind_is : (rows : List Row) (m : Move) (i : ℕ) (g : Gluing) → IsTable rows → IsCore m.core → i < 5 → glue rows (opposite (own_facet m) i) ≡ Some g → IsFacet rows i (facet_across (own_facet m) i g)
 behind_is rows m i g table c l e = record {
   missing = refl;
   in_range = table.in_range (opposite (own_facet m) i) g e;
   labels = behind_labels i (inverse (vertices_by_label m.core)) g.perm l (own_permutes m.core c) (table.permutes (opposite (own_facet m) i) g e);
 }
 
-pub behind_some : (own : Facet) (i : ℕ) (o : Option Gluing) (f : Facet) → option_map (facet_behind own i) o ≡ Some f → (g : Gluing) × (o ≡ Some g) × (facet_behind own i g ≡ f)
+pub behind_some : (own : Facet) (i : ℕ) (o : Option Gluing) (f : Facet) → option_map (facet_across own i) o ≡ Some f → (g : Gluing) × (o ≡ Some g) × (facet_across own i g ≡ f)
 behind_some own i None f e = absurd cc
 behind_some own i (Some g) f e = (g, refl, cc)
 
 pub facet-four : (rows : List Row) (m : Move) → facet rows m 4 ≡ Some (own_facet m)
 facet-four rows m = refl
 
-pub facet-found : (rows : List Row) (m : Move) (i : ℕ) → i < 4 → facet rows m i ≡ option_map (facet_behind (own_facet m) i) (glue rows (opposite (own_facet m) i))
+pub facet-found : (rows : List Row) (m : Move) (i : ℕ) → i < 4 → facet rows m i ≡ option_map (facet_across (own_facet m) i) (glue rows (opposite (own_facet m) i))
 facet-found rows m i l =
     let e : (i == 4) ≡ false = grind arith in
-    ap (λ b. if b then Some (own_facet m) else option_map (facet_behind (own_facet m) i) (glue rows (opposite (own_facet m) i))) e
+    ap (λ b. if b then Some (own_facet m) else option_map (facet_across (own_facet m) i) (glue rows (opposite (own_facet m) i))) e
 
 -- facet i, if there is one
 pub facet_is : (rows : List Row) (m : Move) (i : ℕ) (f : Facet) → IsTable rows → IsCore m.core → m.tet < length rows → i < 5 → facet rows m i ≡ Some f → IsFacet rows i f
 facet_is rows m i f table c l small e = by_case (cases_lt i 4)
   where
-    behind : i < 4 → (g : Gluing) × (glue rows (opposite (own_facet m) i) ≡ Some g) × (facet_behind (own_facet m) i g ≡ f) → IsFacet rows i f
+    behind : i < 4 → (g : Gluing) × (glue rows (opposite (own_facet m) i) ≡ Some g) × (facet_across (own_facet m) i g ≡ f) → IsFacet rows i f
     behind m' (g, glued, is) = subst (λ (k : Facet). IsFacet rows i k) is (behind_is rows m i g table c small glued)
 
     by_case : (i < 4) ⊎ (4 ≤ i) → IsFacet rows i f

@@ -2,7 +2,7 @@
 use Rattle.std.proofs.Common.{◌≡◌, ℕ, zero, suc, ◌<◌, ◌≤◌, Bool, true, false, List, length, map, drop, Option, Some, None, refl, ap, ◌∙◌, arith, inl, inr}
 use Rattle.std.specs.Prelude.{◌==◌, ◌≢◌, nat_lt, filter, if◌then◌else◌}
 use Rattle.std.proofs.lemmas.Bool.{eqb-true, eq-eqb, lt-ltb, ltb-true, and_from, or_cases}
-use Rattle.table_definitions.specs.Lists.{has, same_list, in_place_of, pairs_of}
+use Rattle.table_definitions.specs.Lists.{has, same_list, substitute, pairs_of}
 use Rattle.table_definitions.specs.Permutation.{four, compose}
 use Rattle.table_definitions.specs.Table.{Row, glue}
 use Rattle.table_definitions.proofs.TableLaws.{Among, four-among}
@@ -65,11 +65,11 @@ facet_fine rows m c h i a =
 
 matched : (rows : List Row) (i k : ℕ) (f g : Facet) → f.missing ≡ i → g.missing ≡ k → AreGlued rows i k f g → pair_fault rows (Some f) (Some g) ≡ None
 matched rows i k f g ei ek a =
-    let labels : same_list (compose g.labels a.by.perm) (map (in_place_of k i) f.labels) ≡ true = rw a.labels (same_list-refl (map (in_place_of k i) f.labels)) in
+    let labels : same_list (compose g.labels a.by.perm) (map (substitute k i) f.labels) ≡ true = rw a.labels (same_list-refl (map (substitute k i) f.labels)) in
     let given : is_matched f g (glue rows (opposite f k)) ≡ true =
     ap (is_matched f g) a.glued
-    ∙ and_from (a.by.tet == g.tet) (same_list (compose g.labels a.by.perm) (map (in_place_of g.missing f.missing) f.labels)) (eq-eqb a.by.tet g.tet a.tet)
-    (ap (λ l. same_list (compose g.labels a.by.perm) (map (in_place_of l f.missing) f.labels)) ek ∙ ap (λ l. same_list (compose g.labels a.by.perm) (map (in_place_of k l) f.labels)) ei ∙ labels) in
+    ∙ and_from (a.by.tet == g.tet) (same_list (compose g.labels a.by.perm) (map (substitute g.missing f.missing) f.labels)) (eq-eqb a.by.tet g.tet a.tet)
+    (ap (λ l. same_list (compose g.labels a.by.perm) (map (substitute l f.missing) f.labels)) ek ∙ ap (λ l. same_list (compose g.labels a.by.perm) (map (substitute k l) f.labels)) ei ∙ labels) in
     ap (λ (b : Bool). if b then None else Some (NotMatched f.missing g.missing)) (ap (λ l. is_matched f g (glue rows (opposite f l))) ek ∙ given)
 
 pair_fine : (rows : List Row) (m : Move) → IsCore m.core → AreFacets rows m → (q : ℕ × ℕ) → Among {A = ℕ × ℕ} q (filter (λ (p : ℕ × ℕ). nat_lt p.0 p.1) (pairs_of (found_labels m) (found_labels m)))

@@ -3,7 +3,7 @@ use Rattle.std.proofs.Common.{◌≡◌, ℕ, ◌<◌, ◌≤◌, Bool, true, fa
 use Rattle.std.specs.Prelude.{◌⊎◌, ◌==◌, ◌≢◌, nat_lt, filter, if◌then◌else◌}
 use Rattle.std.proofs.lemmas.Bool.{eqb-true, lt-ltb, cases_lt, cases_eq}
 use Rattle.std.proofs.lemmas.List.{get_or-map}
-use Rattle.table_definitions.specs.Lists.{has, in_place_of, same_list, pairs_of}
+use Rattle.table_definitions.specs.Lists.{has, substitute, same_list, pairs_of}
 use Rattle.table_definitions.specs.Permutation.{image, compose}
 use Rattle.table_definitions.specs.Table.{Gluing, Row, glue, other_side, way_back, IsTable}
 use Rattle.table_definitions.proofs.TableLaws.{Among, Among-map, Among-pairs, first_some-none}
@@ -12,7 +12,7 @@ use Rattle.table_definitions.proofs.InPlace.{in_place-same}
 use Rattle.table_definitions.proofs.ListFacts.{both_true, same_list-true}
 use Rattle.table_definitions.proofs.Permutations.{image_below, image-compose}
 use Rattle.move_definitions.specs.declared.MoveFault.TheVariants.{NotMatched}
-use Rattle.move_definitions.specs.Moves.{Move, Facet, IsCore, own_facet, vertex_of, opposite, facet, facet_behind, found_labels, pair_fault, is_matched, move_fault, label_by_label}
+use Rattle.move_definitions.specs.Moves.{Move, Facet, IsCore, own_facet, vertex_of, opposite, facet, facet_across, found_labels, pair_fault, is_matched, move_fault, label_by_label}
 use Rattle.move_laws.specs.Facets.{IsFacet, IsOldFacet}
 use Rattle.move_laws.proofs.Legal.{HasNoFault, no_fault as without_fault, found_label, old_facet, apart_before, behind_some, facet-found}
 use Rattle.move_laws.proofs.LabelLaws.{by_back, by_is, vertex_by}
@@ -38,7 +38,7 @@ among-has fs t h =
 -- what stands behind a face of the move's tetrahedron
 
 pub found_behind : (rows : List Row) (m : Move) (i : ℕ) (f : Facet) → i < 4 → facet rows m i ≡ Some f
-    → (g : Gluing) × (glue rows (opposite (own_facet m) i) ≡ Some g) × (facet_behind (own_facet m) i g ≡ f)
+    → (g : Gluing) × (glue rows (opposite (own_facet m) i) ≡ Some g) × (facet_across (own_facet m) i g ≡ f)
 found_behind rows m i f small e = behind_some (own_facet m) i (glue rows (opposite (own_facet m) i)) f (sym (facet-found rows m i small) ∙ e)
 
 pub same_facet : (rows : List Row) (m : Move) (i : ℕ) (f g : Facet) → IsOldFacet rows m i f → IsOldFacet rows m i g → f ≡ g
@@ -100,16 +100,16 @@ matched_by : (rows : List Row) (f g : Facet) → IsTable rows → IsFacet f → 
     → o ≡ Some (record { tet = g.tet; perm = label_by_label f g })
 matched_by rows f g table F G apart None e h = absurd cc
 matched_by rows f g table F G apart (Some p) e h =
-    let b = both_true (p.tet == g.tet) (same_list (compose g.labels p.perm) (map (in_place_of g.missing f.missing) f.labels)) h in
-    let labels : compose g.labels p.perm ≡ map (in_place_of g.missing f.missing) f.labels = same_list-true (compose g.labels p.perm) (map (in_place_of g.missing f.missing) f.labels) b.1 in
+    let b = both_true (p.tet == g.tet) (same_list (compose g.labels p.perm) (map (substitute g.missing f.missing) f.labels)) h in
+    let labels : compose g.labels p.perm ≡ map (substitute g.missing f.missing) f.labels = same_list-true (compose g.labels p.perm) (map (substitute g.missing f.missing) f.labels) b.1 in
     let permutes = table.permutes (opposite f g.missing) p e in
     let perm : p.perm ≡ label_by_label f g =
     by_is f g p.perm F G apart permutes (λ v l. image_below p.perm permutes v l) (λ v l. sym (image-compose g.labels p.perm permutes v l) ∙ ap (λ (xs : List ℕ). image xs v) labels ∙ image-labels v l) in
     let mk : ℕ → List ℕ → Option Gluing = λ t q. Some (record { tet = t; perm = q }) in
     ap (λ t. mk t p.perm) (eqb-true p.tet g.tet b.0) ∙ ap (mk g.tet) perm
   where
-    image-labels : (v : ℕ) → v < 4 → image (map (in_place_of g.missing f.missing) f.labels) v ≡ in_place_of g.missing f.missing (image f.labels v)
-    image-labels v l = get_or-map (in_place_of g.missing f.missing) f.labels v 0 0 (let q = F.four_labels in omega arith)
+    image-labels : (v : ℕ) → v < 4 → image (map (substitute g.missing f.missing) f.labels) v ≡ substitute g.missing f.missing (image f.labels v)
+    image-labels v l = get_or-map (substitute g.missing f.missing) f.labels v 0 0 (let q = F.four_labels in omega arith)
 
 found_glued : (rows : List Row) (m : Move) (i k : ℕ) (f g : Facet) → IsTable rows → IsCore m.core → HasNoFault rows m → i < k → k < 4 → IsOldFacet rows m i f → IsOldFacet rows m k g
     → glue rows (opposite f k) ≡ Some (record { tet = g.tet; perm = label_by_label f g })

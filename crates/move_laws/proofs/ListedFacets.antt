@@ -4,7 +4,7 @@ use Rattle.std.specs.Prelude.{◌⊎◌, ◌==◌, ◌||◌, ◌&&◌, nat_lt, n
 use Rattle.std.specs.List.{cons_option}
 use Rattle.std.proofs.lemmas.List.Sums.{sum_by-cons}
 use Rattle.std.proofs.lemmas.Bool.{eqb-true, eq-eqb, and_parts, or_cases, false≢true, lt-ltb}
-use Rattle.table_definitions.specs.Lists.{has, closed_up}
+use Rattle.table_definitions.specs.Lists.{has, rank_without}
 use Rattle.table_definitions.proofs.TableLaws.{Among}
 use Rattle.move_definitions.specs.Moves.{Facet}
 use Rattle.table_definitions.specs.Replaceable.{gone_before}
@@ -149,7 +149,7 @@ times_one (x ∷ xs) t d =
 pub stays_and_gone : (gone : List ℕ) (t : ℕ) → is_distinct gone ≡ true → rank (stays gone) t + gone_before gone t ≡ t
 stays_and_gone gone t d = stays_and_once gone t (λ u. times_one gone u d)
 
-pub closed_up-rank : (gone : List ℕ) (t : ℕ) → is_distinct gone ≡ true → closed_up gone t ≡ rank (stays gone) t
+pub closed_up-rank : (gone : List ℕ) (t : ℕ) → is_distinct gone ≡ true → rank_without gone t ≡ rank (stays gone) t
 closed_up-rank gone t d = omega (arith, stays_and_gone gone t d)
 
 pub stays-count : (gone : List ℕ) (n : ℕ) → is_distinct gone ≡ true → ((k : ℕ) → k < length gone → get_or gone k 0 < n) → rank (stays gone) n + length gone ≡ n
@@ -157,7 +157,7 @@ stays-count gone n d small =
     omega (arith, stays_and_gone gone n d, count_whole (λ u. nat_lt u n) gone (λ k l. lt-ltb (get_or gone k 0) n (small k l)))
 
 -- each number below the number of those that stay is that of one that stays
-pub comes_from : (gone : List ℕ) (n u : ℕ) → is_distinct gone ≡ true → ((k : ℕ) → k < length gone → get_or gone k 0 < n) → u + length gone < n → (t : ℕ) × (t < n) × (has gone t ≡ false) × (closed_up gone t ≡ u)
+pub comes_from : (gone : List ℕ) (n u : ℕ) → is_distinct gone ≡ true → ((k : ℕ) → k < length gone → get_or gone k 0 < n) → u + length gone < n → (t : ℕ) × (t < n) × (has gone t ≡ false) × (rank_without gone t ≡ u)
 comes_from gone n u d small l =
     let many : u < rank (stays gone) n = omega (arith, stays-count gone n d small) in
     let at : (t : ℕ) × (t < n) × (stays gone t ≡ true) × (rank (stays gone) t ≡ u) = of_rank (stays gone) n u many in

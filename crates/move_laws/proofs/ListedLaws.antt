@@ -4,14 +4,14 @@ use Rattle.std.specs.Prelude.{◌⊎◌, ◌==◌, nat_lt, filter_map, find}
 use Rattle.std.specs.List.{range_with_len, cons_option}
 use Rattle.std.proofs.lemmas.Bool.{eqb-true, eq-eqb, lt-ltb}
 use Rattle.std.proofs.lemmas.List.{get_or-map, length-map}
-use Rattle.table_definitions.specs.Lists.{has, below, closed_up, same_list}
+use Rattle.table_definitions.specs.Lists.{has, below, rank_without, same_list}
 use Rattle.table_definitions.specs.Permutation.{image}
 use Rattle.table_definitions.specs.Table.{Row, Face}
 use Rattle.table_definitions.proofs.TableLaws.{Among, Among-range}
 use Rattle.table_definitions.proofs.Listed.{range-among, Among-filter_map, filter_map-among}
 use Rattle.table_definitions.proofs.ListFacts.{list_all-below, same_list-true}
 use Rattle.table_definitions.proofs.Ranks.{length-picked, rank_fits, count_whole}
-use Rattle.move_definitions.specs.Moves.{Move, Facet, facet, old_labels, old_facets, old_tets, facet_stand_in, stand_in_of, stand_in_at}
+use Rattle.move_definitions.specs.Moves.{Move, Facet, facet, old_labels, old_facets, old_tets, facet_place_after, place_after_of, place_after}
 use Rattle.move_definitions.specs.Undos.{taken_numbers}
 use Rattle.move_laws.specs.Facets.{IsOldFacet, AreOldFacets}
 use Rattle.move_laws.proofs.FacetLaws.{core_some, core_few}
@@ -102,9 +102,9 @@ find-only p (g ∷ fs) f a h only = by_test (p g) refl a (λ b. find-only p fs f
     by_test false e (inl s) later = let z : true ≡ false = sym h ∙ ap p s ∙ e in absurd cc
     by_test false e (inr c) later = later c
 
-pub stand_old : (rows : List Row) (m : Move) (i : ℕ) (f : Facet) (x : Face) → IsLegal rows m → IsOldFacet rows m i f → x.tet ≡ f.tet → stand_in_at rows m x ≡ facet_stand_in rows m f (image f.labels x.face)
+pub stand_old : (rows : List Row) (m : Move) (i : ℕ) (f : Facet) (x : Face) → IsLegal rows m → IsOldFacet rows m i f → x.tet ≡ f.tet → place_after rows m x ≡ facet_place_after rows m f (image f.labels x.face)
 stand_old rows m i f x legal F e =
-    ap (stand_in_of rows m x) (find-only (λ (g : Facet). g.tet == x.tet) (old_facets rows m) f (listed rows m i f legal F) (eq-eqb f.tet x.tet (sym e)) only)
+    ap (place_after_of rows m x) (find-only (λ (g : Facet). g.tet == x.tet) (old_facets rows m) f (listed rows m i f legal F) (eq-eqb f.tet x.tet (sym e)) only)
   where
     only : (g : Facet) → Among g (old_facets rows m) → (g.tet == x.tet) ≡ true → g ≡ f
     only g a h =
@@ -148,7 +148,7 @@ length-taken rows m legal =
     ∙ length-map (old_facets rows m) (λ (f : Facet). f.tet) ∙ length-old rows m legal
 
 -- what closes up over the tetrahedra closes up over them in order
-pub closed-taken : (rows : List Row) (m : Move) (t : ℕ) → IsLegal rows m → t < length rows → closed_up (taken_numbers rows m) t ≡ closed_up (old_tets rows m) t
+pub closed-taken : (rows : List Row) (m : Move) (t : ℕ) → IsLegal rows m → t < length rows → rank_without (taken_numbers rows m) t ≡ rank_without (old_tets rows m) t
 closed-taken rows m t legal l =
     ap (λ k. t - k)
     (sym (rank-has (taken_numbers rows m) t (increasing-apart (taken_numbers rows m) (picked-up (has (old_tets rows m)) (length rows))))

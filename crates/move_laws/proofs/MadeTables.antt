@@ -3,12 +3,12 @@ use Rattle.std.proofs.Common.{◌≡◌, ℕ, ◌+◌, ◌<◌, Bool, true, List
 use Rattle.std.specs.Prelude.{◌⊎◌, ◌==◌, ◌||◌, ◌≢◌, option_map, option_and_then}
 use Rattle.std.specs.List.{list_all}
 use Rattle.plain_facts.proofs.Numbers.{given_apart}
-use Rattle.table_definitions.specs.Lists.{below, same_list, in_place_of}
+use Rattle.table_definitions.specs.Lists.{below, same_list, substitute}
 use Rattle.table_definitions.specs.Permutation.{IsPermutationOfFour, image, preimage, inverse, compose}
 use Rattle.table_definitions.specs.Table.{Gluing, Row, Face, glue, other_side, way_back, same_face, IsTable}
-use Rattle.table_definitions.specs.Relabelling.{IsRelabelled, face_under, gluing_under}
+use Rattle.table_definitions.specs.Relabelling.{AreIsomorphic, face_under, gluing_under}
 use Rattle.table_definitions.proofs.TableLaws.{glued_tet, glued_face}
-use Rattle.move_definitions.specs.Moves.{Move, opposite, kept, new_length, new_facet, stand_in_at, moved_gluing, inverse_move, IsMoved}
+use Rattle.move_definitions.specs.Moves.{Move, opposite, kept, new_length, new_facet, place_after, moved_gluing, inverse_move, IsMoved}
 use Rattle.move_definitions.specs.Laws.{MovesMakeTables, InversesLeadOnlyBack}
 use Rattle.table_definitions.proofs.ListFacts.{list_all-below, same_list-true}
 use Rattle.table_definitions.proofs.Permutations.{image_below, image-inverse, inverse_permutes, preimage-image, compose_permutes}
@@ -40,8 +40,8 @@ across_back j l hj hl d =
 across_vertex : (j l : ℕ) → j < 5 → l < 5 → j ≢ l → image (across j l) (preimage (ascending j) l) ≡ preimage (ascending l) j
 across_vertex j l hj hl d =
     let v : HasVertex (ascending j) l = vertex_at j (ascending j) (new_labels j hj) l hl (λ e. d (sym e)) in
-    image-map (λ q. preimage (ascending l) (in_place_of l j q)) (ascending j) (preimage (ascending j) l) (rw (length-labels j (ascending j) (new_labels j hj)) v.small)
-    ∙ ap (λ q. preimage (ascending l) (in_place_of l j q)) v.label
+    image-map (λ q. preimage (ascending l) (substitute l j q)) (ascending j) (preimage (ascending j) l) (rw (length-labels j (ascending j) (new_labels j hj)) v.small)
+    ∙ ap (λ q. preimage (ascending l) (substitute l j q)) v.label
     ∙ ap (preimage (ascending l)) (in_place-same l j l refl)
 
 good_inner : (old : List Row) (m : Move) (new : List Row) → IsMoved old m new → (j l : ℕ) → j < length m.core → l < length m.core → j ≢ l → IsGood (length new) new (opposite (new_facet old m j) l) (record { tet = kept old m + l; perm = across j l })
@@ -73,7 +73,7 @@ good_inner old m new h j l hj hl d = record {
 -- the other faces
 
 -- the gluing that stands for the gluing g of x
-good_outer : (old : List Row) (m : Move) (new : List Row) → IsTable old → IsMoved old m new → (x : Face) (s g r : Gluing) → x.tet < length old → x.face < 4 → stand_in_at old m x ≡ Some s → glue old x ≡ Some g → stand_in_at old m (other_side x g) ≡ Some r
+good_outer : (old : List Row) (m : Move) (new : List Row) → IsTable old → IsMoved old m new → (x : Face) (s g r : Gluing) → x.tet < length old → x.face < 4 → place_after old m x ≡ Some s → glue old x ≡ Some g → place_after old m (other_side x g) ≡ Some r
     → IsGood (length new) new (face_under s x) (gluing_under s r g)
 good_outer old m new table h x s g r lt lf stands glued stands' = record {
   permutes = compose_permutes r.perm (compose g.perm (inverse s.perm)) hr (compose_permutes g.perm (inverse s.perm) hg (inverse_permutes s.perm hs));
@@ -119,8 +119,8 @@ good_outer old m new table h x s g r lt lf stands glued stands' = record {
     home : other_side y (way_back x g) ≡ x
     home = ap (face_at x.tet) (image-inverse g.perm (image g.perm x.face) yf ∙ preimage-image g.perm hg x.face lf)
 
-    back : stand_in_at old m (other_side y (way_back x g)) ≡ Some s
-    back = ap (stand_in_at old m) home ∙ stands
+    back : place_after old m (other_side y (way_back x g)) ≡ Some s
+    back = ap (place_after old m) home ∙ stands
 
     never : same_face (other_side z g') z ≡ true → ⊥
     never t =
@@ -144,7 +144,7 @@ good_at old m new table h y g' e (inl o) = subst (λ (z : Face). IsGood (length 
     by_gluing : (q : Option Gluing) → glue old o.old ≡ q → IsGood (length new) new (face_under o.by o.old) g'
     by_gluing None f = absurd (let none : None ≡ Some g' = sym (ap (option_and_then (moved_gluing old m o.old o.by)) f) ∙ moved in cc)
     by_gluing (Some g) f =
-        let there : (r : Gluing) × (stand_in_at old m (other_side o.old g) ≡ Some r) = other_stands old m table (no_fault old m h.legal) h.core o.old o.by g o.face o.stands f in
+        let there : (r : Gluing) × (place_after old m (other_side o.old g) ≡ Some r) = other_stands old m table (no_fault old m h.legal) h.core o.old o.by g o.face o.stands f in
         let made : Some (gluing_under o.by there.0 g) ≡ Some g' = sym (ap (option_map (λ r. gluing_under o.by r g)) there.1) ∙ sym (ap (option_and_then (moved_gluing old m o.old o.by)) f) ∙ moved in
         let is : gluing_under o.by there.0 g ≡ g' = cc in
         subst (λ (k : Gluing). IsGood (length new) new (face_under o.by o.old) k) is (good_outer old m new table h o.old o.by g there.0 o.tet o.face o.stands f there.1)
@@ -165,6 +165,6 @@ moves_make_tables_lem old m new table few h = record {
 -- so the inverse leads back to nothing else
 pub inverses_lead_only_back_lem : InversesLeadOnlyBack
 inverses_lead_only_back_lem old m new back table few h h' =
-    let led : (found : List Row) × IsMoved new (inverse_move (length old) m) found × IsRelabelled old found = inverses_lead_back_lem old m new table h in
+    let led : (found : List Row) × IsMoved new (inverse_move (length old) m) found × AreIsomorphic old found = inverses_lead_back_lem old m new table h in
     let same : led.0 ≡ back = moves_agree_lem new (inverse_move (length old) m) led.0 back (moves_make_tables_lem old m new table few h) led.1 h' in
-    subst (λ (rows : List Row). IsRelabelled old rows) same led.2
+    subst (λ (rows : List Row). AreIsomorphic old rows) same led.2

@@ -3,13 +3,13 @@ use Rattle.std.proofs.Common.{◌≡◌, ℕ, zero, suc, ◌<◌, ◌≤◌, Boo
 use Rattle.std.specs.Prelude.{◌⊎◌, ◌==◌, ◌≢◌, nat_lt, filter, option_map, if◌then◌else◌}
 use Rattle.std.proofs.lemmas.Bool.{eqb-true, lt-ltb, and_parts, cases_lt}
 use Rattle.std.proofs.lemmas.List.{ext_get_or, get_or-map, length-map}
-use Rattle.table_definitions.specs.Lists.{same_list, in_place_of, pairs_of}
+use Rattle.table_definitions.specs.Lists.{same_list, substitute, pairs_of}
 use Rattle.table_definitions.specs.Permutation.{four, IsPermutationOfFour, image, preimage, inverse, compose}
 use Rattle.table_definitions.specs.Table.{Gluing, Row, glue, other_side, way_back, IsTable}
 use Rattle.table_definitions.proofs.TableLaws.{Among, Among-pairs, first_some-none}
 use Rattle.move_definitions.specs.declared.MoveFault.{MoveFault}
 use Rattle.move_definitions.specs.declared.MoveFault.TheVariants.{NotMatched}
-use Rattle.move_definitions.specs.Moves.{Move, IsCore, Facet, own_facet, opposite, facet_behind, facet, found_labels, is_matched, pair_fault, vertices_by_label}
+use Rattle.move_definitions.specs.Moves.{Move, IsCore, Facet, own_facet, opposite, facet_across, facet, found_labels, is_matched, pair_fault, vertices_by_label}
 use Rattle.table_definitions.proofs.ListFacts.{same_list-true}
 use Rattle.table_definitions.proofs.Permutations.{image_below, preimage_below, image-preimage, preimage-image, image-inverse, inverse_permutes, length-permutation}
 use Rattle.table_definitions.proofs.Listed.{Among-filter}
@@ -24,7 +24,7 @@ pub record AreGlued (rows : List Row) (i k : ℕ) (f g : Facet) : Type 0 where
   pub by : Gluing
   pub glued : glue rows (opposite f k) ≡ Some by
   pub tet : by.tet ≡ g.tet
-  pub labels : compose g.labels by.perm ≡ map (in_place_of k i) f.labels
+  pub labels : compose g.labels by.perm ≡ map (substitute k i) f.labels
 
 -- lists of four with the same elements
 pub same_four : (xs ys : List ℕ) → length xs ≡ 4 → length ys ≡ 4 → ((v : ℕ) → v < 4 → image xs v ≡ image ys v) → xs ≡ ys
@@ -47,22 +47,22 @@ image-four h (suc (suc (suc (suc v)))) l = absurd (omega arith)
 
 -- from the tetrahedron of the move
 
-behind_glued : (k : ℕ) (q p : List ℕ) → IsPermutationOfFour q → IsPermutationOfFour p → compose (map (λ v. in_place_of k 4 (image q (preimage p v))) four) p ≡ map (in_place_of k 4) q
+behind_glued : (k : ℕ) (q p : List ℕ) → IsPermutationOfFour q → IsPermutationOfFour p → compose (map (λ v. substitute k 4 (image q (preimage p v))) four) p ≡ map (substitute k 4) q
 behind_glued k q p hq hp =
-    same_four (compose b p) (map (in_place_of k 4) q) (length-composed b p ∙ length-permutation p hp) (length-map q (in_place_of k 4) ∙ length-permutation q hq)
+    same_four (compose b p) (map (substitute k 4) q) (length-composed b p ∙ length-permutation p hp) (length-map q (substitute k 4) ∙ length-permutation q hq)
     (λ v l. image-composed b p v (rw (length-permutation p hp) l)
-    ∙ image-four (λ v. in_place_of k 4 (image q (preimage p v))) (image p v) (image_below p hp v l)
-    ∙ ap (λ w. in_place_of k 4 (image q w)) (preimage-image p hp v l)
-    ∙ sym (image-map (in_place_of k 4) q v (rw (length-permutation q hq) l)))
+    ∙ image-four (λ v. substitute k 4 (image q (preimage p v))) (image p v) (image_below p hp v l)
+    ∙ ap (λ w. substitute k 4 (image q w)) (preimage-image p hp v l)
+    ∙ sym (image-map (substitute k 4) q v (rw (length-permutation q hq) l)))
   where
     b : List ℕ
-    b = map (λ v. in_place_of k 4 (image q (preimage p v))) four
+    b = map (λ v. substitute k 4 (image q (preimage p v))) four
 
-from_behind : (rows : List Row) (m : Move) (k : ℕ) (o : Option Gluing) (f : Facet) → IsTable rows → IsCore m.core → glue rows (opposite (own_facet m) k) ≡ o → option_map (facet_behind (own_facet m) k) o ≡ Some f → AreGlued rows 4 k (own_facet m) f
+from_behind : (rows : List Row) (m : Move) (k : ℕ) (o : Option Gluing) (f : Facet) → IsTable rows → IsCore m.core → glue rows (opposite (own_facet m) k) ≡ o → option_map (facet_across (own_facet m) k) o ≡ Some f → AreGlued rows 4 k (own_facet m) f
 from_behind rows m k None f table c g e = absurd cc
 from_behind rows m k (Some by) f table c g e =
-    let is : facet_behind (own_facet m) k by ≡ f = cc in
-    let own : AreGlued rows 4 k (own_facet m) (facet_behind (own_facet m) k by) = record {
+    let is : facet_across (own_facet m) k by ≡ f = cc in
+    let own : AreGlued rows 4 k (own_facet m) (facet_across (own_facet m) k by) = record {
       by = by;
       glued = g;
       tet = refl;
@@ -78,12 +78,12 @@ own_glued rows m k f table c l e = from_behind rows m k (glue rows (opposite (ow
 is_glued : (rows : List Row) (i k : ℕ) (f g : Facet) (o : Option Gluing) → f.missing ≡ i → g.missing ≡ k → glue rows (opposite f g.missing) ≡ o → is_matched f g o ≡ true → AreGlued rows i k f g
 is_glued rows i k f g None ei ek e t = cc
 is_glued rows i k f g (Some by) ei ek e t =
-    let p : ((by.tet == g.tet) ≡ true) × (same_list (compose g.labels by.perm) (map (in_place_of g.missing f.missing) f.labels) ≡ true) = and_parts (by.tet == g.tet) (same_list (compose g.labels by.perm) (map (in_place_of g.missing f.missing) f.labels)) t in
+    let p : ((by.tet == g.tet) ≡ true) × (same_list (compose g.labels by.perm) (map (substitute g.missing f.missing) f.labels) ≡ true) = and_parts (by.tet == g.tet) (same_list (compose g.labels by.perm) (map (substitute g.missing f.missing) f.labels)) t in
     record {
       by = by;
       glued = ap (λ l. glue rows (opposite f l)) (sym ek) ∙ e;
       tet = eqb-true by.tet g.tet p.0;
-      labels = same_list-true (compose g.labels by.perm) (map (in_place_of g.missing f.missing) f.labels) p.1 ∙ ap (λ l. map (in_place_of l f.missing) f.labels) ek ∙ ap (λ l. map (in_place_of k l) f.labels) ei;
+      labels = same_list-true (compose g.labels by.perm) (map (substitute g.missing f.missing) f.labels) p.1 ∙ ap (λ l. map (substitute l f.missing) f.labels) ek ∙ ap (λ l. map (substitute k l) f.labels) ei;
     }
 
 allowed : (b : Bool) (e : MoveFault) → (if b then None else Some e) ≡ None → b ≡ true
@@ -105,26 +105,26 @@ found_glued rows m i k f g table h c low less high ef eg =
 
 -- and the other way round
 
-turned_labels : (i k : ℕ) (a b p : List ℕ) → AreLabels i a → AreLabels k b → IsPermutationOfFour p → compose b p ≡ map (in_place_of k i) a → compose a (inverse p) ≡ map (in_place_of i k) b
+turned_labels : (i k : ℕ) (a b p : List ℕ) → AreLabels i a → AreLabels k b → IsPermutationOfFour p → compose b p ≡ map (substitute k i) a → compose a (inverse p) ≡ map (substitute i k) b
 turned_labels i k a b p ha hb hp e =
-    same_four (compose a (inverse p)) (map (in_place_of i k) b) (length-composed a (inverse p) ∙ length-permutation (inverse p) (inverse_permutes p hp)) (length-map b (in_place_of i k) ∙ length-labels k b hb) at
+    same_four (compose a (inverse p)) (map (substitute i k) b) (length-composed a (inverse p) ∙ length-permutation (inverse p) (inverse_permutes p hp)) (length-map b (substitute i k) ∙ length-labels k b hb) at
   where
-    at : (v : ℕ) → v < 4 → image (compose a (inverse p)) v ≡ image (map (in_place_of i k) b) v
+    at : (v : ℕ) → v < 4 → image (compose a (inverse p)) v ≡ image (map (substitute i k) b) v
     at v l =
         let w : ℕ = preimage p v in
         let lw : w < 4 = preimage_below p hp v l in
-        let there : image b v ≡ in_place_of k i (image a w) =
+        let there : image b v ≡ substitute k i (image a w) =
         ap (image b) (sym (image-preimage p hp v l)) ∙ sym (image-composed b p w (rw (length-permutation p hp) lw)) ∙ ap (λ (xs : List ℕ). image xs w) e
-        ∙ image-map (in_place_of k i) a w (rw (length-labels i a ha) lw) in
+        ∙ image-map (substitute k i) a w (rw (length-labels i a ha) lw) in
         image-composed a (inverse p) v (rw (length-permutation (inverse p) (inverse_permutes p hp)) l)
         ∙ ap (image a) (image-inverse p v l)
         ∙ sym (in_place-back i k (image a w) (label_at i a ha w lw).present)
-        ∙ ap (in_place_of i k) (sym there)
-        ∙ sym (image-map (in_place_of i k) b v (rw (length-labels k b hb) l))
+        ∙ ap (substitute i k) (sym there)
+        ∙ sym (image-map (substitute i k) b v (rw (length-labels k b hb) l))
 
-pub label_across : (i k : ℕ) (a b p : List ℕ) (v : ℕ) → AreLabels i a → IsPermutationOfFour p → compose b p ≡ map (in_place_of k i) a → v < 4 → image b (image p v) ≡ in_place_of k i (image a v)
+pub label_across : (i k : ℕ) (a b p : List ℕ) (v : ℕ) → AreLabels i a → IsPermutationOfFour p → compose b p ≡ map (substitute k i) a → v < 4 → image b (image p v) ≡ substitute k i (image a v)
 label_across i k a b p v ha hp e l =
-    sym (image-composed b p v (rw (length-permutation p hp) l)) ∙ ap (λ (xs : List ℕ). image xs v) e ∙ image-map (in_place_of k i) a v (rw (length-labels i a ha) l)
+    sym (image-composed b p v (rw (length-permutation p hp) l)) ∙ ap (λ (xs : List ℕ). image xs v) e ∙ image-map (substitute k i) a v (rw (length-labels i a ha) l)
 
 pub glued_back : (rows : List Row) (i k : ℕ) (f g : Facet) → IsTable rows → IsFacet rows i f → IsFacet rows k g → i ≢ k → AreGlued rows i k f g → AreGlued rows k i g f
 glued_back rows i k f g table hf hg apart a = record {
@@ -144,7 +144,7 @@ glued_back rows i k f g table hf hg apart a = record {
     at = vertex_at i f.labels hf.labels k hg.labels.missing (λ e. apart (sym e))
 
     label : image g.labels (image a.by.perm w) ≡ i
-    label = label_across i k f.labels g.labels a.by.perm w hf.labels hp a.labels at.small ∙ ap (in_place_of k i) at.label ∙ in_place-same k i k refl
+    label = label_across i k f.labels g.labels a.by.perm w hf.labels hp a.labels at.small ∙ ap (substitute k i) at.label ∙ in_place-same k i k refl
 
     vertex : image a.by.perm w ≡ preimage g.labels i
     vertex = sym (label_at k g.labels hg.labels (image a.by.perm w) (image_below a.by.perm hp w at.small)).vertex ∙ ap (preimage g.labels) label

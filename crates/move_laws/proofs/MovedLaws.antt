@@ -4,7 +4,7 @@ use Rattle.std.specs.Prelude.{◌⊎◌, nat_lt, option_map, option_and_then, Al
 use Rattle.std.specs.Option.{option_or}
 use Rattle.std.proofs.lemmas.Bool.{lt-ltb, le-ltb, cases_lt}
 use Rattle.plain_facts.proofs.Options.{both_none}
-use Rattle.table_definitions.specs.Lists.{has, closed_up}
+use Rattle.table_definitions.specs.Lists.{has, rank_without}
 use Rattle.table_definitions.specs.Permutation.{image, IsPermutationOfFour}
 use Rattle.table_definitions.specs.Table.{max_tets, Gluing, Row, Face, glue, other_side, way_back, IsTable}
 use Rattle.table_definitions.specs.Replacing.{Replacement, replaced, number_of_kept, kept_gluing, back_to_fresh}
@@ -17,7 +17,7 @@ use Rattle.table_definitions.proofs.Retained.{IsKeptAs, kept_as, length-replaced
 use Rattle.table_definitions.proofs.FreshRows.{back_is}
 use Rattle.table_definitions.proofs.Replaced.{replaced_is_table}
 use Rattle.move_definitions.specs.declared.MoveFault.TheVariants.{TooMany}
-use Rattle.move_definitions.specs.Moves.{Move, Facet, old_facets, old_tets, vertex_of, opposite, move_fault, IsCore, kept, new_length, new_facet, kept_stand_in, stand_in_at, moved_gluing, IsMoved, Plays, facet_gluing}
+use Rattle.move_definitions.specs.Moves.{Move, Facet, old_facets, old_tets, vertex_of, opposite, move_fault, IsCore, kept, new_length, new_facet, kept_place_after, place_after, moved_gluing, IsMoved, Plays, facet_gluing}
 use Rattle.move_definitions.proofs.StandIns.{stand_in-kept}
 use Rattle.move_laws.specs.Facets.{IsOldFacet, AreOldFacets, CanPlay, put_rows, exchange}
 use Rattle.move_laws.proofs.LegalLaws.{IsLegal, legal_from}
@@ -44,16 +44,16 @@ put_in rows m j v legal l =
 
 -- the gluing by which a kept face was glued to an old facet
 abbrev pub kept_place : List Row → Move → Face → Face
-kept_place rows m x = record { tet = closed_up (old_tets rows m) x.tet; face = x.face }
+kept_place rows m x = record { tet = rank_without (old_tets rows m) x.tet; face = x.face }
 
-pub kept_under : (rows : List Row) (m : Move) (x : Face) → x.face < 4 → face_under (kept_stand_in rows m x.tet) x ≡ kept_place rows m x
-kept_under rows m x l = ap (λ v. record { tet = closed_up (old_tets rows m) x.tet; face = v }) (image-identity x.face l)
+pub kept_under : (rows : List Row) (m : Move) (x : Face) → x.face < 4 → face_under (kept_place_after rows m x.tet) x ≡ kept_place rows m x
+kept_under rows m x l = ap (λ v. record { tet = rank_without (old_tets rows m) x.tet; face = v }) (image-identity x.face l)
 
 to_old : (rows : List Row) (m : Move) (x : Face) (g : Gluing) (i j : ℕ) (f : Facet) → IsLegal rows m → CanReplace rows (exchange rows m) → x.face < 4 → has (old_tets rows m) x.tet ≡ false → glue rows x ≡ Some g
     → IsOldFacet rows m i f → j < length m.core → other_side x g ≡ opposite f j
-    → back_to_fresh (exchange rows m) (kept_place rows m x) ≡ moved_gluing rows m x (kept_stand_in rows m x.tet) g
+    → back_to_fresh (exchange rows m) (kept_place rows m x) ≡ moved_gluing rows m x (kept_place_after rows m x.tet) g
 to_old rows m x g i j f legal can l free glued F new at =
-    let s : Gluing = kept_stand_in rows m x.tet in
+    let s : Gluing = kept_place_after rows m x.tet in
     let r : Gluing = facet_gluing rows m f j in
     let permutes = legal.table.permutes x g glued in
     let back : glue rows (opposite f j) ≡ Some (way_back x g) = ap (glue rows) (sym at) ∙ legal.table.leads_back x g glued in
@@ -63,10 +63,10 @@ to_old rows m x g i j f legal can l free glued F new at =
     let back_permutes = legal.table.permutes (opposite f j) (way_back x g) back in
     let own : Face = opposite (new_facet rows m j) i in
     let carried : Gluing = gluing_under r s (way_back x g) in
-    let stand : stand_in_at rows m x ≡ Some s = stand_in-kept rows m x free in
+    let stand : place_after rows m x ≡ Some s = stand_in-kept rows m x free in
     let fresh : fresh_glue (exchange rows m) own ≡ Some carried =
     glue-outer rows m i j f legal F new ∙ ap (option_and_then (moved_gluing rows m (opposite f j) r)) back
-    ∙ ap (λ (y : Face). option_map (λ t. gluing_under r t (way_back x g)) (stand_in_at rows m y)) home ∙ ap (option_map (λ t. gluing_under r t (way_back x g))) stand in
+    ∙ ap (λ (y : Face). option_map (λ t. gluing_under r t (way_back x g)) (place_after rows m y)) home ∙ ap (option_map (λ t. gluing_under r t (way_back x g))) stand in
     let place : own ≡ face_under r (opposite f j) = sym (put_face rows m i j f legal F new) in
     let side : other_side own carried ≡ kept_place rows m x =
     ap (λ (y : Face). other_side y carried) place ∙ side_under r s (way_back x g) (opposite f j) hr identity_permutes back_permutes small ∙ ap (face_under s) home ∙ kept_under rows m x l in
@@ -74,17 +74,17 @@ to_old rows m x g i j f legal can l free glued F new at =
     let way : way_back own carried ≡ gluing_under s r g =
     ap (λ (y : Face). way_back y carried) place ∙ way_under r s (way_back x g) (opposite f j) hr identity_permutes back_permutes ∙ ap (gluing_under s r) again in
     let fewer = (closes rows m x.tet legal (glued_tet rows x g glued) free).fewer in
-    let to_kept : has (fresh_numbers (exchange rows m)) carried.tet ≡ false = not-put rows m (closed_up (old_tets rows m) x.tet) fewer in
+    let to_kept : has (fresh_numbers (exchange rows m)) carried.tet ≡ false = not-put rows m (rank_without (old_tets rows m) x.tet) fewer in
     ap (back_to_fresh (exchange rows m)) (sym side) ∙ back_is rows (exchange rows m) can own carried fresh to_kept ∙ ap (λ (k : Gluing). Some k) way
-    ∙ ap (option_map (λ t. gluing_under s t g)) (sym (stand_put rows m i j f legal F new)) ∙ ap (λ (y : Face). option_map (λ t. gluing_under s t g) (stand_in_at rows m y)) (sym at)
+    ∙ ap (option_map (λ t. gluing_under s t g)) (sym (stand_put rows m i j f legal F new)) ∙ ap (λ (y : Face). option_map (λ t. gluing_under s t g) (place_after rows m y)) (sym at)
 
 kept_moved : (rows : List Row) (m : Move) (x : Face) (o : Option Gluing) → IsLegal rows m → CanReplace rows (exchange rows m) → x.tet < length rows → x.face < 4 → has (old_tets rows m) x.tet ≡ false → glue rows x ≡ o
-    → kept_gluing rows (exchange rows m) (kept_place rows m x) o ≡ option_and_then (moved_gluing rows m x (kept_stand_in rows m x.tet)) o
+    → kept_gluing rows (exchange rows m) (kept_place rows m x) o ≡ option_and_then (moved_gluing rows m x (kept_place_after rows m x.tet)) o
 kept_moved rows m x None legal can lt l free e = refl
 kept_moved rows m x (Some g) legal can lt l free e = by_test (has (old_tets rows m) g.tet) refl
   where
     s : Gluing
-    s = kept_stand_in rows m x.tet
+    s = kept_place_after rows m x.tet
 
     inside : g.tet < length rows
     inside = legal.table.in_range x g e
@@ -96,7 +96,7 @@ kept_moved rows m x (Some g) legal can lt l free e = by_test (has (old_tets rows
         ≡ cond b (back_to_fresh (exchange rows m) (kept_place rows m x)) (Some (record { tet = number_of_kept rows (exchange rows m) g.tet; perm = g.perm }))
     shown b h = ap (λ c. cond c (back_to_fresh (exchange rows m) (kept_place rows m x)) (Some (record { tet = number_of_kept rows (exchange rows m) g.tet; perm = g.perm }))) (taken-has rows m g.tet inside ∙ h)
 
-    by_test : (b : Bool) → has (old_tets rows m) g.tet ≡ b → kept_gluing rows (exchange rows m) (kept_place rows m x) (Some g) ≡ moved_gluing rows m x (kept_stand_in rows m x.tet) g
+    by_test : (b : Bool) → has (old_tets rows m) g.tet ≡ b → kept_gluing rows (exchange rows m) (kept_place rows m x) (Some g) ≡ moved_gluing rows m x (kept_place_after rows m x.tet) g
     by_test true h =
         let q = old_of_tet rows m g.tet legal h in
         let i : ℕ = q.0 in
@@ -106,10 +106,10 @@ kept_moved rows m x (Some g) legal can lt l free e = by_test (has (old_tets rows
         let new : image f.labels y.face < length m.core = outer_label rows m i f y (way_back x g) legal q.2 (sym q.3) ly (legal.table.leads_back x g e) free in
         shown true h ∙ to_old rows m x g i (image f.labels y.face) f legal can l free e q.2 new (face_at f y q.2.labelled (sym q.3) ly)
     by_test false h =
-        let there : stand_in_at rows m (other_side x g) ≡ Some (kept_stand_in rows m g.tet) = stand_in-kept rows m (other_side x g) h in
+        let there : place_after rows m (other_side x g) ≡ Some (kept_place_after rows m g.tet) = stand_in-kept rows m (other_side x g) h in
         shown false h ∙ ap (λ n. Some (record { tet = n; perm = g.perm })) (number-kept rows m g.tet legal inside h)
-        ∙ ap (λ (k : Gluing). Some k) (sym (under_kept (closed_up (old_tets rows m) x.tet) (closed_up (old_tets rows m) g.tet) g permutes))
-        ∙ ap (option_map (λ t. gluing_under (kept_stand_in rows m x.tet) t g)) (sym there)
+        ∙ ap (λ (k : Gluing). Some k) (sym (under_kept (rank_without (old_tets rows m) x.tet) (rank_without (old_tets rows m) g.tet) g permutes))
+        ∙ ap (option_map (λ t. gluing_under (kept_place_after rows m x.tet) t g)) (sym there)
 
 pub moves : (rows : List Row) (m : Move) → CanMove rows m → IsMoved rows m (replaced rows (exchange rows m))
 moves rows m c = record {
@@ -127,10 +127,10 @@ moves rows m c = record {
     outer_at : (x : Face) (s : Gluing) → x.tet < length rows → x.face < 4 → StandsKept rows m x s ⊎ StandsPut rows m x s
         → glue (changed rows m) (face_under s x) ≡ option_and_then (moved_gluing rows m x s) (glue rows x)
     outer_at x s lt l (inl k) =
-        let kept : IsKeptAs rows (exchange rows m) x.tet (closed_up (old_tets rows m) x.tet) =
+        let kept : IsKeptAs rows (exchange rows m) x.tet (rank_without (old_tets rows m) x.tet) =
         subst (λ u. IsKeptAs rows (exchange rows m) x.tet u) (number-kept rows m x.tet c.legal lt k.free) (kept_as rows (exchange rows m) can x.tet lt (taken-has rows m x.tet lt ∙ k.free)) in
         ap (λ (t : Gluing). glue (changed rows m) (face_under t x)) k.is ∙ ap (glue (changed rows m)) (kept_under rows m x l)
-        ∙ glue-kept rows (exchange rows m) x.tet (closed_up (old_tets rows m) x.tet) x.face kept l ∙ kept_moved rows m x (glue rows x) c.legal can lt l k.free refl
+        ∙ glue-kept rows (exchange rows m) x.tet (rank_without (old_tets rows m) x.tet) x.face kept l ∙ kept_moved rows m x (glue rows x) c.legal can lt l k.free refl
         ∙ ap (λ (t : Gluing). option_and_then (moved_gluing rows m x t) (glue rows x)) (sym k.is)
     outer_at x s lt l (inr p) =
         ap (λ (t : Gluing). glue (changed rows m) (face_under t x)) p.is ∙ ap (λ (y : Face). glue (changed rows m) (face_under (facet_gluing rows m p.f p.j) y)) p.at

@@ -7,11 +7,11 @@ use Rattle.std.proofs.lemmas.List.Sums.{position_or_len_is}
 use Rattle.std.proofs.lemmas.List.Elements.{All-from_get_or}
 use Rattle.std.proofs.lemmas.List.FromFn.{length-range_with_len, get_or-range_with_len}
 use Rattle.std.proofs.lemmas.Bool.{eq-eqb, ne_eqb}
-use Rattle.table_definitions.specs.Lists.{below, has, closed_up}
+use Rattle.table_definitions.specs.Lists.{below, has, rank_without}
 use Rattle.table_definitions.specs.Permutation.{IsPermutationOfFour, is_permutation, preimage}
 use Rattle.table_definitions.specs.Table.{Gluing, Row, IsTable}
-use Rattle.table_definitions.specs.Relabelling.{Relabelling, IsRelabelling, Carries, stand_in}
-use Rattle.move_definitions.specs.Moves.{Move, IsCore, Facet, facet, old_labels, old_tets, kept, kept_stand_in, old_facets}
+use Rattle.table_definitions.specs.Relabelling.{Relabelling, IsRelabelling, Carries, relabelled_place}
+use Rattle.move_definitions.specs.Moves.{Move, IsCore, Facet, facet, old_labels, old_tets, kept, kept_place_after, old_facets}
 use Rattle.table_definitions.proofs.ListFacts.{list_all-below}
 use Rattle.table_definitions.specs.Moved.{moved_row}
 use Rattle.table_definitions.proofs.Ranks.{rank, stays, at_rank, StandsAt, ranks_apart}
@@ -45,13 +45,13 @@ abbrev pub facet_place : List Row → Move → ℕ → List ℕ → Gluing
 facet_place old m i labels = record { tet = kept old m + (i - length m.core); perm = moved_perm (length m.core) i labels }
 
 abbrev pub place_of : List Row → Move → ℕ → Option Facet → Gluing
-place_of old m t None = kept_stand_in old m t
+place_of old m t None = kept_place_after old m t
 place_of old m t (Some f) = facet_place old m f.missing f.labels
 
 abbrev pub place : List Row → Move → ℕ → Gluing
 place old m t = place_of old m t (found_by (facet old m) (old_labels m) t)
 
-pub place-kept : (old : List Row) (m : Move) (t : ℕ) → has (old_tets old m) t ≡ false → place old m t ≡ kept_stand_in old m t
+pub place-kept : (old : List Row) (m : Move) (t : ℕ) → has (old_tets old m) t ≡ false → place old m t ≡ kept_place_after old m t
 place-kept old m t h = ap (place_of old m t) (find-none (old_facets old m) t h)
 
 pub place-old : (old : List Row) (m : Move) (i : ℕ) (f : Facet) → IsTable old → HasNoFault old m → IsCore m.core → length m.core ≤ i → i < 5 → facet old m i ≡ Some f → place old m f.tet ≡ facet_place old m i f.labels
@@ -62,8 +62,8 @@ place-old old m i f table h c low high e =
 -- what is known of a place
 pub record IsKeptPlace (old : List Row) (m : Move) (t : ℕ) : Type 0 where
   pub stays : has (old_tets old m) t ≡ false
-  pub is : place old m t ≡ kept_stand_in old m t
-  pub small : closed_up (old_tets old m) t < kept old m
+  pub is : place old m t ≡ kept_place_after old m t
+  pub small : rank_without (old_tets old m) t < kept old m
 
 pub record IsFacetPlace (old : List Row) (m : Move) (t : ℕ) : Type 0 where
   pub label : ℕ
@@ -78,7 +78,7 @@ pub record IsFacetPlace (old : List Row) (m : Move) (t : ℕ) : Type 0 where
 pub stays_true : (xs : List ℕ) (t : ℕ) → has xs t ≡ false → stays xs t ≡ true
 stays_true xs t e = ap not e
 
-pub closed_up_small : (old : List Row) (m : Move) (t : ℕ) → IsTable old → HasNoFault old m → IsCore m.core → t < length old → has (old_tets old m) t ≡ false → closed_up (old_tets old m) t < kept old m
+pub closed_up_small : (old : List Row) (m : Move) (t : ℕ) → IsTable old → HasNoFault old m → IsCore m.core → t < length old → has (old_tets old m) t ≡ false → rank_without (old_tets old m) t < kept old m
 closed_up_small old m t table h c l e =
     let s : StandsAt (stays (old_tets old m)) (length old) t = at_rank (stays (old_tets old m)) (length old) t l (stays_true (old_tets old m) t e) in
     let all : rank (stays (old_tets old m)) (length old) + length (old_tets old m) ≡ length old = stays-count (old_tets old m) (length old) (old_tets_distinct old m h c) (old_tets_below old m table h c) in
@@ -108,7 +108,7 @@ pub place_below : (old : List Row) (m : Move) (t : ℕ) → IsTable old → HasN
 place_below old m t table h c l =
     let fits : 5 - length m.core ≤ length old = kept-count old m table h c in
     elim (place_cases old m t table h c l) [
-      | inl k ↦ (let e : (place old m t).tet ≡ closed_up (old_tets old m) t = ap tet_of k.is in let small = k.small in omega arith)
+      | inl k ↦ (let e : (place old m t).tet ≡ rank_without (old_tets old m) t = ap tet_of k.is in let small = k.small in omega arith)
       | inr f ↦ (let e : (place old m t).tet ≡ kept old m + (f.label - length m.core) = ap tet_of f.is in let low = f.low in let high = f.high in omega arith)
     ]
 
@@ -129,11 +129,11 @@ place_apart old m t u table h c lt lu e = by_cases (place_cases old m t table h 
         sym (closed_up-rank (old_tets old m) t d) ∙ sym (ap tet_of k.is) ∙ e ∙ ap tet_of k'.is ∙ closed_up-rank (old_tets old m) u d in
         ranks_apart (stays (old_tets old m)) (length old) t u lt lu (stays_true (old_tets old m) t k.stays) (stays_true (old_tets old m) u k'.stays) ranks
     by_cases (inl k) (inr f) =
-        let a : closed_up (old_tets old m) t ≡ kept old m + (f.label - length m.core) = sym (ap tet_of k.is) ∙ e ∙ ap tet_of f.is in
+        let a : rank_without (old_tets old m) t ≡ kept old m + (f.label - length m.core) = sym (ap tet_of k.is) ∙ e ∙ ap tet_of f.is in
         let small = k.small in
         absurd (omega arith)
     by_cases (inr f) (inl k) =
-        let a : kept old m + (f.label - length m.core) ≡ closed_up (old_tets old m) u = sym (ap tet_of f.is) ∙ e ∙ ap tet_of k.is in
+        let a : kept old m + (f.label - length m.core) ≡ rank_without (old_tets old m) u = sym (ap tet_of f.is) ∙ e ∙ ap tet_of k.is in
         let small = k.small in
         absurd (omega arith)
     by_cases (inr f) (inr g) =
@@ -158,7 +158,7 @@ length-below n = length-range_with_len 0 n
 mapped : {A : Type 0} (f : ℕ → A) (n t : ℕ) (d : A) → t < n → get_or (map f (below n)) t d ≡ f t
 mapped f n t d l = get_or-map f (below n) t 0 d (rw (length-below n) l) ∙ ap f (below_at n t 0 l)
 
-pub stand_in-placed : (old : List Row) (m : Move) (t : ℕ) → t < length old → stand_in (relabelling old m) t ≡ place old m t
+pub stand_in-placed : (old : List Row) (m : Move) (t : ℕ) → t < length old → relabelled_place (relabelling old m) t ≡ place old m t
 stand_in-placed old m t l =
     ap (λ u. gluing_to u (slice_index_or (relabelling old m).perms t [])) (mapped (λ t. (place old m t).tet) (length old) t 0 l)
     ∙ ap (gluing_to (place old m t).tet) (mapped (λ t. (place old m t).perm) (length old) t [] l)

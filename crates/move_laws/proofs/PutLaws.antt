@@ -12,7 +12,7 @@ use Rattle.table_definitions.specs.Replacing.{replaced_length, fresh_row}
 use Rattle.table_definitions.specs.Relabelling.{gluing_under}
 use Rattle.table_definitions.specs.Replaceable.{fresh_numbers, fresh_glue}
 use Rattle.table_definitions.proofs.FreshRows.{fresh_tet}
-use Rattle.move_definitions.specs.Moves.{Move, Facet, vertex_of, opposite, facet, kept, new_length, new_facet, stand_in_at, moved_gluing, facet_gluing}
+use Rattle.move_definitions.specs.Moves.{Move, Facet, vertex_of, opposite, facet, kept, new_length, new_facet, place_after, moved_gluing, facet_gluing}
 use Rattle.move_definitions.specs.Undos.{taken_numbers}
 use Rattle.move_laws.specs.Facets.{IsFacet, IsOldFacet, outer_gluing, fresh_gluing, put_row, put_rows, exchange}
 use Rattle.move_laws.proofs.FacetLaws.{new_is_facet, core_few}
@@ -94,7 +94,7 @@ pub record LeadsOut (rows : List Row) (m : Move) (x : Face) (g : Gluing) : Type 
   pub own : j < length m.core
   pub at : x ≡ opposite (new_facet rows m j) i
   pub glued : glue rows (opposite f j) ≡ Some before
-  pub stands : stand_in_at rows m (other_side (opposite f j) before) ≡ Some there
+  pub stands : place_after rows m (other_side (opposite f j) before) ≡ Some there
   pub is : g ≡ gluing_under (facet_gluing rows m f j) there before
 
 abbrev pub Leads : List Row → Move → Face → Gluing → Type 0
@@ -103,7 +103,7 @@ Leads rows m x g = LeadsIn rows m x g ⊎ LeadsOut rows m x g
 leads_by : (rows : List Row) (m : Move) (x : Face) (g : Gluing) (j l : ℕ) → IsLegal rows m → fresh_glue (exchange rows m) x ≡ Some g → IsFacet (new_facet rows m j) → j < length m.core → l < 5 → l ≢ j → x ≡ opposite (new_facet rows m j) l → Leads rows m x g
 leads_by rows m x g j l legal e N own small other at = by_label (cases_lt l (length m.core))
   where
-    by_stand : (f : Facet) (h : Gluing) (o : Option Gluing) → IsOldFacet rows m l f → glue rows (opposite f j) ≡ Some h → stand_in_at rows m (other_side (opposite f j) h) ≡ o
+    by_stand : (f : Facet) (h : Gluing) (o : Option Gluing) → IsOldFacet rows m l f → glue rows (opposite f j) ≡ Some h → place_after rows m (other_side (opposite f j) h) ≡ o
         → option_map (λ r. gluing_under (facet_gluing rows m f j) r h) o ≡ Some g → Leads rows m x g
     by_stand f h None F glued q s = absurd cc
     by_stand f h (Some r) F glued q s =
@@ -111,7 +111,7 @@ leads_by rows m x g j l legal e N own small other at = by_label (cases_lt l (len
 
     by_glue : (f : Facet) (o : Option Gluing) → IsOldFacet rows m l f → glue rows (opposite f j) ≡ o → option_and_then (moved_gluing rows m (opposite f j) (facet_gluing rows m f j)) o ≡ Some g → Leads rows m x g
     by_glue f None F q s = absurd cc
-    by_glue f (Some h) F q s = by_stand f h (stand_in_at rows m (other_side (opposite f j) h)) F q refl s
+    by_glue f (Some h) F q s = by_stand f h (place_after rows m (other_side (opposite f j) h)) F q refl s
 
     by_label : (l < length m.core) ⊎ (length m.core ≤ l) → Leads rows m x g
     by_label (inl new) =

@@ -4,7 +4,7 @@ use Rattle.std.specs.Prelude.{◌==◌, ◌&&◌, ◌||◌, ◌≢◌, nat_lt, n
 use Rattle.std.specs.List.{list_all}
 use Rattle.std.proofs.lemmas.Bool.{eqb-true, ltb-true, lt-ltb, le-ltb, and_parts}
 use Rattle.plain_facts.proofs.Numbers.{given_apart}
-use Rattle.table_definitions.specs.Lists.{below, has, same_list, in_place_of}
+use Rattle.table_definitions.specs.Lists.{below, has, same_list, substitute}
 use Rattle.table_definitions.specs.Permutation.{four, is_permutation, image, preimage, inverse, compose}
 use Rattle.table_definitions.proofs.ListFacts.{list_all-below, same_list-true}
 use Rattle.move_definitions.specs.Moves.{IsCore, vertices_by_label}
@@ -91,14 +91,14 @@ back-new s i hs hi l = ltb-true (renamed_back s i) s (given_le (5 - s) i (nat_lt
 
 -- what stands for one label in place of another
 place_test : ℕ → ℕ → ℕ → ℕ → Bool
-place_test s i k x = nat_lt i s || (nat_lt k s || (renamed s (in_place_of k i x) == in_place_of (k - s) (i - s) (renamed s x)))
+place_test s i k x = nat_lt i s || (nat_lt k s || (renamed s (substitute k i x) == substitute (k - s) (i - s) (renamed s x)))
 
-pub renamed-place : (s i k x : ℕ) → s < 5 → i < 5 → k < 5 → x < 5 → s ≤ i → s ≤ k → renamed s (in_place_of k i x) ≡ in_place_of (k - s) (i - s) (renamed s x)
+pub renamed-place : (s i k x : ℕ) → s < 5 → i < 5 → k < 5 → x < 5 → s ≤ i → s ≤ k → renamed s (substitute k i x) ≡ substitute (k - s) (i - s) (renamed s x)
 unfolding place_test renamed
 renamed-place s i k x hs hi hk hx li lk =
-    eqb-true (renamed s (in_place_of k i x)) (in_place_of (k - s) (i - s) (renamed s x))
-    (given_le s k (renamed s (in_place_of k i x) == in_place_of (k - s) (i - s) (renamed s x))
-    (given_le s i (nat_lt k s || (renamed s (in_place_of k i x) == in_place_of (k - s) (i - s) (renamed s x))) (four_at place_test refl s i k x hs hi hk hx) li) lk)
+    eqb-true (renamed s (substitute k i x)) (substitute (k - s) (i - s) (renamed s x))
+    (given_le s k (renamed s (substitute k i x) == substitute (k - s) (i - s) (renamed s x))
+    (given_le s i (nat_lt k s || (renamed s (substitute k i x) == substitute (k - s) (i - s) (renamed s x))) (four_at place_test refl s i k x hs hi hk hx) li) lk)
 
 -- the core of the inverse move
 
@@ -125,7 +125,7 @@ abbrev pub new_as_old_labels : ℕ → ℕ → List ℕ
 new_as_old_labels s j = map (renamed s) (ascending j)
 
 labels_test : ℕ → ℕ → Bool
-labels_test s j = is_permutation (map (in_place_of 4 (renamed s j)) (new_as_old_labels s j)) && same_list (new_as_old_labels s j) (labels_by (renamed s j) (map (in_place_of 4 (renamed s j)) (new_as_old_labels s j)))
+labels_test s j = is_permutation (map (substitute 4 (renamed s j)) (new_as_old_labels s j)) && same_list (new_as_old_labels s j) (labels_by (renamed s j) (map (substitute 4 (renamed s j)) (new_as_old_labels s j)))
 
 pub renamed_labels : (s j : ℕ) → s < 5 → j < 5 → AreLabels (renamed s j) (new_as_old_labels s j)
 renamed_labels s j hs hj = record {
@@ -136,7 +136,7 @@ renamed_labels s j hs hj = record {
 }
   where
     perm : List ℕ
-    perm = map (in_place_of 4 (renamed s j)) (new_as_old_labels s j)
+    perm = map (substitute 4 (renamed s j)) (new_as_old_labels s j)
 
     tests : two_tests labels_test ≡ true
     tests = unfold labels_test renamed is_permutation in refl
@@ -146,23 +146,23 @@ renamed_labels s j hs hj = record {
 
 -- where the vertices of the new facet i go in the new facet j, the label of each staying, and label j going to label i
 abbrev pub across : ℕ → ℕ → List ℕ
-across i j = map (λ l. preimage (ascending j) (in_place_of j i l)) (ascending i)
+across i j = map (λ l. preimage (ascending j) (substitute j i l)) (ascending i)
 
 -- new facet j, as it is found behind new facet 0
 behind_test : ℕ → ℕ → Bool
-behind_test s j = (j == 0) || (not (nat_lt j s) || same_list (map (λ v. in_place_of (renamed s j) 4 (image (new_as_old_labels s 0) (preimage (across 0 j) v))) four) (new_as_old_labels s j))
+behind_test s j = (j == 0) || (not (nat_lt j s) || same_list (map (λ v. substitute (renamed s j) 4 (image (new_as_old_labels s 0) (preimage (across 0 j) v))) four) (new_as_old_labels s j))
 
-pub behind-renamed : (s j : ℕ) → s < 5 → 0 < j → j < s → map (λ v. in_place_of (renamed s j) 4 (image (new_as_old_labels s 0) (preimage (across 0 j) v))) four ≡ new_as_old_labels s j
+pub behind-renamed : (s j : ℕ) → s < 5 → 0 < j → j < s → map (λ v. substitute (renamed s j) 4 (image (new_as_old_labels s 0) (preimage (across 0 j) v))) four ≡ new_as_old_labels s j
 unfolding behind_test renamed preimage
 behind-renamed s j hs low l =
-    let test : Bool = same_list (map (λ v. in_place_of (renamed s j) 4 (image (new_as_old_labels s 0) (preimage (across 0 j) v))) four) (new_as_old_labels s j) in
+    let test : Bool = same_list (map (λ v. substitute (renamed s j) 4 (image (new_as_old_labels s 0) (preimage (across 0 j) v))) four) (new_as_old_labels s j) in
     same_list-true _ (new_as_old_labels s j) (given_lt j s test (given_apart j 0 (not (nat_lt j s) || test) (two_at behind_test refl s j hs (omega arith)) (λ e. absurd (omega arith))) l)
 
 -- new facets match label by label in the inverse move
 match_test : ℕ → ℕ → ℕ → Bool
-match_test s i j = (i == j) || same_list (compose (new_as_old_labels s j) (across i j)) (map (in_place_of (renamed s j) (renamed s i)) (new_as_old_labels s i))
+match_test s i j = (i == j) || same_list (compose (new_as_old_labels s j) (across i j)) (map (substitute (renamed s j) (renamed s i)) (new_as_old_labels s i))
 
-pub match-renamed : (s i j : ℕ) → s < 5 → i < 5 → j < 5 → i ≢ j → same_list (compose (new_as_old_labels s j) (across i j)) (map (in_place_of (renamed s j) (renamed s i)) (new_as_old_labels s i)) ≡ true
+pub match-renamed : (s i j : ℕ) → s < 5 → i < 5 → j < 5 → i ≢ j → same_list (compose (new_as_old_labels s j) (across i j)) (map (substitute (renamed s j) (renamed s i)) (new_as_old_labels s i)) ≡ true
 unfolding match_test renamed preimage compose
 match-renamed s i j hs hi hj d =
     given_apart i j _ (two_at (match_test s) (list_all-below (λ s. two_tests (match_test s)) 5 refl s hs) i j hi hj) d

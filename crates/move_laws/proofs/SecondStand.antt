@@ -6,11 +6,11 @@ use Rattle.std.proofs.lemmas.List.Sums.{sum_by-cons}
 use Rattle.std.proofs.lemmas.Bool.{eq-eqb, le-ltb, cases_lt}
 use Rattle.plain_facts.proofs.Numbers.{given_apart}
 use Rattle.plain_facts.proofs.Truths.{one_if}
-use Rattle.table_definitions.specs.Lists.{below, has, same_list, in_place_of, closed_up}
+use Rattle.table_definitions.specs.Lists.{below, has, same_list, substitute, rank_without}
 use Rattle.table_definitions.specs.Permutation.{IsPermutationOfFour, is_permutation, image, preimage, identity, compose}
 use Rattle.table_definitions.specs.Table.{Gluing, Row, Face, glue, other_side, way_back, IsTable}
 use Rattle.table_definitions.specs.Relabelling.{face_under}
-use Rattle.move_definitions.specs.Moves.{Move, IsCore, Facet, opposite, facet, kept, kept_stand_in, facet_stand_in, stand_in_at, facet_gluing, old_tets}
+use Rattle.move_definitions.specs.Moves.{Move, IsCore, Facet, opposite, facet, kept, kept_place_after, facet_place_after, place_after, facet_gluing, old_tets}
 use Rattle.move_definitions.proofs.StandIns.{facet_stand_in-new, facet_stand_in-old, stand_in-kept}
 use Rattle.table_definitions.proofs.ListFacts.{list_all-below, same_list-true}
 use Rattle.table_definitions.proofs.Permutations.{image_below, preimage-image, image-inverse, identity_permutes}
@@ -29,7 +29,7 @@ use Rattle.move_laws.proofs.Placed.{moved_perm, place, facet_place, place-kept, 
 -- where the vertices of facet i go in the new facet j
 
 abbrev pub crossing : ℕ → ℕ → List ℕ → List ℕ
-crossing i j labels = map (λ l. preimage (ascending j) (in_place_of j i l)) labels
+crossing i j labels = map (λ l. preimage (ascending j) (substitute j i l)) labels
 
 crossing_test : ℕ → List ℕ → Bool
 crossing_test i labels = list_all (λ j. (j == i) || is_permutation (crossing i j labels)) (below 5)
@@ -98,14 +98,14 @@ stays_low old m new p u l = by_test (has (old_tets new (inverse_of old m)) u) re
     by_test false e = e
     by_test true e = absurd (let high = old_tets_high old m new p u e in omega arith)
 
-pub closed_up_low : (old : List Row) (m : Move) (new : List Row) → IsPlayed old m new → (u : ℕ) → u < kept old m → closed_up (old_tets new (inverse_of old m)) u ≡ u
+pub closed_up_low : (old : List Row) (m : Move) (new : List Row) → IsPlayed old m new → (u : ℕ) → u < kept old m → rank_without (old_tets new (inverse_of old m)) u ≡ u
 closed_up_low old m new p u l =
     omega (arith, none_before (old_tets new (inverse_of old m)) u (λ v h. (let high = old_tets_high old m new p v h in omega arith)))
 
 -- what stands for what stands for the tetrahedron of x
 pub record StandsAgain (old : List Row) (m : Move) (new : List Row) (x : Face) (s : Gluing) : Type 0 where
   pub second : Gluing
-  pub stands : stand_in_at new (inverse_of old m) (face_under s x) ≡ Some second
+  pub stands : place_after new (inverse_of old m) (face_under s x) ≡ Some second
   pub tet : second.tet ≡ (place old m x.tet).tet
   pub perm : compose second.perm s.perm ≡ (place old m x.tet).perm
   pub first_permutes : IsPermutationOfFour s.perm
@@ -115,10 +115,10 @@ identity_twice : compose identity identity ≡ identity
 unfolding compose
 identity_twice = refl
 
-again-kept : (old : List Row) (m : Move) (new : List Row) → IsPlayed old m new → (x : Face) → x.tet < length old → x.face < 4 → has (old_tets old m) x.tet ≡ false → StandsAgain old m new x (kept_stand_in old m x.tet)
+again-kept : (old : List Row) (m : Move) (new : List Row) → IsPlayed old m new → (x : Face) → x.tet < length old → x.face < 4 → has (old_tets old m) x.tet ≡ false → StandsAgain old m new x (kept_place_after old m x.tet)
 again-kept old m new p x lt lf e = record {
-  second = kept_stand_in new (inverse_of old m) u;
-  stands = stand_in-kept new (inverse_of old m) (face_under (kept_stand_in old m x.tet) x) (stays_low old m new p u small);
+  second = kept_place_after new (inverse_of old m) u;
+  stands = stand_in-kept new (inverse_of old m) (face_under (kept_place_after old m x.tet) x) (stays_low old m new p u small);
   tet = closed_up_low old m new p u small ∙ sym (ap (λ (g : Gluing). g.tet) (place-kept old m x.tet e));
   perm = identity_twice ∙ sym (ap (λ (g : Gluing). g.perm) (place-kept old m x.tet e));
   first_permutes = identity_permutes;
@@ -126,7 +126,7 @@ again-kept old m new p x lt lf e = record {
 }
   where
     u : ℕ
-    u = closed_up (old_tets old m) x.tet
+    u = rank_without (old_tets old m) x.tet
 
     small : u < kept old m
     small = closed_up_small old m x.tet p.table (no_fault old m p.moved.legal) p.core lt e
@@ -136,7 +136,7 @@ again-new : (old : List Row) (m : Move) (new : List Row) → IsPlayed old m new 
     → StandsAgain old m new (face_at f.tet (preimage f.labels j)) (facet_gluing old m f j)
 again-new old m new p i j f low high less e is = record {
   second = facet_gluing new (inverse_of old m) (new_as_old old m j) (i - s);
-  stands = ap (λ v. stand_in_at new (inverse_of old m) (face_at (kept old m + j) v)) (crossed old m i j f is small apart) ∙ there;
+  stands = ap (λ v. place_after new (inverse_of old m) (face_at (kept old m + j) v)) (crossed old m i j f is small apart) ∙ there;
   tet = ap (λ k. k + (i - s)) (kept-inverse old m new p) ∙ sym (ap (λ (g : Gluing). g.tet) at);
   perm = ap (λ k. compose (crossing (renamed s j) (i - s) (new_as_old_labels s j)) (crossing k j f.labels)) is.missing ∙ crossed_twice s i j f.labels is.labels few low less ∙ sym (ap (λ (g : Gluing). g.perm) at);
   first_permutes = (let Permutes : ℕ → Type 0 = λ k. IsPermutationOfFour (crossing k j f.labels) in subst Permutes (sym is.missing) (crossing_permutes i j f.labels is.labels small apart));
@@ -167,10 +167,10 @@ again-new old m new p i j f low high less e is = record {
         let v : HasVertex (ascending j) i = vertex_at j (ascending j) (new_labels j small) i high (λ e. absurd (omega arith)) in
         image-map (renamed s) (ascending j) (preimage (ascending j) i) (rw (length-labels j (ascending j) (new_labels j small)) v.small) ∙ ap (renamed s) v.label ∙ renamed-old s i low
 
-    there : stand_in_at new (inverse_of old m) (face_at (kept old m + j) (preimage (ascending j) i)) ≡ Some (facet_gluing new (inverse_of old m) (new_as_old old m j) (i - s))
+    there : place_after new (inverse_of old m) (face_at (kept old m + j) (preimage (ascending j) i)) ≡ Some (facet_gluing new (inverse_of old m) (new_as_old old m j) (i - s))
     there =
         stand_in-old new (inverse_of old m) (renamed s j) (new_as_old old m j) (preimage (ascending j) i) (inverse_fine old m new p) p.inverse_core.is_core (rw p.inverse_core.size (renamed-new s j p.few less)) (renamed_below s j p.few small) (facet-inverse old m new p j less)
-        ∙ ap (facet_stand_in new (inverse_of old m) (new_as_old old m j)) label
+        ∙ ap (facet_place_after new (inverse_of old m) (new_as_old old m j)) label
         ∙ facet_stand_in-new new (inverse_of old m) (new_as_old old m j) (i - s) (rw p.inverse_core.size (omega arith))
 
 -- a face of an old facet for which something stands has the label of a new facet
@@ -178,20 +178,20 @@ pub record HasNewLabel (old : List Row) (m : Move) (f : Facet) (v : ℕ) (s : Gl
   pub small : image f.labels v < length m.core
   pub is : s ≡ facet_gluing old m f (image f.labels v)
 
-pub has_new_label : (old : List Row) (m : Move) (i : ℕ) (f : Facet) (v : ℕ) (s : Gluing) → HasNoFault old m → IsCore m.core → length m.core ≤ i → i < 5 → facet old m i ≡ Some f → stand_in_at old m (face_at f.tet v) ≡ Some s → HasNewLabel old m f v s
+pub has_new_label : (old : List Row) (m : Move) (i : ℕ) (f : Facet) (v : ℕ) (s : Gluing) → HasNoFault old m → IsCore m.core → length m.core ≤ i → i < 5 → facet old m i ≡ Some f → place_after old m (face_at f.tet v) ≡ Some s → HasNewLabel old m f v s
 has_new_label old m i f v s h c low high e stands = by_size (cases_lt (image f.labels v) (length m.core))
   where
-    here : facet_stand_in old m f (image f.labels v) ≡ Some s
+    here : facet_place_after old m f (image f.labels v) ≡ Some s
     here = sym (stand_in-old old m i f v h c low high e) ∙ stands
 
     none : (o : Option Gluing) → o ≡ None → o ≡ Some s → ⊥
     none o a b = cc
 
     by_size : (image f.labels v < length m.core) ⊎ (length m.core ≤ image f.labels v) → HasNewLabel old m f v s
-    by_size (inl l) = record { small = l; is = same_some (facet_stand_in old m f (image f.labels v)) s (facet_gluing old m f (image f.labels v)) here (facet_stand_in-new old m f (image f.labels v) l) }
-    by_size (inr g) = absurd (none (facet_stand_in old m f (image f.labels v)) (facet_stand_in-old old m f (image f.labels v) g) here)
+    by_size (inl l) = record { small = l; is = same_some (facet_place_after old m f (image f.labels v)) s (facet_gluing old m f (image f.labels v)) here (facet_stand_in-new old m f (image f.labels v) l) }
+    by_size (inr g) = absurd (none (facet_place_after old m f (image f.labels v)) (facet_stand_in-old old m f (image f.labels v) g) here)
 
-pub stands_again : (old : List Row) (m : Move) (new : List Row) → IsPlayed old m new → (x : Face) (s : Gluing) → x.tet < length old → x.face < 4 → stand_in_at old m x ≡ Some s → StandsAgain old m new x s
+pub stands_again : (old : List Row) (m : Move) (new : List Row) → IsPlayed old m new → (x : Face) (s : Gluing) → x.tet < length old → x.face < 4 → place_after old m x ≡ Some s → StandsAgain old m new x s
 stands_again old m new p x s lt lf stands = by_test (has (old_tets old m) x.tet) refl
   where
     h : HasNoFault old m
@@ -202,19 +202,19 @@ stands_again old m new p x s lt lf stands = by_test (has (old_tets old m) x.tet)
         let f : Facet = o.facet_of in
         let is : IsFacet old o.label f = facet_is old m o.label f p.table p.core h.in_range o.high o.is in
         let same : face_at f.tet x.face ≡ x = ap (λ t. face_at t x.face) o.tet in
-        let n : HasNewLabel old m f x.face s = has_new_label old m o.label f x.face s h p.core o.low o.high o.is (ap (stand_in_at old m) same ∙ stands) in
+        let n : HasNewLabel old m f x.face s = has_new_label old m o.label f x.face s h p.core o.low o.high o.is (ap (place_after old m) same ∙ stands) in
         let there : StandsAgain old m new (face_at f.tet (preimage f.labels (image f.labels x.face))) (facet_gluing old m f (image f.labels x.face)) = again-new old m new p o.label (image f.labels x.face) f o.low o.high n.small o.is is in
         let face : face_at f.tet (preimage f.labels (image f.labels x.face)) ≡ x = ap (face_at f.tet) (label_at o.label f.labels is.labels x.face lf).vertex ∙ same in
         subst (λ (g : Gluing). StandsAgain old m new x g) (sym n.is) (subst (λ (y : Face). StandsAgain old m new y (facet_gluing old m f (image f.labels x.face))) face there)
 
     by_test : (b : Bool) → has (old_tets old m) x.tet ≡ b → StandsAgain old m new x s
-    by_test false e = subst (λ (g : Gluing). StandsAgain old m new x g) (same_some (stand_in_at old m x) (kept_stand_in old m x.tet) s (stand_in-kept old m x e) stands) (again-kept old m new p x lt lf e)
+    by_test false e = subst (λ (g : Gluing). StandsAgain old m new x g) (same_some (place_after old m x) (kept_place_after old m x.tet) s (stand_in-kept old m x e) stands) (again-kept old m new p x lt lf e)
     by_test true e = by_facet (old_tet_facet old m x.tet p.core e)
 
 -- where something stands for a face, something stands for the face to which it is glued
 
-pub other_stands : (old : List Row) (m : Move) → IsTable old → HasNoFault old m → IsCore m.core → (x : Face) (s g : Gluing) → x.face < 4 → stand_in_at old m x ≡ Some s → glue old x ≡ Some g
-    → (r : Gluing) × (stand_in_at old m (other_side x g) ≡ Some r)
+pub other_stands : (old : List Row) (m : Move) → IsTable old → HasNoFault old m → IsCore m.core → (x : Face) (s g : Gluing) → x.face < 4 → place_after old m x ≡ Some s → glue old x ≡ Some g
+    → (r : Gluing) × (place_after old m (other_side x g) ≡ Some r)
 other_stands old m table h c x s g lf stands glued = by_test (has (old_tets old m) g.tet) refl
   where
     y : Face
@@ -236,14 +236,14 @@ other_stands old m table h c x s g lf stands glued = by_test (has (old_tets old 
         let back : a.by ≡ way_back x g = same_some (glue old y) a.by (way_back x g) (ap (glue old) (sym face) ∙ a.glued) (table.leads_back x g glued) in
         let tets : f'.tet ≡ x.tet = sym a.tet ∙ ap (λ (b : Gluing). b.tet) back in
         let to : image a.by.perm y.face ≡ x.face = ap (λ (b : Gluing). image b.perm y.face) back ∙ image-inverse g.perm y.face yf ∙ preimage-image g.perm hp x.face lf in
-        let across : image f'.labels (image a.by.perm y.face) ≡ in_place_of l k (image f.labels y.face) =
+        let across : image f'.labels (image a.by.perm y.face) ≡ substitute l k (image f.labels y.face) =
         label_across k l f.labels f'.labels a.by.perm y.face is.labels (table.permutes (opposite f l) a.by a.glued) a.labels yf in
-        let there : image f'.labels x.face ≡ k = ap (image f'.labels) (sym to) ∙ across ∙ ap (in_place_of l k) label ∙ in_place-same l k l refl in
-        let n : HasNewLabel old m f' x.face s = has_new_label old m l f' x.face s h c low' high' ef' (ap (λ u. stand_in_at old m (face_at u x.face)) tets ∙ stands) in
+        let there : image f'.labels x.face ≡ k = ap (image f'.labels) (sym to) ∙ across ∙ ap (substitute l k) label ∙ in_place-same l k l refl in
+        let n : HasNewLabel old m f' x.face s = has_new_label old m l f' x.face s h c low' high' ef' (ap (λ u. place_after old m (face_at u x.face)) tets ∙ stands) in
         let small = n.small in
         absurd (omega arith)
 
-    by_facet : OldFacet old m g.tet → (r : Gluing) × (stand_in_at old m y ≡ Some r)
+    by_facet : OldFacet old m g.tet → (r : Gluing) × (place_after old m y ≡ Some r)
     by_facet o = by_size (cases_lt (image f.labels y.face) (length m.core))
       where
         f : Facet
@@ -252,16 +252,16 @@ other_stands old m table h c x s g lf stands glued = by_test (has (old_tets old 
         is : IsFacet old o.label f
         is = facet_is old m o.label f table c h.in_range o.high o.is
 
-        at : stand_in_at old m y ≡ facet_stand_in old m f (image f.labels y.face)
-        at = ap (λ u. stand_in_at old m (face_at u y.face)) (sym o.tet) ∙ stand_in-old old m o.label f y.face h c o.low o.high o.is
+        at : place_after old m y ≡ facet_place_after old m f (image f.labels y.face)
+        at = ap (λ u. place_after old m (face_at u y.face)) (sym o.tet) ∙ stand_in-old old m o.label f y.face h c o.low o.high o.is
 
-        by_size : (image f.labels y.face < length m.core) ⊎ (length m.core ≤ image f.labels y.face) → (r : Gluing) × (stand_in_at old m y ≡ Some r)
+        by_size : (image f.labels y.face < length m.core) ⊎ (length m.core ≤ image f.labels y.face) → (r : Gluing) × (place_after old m y ≡ Some r)
         by_size (inl l) = (facet_gluing old m f (image f.labels y.face), at ∙ facet_stand_in-new old m f (image f.labels y.face) l)
         by_size (inr l) =
             let here : HasLabel o.label f.labels y.face = label_at o.label f.labels is.labels y.face yf in
             let other : (f' : Facet) × (facet old m (image f.labels y.face) ≡ Some f') = old_facet old m (image f.labels y.face) h c l here.small in
             absurd (never o.label (image f.labels y.face) f other.0 o.low o.high l here.small o.is other.1 is (facet_is old m (image f.labels y.face) other.0 table c h.in_range here.small other.1) o.tet refl)
 
-    by_test : (b : Bool) → has (old_tets old m) g.tet ≡ b → (r : Gluing) × (stand_in_at old m y ≡ Some r)
-    by_test false e = (kept_stand_in old m g.tet, stand_in-kept old m y e)
+    by_test : (b : Bool) → has (old_tets old m) g.tet ≡ b → (r : Gluing) × (place_after old m y ≡ Some r)
+    by_test false e = (kept_place_after old m g.tet, stand_in-kept old m y e)
     by_test true e = by_facet (old_tet_facet old m g.tet c e)

@@ -1,11 +1,11 @@
 -- A face of the new table stands for one face of the old table alone, or lies between new facets.
 use Rattle.std.proofs.Common.{◌≡◌, ℕ, ◌+◌, ◌<◌, ◌≤◌, Bool, true, false, List, length, Some, refl, sym, ap, ◌∙◌, subst, arith, inl, inr}
 use Rattle.std.specs.Prelude.{◌⊎◌, ◌≢◌}
-use Rattle.table_definitions.specs.Lists.{has, closed_up}
+use Rattle.table_definitions.specs.Lists.{has, rank_without}
 use Rattle.table_definitions.specs.Permutation.{IsPermutationOfFour, image, preimage}
 use Rattle.table_definitions.specs.Table.{Gluing, Row, Face, IsTable}
 use Rattle.table_definitions.specs.Relabelling.{face_under}
-use Rattle.move_definitions.specs.Moves.{Move, IsCore, Facet, facet, new_length, kept, kept_stand_in, stand_in_at, facet_gluing, old_tets}
+use Rattle.move_definitions.specs.Moves.{Move, IsCore, Facet, facet, new_length, kept, kept_place_after, place_after, facet_gluing, old_tets}
 use Rattle.table_definitions.proofs.Permutations.{image_below, identity_permutes, image-identity}
 use Rattle.table_definitions.proofs.Ranks.{rank, stays, ranks_apart}
 use Rattle.table_definitions.proofs.Faces.{face_at}
@@ -21,8 +21,8 @@ use Rattle.move_laws.proofs.SecondStand.{crossing, crossing_permutes, HasNewLabe
 -- the face y stands for the face x of a kept tetrahedron
 pub record IsKeptFace (rows : List Row) (m : Move) (x y : Face) (s : Gluing) : Type 0 where
   pub stays : has (old_tets rows m) x.tet ≡ false
-  pub by : s ≡ kept_stand_in rows m x.tet
-  pub tet : closed_up (old_tets rows m) x.tet ≡ y.tet
+  pub by : s ≡ kept_place_after rows m x.tet
+  pub tet : rank_without (old_tets rows m) x.tet ≡ y.tet
   pub face : x.face ≡ y.face
   pub small : y.tet < kept rows m
 
@@ -40,7 +40,7 @@ pub record IsFacetFace (rows : List Row) (m : Move) (x y : Face) (s : Gluing) : 
   pub old_is : face_at facet_of.tet (preimage facet_of.labels j) ≡ x
   pub new_is : face_at (kept rows m + j) (preimage (ascending j) i) ≡ y
 
-pub shape : (rows : List Row) (m : Move) → IsTable rows → HasNoFault rows m → IsCore m.core → (x : Face) (s : Gluing) → x.tet < length rows → x.face < 4 → stand_in_at rows m x ≡ Some s
+pub shape : (rows : List Row) (m : Move) → IsTable rows → HasNoFault rows m → IsCore m.core → (x : Face) (s : Gluing) → x.tet < length rows → x.face < 4 → place_after rows m x ≡ Some s
     → IsKeptFace rows m x (face_under s x) s ⊎ IsFacetFace rows m x (face_under s x) s
 shape rows m table h c x s lt lf stands = by_test (has (old_tets rows m) x.tet) refl
   where
@@ -49,7 +49,7 @@ shape rows m table h c x s lt lf stands = by_test (has (old_tets rows m) x.tet) 
         let f : Facet = o.facet_of in
         let is : IsFacet rows o.label f = facet_is rows m o.label f table c h.in_range o.high o.is in
         let same : face_at f.tet x.face ≡ x = ap (λ t. face_at t x.face) o.tet in
-        let n : HasNewLabel rows m f x.face s = has_new_label rows m o.label f x.face s h c o.low o.high o.is (ap (stand_in_at rows m) same ∙ stands) in
+        let n : HasNewLabel rows m f x.face s = has_new_label rows m o.label f x.face s h c o.low o.high o.is (ap (place_after rows m) same ∙ stands) in
         let j : ℕ = image f.labels x.face in
         let l : HasLabel o.label f.labels x.face = label_at o.label f.labels is.labels x.face lf in
         let old_is : face_at f.tet (preimage f.labels j) ≡ x = ap (face_at f.tet) l.vertex ∙ same in
@@ -70,8 +70,8 @@ shape rows m table h c x s lt lf stands = by_test (has (old_tets rows m) x.tet) 
 
     by_kept : has (old_tets rows m) x.tet ≡ false → IsKeptFace rows m x (face_under s x) s
     by_kept e =
-        let by : s ≡ kept_stand_in rows m x.tet = same_some (stand_in_at rows m x) s (kept_stand_in rows m x.tet) stands (stand_in-kept rows m x e) in
-        let t : closed_up (old_tets rows m) x.tet ≡ s.tet = ap (λ (g : Gluing). g.tet) (sym by) in
+        let by : s ≡ kept_place_after rows m x.tet = same_some (place_after rows m x) s (kept_place_after rows m x.tet) stands (stand_in-kept rows m x e) in
+        let t : rank_without (old_tets rows m) x.tet ≡ s.tet = ap (λ (g : Gluing). g.tet) (sym by) in
         record {
           stays = e;
           by = by;
@@ -94,7 +94,7 @@ new_permutes rows m x y s c f =
     subst (λ k. IsPermutationOfFour (crossing k f.j f.facet_of.labels)) (sym f.facet_is.missing) (crossing_permutes f.i f.j f.facet_of.labels f.facet_is.labels (omega arith) (λ e. absurd (omega arith))) in
     subst (λ (g : Gluing). IsPermutationOfFour g.perm) (sym f.by) crosses
 
-pub stand_permutes : (rows : List Row) (m : Move) → IsTable rows → HasNoFault rows m → IsCore m.core → (x : Face) (s : Gluing) → x.tet < length rows → x.face < 4 → stand_in_at rows m x ≡ Some s → IsPermutationOfFour s.perm
+pub stand_permutes : (rows : List Row) (m : Move) → IsTable rows → HasNoFault rows m → IsCore m.core → (x : Face) (s : Gluing) → x.tet < length rows → x.face < 4 → place_after rows m x ≡ Some s → IsPermutationOfFour s.perm
 stand_permutes rows m table h c x s lt lf stands =
     elim (shape rows m table h c x s lt lf stands) [
       | inl k ↦ subst (λ (g : Gluing). IsPermutationOfFour g.perm) (sym k.by) identity_permutes
@@ -102,7 +102,7 @@ stand_permutes rows m table h c x s lt lf stands =
     ]
 
 -- and the face that stands for another is in range
-pub stand_in_range : (rows : List Row) (m : Move) → IsTable rows → HasNoFault rows m → IsCore m.core → (x : Face) (s : Gluing) → x.tet < length rows → x.face < 4 → stand_in_at rows m x ≡ Some s
+pub stand_in_range : (rows : List Row) (m : Move) → IsTable rows → HasNoFault rows m → IsCore m.core → (x : Face) (s : Gluing) → x.tet < length rows → x.face < 4 → place_after rows m x ≡ Some s
     → (s.tet < new_length rows m) × (image s.perm x.face < 4)
 stand_in_range rows m table h c x s lt lf stands = (
   elim (shape rows m table h c x s lt lf stands) [

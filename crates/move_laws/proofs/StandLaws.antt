@@ -2,14 +2,14 @@
 use Rattle.std.proofs.Common.{◌≡◌, ℕ, ◌+◌, ◌<◌, ◌≤◌, Bool, true, false, List, length, Some, None, refl, sym, ap, ◌∙◌, arith, inl, inr}
 use Rattle.std.specs.Prelude.{◌⊎◌, ◌≢◌, not}
 use Rattle.std.proofs.lemmas.Bool.{cases_lt}
-use Rattle.table_definitions.specs.Lists.{has, closed_up}
+use Rattle.table_definitions.specs.Lists.{has, rank_without}
 use Rattle.table_definitions.specs.Permutation.{image, inverse, compose, identity, IsPermutationOfFour}
 use Rattle.table_definitions.specs.Table.{Gluing, Row, Face, glue, other_side, way_back}
 use Rattle.table_definitions.specs.Relabelling.{face_under, gluing_under}
 use Rattle.table_definitions.proofs.Permutations.{inverse_permutes, compose_permutes, identity-compose, compose-identity, inverse-identity}
 use Rattle.table_definitions.proofs.Ranks.{rank, stays, closed_up-rank, at_rank, ranks_apart, stays-count}
 use Rattle.std.proofs.lemmas.List.Kept.{AllPairs-from_increasing}
-use Rattle.move_definitions.specs.Moves.{Move, Facet, vertex_of, opposite, kept, new_facet, label_by_label, facet_stand_in, kept_stand_in, stand_in_at, facet_gluing, old_tets}
+use Rattle.move_definitions.specs.Moves.{Move, Facet, vertex_of, opposite, kept, new_facet, label_by_label, facet_place_after, kept_place_after, place_after, facet_gluing, old_tets}
 use Rattle.move_definitions.specs.Undos.{taken_numbers}
 use Rattle.move_definitions.proofs.StandIns.{facet_stand_in-new, facet_stand_in-old, stand_in-kept}
 use Rattle.move_laws.specs.Facets.{IsFacet, IsOldFacet}
@@ -44,8 +44,8 @@ under_kept t u g h =
 -- the numbers of the tetrahedra that are kept
 
 pub record ClosedUp (rows : List Row) (m : Move) (t : ℕ) : Type 0 where
-  pub rank_is : rank (stays (taken_numbers rows m)) t ≡ closed_up (old_tets rows m) t
-  pub fewer : closed_up (old_tets rows m) t < kept rows m
+  pub rank_is : rank (stays (taken_numbers rows m)) t ≡ rank_without (old_tets rows m) t
+  pub fewer : rank_without (old_tets rows m) t < kept rows m
 
 pub stays_on : (rows : List Row) (m : Move) (t : ℕ) → t < length rows → has (old_tets rows m) t ≡ false → stays (taken_numbers rows m) t ≡ true
 stays_on rows m t l free = ap not (taken-has rows m t l ∙ free)
@@ -54,7 +54,7 @@ pub closes : (rows : List Row) (m : Move) (t : ℕ) → IsLegal rows m → t < l
 closes rows m t legal l free =
     let up = picked-up (has (old_tets rows m)) (length rows) in
     let ascends = AllPairs-from_increasing (taken_numbers rows m) up in
-    let r : rank (stays (taken_numbers rows m)) t ≡ closed_up (old_tets rows m) t = sym (closed_up-rank (taken_numbers rows m) t ascends) ∙ closed-taken rows m t legal l in
+    let r : rank (stays (taken_numbers rows m)) t ≡ rank_without (old_tets rows m) t = sym (closed_up-rank (taken_numbers rows m) t ascends) ∙ closed-taken rows m t legal l in
     let a = (at_rank (stays (taken_numbers rows m)) (length rows) t l (stays_on rows m t l free)).fewer in
     let b : rank (stays (taken_numbers rows m)) (length rows) + length (taken_numbers rows m) ≡ length rows =
     stays-count (taken_numbers rows m) (length rows) ascends (λ k q. picked-within (has (old_tets rows m)) (length rows) (length rows) (omega arith) k 0 q) in
@@ -62,7 +62,7 @@ closes rows m t legal l free =
     record { rank_is = r; fewer = omega arith }
 
 pub closed-apart : (rows : List Row) (m : Move) (t u : ℕ) → IsLegal rows m → t < length rows → u < length rows → has (old_tets rows m) t ≡ false → has (old_tets rows m) u ≡ false
-    → closed_up (old_tets rows m) t ≡ closed_up (old_tets rows m) u → t ≡ u
+    → rank_without (old_tets rows m) t ≡ rank_without (old_tets rows m) u → t ≡ u
 closed-apart rows m t u legal lt lu ft fu e =
     ranks_apart (stays (taken_numbers rows m)) (length rows) t u lt lu (stays_on rows m t lt ft) (stays_on rows m u lu fu)
     ((closes rows m t legal lt ft).rank_is ∙ e ∙ sym (closes rows m u legal lu fu).rank_is)
@@ -71,7 +71,7 @@ closed-apart rows m t u legal lt lu ft fu e =
 
 pub record StandsKept (rows : List Row) (m : Move) (x : Face) (s : Gluing) : Type 0 where
   pub free : has (old_tets rows m) x.tet ≡ false
-  pub is : s ≡ kept_stand_in rows m x.tet
+  pub is : s ≡ kept_place_after rows m x.tet
 
 pub record StandsPut (rows : List Row) (m : Move) (x : Face) (s : Gluing) : Type 0 where
   pub i : ℕ
@@ -87,7 +87,7 @@ face_at f x F e l =
     let mk : ℕ → ℕ → Face = λ t v. record { tet = t; face = v } in
     ap (λ t. mk t x.face) e ∙ ap (mk f.tet) (sym (F.vertex_back x.face l))
 
-pub stands : (rows : List Row) (m : Move) (x : Face) (s : Gluing) → IsLegal rows m → x.face < 4 → stand_in_at rows m x ≡ Some s → StandsKept rows m x s ⊎ StandsPut rows m x s
+pub stands : (rows : List Row) (m : Move) (x : Face) (s : Gluing) → IsLegal rows m → x.face < 4 → place_after rows m x ≡ Some s → StandsKept rows m x s ⊎ StandsPut rows m x s
 stands rows m x s legal l e = by_test (has (old_tets rows m) x.tet) refl
   where
     by_label : (i : ℕ) (f : Facet) → IsOldFacet rows m i f → f.tet ≡ x.tet → (image f.labels x.face < length m.core) ⊎ (length m.core ≤ image f.labels x.face) → StandsPut rows m x s
@@ -103,7 +103,7 @@ stands rows m x s legal l e = by_test (has (old_tets rows m) x.tet) refl
         let o = old_of_tet rows m x.tet legal h in
         let f : Facet = o.1 in
         inr (by_label o.0 f o.2 o.3 (cases_lt (image f.labels x.face) (length m.core)))
-    by_test false h = let z : Some (kept_stand_in rows m x.tet) ≡ Some s = sym (stand_in-kept rows m x h) ∙ e in inl (record { free = h; is = cc })
+    by_test false h = let z : Some (kept_place_after rows m x.tet) ≡ Some s = sym (stand_in-kept rows m x h) ∙ e in inl (record { free = h; is = cc })
 
 -- an old face opposite a new label
 
@@ -121,9 +121,9 @@ label_again rows m i j f legal F l =
     let b = F.old_label in
     F.labelled.label_back j (omega arith) (λ e. absurd (omega arith))
 
-pub stand_put : (rows : List Row) (m : Move) (i j : ℕ) (f : Facet) → IsLegal rows m → IsOldFacet rows m i f → j < length m.core → stand_in_at rows m (opposite f j) ≡ Some (facet_gluing rows m f j)
+pub stand_put : (rows : List Row) (m : Move) (i j : ℕ) (f : Facet) → IsLegal rows m → IsOldFacet rows m i f → j < length m.core → place_after rows m (opposite f j) ≡ Some (facet_gluing rows m f j)
 stand_put rows m i j f legal F l =
-    stand_old rows m i f (opposite f j) legal F refl ∙ ap (facet_stand_in rows m f) (label_again rows m i j f legal F l) ∙ facet_stand_in-new rows m f j l
+    stand_old rows m i f (opposite f j) legal F refl ∙ ap (facet_place_after rows m f) (label_again rows m i j f legal F l) ∙ facet_stand_in-new rows m f j l
 
 pub put_permutes : (rows : List Row) (m : Move) (i j : ℕ) (f : Facet) → IsLegal rows m → IsOldFacet rows m i f → j < length m.core → IsPermutationOfFour (facet_gluing rows m f j).perm
 put_permutes rows m i j f legal F l =

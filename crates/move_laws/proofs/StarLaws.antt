@@ -5,12 +5,12 @@ use Rattle.std.specs.List.{list_all}
 use Rattle.std.proofs.lemmas.Bool.{eqb-true, cases_eq, cases_lt}
 use Rattle.std.proofs.lemmas.List.{length-map}
 use Rattle.plain_facts.proofs.Numbers.{given_apart}
-use Rattle.table_definitions.specs.Lists.{below, in_place_of}
+use Rattle.table_definitions.specs.Lists.{below, substitute}
 use Rattle.table_definitions.specs.Permutation.{IsPermutationOfFour, image, preimage, compose, four}
 use Rattle.table_definitions.specs.Table.{Gluing, Row, glue, IsTable}
 use Rattle.table_definitions.proofs.ListFacts.{list_all-below}
 use Rattle.table_definitions.proofs.Permutations.{image_below, preimage_below, image-preimage, preimage-image, length-permutation}
-use Rattle.move_definitions.specs.Moves.{Move, IsCore, Facet, own_facet, opposite, facet_behind, facet}
+use Rattle.move_definitions.specs.Moves.{Move, IsCore, Facet, own_facet, opposite, facet_across, facet}
 use Rattle.move_laws.specs.Stars.{StandsFor, MeetsByLabels, IsOldLabel, IsStar, LegalExactlyByStars, StarsAreTakenOut}
 use Rattle.move_definitions.proofs.CoreTests.{core_size}
 use Rattle.move_laws.proofs.Labels.{HasLabel, label_at, length-labels, image-map}
@@ -41,7 +41,7 @@ meets rows i k f g table hf hg a = record {
       (let permutes : IsPermutationOfFour a.by.perm = table.permutes (opposite f k) a.by a.glued in
       let labelled : v < length f.labels = (let n = length-labels i f.labels hf.labels in omega arith) in
       let gluing : v < length a.by.perm = (let n = length-permutation a.by.perm permutes in omega arith) in
-      sym (image-composed g.labels a.by.perm v gluing) ∙ ap (λ (ls : List ℕ). image ls v) a.labels ∙ image-map (in_place_of k i) f.labels v labelled
+      sym (image-composed g.labels a.by.perm v gluing) ∙ ap (λ (ls : List ℕ). image ls v) a.labels ∙ image-map (substitute k i) f.labels v labelled
       ∙ in_place-other k i (image f.labels v) (λ e. other (e ∙ sym hg.missing)));
 }
 
@@ -159,16 +159,16 @@ module _ (rows : List Row) (i k : ℕ) (f g : Facet) (by : Gluing) (hf : StandsF
           let same : u ≡ v = sym (preimage-image by.perm permutes u low) ∙ ap (preimage by.perm) images ∙ preimage-image by.perm permutes v l in
           not_k (ap (image f.labels) same ∙ e)
 
-  each_label : (v : ℕ) → v < 4 → image g.labels (image by.perm v) ≡ in_place_of k i (image f.labels v)
+  each_label : (v : ℕ) → v < 4 → image g.labels (image by.perm v) ≡ substitute k i (image f.labels v)
   each_label v l = elim (cases_eq (image f.labels v) k) [
     | inl e ↦ across v l e ∙ sym (in_place-same k i (image f.labels v) e)
     | inr other ↦ keeps v l other ∙ sym (in_place-other k i (image f.labels v) other)
   ]
 
-  all_labels : compose g.labels by.perm ≡ map (in_place_of k i) f.labels
-  all_labels = same_four (compose g.labels by.perm) (map (in_place_of k i) f.labels) (length-composed g.labels by.perm ∙ length-permutation by.perm permutes) (length-map f.labels (in_place_of k i) ∙ hf.four)
+  all_labels : compose g.labels by.perm ≡ map (substitute k i) f.labels
+  all_labels = same_four (compose g.labels by.perm) (map (substitute k i) f.labels) (length-composed g.labels by.perm ∙ length-permutation by.perm permutes) (length-map f.labels (substitute k i) ∙ hf.four)
       (λ v l. image-composed g.labels by.perm v (let n = length-permutation by.perm permutes in omega arith) ∙ each_label v l
-      ∙ sym (image-map (in_place_of k i) f.labels v (let n = hf.four in omega arith)))
+      ∙ sym (image-map (substitute k i) f.labels v (let n = hf.four in omega arith)))
 
 -- facets that meet are glued
 glued : (rows : List Row) (i k : ℕ) (f g : Facet) → IsTable rows → StandsFor rows i f → StandsFor rows k g → i < 5 → k < 5 → i ≢ k → MeetsByLabels rows f g → AreGlued rows i k f g
@@ -182,13 +182,13 @@ glued rows i k f g table hf hg li lk other h =
     }
 
 -- a facet that meets the move's own is the one behind its face
-behind_labels_are : (i : ℕ) (own labels perm : List ℕ) → IsPermutationOfFour perm → length own ≡ 4 → length labels ≡ 4 → compose labels perm ≡ map (in_place_of i 4) own
-    → map (λ v. in_place_of i 4 (image own (preimage perm v))) four ≡ labels
-behind_labels_are i own labels perm permutes n k e = same_four (map (λ v. in_place_of i 4 (image own (preimage perm v))) four) labels refl k (λ v l.
+behind_labels_are : (i : ℕ) (own labels perm : List ℕ) → IsPermutationOfFour perm → length own ≡ 4 → length labels ≡ 4 → compose labels perm ≡ map (substitute i 4) own
+    → map (λ v. substitute i 4 (image own (preimage perm v))) four ≡ labels
+behind_labels_are i own labels perm permutes n k e = same_four (map (λ v. substitute i 4 (image own (preimage perm v))) four) labels refl k (λ v l.
     (let u : ℕ = preimage perm v in
     let low : u < 4 = preimage_below perm permutes v l in
-    image-four (λ w. in_place_of i 4 (image own (preimage perm w))) v l
-    ∙ sym (image-map (in_place_of i 4) own u (omega arith))
+    image-four (λ w. substitute i 4 (image own (preimage perm w))) v l
+    ∙ sym (image-map (substitute i 4) own u (omega arith))
     ∙ ap (λ (ls : List ℕ). image ls u) (sym e)
     ∙ image-composed labels perm u (let p = length-permutation perm permutes in omega arith)
     ∙ ap (image labels) (image-preimage perm permutes v l)))
@@ -206,8 +206,8 @@ module _ (rows : List Row) (m : Move) (facets : ℕ → Facet) (table : IsTable 
       (glued rows 4 i (facets 4) (facets i) table (s.stand 4 four_old) (s.stand i l) (omega arith) l.1 (λ e. absurd (omega arith)) (s.meet 4 i four_old l (λ e. absurd (omega arith)))) in
       let permutes : IsPermutationOfFour there.by.perm = table.permutes (opposite (own_facet m) i) there.by there.glued in
       let labels = behind_labels_are i (own_facet m).labels (facets i).labels there.by.perm permutes own_stands.four (s.stand i l).four there.labels in
-      let is : facet_behind (own_facet m) i there.by ≡ facets i = λ j. record { tet = there.tet j; missing = sym (s.stand i l).missing j; labels = labels j } in
-      facet-found rows m i less ∙ ap (option_map (facet_behind (own_facet m) i)) there.glued ∙ ap (λ (f : Facet). Some f) is
+      let is : facet_across (own_facet m) i there.by ≡ facets i = λ j. record { tet = there.tet j; missing = sym (s.stand i l).missing j; labels = labels j } in
+      facet-found rows m i less ∙ ap (option_map (facet_across (own_facet m) i)) there.glued ∙ ap (λ (f : Facet). Some f) is
 
   facet_in_star : (i : ℕ) → IsOldLabel m i → facet rows m i ≡ Some (facets i)
   facet_in_star i l = elim (cases_lt i 4) [

@@ -12,7 +12,7 @@ use Rattle.table_definitions.proofs.Faces.{face_at}
 use Rattle.table_definitions.proofs.TableLaws.{Among}
 use Rattle.table_definitions.proofs.Permutations.{image_below}
 use Rattle.table_definitions.proofs.PermutationLaws.{images_apart}
-use Rattle.move_definitions.specs.Moves.{Move, Facet, IsMoved, old_tets, stand_in_at, kept_stand_in, facet_gluing, moved_gluing}
+use Rattle.move_definitions.specs.Moves.{Move, Facet, IsMoved, old_tets, place_after, kept_place_after, facet_gluing, moved_gluing}
 use Rattle.move_definitions.proofs.StandIns.{facet_stand_in-new, stand_in-kept}
 use Rattle.move_laws.proofs.Labels.{HasLabel, label_at}
 use Rattle.move_laws.proofs.Legal.{IsFacet, facet_is, OldFacet, old_tet_facet, old_facet}
@@ -29,12 +29,12 @@ use Rattle.move_link_laws.proofs.StarLabels.{off_one}
 
 module _ (old : List Row) (m : Move) (new : List Row) (table : IsTable old) (h : IsMoved old m new) where
   -- something stands for a boundary face
-  free_stands : (x : Face) → x.tet < length old → x.face < 4 → glue old x ≡ None → (s : Gluing) × (stand_in_at old m x ≡ Some s)
-  free_stands x lt lf none = by_bool (has (old_tets old m) x.tet) (λ e. of_facet (old_tet_facet old m x.tet h.core e)) (λ e. (kept_stand_in old m x.tet, stand_in-kept old m x e))
+  free_stands : (x : Face) → x.tet < length old → x.face < 4 → glue old x ≡ None → (s : Gluing) × (place_after old m x ≡ Some s)
+  free_stands x lt lf none = by_bool (has (old_tets old m) x.tet) (λ e. of_facet (old_tet_facet old m x.tet h.core e)) (λ e. (kept_place_after old m x.tet, stand_in-kept old m x e))
     where
-      of_facet : OldFacet old m x.tet → (s : Gluing) × (stand_in_at old m x ≡ Some s)
+      of_facet : OldFacet old m x.tet → (s : Gluing) × (place_after old m x ≡ Some s)
       of_facet o = elim (cases_lt j (length m.core)) [
-        | inl less ↦ (facet_gluing old m f j, ap (stand_in_at old m) (sym same) ∙ stand_in-old old m o.label f x.face (fine old m new table h) h.core o.low o.high o.is ∙ facet_stand_in-new old m f j less)
+        | inl less ↦ (facet_gluing old m f j, ap (place_after old m) (sym same) ∙ stand_in-old old m o.label f x.face (fine old m new table h) h.core o.low o.high o.is ∙ facet_stand_in-new old m f j less)
         | inr more ↦ absurd (glued more)
       ]
         where
@@ -77,13 +77,13 @@ module _ (old : List Row) (m : Move) (new : List Row) (table : IsTable old) (h :
     under s k = side_number s.tet (image s.perm (k / 4 % 4)) (image s.perm (k % 4))
 
     unfoldable pub StandsSide : ℕ → ℕ → Type 0
-    StandsSide k k' = (s : Gluing) × (stand_in_at old m (side_face k) ≡ Some s) × (under s k ≡ k')
+    StandsSide k k' = (s : Gluing) × (place_after old m (side_face k) ≡ Some s) × (under s k ≡ k')
 
-    pub permutes : (x : Face) (s : Gluing) → x.tet < length old → x.face < 4 → stand_in_at old m x ≡ Some s → IsPermutationOfFour s.perm
+    pub permutes : (x : Face) (s : Gluing) → x.tet < length old → x.face < 4 → place_after old m x ≡ Some s → IsPermutationOfFour s.perm
     permutes x s lt lf e = stand_permutes old m table (fine old m new table h) h.core x s lt lf e
 
     -- the vertex of a side stands over its face
-    pub tie_at : (x : Face) (v : ℕ) (s : Gluing) → x.tet < length old → x.face < 4 → v < 4 → v ≢ x.face → stand_in_at old m x ≡ Some s → Tie (spot x.tet v) (spot s.tet (image s.perm v))
+    pub tie_at : (x : Face) (v : ℕ) (s : Gluing) → x.tet < length old → x.face < 4 → v < 4 → v ≢ x.face → place_after old m x ≡ Some s → Tie (spot x.tet v) (spot s.tet (image s.perm v))
     tie_at x v s lt lf lv ne e = record { face = x.face; by = s; tet = lt; place = (lv, tt); low = lf; off = off_one v x.face ne; stands = e; is = refl }
 
     pub spot_at : (t v : ℕ) → t < length old → v < 4 → IsSpot (length old) (spot t v)
@@ -111,13 +111,13 @@ module _ (old : List Row) (m : Move) (new : List Row) (table : IsTable old) (h :
         lt : k / 4 / 4 < length old
         lt = let l = f.0 in omega arith
 
-        found : (s : Gluing) × (stand_in_at old m (side_face k) ≡ Some s)
+        found : (s : Gluing) × (place_after old m (side_face k) ≡ Some s)
         found = free_stands (side_face k) lt (low_f k) f.2
 
         s : Gluing
         s = found.0
 
-        stands : stand_in_at old m (side_face k) ≡ Some s
+        stands : place_after old m (side_face k) ≡ Some s
         stands = found.1
 
         hs : IsPermutationOfFour s.perm

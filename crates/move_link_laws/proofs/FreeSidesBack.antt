@@ -9,7 +9,7 @@ use Rattle.table_definitions.specs.Relabelling.{face_under, gluing_under}
 use Rattle.table_definitions.proofs.Faces.{face_at}
 use Rattle.table_definitions.proofs.TableLaws.{Among}
 use Rattle.table_definitions.proofs.Permutations.{image_below, preimage_below, image-preimage, preimage-image}
-use Rattle.move_definitions.specs.Moves.{Move, IsMoved, stand_in_at, moved_gluing}
+use Rattle.move_definitions.specs.Moves.{Move, IsMoved, place_after, moved_gluing}
 use Rattle.move_laws.proofs.ListedFacets.{same_some}
 use Rattle.move_laws.proofs.Covered.{StandsForOld, IsInner, covered}
 use Rattle.move_laws.proofs.Shapes.{shape, IsKeptFace, IsFacetFace, stands_for_one}
@@ -104,8 +104,8 @@ module _ (old : List Row) (m : Move) (new : List Row) (table : IsTable old) (h :
             face : side_face k ≡ x
             face = λ i. face_at (parts.tet i) (parts.face i)
 
-            stands : stand_in_at old m (side_face k) ≡ Some s
-            stands = ap (stand_in_at old m) face ∙ o.stands
+            stands : place_after old m (side_face k) ≡ Some s
+            stands = ap (place_after old m) face ∙ o.stands
 
             tie : Tie (spot x.tet v) (spot s.tet (image s.perm v))
             tie = tie_at old m new table h table' vs n numbered vs' n' numbered' c c' match x v s o.tet o.face lv ne o.stands
@@ -146,14 +146,14 @@ module _ (old : List Row) (m : Move) (new : List Row) (table : IsTable old) (h :
         let one : side_face k ≡ side_face l = stands_for_one old m table (fine old m new table h) h.core (side_face k) (side_face l) (face_under r (side_face l)) s r lk ll
         (subst (λ (z : Face). IsKeptFace old m (side_face k) z s ⊎ IsFacetFace old m (side_face k) z s) faces (shape old m table (fine old m new table h) h.core (side_face k) s lk (low_f old m new table h table' vs n numbered vs' n' numbered' c c' match k) e))
         (shape old m table (fine old m new table h) h.core (side_face l) r ll (low_f old m new table h table' vs n numbered vs' n' numbered' c c' match l) f) in
-        let by : s ≡ r = same_some (stand_in_at old m (side_face l)) s r (ap (stand_in_at old m) (sym one) ∙ e) f in
+        let by : s ≡ r = same_some (place_after old m (side_face l)) s r (ap (place_after old m) (sym one) ∙ e) f in
         let images : image r.perm (k / 4 % 4) ≡ image r.perm (l / 4 % 4) = ap (λ (g : Gluing). image g.perm (k / 4 % 4)) (sym by) ∙ sym p.vertex ∙ ap (λ z. z / 4 % 4) same ∙ q.vertex in
         let vertices : k / 4 % 4 ≡ l / 4 % 4 = sym (preimage-image r.perm hr (k / 4 % 4) (low_v old m new table h table' vs n numbered vs' n' numbered' c c' match k)) ∙ ap (preimage r.perm) images ∙ preimage-image r.perm hr (l / 4 % 4) (low_v old m new table h table' vs n numbered vs' n' numbered' c c' match l) in
         sym (number_again k) ∙ (λ i. side_number ((one i).tet) (vertices i) ((one i).face)) ∙ number_again l
 
     once' : (k k' l' : ℕ) → StandsSide old m new table h table' vs n numbered vs' n' numbered' c c' match k k' → StandsSide old m new table h table' vs n numbered vs' n' numbered' c c' match k l' → k' ≡ l'
     unfolding StandsSide
-    once' k k' l' (s, e, is) (r, f, js) = sym is ∙ ap (λ (g : Gluing). under g k) (same_some (stand_in_at old m (side_face k)) s r e f) ∙ js
+    once' k k' l' (s, e, is) (r, f, js) = sym is ∙ ap (λ (g : Gluing). under g k) (same_some (place_after old m (side_face k)) s r e f) ∙ js
 
     pub frees_match : free_count old table vs n numbered c ≡ free_count new table' vs' n' numbered' c'
     frees_match =

@@ -13,7 +13,7 @@ use Rattle.table_definitions.proofs.ChainLaws.{Steps, steps_across, across_by, j
 use Rattle.table_definitions.proofs.Faces.{face_at}
 use Rattle.table_definitions.proofs.PermutationLaws.{image-of_inverse}
 use Rattle.table_definitions.proofs.Permutations.{image_below, image-compose, compose_permutes, inverse_permutes}
-use Rattle.move_definitions.specs.Moves.{Move, Facet, IsMoved, vertex_of, stand_in_at, kept_stand_in, facet_gluing, moved_gluing}
+use Rattle.move_definitions.specs.Moves.{Move, Facet, IsMoved, vertex_of, place_after, kept_place_after, facet_gluing, moved_gluing}
 use Rattle.move_definitions.proofs.StandIns.{facet_stand_in-new, stand_in-kept}
 use Rattle.move_laws.proofs.Labels.{AreLabels, HasLabel, label_at}
 use Rattle.move_laws.proofs.Covered.{stand_in-old}
@@ -49,8 +49,8 @@ module _ (old : List Row) (m : Move) (new : List Row) (table : IsTable old) (h :
   tie_place p q t = subst IsPlace (sym t.is) (images_below t.by.perm p.vertices (tie_permutes old m new table h p q t) t.place)
 
   -- what stands for a gluing of x and what it carries
-  module _ (x : Face) (s g : Gluing) (lt : x.tet < length old) (lf : x.face < 4) (stands : stand_in_at old m x ≡ Some s) (glued : glue old x ≡ Some g) where
-    pub other : (r : Gluing) × (stand_in_at old m (other_side x g) ≡ Some r)
+  module _ (x : Face) (s g : Gluing) (lt : x.tet < length old) (lf : x.face < 4) (stands : place_after old m x ≡ Some s) (glued : glue old x ≡ Some g) where
+    pub other : (r : Gluing) × (place_after old m (other_side x g) ≡ Some r)
     other = other_stands old m table (fine old m new table h) h.core x s g lf stands glued
 
     hg : IsPermutationOfFour g.perm
@@ -105,7 +105,7 @@ module _ (old : List Row) (m : Move) (new : List Row) (table : IsTable old) (h :
     pub joined : IsJoined new q there
 
   pub step_over : (p p' q : Place) (f : ℕ) → across old p f ≡ Some p' → Tie p q → Follows p' q
-  step_over p p' q f e t = by_stand (stand_in_at old m x) refl
+  step_over p p' q f e t = by_stand (place_after old m x) refl
     where
       st : Steps old p f p'
       st = steps_across old p f p' e
@@ -116,7 +116,7 @@ module _ (old : List Row) (m : Move) (new : List Row) (table : IsTable old) (h :
       lf : f < 4
       lf = glued_face old x st.gluing table.four_faces st.glued
 
-      outside : (s : Gluing) → stand_in_at old m x ≡ Some s → Follows p' q
+      outside : (s : Gluing) → place_after old m x ≡ Some s → Follows p' q
       outside s stands =
           let there : Place = carried (other x s st.gluing t.tet lf stands st.glued).0 (carried st.gluing p) in
           let first : IsJoined new q (carried s p) = stands_once old m new table h p q (carried s p) t (tie_here x s st.gluing t.tet lf stands st.glued p.vertices t.place st.off) in
@@ -127,7 +127,7 @@ module _ (old : List Row) (m : Move) (new : List Row) (table : IsTable old) (h :
             joined = joined_trans new q (carried s p) there first step;
           }
 
-      inside : stand_in_at old m x ≡ None → FacetTie old m new table h p q → Follows p' q
+      inside : place_after old m x ≡ None → FacetTie old m new table h p q → Follows p' q
       inside none a = elim (cases_lt k (length m.core)) [ inl less ↦ absurd (never less) | inr more ↦ go more ]
         where
           hf : AreLabels a.i a.f.labels
@@ -144,7 +144,7 @@ module _ (old : List Row) (m : Move) (new : List Row) (table : IsTable old) (h :
 
           never : k < length m.core → ⊥
           never less =
-              let some : stand_in_at old m x ≡ Some (facet_gluing old m a.f k) = ap (stand_in_at old m) (sym x_is) ∙ stand_in-old old m a.i a.f f (fine old m new table h) h.core a.old_is.low a.old_is.high a.old_is.found
+              let some : place_after old m x ≡ Some (facet_gluing old m a.f k) = ap (place_after old m) (sym x_is) ∙ stand_in-old old m a.i a.f f (fine old m new table h) h.core a.old_is.low a.old_is.high a.old_is.found
               ∙ facet_stand_in-new old m a.f k less in
               let z : None ≡ Some (facet_gluing old m a.f k) = sym none ∙ some in cc
 
@@ -163,9 +163,9 @@ module _ (old : List Row) (m : Move) (new : List Row) (table : IsTable old) (h :
                 joined = subst (λ (r : Place). IsJoined new q r) a.to (joined_refl new q);
               }
 
-      by_stand : (o : Option Gluing) → stand_in_at old m x ≡ o → Follows p' q
+      by_stand : (o : Option Gluing) → place_after old m x ≡ o → Follows p' q
       by_stand (Some s) stands = outside s stands
       by_stand None none = elim (tie_shape old m new table h p q t) [
-        | inl k ↦ absurd (let z : None ≡ Some (kept_stand_in old m p.tet) = sym none ∙ stand_in-kept old m x k.stays in cc)
+        | inl k ↦ absurd (let z : None ≡ Some (kept_place_after old m p.tet) = sym none ∙ stand_in-kept old m x k.stays in cc)
         | inr a ↦ inside none a
       ]

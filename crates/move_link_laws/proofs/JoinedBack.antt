@@ -2,7 +2,7 @@
 use Rattle.std.proofs.Common.{◌≡◌, ◌≢◌, ℕ, ◌+◌, ◌<◌, false, List, [], ◌∷◌, length, map, Option, Some, None, ◌⊎◌, inl, inr, refl, sym, ap, ◌∙◌, subst, arith}
 use Rattle.std.specs.Prelude.{option_and_then}
 use Rattle.std.specs.List.{AllByRecursion}
-use Rattle.table_definitions.specs.Lists.{has, closed_up}
+use Rattle.table_definitions.specs.Lists.{has, rank_without}
 use Rattle.table_definitions.specs.Permutation.{IsPermutationOfFour, image, inverse}
 use Rattle.table_definitions.specs.Table.{Gluing, Row, Face, glue, IsTable}
 use Rattle.table_definitions.specs.Places.{Place, IsPlace, carried, across, along, IsJoined}
@@ -124,8 +124,8 @@ module _ (old : List Row) (m : Move) (new : List Row) (table : IsTable old) (h :
       by_cover : StandsForOld old m (face_at q.tet f) ⊎ IsInner old m (face_at q.tet f) → Precedes q' p
       by_cover (inl o) = outside o
       by_cover (inr n) = elim (tie_shape old m new table h p q t) [
-        | inl k ↦ absurd (let low : closed_up (old_tets old m) p.tet < kept old m = closed_up_small old m p.tet table (fine old m new table h) h.core k.tet k.stays in
-            let tets : kept old m + n.j ≡ closed_up (old_tets old m) p.tet = (λ i. (n.is i).tet) ∙ ap (λ (r : Place). r.tet) k.is in omega arith)
+        | inl k ↦ absurd (let low : rank_without (old_tets old m) p.tet < kept old m = closed_up_small old m p.tet table (fine old m new table h) h.core k.tet k.stays in
+            let tets : kept old m + n.j ≡ rank_without (old_tets old m) p.tet = (λ i. (n.is i).tet) ∙ ap (λ (r : Place). r.tet) k.is in omega arith)
         | inr a ↦ inside n a
       ]
 

@@ -7,7 +7,7 @@ use Rattle.table_definitions.specs.Table.{Gluing, Row, Face, IsTable}
 use Rattle.table_definitions.specs.Classes.{IsNumbering}
 use Rattle.table_definitions.specs.Places.{Place, SameVertex}
 use Rattle.skeleton_definitions.specs.Links.{AreLinkSigns}
-use Rattle.move_definitions.specs.Moves.{Move, Facet, IsMoved, facet, vertex_of, stand_in_at}
+use Rattle.move_definitions.specs.Moves.{Move, Facet, IsMoved, facet, vertex_of, place_after}
 use Rattle.move_laws.proofs.ListedFacets.{same_some}
 use Rattle.move_laws.proofs.Shapes.{stand_permutes}
 use Rattle.move_laws.proofs.SecondStand.{crossing}
@@ -34,7 +34,7 @@ module _ (old : List Row) (m : Move) (new : List Row) (table : IsTable old) (tab
   abbrev at : ℕ → Facet
   at j = new_at old m new table h j
 
-  pub permutes : (x : Face) (s : Gluing) → x.tet < length old → x.face < 4 → stand_in_at old m x ≡ Some s → IsPermutationOfFour s.perm
+  pub permutes : (x : Face) (s : Gluing) → x.tet < length old → x.face < 4 → place_after old m x ≡ Some s → IsPermutationOfFour s.perm
   permutes x s lt lf e = stand_permutes old m table (fine old m new table h) h.core x s lt lf e
 
   pub core_apart : (i j : ℕ) (f : Facet) → Old i f → j < length m.core → j ≢ i

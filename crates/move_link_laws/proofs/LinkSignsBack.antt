@@ -9,7 +9,7 @@ use Rattle.table_definitions.specs.Places.{Place, IsPlace, carried, SameVertex}
 use Rattle.table_definitions.proofs.ChainLaws.{Steps, steps_across}
 use Rattle.table_definitions.proofs.Faces.{face_at}
 use Rattle.skeleton_definitions.specs.Links.{AreLinkSigns}
-use Rattle.move_definitions.specs.Moves.{Move, Facet, IsMoved, vertex_of, kept, old_tets, stand_in_at}
+use Rattle.move_definitions.specs.Moves.{Move, Facet, IsMoved, vertex_of, kept, old_tets, place_after}
 use Rattle.move_laws.proofs.Labels.{AreLabels, HasLabel, label_at}
 use Rattle.move_laws.proofs.Labels as Labels
 use Rattle.move_laws.proofs.Renamed.{across as over_new}
@@ -37,7 +37,7 @@ module _ (old : List Row) (m : Move) (new : List Row) (table : IsTable old) (tab
   abbrev at : ℕ → Facet
   at j = new_at old m new table h j
 
-  pub permutes : (x : Face) (s : Gluing) → x.tet < length old → x.face < 4 → stand_in_at old m x ≡ Some s → IsPermutationOfFour s.perm
+  pub permutes : (x : Face) (s : Gluing) → x.tet < length old → x.face < 4 → place_after old m x ≡ Some s → IsPermutationOfFour s.perm
   permutes x s lt lf e = stand_permutes old m table (fine old m new table h) h.core x s lt lf e
 
   pub over : (p q : Place) (s : IsSpot (length old) p) (t : Tie p q) → class_of vs p ≡ c → class_of vs' q ≡ c'
@@ -101,6 +101,6 @@ module _ (old : List Row) (m : Move) (new : List Row) (table : IsTable old) (tab
         tet = subst (λ (z : Place). z.tet < length old) (sym d) w.tet;
         place = subst IsPlace (sym d) w.place;
         off = ap (λ (z : Place). has z.vertices w.face) d ∙ w.off;
-        stands = ap (λ (z : Place). stand_in_at old m (face_at z.tet w.face)) d ∙ w.stands;
+        stands = ap (λ (z : Place). place_after old m (face_at z.tet w.face)) d ∙ w.stands;
         is = w.is ∙ ap (carried w.by) (sym d);
       }) ∙ sym (value_is r u.0 t f u.1)

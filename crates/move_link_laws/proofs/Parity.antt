@@ -4,7 +4,7 @@ use Rattle.std.proofs.Common.{◌≡◌, ◌≢◌, ℕ, ◌<◌, Bool, true, fa
 use Rattle.std.specs.Prelude.{◌==◌, ◌||◌, not}
 use Rattle.std.specs.List.{list_all}
 use Rattle.plain_facts.proofs.Numbers.{given_apart}
-use Rattle.table_definitions.specs.Lists.{below, in_place_of}
+use Rattle.table_definitions.specs.Lists.{below, substitute}
 use Rattle.table_definitions.specs.Permutation.{IsPermutationOfFour, preimage, compose, inversions, is_odd}
 use Rattle.table_definitions.proofs.ListFacts.{list_all-below}
 use Rattle.table_definitions.proofs.Permutations.{bool_equal, is_odd-compose}
@@ -34,7 +34,7 @@ next_from false false b e = ap not (sym e)
 -- ---- over labels
 
 old_at : (i : ℕ) (labels : List ℕ) (k j : ℕ) → Bool
-old_at i labels k j = (k == i) || ((j == i) || ((j == k) || beq (is_odd (crossing i j labels)) (not (is_odd (crossing k j (map (in_place_of k i) labels))))))
+old_at i labels k j = (k == i) || ((j == i) || ((j == k) || beq (is_odd (crossing i j labels)) (not (is_odd (crossing k j (map (substitute k i) labels))))))
 
 old_test : ℕ → List ℕ → Bool
 old_test i labels = list_all (λ k. list_all (old_at i labels k) (below 5)) (below 5)
@@ -43,14 +43,14 @@ old_tests : label_tests old_test ≡ true
 old_tests = unfold old_test old_at is_odd inversions preimage in refl
 
 -- from an old facet to another that it is glued to
-pub old_parity : (i k j : ℕ) (f g p : List ℕ) → AreLabels i f → AreLabels k g → IsPermutationOfFour p → k < 5 → j < 5 → k ≢ i → j ≢ i → j ≢ k → compose g p ≡ map (in_place_of k i) f
+pub old_parity : (i k j : ℕ) (f g p : List ℕ) → AreLabels i f → AreLabels k g → IsPermutationOfFour p → k < 5 → j < 5 → k ≢ i → j ≢ i → j ≢ k → compose g p ≡ map (substitute k i) f
     → is_odd (crossing k j g) ≡ behind (is_odd p) (is_odd (crossing i j f))
 old_parity i k j f g p hf hg hp lk lj ki ji jk e =
     next_from (is_odd (crossing k j g)) (is_odd p) (is_odd (crossing i j f)) (bool_equal _ _ at ∙ ap not (ap (λ (ls : List ℕ). is_odd (crossing k j ls)) (sym e) ∙ ap is_odd (sym (crossing-compose k j g p (length-labels k g hg) hp))
     ∙ is_odd-compose (crossing k j g) p (crossing_permutes k j g hg lj jk) hp))
   where
     test : Bool
-    test = beq (is_odd (crossing i j f)) (not (is_odd (crossing k j (map (in_place_of k i) f))))
+    test = beq (is_odd (crossing i j f)) (not (is_odd (crossing k j (map (substitute k i) f))))
 
     at : test ≡ true
     at = given_apart j k test (given_apart j i ((j == k) || test) (given_apart k i ((j == i) || ((j == k) || test)) (unfold old_at in list_all-below (old_at i f k) 5 (list_all-below (λ k. list_all (old_at i f k) (below 5)) 5

@@ -4,7 +4,7 @@ use Rattle.std.specs.Prelude.{◌↔◌, option_map}
 use Rattle.table_definitions.specs.Permutation.{IsPermutationOfFour, image, inverse}
 use Rattle.table_definitions.specs.Table.{Gluing, Row, glue, IsTable}
 use Rattle.table_definitions.specs.Places.{Place, IsPlace, carried, across, IsJoined}
-use Rattle.table_definitions.specs.Relabelling.{Relabelling, IsRelabelling, Carries, stand_in, face_under, gluing_under}
+use Rattle.table_definitions.specs.Relabelling.{Relabelling, IsRelabelling, Carries, relabelled_place, face_under, gluing_under}
 use Rattle.table_definitions.proofs.Carried.{image_in_range, perm_permutes, comes_from, images_apart}
 use Rattle.table_definitions.proofs.ChainLaws.{Steps, steps_across, across_by, joined_refl, joined_step, joined_trans, kept_along, images_below, has-images, images_back}
 use Rattle.table_definitions.proofs.Faces.{face_at}
@@ -17,7 +17,7 @@ use Rattle.move_link_laws.proofs.Joined.{through}
 
 -- what stands for a place
 abbrev pub under : Relabelling → Place → Place
-under by p = carried (stand_in by p.tet) p
+under by p = carried (relabelled_place by p.tet) p
 
 -- in range
 pub record IsWithin (rows : List Row) (p : Place) : Type 0 where
@@ -25,11 +25,11 @@ pub record IsWithin (rows : List Row) (p : Place) : Type 0 where
   pub place : IsPlace p
 
 module _ (old : List Row) (new : List Row) (table : IsTable old) (by : Relabelling) (is : IsRelabelling (length old) by) (c : Carries by old new) where
-  pub permutes : (t : ℕ) → t < length old → IsPermutationOfFour (stand_in by t).perm
+  pub permutes : (t : ℕ) → t < length old → IsPermutationOfFour (relabelled_place by t).perm
   permutes t l = perm_permutes (length old) by is t l
 
   pub within_new : (p : Place) → IsWithin old p → IsWithin new (under by p)
-  within_new p w = record { below = (let e = c.same_length in let l = image_in_range (length old) by is p.tet w.below in omega arith); place = images_below (stand_in by p.tet).perm p.vertices (permutes p.tet w.below) w.place }
+  within_new p w = record { below = (let e = c.same_length in let l = image_in_range (length old) by is p.tet w.below in omega arith); place = images_below (relabelled_place by p.tet).perm p.vertices (permutes p.tet w.below) w.place }
 
   record Led (p q : Place) : Type 0 where
     within : IsWithin old q
@@ -51,10 +51,10 @@ module _ (old : List Row) (new : List Row) (table : IsTable old) (by : Relabelli
       hg = table.permutes (face_at q.tet f) st.gluing st.glued
 
       s : Gluing
-      s = stand_in by q.tet
+      s = relabelled_place by q.tet
 
       t : Gluing
-      t = stand_in by st.gluing.tet
+      t = relabelled_place by st.gluing.tet
 
       hs : IsPermutationOfFour s.perm
       hs = permutes q.tet a.within.below
@@ -63,7 +63,7 @@ module _ (old : List Row) (new : List Row) (table : IsTable old) (by : Relabelli
       ht = permutes st.gluing.tet (table.in_range (face_at q.tet f) st.gluing st.glued)
 
       made : glue new (face_under s (face_at q.tet f)) ≡ Some (gluing_under s t st.gluing)
-      made = c.glued (face_at q.tet f) a.within.below lf ∙ ap (option_map (λ g. gluing_under (stand_in by q.tet) (stand_in by g.tet) g)) st.glued
+      made = c.glued (face_at q.tet f) a.within.below lf ∙ ap (option_map (λ g. gluing_under (relabelled_place by q.tet) (relabelled_place by g.tet) g)) st.glued
 
       over : carried (gluing_under s t st.gluing) (carried s q) ≡ under by r
       over = (λ i. record { tet = t.tet; vertices = through t.perm st.gluing.perm s.perm q.vertices ht hg hs a.within.place i }) ∙ ap (under by) (sym st.lands)
@@ -78,8 +78,8 @@ module _ (old : List Row) (new : List Row) (table : IsTable old) (by : Relabelli
   pub came_from : (q : Place) → IsWithin new q → (p : Place) × IsWithin old p × (under by p ≡ q)
   came_from q w =
       let t = comes_from (length old) by is q.tet (let e = c.same_length in let l = w.below in omega arith) in
-      let s : List ℕ = (stand_in by t.0).perm in
-      let hs : IsPermutationOfFour (stand_in by t.0).perm = permutes t.0 t.1 in (
+      let s : List ℕ = (relabelled_place by t.0).perm in
+      let hs : IsPermutationOfFour (relabelled_place by t.0).perm = permutes t.0 t.1 in (
         record { tet = t.0; vertices = map (image (inverse s)) q.vertices },
         record { below = t.1; place = images_below (inverse s) q.vertices (inverse_permutes s hs) w.place },
         (λ i. record { tet = t.2 i; vertices = there_again s q.vertices hs w.place i }),
@@ -90,9 +90,9 @@ module _ (old : List Row) (new : List Row) (table : IsTable old) (by : Relabelli
   one_under p q w v e =
       let tets : p.tet ≡ q.tet = images_apart (length old) by is p.tet q.tet w.below v.below (ap (λ (r : Place). r.tet) e) in
       let hq = permutes q.tet v.below in
-      let s : List ℕ = (stand_in by q.tet).perm in
-      let lists : map (image (stand_in by p.tet).perm) p.vertices ≡ map (image (stand_in by q.tet).perm) q.vertices = ap (λ (r : Place). r.vertices) e in
-      let same : map (image (stand_in by q.tet).perm) p.vertices ≡ map (image (stand_in by q.tet).perm) q.vertices = (λ i. map (image (stand_in by (sym tets i)).perm) p.vertices) ∙ lists in
+      let s : List ℕ = (relabelled_place by q.tet).perm in
+      let lists : map (image (relabelled_place by p.tet).perm) p.vertices ≡ map (image (relabelled_place by q.tet).perm) q.vertices = ap (λ (r : Place). r.vertices) e in
+      let same : map (image (relabelled_place by q.tet).perm) p.vertices ≡ map (image (relabelled_place by q.tet).perm) q.vertices = (λ i. map (image (relabelled_place by (sym tets i)).perm) p.vertices) ∙ lists in
       let vertices : p.vertices ≡ q.vertices = sym (images_back s p.vertices hq w.place) ∙ ap (λ (vs : List ℕ). map (image (inverse s)) vs) same ∙ images_back s q.vertices hq v.place in
       λ i. record { tet = tets i; vertices = vertices i }
 
@@ -100,7 +100,7 @@ module _ (old : List Row) (new : List Row) (table : IsTable old) (table' : IsTab
   back_to : (p : Place) → IsWithin old p → under (inverted (length old) by) (under by p) ≡ p
   back_to p w =
       let e = inverted_stands (length old) by is p.tet w.below in
-      ap (λ (g : Gluing). carried g (under by p)) e ∙ (λ i. record { tet = p.tet; vertices = images_back (stand_in by p.tet).perm p.vertices (perm_permutes (length old) by is p.tet w.below) w.place i })
+      ap (λ (g : Gluing). carried g (under by p)) e ∙ (λ i. record { tet = p.tet; vertices = images_back (relabelled_place by p.tet).perm p.vertices (perm_permutes (length old) by is p.tet w.below) w.place i })
 
   pub joined_both : (p q : Place) → IsWithin old p → IsWithin old q → IsJoined old p q ↔ IsJoined new (under by p) (under by q)
   joined_both p q w v = (

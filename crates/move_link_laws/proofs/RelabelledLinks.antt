@@ -6,7 +6,7 @@ use Rattle.table_definitions.specs.Permutation.{IsPermutationOfFour, image}
 use Rattle.table_definitions.specs.Table.{Row, IsTable}
 use Rattle.table_definitions.specs.Classes.{IsNumbering}
 use Rattle.table_definitions.specs.Places.{Place, IsPlace, vertex, edge_number, turned, IsJoined, SameVertex, HasValidEdges}
-use Rattle.table_definitions.specs.Relabelling.{Relabelling, IsRelabelling, Carries, stand_in}
+use Rattle.table_definitions.specs.Relabelling.{Relabelling, IsRelabelling, Carries, relabelled_place}
 use Rattle.table_definitions.proofs.ChainLaws.{joined_sym, joined_trans}
 use Rattle.table_definitions.proofs.Permutations.{image_below}
 use Rattle.table_definitions.proofs.PermutationLaws.{images_apart}
@@ -22,7 +22,7 @@ use Rattle.skeleton_laws.proofs.LinkCorners.{tail_spot, is_of_class, member_is, 
 use Rattle.move_link_laws.proofs.Relabelled.{under, IsWithin, permutes, within_new, came_from, one_under, joined_both}
 
 module _ (old : List Row) (new : List Row) (table : IsTable old) (table' : IsTable new) (by : Relabelling) (is : IsRelabelling (length old) by) (carries : Carries by old new) where
-  pub perm_at : (t : ℕ) → t < length old → IsPermutationOfFour (stand_in by t).perm
+  pub perm_at : (t : ℕ) → t < length old → IsPermutationOfFour (relabelled_place by t).perm
   perm_at t l = permutes old new table by is carries t l
 
   spot_within : (p : Place) → IsSpot (length old) p → IsWithin old p
@@ -33,10 +33,10 @@ module _ (old : List Row) (new : List Row) (table : IsTable old) (table' : IsTab
 
   pub spot_under : (p : Place) → IsSpot (length old) p → IsSpot (length new) (under by p)
   spot_under p s = record {
-    v = image (stand_in by p.tet).perm s.v;
-    is = (λ i. record { tet = (stand_in by p.tet).tet; vertices = map (image (stand_in by p.tet).perm) (s.is i).vertices });
+    v = image (relabelled_place by p.tet).perm s.v;
+    is = (λ i. record { tet = (relabelled_place by p.tet).tet; vertices = map (image (relabelled_place by p.tet).perm) (s.is i).vertices });
     below = (within_new old new table by is carries p (spot_within p s)).below;
-    low = image_below (stand_in by p.tet).perm (perm_at p.tet s.below) s.v s.low;
+    low = image_below (relabelled_place by p.tet).perm (perm_at p.tet s.below) s.v s.low;
   }
 
   arrow_within : (p : Place) → IsArrow (length old) p → IsWithin old p
@@ -45,13 +45,13 @@ module _ (old : List Row) (new : List Row) (table : IsTable old) (table' : IsTab
   arrow_under : (p : Place) → IsArrow (length old) p → IsArrow (length new) (under by p)
   arrow_under p a =
       let hp = perm_at p.tet a.below in record {
-        v = image (stand_in by p.tet).perm a.v;
-        w = image (stand_in by p.tet).perm a.w;
-        is = (λ i. record { tet = (stand_in by p.tet).tet; vertices = map (image (stand_in by p.tet).perm) (a.is i).vertices });
+        v = image (relabelled_place by p.tet).perm a.v;
+        w = image (relabelled_place by p.tet).perm a.w;
+        is = (λ i. record { tet = (relabelled_place by p.tet).tet; vertices = map (image (relabelled_place by p.tet).perm) (a.is i).vertices });
         below = (within_new old new table by is carries p (arrow_within p a)).below;
-        low_v = image_below (stand_in by p.tet).perm hp a.v a.low_v;
-        low_w = image_below (stand_in by p.tet).perm hp a.w a.low_w;
-        apart = images_apart (stand_in by p.tet).perm a.v a.w hp a.low_v a.low_w a.apart;
+        low_v = image_below (relabelled_place by p.tet).perm hp a.v a.low_v;
+        low_w = image_below (relabelled_place by p.tet).perm hp a.w a.low_w;
+        apart = images_apart (relabelled_place by p.tet).perm a.v a.w hp a.low_v a.low_w a.apart;
       }
 
   -- a table has valid edges where its relabelling has
@@ -59,18 +59,18 @@ module _ (old : List Row) (new : List Row) (table : IsTable old) (table' : IsTab
   valid_relabelled valid i l j =
       let e : EdgeAt i = edge_ends_at i in
       let lt : e.t < length old = (let q = e.tet in omega arith) in
-      let s : List ℕ = (stand_in by e.t).perm in
-      let hs : IsPermutationOfFour (stand_in by e.t).perm = perm_at e.t lt in
+      let s : List ℕ = (relabelled_place by e.t).perm in
+      let hs : IsPermutationOfFour (relabelled_place by e.t).perm = perm_at e.t lt in
       let p : Place = pair e.t e.a e.b in
       let w : IsWithin old (pair e.t e.a e.b) = record { below = lt; place = (e.low_a, (e.low_b, tt)) } in
       let v : IsWithin old (pair e.t e.b e.a) = record { below = lt; place = (e.low_b, (e.low_a, tt)) } in
       let there = (joined_both old new table table' by is carries (pair e.t e.a e.b) (pair e.t e.b e.a) w v).0 (subst₂ (IsJoined old) e.is (ap turned e.is) j) in
-      let u : ℕ = (stand_in by e.t).tet in
+      let u : ℕ = (relabelled_place by e.t).tet in
       let x : ℕ = image s e.a in
       let y : ℕ = image s e.b in
-      let ne : image (stand_in by e.t).perm e.a ≢ image (stand_in by e.t).perm e.b = images_apart s e.a e.b hs e.low_a e.low_b e.apart in
-      let lx : image (stand_in by e.t).perm e.a < 4 = image_below s hs e.a e.low_a in
-      let ly : image (stand_in by e.t).perm e.b < 4 = image_below s hs e.b e.low_b in
+      let ne : image (relabelled_place by e.t).perm e.a ≢ image (relabelled_place by e.t).perm e.b = images_apart s e.a e.b hs e.low_a e.low_b e.apart in
+      let lx : image (relabelled_place by e.t).perm e.a < 4 = image_below s hs e.a e.low_a in
+      let ly : image (relabelled_place by e.t).perm e.b < 4 = image_below s hs e.b e.low_b in
       valid (6 * u + edge_number x y) (edge_below u x y (length new) lx ly ne (within_new old new table by is carries (pair e.t e.a e.b) w).below) (reverses_edge new u x y lx ly ne there)
 
   module _ (vs : List ℕ) (n : ℕ) (numbered : IsNumbering (4 * length old) (SameVertex old) vs n) (vs' : List ℕ) (n' : ℕ) (numbered' : IsNumbering (4 * length new) (SameVertex new) vs' n')
@@ -93,8 +93,8 @@ module _ (old : List Row) (new : List Row) (table : IsTable old) (table' : IsTab
     spot_from : (q : Place) → IsSpot (length new) q → (p : Place) × IsSpot (length old) p × (under by p ≡ q)
     spot_from q s =
         let f = came_from old new table by is carries q (spot_within' q s) in
-        let lists : map (image (stand_in by f.0.tet).perm) f.0.vertices ≡ s.v ∷ [] = ap (λ (r : Place). r.vertices) (f.2 ∙ s.is) in
-        let one = single f.0.vertices (stand_in by f.0.tet).perm s.v lists in
+        let lists : map (image (relabelled_place by f.0.tet).perm) f.0.vertices ≡ s.v ∷ [] = ap (λ (r : Place). r.vertices) (f.2 ∙ s.is) in
+        let one = single f.0.vertices (relabelled_place by f.0.tet).perm s.v lists in
         (f.0, record { v = one.0; is = (λ i. record { tet = f.0.tet; vertices = one.1 i }); below = f.1.below; low = (subst (λ (vs : List ℕ). IsPlace (record { tet = f.0.tet; vertices = vs })) one.1 f.1.place).0 }, f.2)
       where
         single : (vs g : List ℕ) (v : ℕ) → map (image g) vs ≡ v ∷ [] → (w : ℕ) × (vs ≡ w ∷ [])
@@ -105,7 +105,7 @@ module _ (old : List Row) (new : List Row) (table : IsTable old) (table' : IsTab
     arrow_from : (q : Place) → IsArrow (length new) q → (p : Place) × IsArrow (length old) p × (under by p ≡ q)
     arrow_from q a =
         let f = came_from old new table by is carries q (record { below = a.below; place = arrow_place (length new) q a }) in
-        let s : List ℕ = (stand_in by f.0.tet).perm in
+        let s : List ℕ = (relabelled_place by f.0.tet).perm in
         let w = two_of s f.0.vertices a.v a.w (ap (λ (r : Place). r.vertices) (f.2 ∙ a.is)) in
         let place = subst (λ (vs : List ℕ). IsPlace (record { tet = f.0.tet; vertices = vs })) w.2 f.1.place in
         (f.0, record { v = w.0; w = w.1; is = (λ i. record { tet = f.0.tet; vertices = w.2 i }); below = f.1.below; low_v = place.0; low_w = place.1.0; apart = λ e. a.apart (sym w.3 ∙ ap (image s) e ∙ w.4) }, f.2)
@@ -148,7 +148,7 @@ module _ (old : List Row) (new : List Row) (table : IsTable old) (table' : IsTab
       arrow_there j a = directed_arrow (length new) j (corner_is new vs' n' numbered' c' ds' d' arrows' j a).below
 
       tails_under : (p : Place) → IsArrow (length old) p → tail_of (under by p) ≡ under by (tail_of p)
-      tails_under p a = (λ i. spot (stand_in by p.tet).tet (slice_index (map (image (stand_in by p.tet).perm) (a.is i).vertices) 0)) ∙ (λ i. spot (stand_in by p.tet).tet (image (stand_in by p.tet).perm (slice_index (sym a.is i).vertices 0)))
+      tails_under p a = (λ i. spot (relabelled_place by p.tet).tet (slice_index (map (image (relabelled_place by p.tet).perm) (a.is i).vertices) 0)) ∙ (λ i. spot (relabelled_place by p.tet).tet (image (relabelled_place by p.tet).perm (slice_index (sym a.is i).vertices 0)))
 
       abbrev Corner : ℕ → ℕ → Type 0
       Corner i j = (i < 12 * length old) × IsJoined new (under by (directed i)) (directed j)

@@ -6,7 +6,7 @@ use Rattle.table_definitions.specs.Permutation.{IsPermutationOfFour, image, prei
 use Rattle.table_definitions.specs.Table.{Gluing, Row, Face, glue, IsTable}
 use Rattle.table_definitions.specs.Classes.{IsNumbering}
 use Rattle.table_definitions.specs.Places.{Place, SameVertex}
-use Rattle.table_definitions.specs.Relabelling.{Relabelling, IsRelabelling, Carries, stand_in, gluing_under}
+use Rattle.table_definitions.specs.Relabelling.{Relabelling, IsRelabelling, Carries, relabelled_place, gluing_under}
 use Rattle.table_definitions.proofs.Carried.{StandsFor, stands_for}
 use Rattle.table_definitions.proofs.Faces.{face_at}
 use Rattle.table_definitions.proofs.Permutations.{image_below, preimage_below, image-preimage}
@@ -34,7 +34,7 @@ module _ (old : List Row) (new : List Row) (table : IsTable old) (table' : IsTab
     module _ (ds : List ℕ) (d : ℕ) (arrows : IsNumbering (12 * length old) (SameDirected old) ds d) (ds' : List ℕ) (d' : ℕ) (arrows' : IsNumbering (12 * length new) (SameDirected new) ds' d') where
       -- sides in boundary faces
       abbrev across_side : ℕ → ℕ
-      across_side k = side_number (stand_in by (k / 4 / 4)).tet (image (stand_in by (k / 4 / 4)).perm (k / 4 % 4)) (image (stand_in by (k / 4 / 4)).perm (k % 4))
+      across_side k = side_number (relabelled_place by (k / 4 / 4)).tet (image (relabelled_place by (k / 4 / 4)).perm (k / 4 % 4)) (image (relabelled_place by (k / 4 / 4)).perm (k % 4))
 
       low_v : (k : ℕ) → k / 4 % 4 < 4
       low_v k = omega arith
@@ -42,9 +42,9 @@ module _ (old : List Row) (new : List Row) (table : IsTable old) (table' : IsTab
       low_f : (k : ℕ) → k % 4 < 4
       low_f k = omega arith
 
-      side_parts : (k : ℕ) → k / 4 / 4 < length old → HasParts (stand_in by (k / 4 / 4)).tet (image (stand_in by (k / 4 / 4)).perm (k / 4 % 4)) (image (stand_in by (k / 4 / 4)).perm (k % 4))
-      side_parts k l = has_parts (stand_in by (k / 4 / 4)).tet (image (stand_in by (k / 4 / 4)).perm (k / 4 % 4)) (image (stand_in by (k / 4 / 4)).perm (k % 4))
-          (image_below (stand_in by (k / 4 / 4)).perm (perm_at old new table table' by is carries (k / 4 / 4) l) (k / 4 % 4) (low_v k)) (image_below (stand_in by (k / 4 / 4)).perm (perm_at old new table table' by is carries (k / 4 / 4) l) (k % 4) (low_f k))
+      side_parts : (k : ℕ) → k / 4 / 4 < length old → HasParts (relabelled_place by (k / 4 / 4)).tet (image (relabelled_place by (k / 4 / 4)).perm (k / 4 % 4)) (image (relabelled_place by (k / 4 / 4)).perm (k % 4))
+      side_parts k l = has_parts (relabelled_place by (k / 4 / 4)).tet (image (relabelled_place by (k / 4 / 4)).perm (k / 4 % 4)) (image (relabelled_place by (k / 4 / 4)).perm (k % 4))
+          (image_below (relabelled_place by (k / 4 / 4)).perm (perm_at old new table table' by is carries (k / 4 / 4) l) (k / 4 % 4) (low_v k)) (image_below (relabelled_place by (k / 4 / 4)).perm (perm_at old new table table' by is carries (k / 4 / 4) l) (k % 4) (low_f k))
 
       abbrev Side : ℕ → ℕ → Type 0
       Side k j = (k / 4 / 4 < length old) × (across_side k ≡ j)
@@ -61,17 +61,17 @@ module _ (old : List Row) (new : List Row) (table : IsTable old) (table' : IsTab
               let f = free_is old table vs n numbered c k a in
               let side : IsSideAt vs c k = side_is vs c k f.1 in
               let lt : k / 4 / 4 < length old = (let l = f.0 in omega arith) in
-              let s : Gluing = stand_in by (k / 4 / 4) in
-              let hs : IsPermutationOfFour (stand_in by (k / 4 / 4)).perm = perm_at old new table table' by is carries (k / 4 / 4) lt in
+              let s : Gluing = relabelled_place by (k / 4 / 4) in
+              let hs : IsPermutationOfFour (relabelled_place by (k / 4 / 4)).perm = perm_at old new table table' by is carries (k / 4 / 4) lt in
               let parts = side_parts k lt in
               let p : Place = spot (k / 4 / 4) (k / 4 % 4) in
               let ps : IsSpot (length old) (spot (k / 4 / 4) (k / 4 % 4)) = record { v = k / 4 % 4; is = refl; below = lt; low = low_v k } in
               let place : 4 * (k / 4 / 4) + k / 4 % 4 ≡ k / 4 = omega arith in
               let at : slice_index vs' (across_side k / 4) ≡ c' = ap (slice_index vs') parts.place ∙ class_over old new table table' by is carries vs n numbered vs' n' numbered' p0 s0 p ps (ap (slice_index vs) place ∙ side.at) in
               let off : across_side k / 4 % 4 ≢ across_side k % 4 = (λ e. images_apart s.perm (k / 4 % 4) (k % 4) hs (low_v k) (low_f k) side.off (sym parts.vertex ∙ e ∙ parts.face)) in
-              let none : glue new (side_face (across_side k)) ≡ None = (λ i. glue new (face_at (parts.tet i) (parts.face i))) ∙ carries.glued (side_face k) lt (low_f k) ∙ ap (option_map (λ g. gluing_under (stand_in by (k / 4 / 4)) (stand_in by g.tet) g)) f.2 in
-              let small : across_side k < 4 * (4 * length new) = (let r : (stand_in by (k / 4 / 4)).tet < length new = (spot_under old new table table' by is carries p ps).below in let a1 : image (stand_in by (k / 4 / 4)).perm (k / 4 % 4) < 4 = image_below s.perm hs (k / 4 % 4) (low_v k) in
-              let a2 : image (stand_in by (k / 4 / 4)).perm (k % 4) < 4 = image_below s.perm hs (k % 4) (low_f k) in omega arith) in
+              let none : glue new (side_face (across_side k)) ≡ None = (λ i. glue new (face_at (parts.tet i) (parts.face i))) ∙ carries.glued (side_face k) lt (low_f k) ∙ ap (option_map (λ g. gluing_under (relabelled_place by (k / 4 / 4)) (relabelled_place by g.tet) g)) f.2 in
+              let small : across_side k < 4 * (4 * length new) = (let r : (relabelled_place by (k / 4 / 4)).tet < length new = (spot_under old new table table' by is carries p ps).below in let a1 : image (relabelled_place by (k / 4 / 4)).perm (k / 4 % 4) < 4 = image_below s.perm hs (k / 4 % 4) (low_v k) in
+              let a2 : image (relabelled_place by (k / 4 / 4)).perm (k % 4) < 4 = image_below s.perm hs (k % 4) (low_f k) in omega arith) in
               (across_side k, is_free new table' vs' n' numbered' c' (across_side k) small (is_side_from vs' c' (across_side k) off at) none, (lt, refl))
 
           back : (j : ℕ) → Among j (frees new table' vs' n' numbered' c') → (k : ℕ) × Among k (frees old table vs n numbered c) × Side k j
@@ -90,7 +90,7 @@ module _ (old : List Row) (new : List Row) (table : IsTable old) (table' : IsTab
               x = came.0
 
               s : Gluing
-              s = stand_in by x.tet
+              s = relabelled_place by x.tet
 
               hs : IsPermutationOfFour s.perm
               hs = perm_at old new table table' by is carries x.tet came.1.tet
@@ -117,7 +117,7 @@ module _ (old : List Row) (new : List Row) (table : IsTable old) (table' : IsTab
               lt = subst (λ t. t < length old) (sym parts.tet) came.1.tet
 
               small : k < 4 * (4 * length old)
-              small = let l = came.1.tet in let b : preimage (stand_in by came.0.tet).perm (j / 4 % 4) < 4 = lv in let g = came.1.face in omega arith
+              small = let l = came.1.tet in let b : preimage (relabelled_place by came.0.tet).perm (j / 4 % 4) < 4 = lv in let g = came.1.face in omega arith
 
               ne : v ≢ x.face
               ne e = side.off (sym there ∙ ap (image s.perm) e ∙ faces)
@@ -140,7 +140,7 @@ module _ (old : List Row) (new : List Row) (table : IsTable old) (table' : IsTab
               none_from : (o : Option Gluing) → glue old x ≡ o → glue old x ≡ None
               none_from None e = e
               none_from (Some g) e =
-                  let some : None ≡ Some (gluing_under (stand_in by x.tet) (stand_in by g.tet) g) = sym f.2 ∙ ap (glue new) (sym came.1.is) ∙ carries.glued x came.1.tet came.1.face ∙ ap (option_map (λ g. gluing_under (stand_in by x.tet) (stand_in by g.tet) g)) e in
+                  let some : None ≡ Some (gluing_under (relabelled_place by x.tet) (relabelled_place by g.tet) g) = sym f.2 ∙ ap (glue new) (sym came.1.is) ∙ carries.glued x came.1.tet came.1.face ∙ ap (option_map (λ g. gluing_under (relabelled_place by x.tet) (relabelled_place by g.tet) g)) e in
                   absurd cc
 
               none : glue old (side_face k) ≡ None
@@ -148,7 +148,7 @@ module _ (old : List Row) (new : List Row) (table : IsTable old) (table' : IsTab
 
               again : across_side k ≡ j
               again =
-                  (λ i. side_number (stand_in by (parts.tet i)).tet (image (stand_in by (parts.tet i)).perm (parts.vertex i)) (image (stand_in by (parts.tet i)).perm (parts.face i)))
+                  (λ i. side_number (relabelled_place by (parts.tet i)).tet (image (relabelled_place by (parts.tet i)).perm (parts.vertex i)) (image (relabelled_place by (parts.tet i)).perm (parts.face i)))
                   ∙ (λ i. side_number ((came.1.is i).tet) (there i) (faces i)) ∙ number_again j
 
           once : (k l j : ℕ) → Side k j → Side l j → k ≡ l

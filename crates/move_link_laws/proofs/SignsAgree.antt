@@ -1,7 +1,7 @@
 -- The signs that are taken over agree across faces, so signs of a link give signs of the corresponding link.
 use Rattle.std.proofs.Common.{◌≡◌, ◌≢◌, ℕ, ◌+◌, ◌*◌, ◌<◌, Bool, false, List, [], ◌∷◌, length, map, Option, Some, None, ◌⊎◌, inl, inr, refl, sym, ap, ◌∙◌, subst, arith}
 use Rattle.std.specs.Prelude.{option_map, option_and_then, slice_index}
-use Rattle.table_definitions.specs.Lists.{has, closed_up}
+use Rattle.table_definitions.specs.Lists.{has, rank_without}
 use Rattle.table_definitions.specs.Permutation.{IsPermutationOfFour, image, identity, inverse, is_odd}
 use Rattle.table_definitions.specs.Table.{Gluing, Row, Face, glue, other_side, IsTable}
 use Rattle.table_definitions.specs.Classes.{IsNumbering}
@@ -151,8 +151,8 @@ module _ (old : List Row) (m : Move) (new : List Row) (table : IsTable old) (tab
           spot_u = old_spot old m new table table' h vs n numbered vs' n' numbered' c c' match signs are u.0 (spot t v) spot_q u.1
 
           go : (KeptTie old m new table h u.0 (spot t v) × (u.1.by.perm ≡ identity)) ⊎ ((a : FacetTie old m new table h u.0 (spot t v)) × (u.1.by.perm ≡ crossing a.i a.j a.f.labels)) → Agrees
-          go (inl k) = absurd (let low : closed_up (old_tets old m) u.0.tet < kept old m = closed_up_small old m u.0.tet table (fine old m new table h) h.core k.0.tet k.0.stays in
-              let tets : kept old m + i.j ≡ closed_up (old_tets old m) u.0.tet = (λ z. (i.is z).tet) ∙ ap (λ (r : Place). r.tet) k.0.is in omega arith)
+          go (inl k) = absurd (let low : rank_without (old_tets old m) u.0.tet < kept old m = closed_up_small old m u.0.tet table (fine old m new table h) h.core k.0.tet k.0.stays in
+              let tets : kept old m + i.j ≡ rank_without (old_tets old m) u.0.tet = (λ z. (i.is z).tet) ∙ ap (λ (r : Place). r.tet) k.0.is in omega arith)
           go (inr (a, ea)) =
               let tets : kept old m + i.j ≡ kept old m + a.j = (λ z. (i.is z).tet) ∙ ap (λ (r : Place). r.tet) a.to in
               let ij : i.j ≡ a.j = omega arith in

@@ -13,7 +13,7 @@ use Rattle.table_definitions.proofs.Faces.{face_at}
 use Rattle.table_definitions.proofs.Permutations.{image_below}
 use Rattle.table_definitions.proofs.TableLaws.{glued_tet}
 use Rattle.skeleton_definitions.specs.Links.{vertex_number, AreLinkSigns, IsOrientableLink}
-use Rattle.move_definitions.specs.Moves.{Move, Facet, IsMoved, vertex_of, stand_in_at, kept_stand_in, facet_gluing, moved_gluing}
+use Rattle.move_definitions.specs.Moves.{Move, Facet, IsMoved, vertex_of, place_after, kept_place_after, facet_gluing, moved_gluing}
 use Rattle.move_definitions.proofs.StandIns.{facet_stand_in-new, stand_in-kept}
 use Rattle.move_laws.proofs.Labels.{AreLabels, HasLabel, label_at}
 use Rattle.move_laws.proofs.Covered.{stand_in-old}
@@ -71,7 +71,7 @@ module _ (old : List Row) (m : Move) (new : List Row) (table : IsTable old) (tab
     abbrev Agrees : Type 0
     Agrees = value old m new table table' h vs n numbered vs' n' numbered' c c' match signs are (spot g.tet (image g.perm v)) spot_p' own' ≡ behind (is_odd g.perm) (value old m new table table' h vs n numbered vs' n' numbered' c c' match signs are (spot t v) spot_p own)
 
-    outside : (s : Gluing) → stand_in_at old m (face_at t f) ≡ Some s → Agrees
+    outside : (s : Gluing) → place_after old m (face_at t f) ≡ Some s → Agrees
     outside s stands =
         let other = other_stands old m table (fine old m new table h) h.core (face_at t f) s g lf stands glued in
         let hs : IsPermutationOfFour s.perm = permutes old m new table table' h vs n numbered vs' n' numbered' c c' match signs are (face_at t f) s lt lf stands in
@@ -97,14 +97,14 @@ module _ (old : List Row) (m : Move) (new : List Row) (table : IsTable old) (tab
         (has-images s.perm (v ∷ []) f hs (lv, tt) lf ∙ off_one v f ne) (over old m new table table' h vs n numbered vs' n' numbered' c c' match signs are (spot t v) q spot_p tie own) made in
         value_is old m new table table' h vs n numbered vs' n' numbered' c c' match signs are (spot g.tet (image g.perm v)) q' spot_p' own' tie' ∙ ap (flip (is_odd other.0.perm)) sign ∙ back_sign other.0.perm g.perm s.perm hr hg hs (S signs q) ∙ ap (behind (is_odd g.perm)) (sym (value_is old m new table table' h vs n numbered vs' n' numbered' c c' match signs are (spot t v) q spot_p own tie))
 
-    inside : stand_in_at old m (face_at t f) ≡ None → Agrees
+    inside : place_after old m (face_at t f) ≡ None → Agrees
     inside none = go (tie_shape_by old m new table h (spot t v) u.0 u.1)
       where
         u : (q : Place) × Tie (spot t v) q
         u = tied old m new table table' h vs n numbered vs' n' numbered' c c' match signs are (spot t v) spot_p own
 
         go : (KeptTie old m new table h (spot t v) u.0 × (u.1.by.perm ≡ identity)) ⊎ ((a : FacetTie old m new table h (spot t v) u.0) × (u.1.by.perm ≡ crossing a.i a.j a.f.labels)) → Agrees
-        go (inl k) = absurd (let z : None ≡ Some (kept_stand_in old m t) = sym none ∙ stand_in-kept old m (face_at t f) k.0.stays in cc)
+        go (inl k) = absurd (let z : None ≡ Some (kept_place_after old m t) = sym none ∙ stand_in-kept old m (face_at t f) k.0.stays in cc)
         go (inr (a, ea)) = elim (cases_lt k (length m.core)) [ inl less ↦ absurd (never less) | inr more ↦ across_it more ]
           where
             hf : AreLabels a.i a.f.labels
@@ -121,7 +121,7 @@ module _ (old : List Row) (m : Move) (new : List Row) (table : IsTable old) (tab
 
             never : k < length m.core → ⊥
             never less =
-                let some : stand_in_at old m (face_at t f) ≡ Some (facet_gluing old m a.f k) = ap (stand_in_at old m) (sym x_is) ∙ stand_in-old old m a.i a.f f (fine old m new table h) h.core a.old_is.low a.old_is.high a.old_is.found
+                let some : place_after old m (face_at t f) ≡ Some (facet_gluing old m a.f k) = ap (place_after old m) (sym x_is) ∙ stand_in-old old m a.i a.f f (fine old m new table h) h.core a.old_is.low a.old_is.high a.old_is.found
                 ∙ facet_stand_in-new old m a.f k less in
                 let z : None ≡ Some (facet_gluing old m a.f k) = sym none ∙ some in cc
 
@@ -145,7 +145,7 @@ module _ (old : List Row) (m : Move) (new : List Row) (table : IsTable old) (tab
                   tet = lt';
                   place = (lv', tt);
                   off = ap (λ (z : Place). has z.vertices tie0.face) (sym lands) ∙ tie0.off;
-                  stands = ap (λ (z : Place). stand_in_at old m (face_at z.tet tie0.face)) (sym lands) ∙ tie0.stands;
+                  stands = ap (λ (z : Place). place_after old m (face_at z.tet tie0.face)) (sym lands) ∙ tie0.stands;
                   is = a.to ∙ tie0.is ∙ ap (carried tie0.by) lands;
                 } in
                 value_is old m new table table' h vs n numbered vs' n' numbered' c c' match signs are (spot g.tet (image g.perm v)) u.0 spot_p' own' tie' ∙ ap (λ (o : List ℕ). flip (is_odd o) (S signs u.0)) by0 ∙ ap (λ o. flip o (S signs u.0)) (st.parity a.j a.less ∙ (λ z. behind (is_odd (same z).perm) (is_odd (crossing a.i a.j a.f.labels))))
@@ -153,9 +153,9 @@ module _ (old : List Row) (m : Move) (new : List Row) (table : IsTable old) (tab
                 ∙ ap (behind (is_odd g.perm)) (ap (λ (o : List ℕ). flip (is_odd o) (S signs u.0)) (sym ea) ∙ sym (value_is old m new table table' h vs n numbered vs' n' numbered' c c' match signs are (spot t v) u.0 spot_p own u.1))
 
     agrees : Agrees
-    agrees = by_stand (stand_in_at old m (face_at t f)) refl
+    agrees = by_stand (place_after old m (face_at t f)) refl
       where
-        by_stand : (o : Option Gluing) → stand_in_at old m (face_at t f) ≡ o → Agrees
+        by_stand : (o : Option Gluing) → place_after old m (face_at t f) ≡ o → Agrees
         by_stand (Some s) e = outside s e
         by_stand None e = inside e
 

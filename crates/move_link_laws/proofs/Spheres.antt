@@ -5,7 +5,7 @@ use Rattle.table_definitions.specs.Lists.{times_in}
 use Rattle.table_definitions.specs.Table.{Row, IsTable}
 use Rattle.table_definitions.specs.Classes.{IsNumbering}
 use Rattle.table_definitions.specs.Places.{Place, vertex, SameVertex, HasValidEdges}
-use Rattle.table_definitions.specs.Relabelling.{IsRelabelled}
+use Rattle.table_definitions.specs.Relabelling.{AreIsomorphic}
 use Rattle.skeleton_definitions.specs.Links.{SameDirected, link_vertices, link_edges}
 use Rattle.move_definitions.specs.Moves.{Move, IsMoved, PlaysAll}
 use Rattle.move_definitions.specs.Certificates.{standard_sphere, IsCertificate}
@@ -76,7 +76,7 @@ pub plays_spheres : (old : List Row) (moves : List Move) (new : List Row) → Pl
 plays_spheres old [] new p spheres = subst HasSpheres (sym p) spheres
 plays_spheres old (m ∷ ms) new (next, p, rest) spheres = moves_spheres old m next p.table (played_table old m next p) p.moved (plays_spheres next ms new rest spheres)
 
-pub relabelled_spheres : (old new : List Row) → IsTable old → IsTable new → IsRelabelled old new → HasSpheres new → HasSpheres old
+pub relabelled_spheres : (old new : List Row) → IsTable old → IsTable new → AreIsomorphic old new → HasSpheres new → HasSpheres old
 relabelled_spheres old new table table' (by, is, c) spheres vs n numbered ds d arrows k l =
     let i = numbered.none_empty k l in
     let s = vertex_spot (length old) i.0 i.1 in

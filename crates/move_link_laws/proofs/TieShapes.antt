@@ -1,7 +1,7 @@
 -- What ties: a kept tetrahedron, or an old facet and a new one with the same labels.
 use Rattle.std.proofs.Common.{◌≡◌, ◌≢◌, ℕ, ◌+◌, ◌<◌, false, List, [], ◌∷◌, length, map, ◌⊎◌, inl, inr, refl, sym, ap, ◌∙◌, arith}
 use Rattle.std.specs.List.{AllByRecursion}
-use Rattle.table_definitions.specs.Lists.{has, in_place_of, closed_up}
+use Rattle.table_definitions.specs.Lists.{has, substitute, rank_without}
 use Rattle.table_definitions.specs.Permutation.{image, preimage, identity}
 use Rattle.table_definitions.specs.Table.{Gluing, Row, Face, IsTable}
 use Rattle.table_definitions.specs.Places.{Place, IsPlace, carried}
@@ -10,7 +10,7 @@ use Rattle.table_definitions.proofs.Faces.{face_at}
 use Rattle.table_definitions.proofs.Permutations.{image-identity}
 use Rattle.table_definitions.proofs.InPlace.{in_place-other}
 use Rattle.table_definitions.proofs.Ranks.{stays}
-use Rattle.move_definitions.specs.Moves.{Move, Facet, IsMoved, vertex_of, kept, new_facet, old_tets, kept_stand_in, facet_stand_in, facet_gluing}
+use Rattle.move_definitions.specs.Moves.{Move, Facet, IsMoved, vertex_of, kept, new_facet, old_tets, kept_place_after, facet_place_after, facet_gluing}
 use Rattle.move_definitions.proofs.StandIns.{facet_stand_in-new, stand_in-kept}
 use Rattle.move_laws.proofs.Labels.{AreLabels, ascending, HasVertex, vertex_at, length-labels, image-map}
 use Rattle.move_laws.proofs.Covered.{stand_in-old}
@@ -35,7 +35,7 @@ module _ (old : List Row) (m : Move) (new : List Row) (table : IsTable old) (h :
   facet_carries f i j (v ∷ vs) hf small off =
       let long : v < length f.labels = (let n = length-labels i f.labels hf in let s : v < 4 = small.0 in omega arith) in
       let one : image (facet_gluing old m f j).perm v ≡ vertex_of (new_at j) (image f.labels v) =
-      image-map (λ l. preimage (ascending j) (in_place_of j f.missing l)) f.labels v long
+      image-map (λ l. preimage (ascending j) (substitute j f.missing l)) f.labels v long
       ∙ ap (preimage (ascending j)) (in_place-other j f.missing (image f.labels v) (head_off (image f.labels v) (map (image f.labels) vs) j off)) in
       λ k. one k ∷ facet_carries f i j vs hf small.1 (tail_off (image f.labels v) (map (image f.labels) vs) j off) k
 
@@ -46,7 +46,7 @@ module _ (old : List Row) (m : Move) (new : List Row) (table : IsTable old) (h :
       record {
         stays = k.stays;
         tet = t.tet;
-        is = t.is ∙ ap (λ (g : Gluing). carried g p) k.by ∙ (λ j. record { tet = closed_up (old_tets old m) p.tet; vertices = map_identity p.vertices t.place j });
+        is = t.is ∙ ap (λ (g : Gluing). carried g p) k.by ∙ (λ j. record { tet = rank_without (old_tets old m) p.tet; vertices = map_identity p.vertices t.place j });
       },
       ap (λ (g : Gluing). g.perm) k.by,
     )
@@ -90,16 +90,16 @@ module _ (old : List Row) (m : Move) (new : List Row) (table : IsTable old) (h :
   tie_shape p q t = elim (tie_shape_by p q t) [ inl k ↦ inl k.0 | inr a ↦ inr a.0 ]
 
   -- and each of these shapes ties
-  pub kept_tie : (p : Place) → has (old_tets old m) p.tet ≡ false → p.tet < length old → IsPlace p → (f : ℕ) → f < 4 → has p.vertices f ≡ false → Ties old m new table h p (record { tet = closed_up (old_tets old m) p.tet; vertices = p.vertices })
+  pub kept_tie : (p : Place) → has (old_tets old m) p.tet ≡ false → p.tet < length old → IsPlace p → (f : ℕ) → f < 4 → has p.vertices f ≡ false → Ties old m new table h p (record { tet = rank_without (old_tets old m) p.tet; vertices = p.vertices })
   kept_tie p stays lt place f lf off = record {
     face = f;
-    by = kept_stand_in old m p.tet;
+    by = kept_place_after old m p.tet;
     tet = lt;
     place = place;
     low = lf;
     off = off;
     stands = stand_in-kept old m (face_at p.tet f) stays;
-    is = λ j. record { tet = closed_up (old_tets old m) p.tet; vertices = sym (map_identity p.vertices place) j };
+    is = λ j. record { tet = rank_without (old_tets old m) p.tet; vertices = sym (map_identity p.vertices place) j };
   }
 
   pub facet_tie : (i j : ℕ) (f : Facet) (ls : List ℕ) → IsOld old m new table h i f → j < length m.core → Below5 ls → has ls i ≡ false → has ls j ≡ false → Ties old m new table h (in_facet f ls) (in_facet (new_at j) ls)
@@ -110,7 +110,7 @@ module _ (old : List Row) (m : Move) (new : List Row) (table : IsTable old) (h :
     place = vertices_below i f.labels a.is.labels ls small oi;
     low = at.small;
     off = has-vertices i f.labels a.is.labels ls j small oi (small_label old m new table h j less) ne ∙ oj;
-    stands = stand_in-old old m i f (vertex_of f j) (fine old m new table h) h.core a.low a.high a.found ∙ ap (facet_stand_in old m f) at.label ∙ facet_stand_in-new old m f j less;
+    stands = stand_in-old old m i f (vertex_of f j) (fine old m new table h) h.core a.low a.high a.found ∙ ap (facet_place_after old m f) at.label ∙ facet_stand_in-new old m f j less;
     is = λ k. record { tet = kept old m + j; vertices = sym (facet_carries f i j (map (vertex_of f) ls) a.is.labels (vertices_below i f.labels a.is.labels ls small oi) (ap (λ (xs : List ℕ). has xs j) again ∙ oj) ∙ ap (map (vertex_of (new_at j))) again) k };
   }
     where

@@ -1,7 +1,7 @@
 -- Vertex classes of the two tables that correspond: a vertex that stands for one is of the one class exactly where that is of the other.
 use Rattle.std.proofs.Common.{◌≡◌, ℕ, ◌+◌, ◌*◌, ◌<◌, List, [], ◌∷◌, length, map, inl, inr, refl, sym, ap, ◌∙◌, subst, arith}
 use Rattle.std.proofs.lemmas.Bool.{false≢true}
-use Rattle.table_definitions.specs.Lists.{has, closed_up}
+use Rattle.table_definitions.specs.Lists.{has, rank_without}
 use Rattle.table_definitions.specs.Permutation.{image}
 use Rattle.table_definitions.specs.Table.{Row, IsTable}
 use Rattle.table_definitions.specs.Classes.{IsNumbering}
@@ -37,8 +37,8 @@ module _ (old : List Row) (m : Move) (new : List Row) (table : IsTable old) (h :
 
   pub tie_not_new_buried : (ls : List ℕ) (p q : Place) → Tie p q → NewBuried old m new table h ls q → ⊥
   tie_not_new_buried ls p q t b = elim (tie_shape old m new table h p q t) [
-    | inl k ↦ (let low : closed_up (old_tets old m) p.tet < kept old m = closed_up_small old m p.tet table (fine old m new table h) h.core k.tet k.stays in
-        let e : closed_up (old_tets old m) p.tet ≡ kept old m + b.j = ap (λ (x : Place). x.tet) (sym k.is ∙ b.to) in absurd (omega arith))
+    | inl k ↦ (let low : rank_without (old_tets old m) p.tet < kept old m = closed_up_small old m p.tet table (fine old m new table h) h.core k.tet k.stays in
+        let e : rank_without (old_tets old m) p.tet ≡ kept old m + b.j = ap (λ (x : Place). x.tet) (sym k.is ∙ b.to) in absurd (omega arith))
     | inr a ↦ (let same = (same_new_place old m new table h a.j b.j a.ls ls a.less b.less a.small b.small a.off_j b.off (sym a.to ∙ b.to)).1 in
         false≢true (sym a.off_i ∙ ap (λ (xs : List ℕ). has xs a.i) same ∙ b.all a.i a.old_is.low a.old_is.high))
   ]

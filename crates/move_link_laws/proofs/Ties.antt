@@ -1,11 +1,11 @@
 -- Places of the old table that stand, over a face, for places of the new one.
 use Rattle.std.proofs.Common.{◌≡◌, ◌≢◌, ℕ, ◌<◌, ◌≤◌, true, false, List, length, Some, refl, sym, ap, ◌∙◌, arith}
-use Rattle.table_definitions.specs.Lists.{has, closed_up}
+use Rattle.table_definitions.specs.Lists.{has, rank_without}
 use Rattle.table_definitions.specs.Permutation.{IsPermutationOfFour}
 use Rattle.table_definitions.specs.Table.{Gluing, Row, IsTable}
 use Rattle.table_definitions.specs.Places.{Place, IsPlace, carried, across}
 use Rattle.table_definitions.proofs.Faces.{face_at}
-use Rattle.move_definitions.specs.Moves.{Move, Facet, IsMoved, facet, opposite, vertex_of, new_facet, old_tets, old_labels, stand_in_at}
+use Rattle.move_definitions.specs.Moves.{Move, Facet, IsMoved, facet, opposite, vertex_of, new_facet, old_tets, old_labels, place_after}
 use Rattle.move_definitions.proofs.CoreTests.{core_size}
 use Rattle.move_laws.proofs.Labels.{new_labels}
 use Rattle.move_laws.proofs.ListedFacets.{same_some, has_tet}
@@ -73,7 +73,7 @@ module _ (old : List Row) (m : Move) (new : List Row) (table : IsTable old) (h :
     pub place : IsPlace p
     pub low : face < 4
     pub off : has p.vertices face ≡ false
-    pub stands : stand_in_at old m (face_at p.tet face) ≡ Some by
+    pub stands : place_after old m (face_at p.tet face) ≡ Some by
     pub is : q ≡ carried by p
 
   pub tie_permutes : (p q : Place) (t : Ties p q) → IsPermutationOfFour t.by.perm
@@ -83,7 +83,7 @@ module _ (old : List Row) (m : Move) (new : List Row) (table : IsTable old) (h :
   pub record KeptTie (p q : Place) : Type 0 where
     pub stays : has (old_tets old m) p.tet ≡ false
     pub tet : p.tet < length old
-    pub is : q ≡ record { tet = closed_up (old_tets old m) p.tet; vertices = p.vertices }
+    pub is : q ≡ record { tet = rank_without (old_tets old m) p.tet; vertices = p.vertices }
 
   pub record FacetTie (p q : Place) : Type 0 where
     pub i : ℕ

@@ -1,7 +1,7 @@
 -- A place stands for joined places alone, and joined ones alone stand for a place.
 use Rattle.std.proofs.Common.{◌≡◌, ℕ, ◌+◌, ◌<◌, false, List, length, map, ◌⊎◌, inl, inr, sym, ap, ◌∙◌, subst, arith}
 use Rattle.std.proofs.lemmas.Bool.{cases_eq, false≢true}
-use Rattle.table_definitions.specs.Lists.{has, closed_up}
+use Rattle.table_definitions.specs.Lists.{has, rank_without}
 use Rattle.table_definitions.specs.Permutation.{image}
 use Rattle.table_definitions.specs.Table.{Row, IsTable}
 use Rattle.table_definitions.specs.Places.{Place, IsJoined}
@@ -52,15 +52,15 @@ module _ (old : List Row) (m : Move) (new : List Row) (table : IsTable old) (h :
             | inr ne ↦ joined_step new (in_facet (new_at a.j) a.ls) (vertex_of (new_at a.j) b.j) (in_facet (new_at b.j) a.ls) (new_step old m new table h a.j b.j a.ls a.less b.less ne a.small a.off_j (ap (λ (ks : List ℕ). has ks b.j) same.2 ∙ b.off_j))
           ]))
 
-  pub closed_up_once : (t u : ℕ) → t < length old → u < length old → has (old_tets old m) t ≡ false → has (old_tets old m) u ≡ false → closed_up (old_tets old m) t ≡ closed_up (old_tets old m) u → t ≡ u
+  pub closed_up_once : (t u : ℕ) → t < length old → u < length old → has (old_tets old m) t ≡ false → has (old_tets old m) u ≡ false → rank_without (old_tets old m) t ≡ rank_without (old_tets old m) u → t ≡ u
   closed_up_once t u lt lu st su e =
       let d = old_tets_distinct old m (fine old m new table h) h.core in
       ranks_apart (stays (old_tets old m)) (length old) t u lt lu (stays_true (old_tets old m) t st) (stays_true (old_tets old m) u su) (sym (closed_up-rank (old_tets old m) t d) ∙ e ∙ closed_up-rank (old_tets old m) u d)
 
   pub kept_or_new : (p : Place) (q : Place) (r : Place) → KeptTie old m new table h p q → (b : FacetTie old m new table h r q) → ⊥
   kept_or_new p q r a b =
-      let low : closed_up (old_tets old m) p.tet < kept old m = closed_up_small old m p.tet table (fine old m new table h) h.core a.tet a.stays in
-      let e : closed_up (old_tets old m) p.tet ≡ kept old m + b.j = ap (λ (x : Place). x.tet) (sym a.is ∙ b.to) in
+      let low : rank_without (old_tets old m) p.tet < kept old m = closed_up_small old m p.tet table (fine old m new table h) h.core a.tet a.stays in
+      let e : rank_without (old_tets old m) p.tet ≡ kept old m + b.j = ap (λ (x : Place). x.tet) (sym a.is ∙ b.to) in
       omega arith
 
   -- and joined places alone for one place

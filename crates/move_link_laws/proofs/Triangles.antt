@@ -2,7 +2,7 @@
 use Rattle.std.proofs.Common.{◌≡◌, ◌≢◌, ℕ, ◌+◌, ◌-◌, ◌*◌, ◌/◌, ◌%◌, ◌<◌, ◌≤◌, Bool, true, false, List, [], ◌∷◌, length, ◌⊎◌, inl, inr, sym, ap, ◌∙◌, subst, arith}
 use Rattle.std.proofs.lemmas.Bool.{cases_lt}
 use Rattle.plain_facts.proofs.Truths.{by_bool}
-use Rattle.table_definitions.specs.Lists.{has, closed_up}
+use Rattle.table_definitions.specs.Lists.{has, rank_without}
 use Rattle.table_definitions.specs.Permutation.{image}
 use Rattle.table_definitions.specs.Table.{Row, IsTable}
 use Rattle.table_definitions.specs.Classes.{IsNumbering}
@@ -89,7 +89,7 @@ module _ (old : List Row) (m : Move) (new : List Row) (table : IsTable old) (h :
 
       is_kept : has (old_tets old m) (i / 4) ≡ false → (b : ℕ ⊎ ℕ) × Among b (both members' old_pairs) × Triangle (inl i) b
       is_kept e =
-          let q : Place = record { tet = closed_up (old_tets old m) (i / 4); vertices = i % 4 ∷ [] } in
+          let q : Place = record { tet = rank_without (old_tets old m) (i / 4); vertices = i % 4 ∷ [] } in
           let fr = free_of_two (i % 4) (i % 4) in
           let off : has (i % 4 ∷ []) fr.0 ≡ false = off_one (i % 4) fr.0 (head_off (i % 4) (i % 4 ∷ []) fr.0 fr.2) in
           let tie : Tie (vertex i) q = kept_tie old m new table h (vertex i) e lt (lv, tt) fr.0 fr.1 off in

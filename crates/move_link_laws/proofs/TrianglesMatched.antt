@@ -2,7 +2,7 @@
 use Rattle.std.proofs.Common.{◌≡◌, ◌≢◌, ℕ, ◌+◌, ◌*◌, ◌/◌, ◌%◌, ◌<◌, Bool, List, [], ◌∷◌, length, ◌⊎◌, inl, inr, sym, ap, ◌∙◌, arith}
 use Rattle.std.specs.Prelude.{count_by}
 use Rattle.std.proofs.lemmas.Bool.{false≢true}
-use Rattle.table_definitions.specs.Lists.{has, below, closed_up, times_in}
+use Rattle.table_definitions.specs.Lists.{has, below, rank_without, times_in}
 use Rattle.table_definitions.specs.Table.{Row, IsTable}
 use Rattle.table_definitions.specs.Classes.{IsNumbering}
 use Rattle.table_definitions.specs.Places.{Place, vertex, SameVertex}
@@ -63,8 +63,8 @@ module _ (old : List Row) (m : Move) (new : List Row) (table : IsTable old) (h :
 
   kept_not_new : (i j k : ℕ) → Kept (vertex i) (vertex j) → vertex j ≡ in_facet (at (k / 5)) (k % 5 ∷ []) → ⊥
   kept_not_new i j k a e =
-      let low : closed_up (old_tets old m) (i / 4) < kept old m = closed_up_small old m (i / 4) table (fine old m new table h) h.core a.tet a.stays in
-      let tets : closed_up (old_tets old m) (i / 4) ≡ kept old m + k / 5 = ap (λ (r : Place). r.tet) (sym a.is ∙ e) in
+      let low : rank_without (old_tets old m) (i / 4) < kept old m = closed_up_small old m (i / 4) table (fine old m new table h) h.core a.tet a.stays in
+      let tets : rank_without (old_tets old m) (i / 4) ≡ kept old m + k / 5 = ap (λ (r : Place). r.tet) (sym a.is ∙ e) in
       omega arith
 
   kept_not_old : (i j k : ℕ) (f : Facet) → Kept (vertex i) (vertex j) → Old (k / 5) f → vertex i ≡ in_facet f (k % 5 ∷ []) → ⊥

@@ -1,7 +1,7 @@
 -- What is answered of two tables, and of many, says which of them are relabelled.
 use Rattle.std.proofs.Common.{◌≡◌, ◌⊎◌, ℕ, List, slice_index, inl, inr, refl, sym, ◌∙◌, ap, arith}
 use Rattle.table_definitions.specs.Table.{Row}
-use Rattle.table_definitions.specs.Relabelling.{Relabelling, IsRelabelled}
+use Rattle.table_definitions.specs.Relabelling.{Relabelling, AreIsomorphic}
 use Rattle.signature_definitions.specs.Labellings.{Relabels}
 use Rattle.signature_definitions.specs.Census.{table_in}
 use Rattle.text_document_definitions.specs.Documents.{two_tables_document, tables_document}
@@ -24,7 +24,7 @@ apart by e = letters (slice_index (relabelling_text by) 0) (slice_index differen
 -- a relabelling is answered, or there is none
 abbrev pub IsTold : List Row → List Row → Outcome → Type 0
 IsTold first second o =
-    ((by : Relabelling) × Relabels first second by × (o ≡ done (relabelling_text by))) ⊎ ((IsRelabelled first second → ⊥) × (o ≡ different_outcome))
+    ((by : Relabelling) × Relabels first second by × (o ≡ done (relabelling_text by))) ⊎ ((AreIsomorphic first second → ⊥) × (o ≡ different_outcome))
 
 pub compared_by : (first second : List Row) (o : Outcome) → IsTold first second o → AreCompared first second o
 compared_by first second o (inl h) = record {

@@ -3,7 +3,7 @@ use Rattle.std.proofs.Common.{◌≡◌, ◌⊎◌, ◌<◌, ◌≤◌, ℕ, Lis
 use Rattle.std.proofs.lemmas.Bool.{cases_lt}
 use Rattle.table_definitions.specs.Lists.{below}
 use Rattle.table_definitions.specs.Table.{Row, IsTable}
-use Rattle.table_definitions.specs.Relabelling.{Relabelling, IsRelabelled}
+use Rattle.table_definitions.specs.Relabelling.{Relabelling, AreIsomorphic}
 use Rattle.component_definitions.specs.SameParts.{part_at, IsSameParts}
 use Rattle.signature_laws.proofs.Invariance.{relabels_back}
 use Rattle.component_laws.proofs.Members.{part_is, part_is_table}
@@ -77,12 +77,12 @@ module _ (first second : List Row) (by : Relabelling) (h : IsSameParts first sec
       let f = found count h.other_order other_permutes b l in
       ap (slice_index h.other_order) (found_again count h.order permutes (at_place count h.other_order other_permutes b) f.0) ∙ f.1
 
-  relabelled_part : (a : ℕ) → a < count → IsRelabelled (part_at h.parts a).rows (part_at h.others (goes a)).rows
+  relabelled_part : (a : ℕ) → a < count → AreIsomorphic (part_at h.parts a).rows (part_at h.others (goes a)).rows
   unfolding goes
   relabelled_part a l =
       let f = found count h.order permutes a l in
       let e = h.each (at_place count h.order permutes a) (subst (λ n. at_place count h.order permutes a < n) (sym (order_long count h.order permutes)) f.0) in
-      subst (λ k. IsRelabelled (part_at h.parts k).rows (part_at h.others (slice_index h.other_order (at_place count h.order permutes a))).rows) f.1
+      subst (λ k. AreIsomorphic (part_at h.parts k).rows (part_at h.others (slice_index h.other_order (at_place count h.order permutes a))).rows) f.1
       (e.0, e.1.relabels.0, e.1.relabels.1)
 
   same_parts_match : ComponentsMatch first second
@@ -109,11 +109,11 @@ module _ (first second : List Row) (tf : IsTable first) (ts : IsTable second) (c
     relabelled = c.relabelled;
   }
 
-  led_back : (j : ℕ) → j < length c.others → IsRelabelled (part_at c.others j).rows (part_at c.parts (c.back j)).rows
+  led_back : (j : ℕ) → j < length c.others → AreIsomorphic (part_at c.others j).rows (part_at c.parts (c.back j)).rows
   led_back j l =
       let part : IsTable (part_at c.parts (c.back j)).rows =
       part_is_table first tf (part_at c.parts (c.back j)) (part_is first tf c.parts c.are_parts (c.back j) (c.back_in_range j l)) in
-      subst (λ k. IsRelabelled (part_at c.others k).rows (part_at c.parts (c.back j)).rows) (c.back_and_to j l)
+      subst (λ k. AreIsomorphic (part_at c.others k).rows (part_at c.parts (c.back j)).rows) (c.back_and_to j l)
       (relabels_back (part_at c.parts (c.back j)).rows (part_at c.others (c.to (c.back j))).rows part (c.relabelled (c.back j) (c.back_in_range j l)))
 
   back_there : IsMatching c.others c.parts
@@ -124,7 +124,7 @@ module _ (first second : List Row) (tf : IsTable first) (ts : IsTable second) (c
     relabelled = led_back;
   }
 
-  matching_relabels : IsRelabelled first second
+  matching_relabels : AreIsomorphic first second
   matching_relabels = matched_tables first second c.parts c.others tf ts c.are_parts c.are_others there back_there
 
 module _ (pair : List Row × List Row) (o : Outcome) (tf : IsTable pair.0) (ts : IsTable pair.1) where

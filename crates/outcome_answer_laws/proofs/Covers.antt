@@ -17,7 +17,7 @@ use Rattle.outcome_definitions.specs.Outcomes.{Outcome}
 use Rattle.outcome_definitions.specs.Canonical.{done}
 use Rattle.outcome_definitions.specs.Covers.{cover_text, large_cover_outcome, IsCoverAnswered, IsCoverAnswer}
 use Rattle.outcome_laws.proofs.Certified.{table_alone}
-use Rattle.outcome_answer_laws.specs.Covers.{TwoLieOver, IsOrientationCover, TellsCover, IsCovering, CoversAreAnswered}
+use Rattle.outcome_answer_laws.specs.Covers.{TwoLieOver, IsOrientationCover, IsCoverOutcome, IsCovering, CoversAreAnswered}
 use Rattle.outcome_answer_laws.proofs.Asked.{means_by, status_of}
 
 two_lie_over : (n : ℕ) → TwoLieOver n
@@ -73,7 +73,7 @@ module _ (rows : List Row) (table : IsTable rows) (o : Outcome) where
     exchanged = exchange_carries rows table;
   }
 
-  tells : 2 * length rows ≤ max_tets → IsCoverAnswered rows o → TellsCover rows o
+  tells : 2 * length rows ≤ max_tets → IsCoverAnswered rows o → IsCoverOutcome rows o
   tells small t = record {
     is_cover = orientation_cover small;
     connected = t.0;

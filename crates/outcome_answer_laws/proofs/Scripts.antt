@@ -4,7 +4,7 @@ use Rattle.std.proofs.lemmas.List.{length_push, take-append-le}
 use Rattle.table_definitions.specs.Table.{Row}
 use Rattle.move_definitions.specs.Moves.{Move, Plays, PlaysAll}
 use Rattle.move_definitions.specs.MoveText.{Step, play, undo, redo}
-use Rattle.move_definitions.specs.Sessions.{Session, IsTableOf, begun, with_move, StepAnswer, done, illegal, undone, redone, nothing, IsStep, AreSteps}
+use Rattle.move_definitions.specs.Sessions.{Session, IsTableOf, begun, with_move, StepAnswer, done, illegal, undone, redone, nothing, IsSessionStep, AreSteps}
 use Rattle.text_document_definitions.specs.Documents.{steps_document}
 use Rattle.command_definitions.specs.declared.Request.TheVariants.{Play}
 use Rattle.outcome_definitions.specs.Outcomes.{Outcome}
@@ -23,7 +23,7 @@ record IsNext (s next : Session) : Type 0 where
 next_is : (s next after : Session) → next ≡ after → IsNext s after → IsNext s next
 next_is s next after e h = subst (IsNext s) (sym e) h
 
-one_step : (s : Session) (step : Step) (a : StepAnswer) (next : Session) → IsStep s step a next → IsNext s next
+one_step : (s : Session) (step : Step) (a : StepAnswer) (next : Session) → IsSessionStep s step a next → IsNext s next
 one_step s (play m) done next h = next_is s next (with_move s m) h.1 (record { first = refl; played = omega arith })
 one_step s (play m) (illegal fault) next h = next_is s next s h.1 (record { first = refl; played = omega arith })
 one_step s (play m) undone next h = absurd h
@@ -48,7 +48,7 @@ first_kept s (step ∷ steps) (a ∷ answers) last h = first_kept h.0 steps answ
 
 -- ---- undos
 
-undo_step : (s : Session) (a : StepAnswer) (next : Session) → IsStep s undo a next → next.played ≡ s.played - 1
+undo_step : (s : Session) (a : StepAnswer) (next : Session) → IsSessionStep s undo a next → next.played ≡ s.played - 1
 undo_step s undone next h = ap (λ (t : Session). t.played) h.1
 undo_step s nothing next h = let none : s.played ≡ 0 = h.0 in let same : next.played ≡ s.played = ap (λ (t : Session). t.played) h.1 in omega arith
 undo_step s done next h = absurd h

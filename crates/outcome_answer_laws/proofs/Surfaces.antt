@@ -19,7 +19,7 @@ use Rattle.surface_equation_laws.specs.Few.{most_tetrahedra}
 use Rattle.surface_equation_laws.proofs.Bounds.{not_past}
 use Rattle.surface_equation_laws.proofs.Few.{own}
 use Rattle.surface_equation_laws.proofs.Powers.{most as few_within}
-use Rattle.outcome_answer_laws.specs.Surfaces.{IsTableList, BoundedTablesAreListed, FewTablesAreListed}
+use Rattle.outcome_answer_laws.specs.Surfaces.{IsTableList, BoundedTablesAreListed, SmallTablesAreListed}
 use Rattle.outcome_answer_laws.proofs.Asked.{answer_to, answer_to_value}
 
 module _ (bytes : List ℕ) (coords : Coords) (order : Order) (rows : List Row) (spelled : table_document bytes ≡ Ok rows) where
@@ -42,6 +42,6 @@ bounded_tables_listed words bytes o coords order most rows h spelled room =
     list_of bytes coords order rows spelled most o room
     (answer_to_value (table_document bytes) rows (IsSurfacesAnswer coords order most) o spelled (answer_to (Surfaces coords order most) words bytes o h))
 
-pub few_tables_listed : FewTablesAreListed
+pub few_tables_listed : SmallTablesAreListed
 few_tables_listed words bytes o coords order rows h spelled few =
     bounded_tables_listed words bytes o coords order limit rows h spelled (few_are_within bytes coords order rows spelled few)

@@ -2,7 +2,7 @@
 use Rattle.std.specs.Prelude.{◌≡◌, ◌↔◌, ◌<◌, ℕ, List, length, slice_index}
 use Rattle.table_definitions.specs.Table.{Row}
 use Rattle.table_definitions.specs.Places.{IsConnected}
-use Rattle.table_definitions.specs.Relabelling.{Relabelling, IsRelabelled}
+use Rattle.table_definitions.specs.Relabelling.{Relabelling, AreIsomorphic}
 use Rattle.signature_definitions.specs.Spelling.{IsSignature}
 use Rattle.signature_definitions.specs.Labellings.{Relabels}
 use Rattle.signature_definitions.specs.Census.{table_in, signature_in, AreRelabelled}
@@ -22,9 +22,9 @@ SaysSame o = (by : Relabelling) × (o ≡ done (relabelling_text by))
 -- `same` is said exactly where a relabelling carries the one table to the other, and such a one is told; `different` exactly where
 -- none does
 pub record AreCompared (first second : List Row) (o : Outcome) : Type 0 where
-  pub same : SaysSame o ↔ IsRelabelled first second
-  pub different : (o ≡ different_outcome) ↔ (¬ IsRelabelled first second)
-  pub told : IsRelabelled first second → (by : Relabelling) × Relabels first second by × (o ≡ done (relabelling_text by))
+  pub same : SaysSame o ↔ AreIsomorphic first second
+  pub different : (o ≡ different_outcome) ↔ (¬ AreIsomorphic first second)
+  pub told : AreIsomorphic first second → (by : Relabelling) × Relabels first second by × (o ≡ done (relabelling_text by))
 
 -- both tables are connected exactly where the comparison is done
 pub record IsComparison (pair : List Row × List Row) (o : Outcome) : Type 0 where
@@ -43,7 +43,7 @@ pub record ComponentsMatch (first second : List Row) : Type 0 where
   pub back_in_range : (j : ℕ) → j < length others → back j < length parts
   pub to_and_back : (i : ℕ) → i < length parts → back (to i) ≡ i
   pub back_and_to : (j : ℕ) → j < length others → to (back j) ≡ j
-  pub relabelled : (i : ℕ) → i < length parts → IsRelabelled (part_at parts i).rows (part_at others (to i)).rows
+  pub relabelled : (i : ℕ) → i < length parts → AreIsomorphic (part_at parts i).rows (part_at others (to i)).rows
 
 -- tables that need not be connected are compared, and by their components
 pub record IsComponentComparison (pair : List Row × List Row) (o : Outcome) : Type 0 where

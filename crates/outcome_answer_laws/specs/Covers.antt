@@ -28,7 +28,7 @@ pub record IsOrientationCover (rows new : List Row) : Type 0 where
   pub exchanged : CarriesCover rows (exchange (length rows)) new
 
 -- the cover is told, and whether it is connected: over a connected table it is exactly where that isn't orientable
-pub record TellsCover (rows : List Row) (o : Outcome) : Type 0 where
+pub record IsCoverOutcome (rows : List Row) (o : Outcome) : Type 0 where
   pub is_cover : IsOrientationCover rows (cover rows)
   pub connected : Bool
   pub outcome : o ≡ done (cover_text rows connected)
@@ -38,7 +38,7 @@ pub record TellsCover (rows : List Row) (o : Outcome) : Type 0 where
 -- it is told, or refused exactly where it would have too many tetrahedra
 pub record IsCovering (rows : List Row) (o : Outcome) : Type 0 where
   pub too_many : (o ≡ large_cover_outcome) ↔ (max_tets < 2 * length rows)
-  pub told : 2 * length rows ≤ max_tets → TellsCover rows o
+  pub told : 2 * length rows ≤ max_tets → IsCoverOutcome rows o
 
 abbrev pub CoversAreAnswered : Type 0
 CoversAreAnswered = Means Cover table_document IsCovering

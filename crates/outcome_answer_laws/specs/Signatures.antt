@@ -2,7 +2,7 @@
 use Rattle.std.specs.Prelude.{◌≡◌, ◌↔◌, ℕ, List, Ok}
 use Rattle.table_definitions.specs.Table.{Row}
 use Rattle.table_definitions.specs.Places.{IsConnected}
-use Rattle.table_definitions.specs.Relabelling.{IsRelabelled}
+use Rattle.table_definitions.specs.Relabelling.{AreIsomorphic}
 use Rattle.text_document_definitions.specs.Documents.{table_document}
 use Rattle.command_definitions.specs.declared.Request.{Request}
 use Rattle.command_definitions.specs.declared.Request.TheVariants.{Sig, Csig}
@@ -19,7 +19,7 @@ pub record IsTableOutcome (request : Request) (rows : List Row) (o : Outcome) : 
 abbrev pub SignaturesTell : Type 0
 SignaturesTell =
     (first second : List Row) (o p : Outcome) → IsTableOutcome Sig first o → IsTableOutcome Sig second p → IsConnected first → IsConnected second
-    → (o ≡ p) ↔ IsRelabelled first second
+    → (o ≡ p) ↔ AreIsomorphic first second
 
 abbrev pub ComponentSignaturesTell : Type 0
-ComponentSignaturesTell = (first second : List Row) (o p : Outcome) → IsTableOutcome Csig first o → IsTableOutcome Csig second p → (o ≡ p) ↔ IsRelabelled first second
+ComponentSignaturesTell = (first second : List Row) (o p : Outcome) → IsTableOutcome Csig first o → IsTableOutcome Csig second p → (o ≡ p) ↔ AreIsomorphic first second

@@ -22,7 +22,7 @@ use Rattle.outcome_definitions.specs.declared.SumRefusal.TheVariants.{Unfit, Lar
 use Rattle.outcome_definitions.specs.declared.Status.TheVariants.{Done}
 use Rattle.outcome_definitions.specs.Outcomes.{Outcome}
 use Rattle.outcome_definitions.specs.Canonical.{done}
-use Rattle.outcome_definitions.specs.Enumerations.{IsPastAnswered}
+use Rattle.outcome_definitions.specs.Enumerations.{IsLargeAnswered}
 use Rattle.outcome_definitions.specs.Sums.{IsFirstRefused, sum_refusal_outcome, IsVerdict, IsSummed, AreFit, accepted_outcome, sums_text}
 use Rattle.surface_equation_laws.specs.Few.{most_tetrahedra}
 use Rattle.outcome_answer_laws.specs.Requests.{Means}
@@ -62,7 +62,7 @@ pub record IsFirstUnfitAnswered (coords : Coords) (rows : List Row) (equations :
 -- limit; or the first is told that isn't
 abbrev pub AreDecomposed : Coords → ℕ → List Row → List EquationRow → List (List ℕ) → Outcome → Type 0
 AreDecomposed coords most rows equations vectors o =
-    (All (IsFit coords rows equations) vectors × (AreSumsOfVertexSurfaces coords most rows equations vectors o ⊎ IsPastAnswered (table_enumeration coords Given most rows equations) o))
+    (All (IsFit coords rows equations) vectors × (AreSumsOfVertexSurfaces coords most rows equations vectors o ⊎ IsLargeAnswered (table_enumeration coords Given most rows equations) o))
     ⊎ IsFirstUnfitAnswered coords rows equations vectors o
 
 -- under the equations of the table; with few tetrahedra no number of the enumeration passes a limit that is at least the default
@@ -70,7 +70,7 @@ pub record IsDecomposition (coords : Coords) (most : ℕ) (d : List Row × List 
   pub equations : List EquationRow
   pub of_table : AreEquations coords d.0 equations
   pub decomposed : AreDecomposed coords most d.0 equations d.1 o
-  pub never_past : length d.0 ≤ most_tetrahedra coords → limit ≤ most → ¬ IsPastAnswered (table_enumeration coords Given most d.0 equations) o
+  pub never_past : length d.0 ≤ most_tetrahedra coords → limit ≤ most → ¬ IsLargeAnswered (table_enumeration coords Given most d.0 equations) o
 
 -- the vector and the terms are fit, and the vector, taken so many times, is the sum of the terms
 pub record IsTrueSum (coords : Coords) (rows : List Row) (equations : List EquationRow) (block : Block) : Type 0 where

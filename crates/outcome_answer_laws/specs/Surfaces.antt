@@ -31,7 +31,7 @@ BoundedTablesAreListed =
     → table_document bytes ≡ Ok rows → number_bound coords (length rows) ≤ most → IsTableList coords rows o
 
 -- and so at the default limit, where there are few tetrahedra
-abbrev pub FewTablesAreListed : Type 0
-FewTablesAreListed =
+abbrev pub SmallTablesAreListed : Type 0
+SmallTablesAreListed =
     (words : List (List ℕ)) (bytes : List ℕ) (o : Outcome) (coords : Coords) (order : Order) (rows : List Row) → IsOutcomeTo (Surfaces coords order limit) words bytes o
     → table_document bytes ≡ Ok rows → length rows ≤ most_tetrahedra coords → IsTableList coords rows o

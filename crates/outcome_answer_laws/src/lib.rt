@@ -2,7 +2,7 @@
 //! sums, covers and scripts of moves, each over the one outcome of words and bytes.
 #![tactic(auto)]
 
-ghost use Rattle.outcome_answer_laws.specs.Surfaces.{BoundedTablesAreListed, FewTablesAreListed};
+ghost use Rattle.outcome_answer_laws.specs.Surfaces.{BoundedTablesAreListed, SmallTablesAreListed};
 ghost use Rattle.outcome_answer_laws.specs.Lifts.{NoneWithoutLift, SolutionsAreLifted};
 ghost use Rattle.outcome_answer_laws.specs.Makings.{AllMovesAreMade, AllMovesAreSummedUp};
 ghost use Rattle.outcome_answer_laws.specs.Checks.{CertificatesAreAccepted, CertificatesAreDone};
@@ -17,7 +17,7 @@ ghost use Rattle.outcome_answer_laws.specs.Scripts.{ScriptsArePlayed};
 /// standard coordinates, and up to 29 in quad and octagon coordinates.
 pub fn few_tables_are_listed()
     ensures bounded { BoundedTablesAreListed }
-    ensures few { FewTablesAreListed }
+    ensures few { SmallTablesAreListed }
 {}
 
 /// Theorem (Tollefson 1998): if each vertex link is a sphere or a disc, `lift` refuses no vector with `no-lift`. It

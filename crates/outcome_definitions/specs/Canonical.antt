@@ -3,7 +3,7 @@ use Rattle.std.specs.Prelude.{◌≡◌, ℕ, ◌<◌, ◌⊎◌, List, ◌++◌
 use Rattle.table_definitions.specs.Permutation.{digits_of}
 use Rattle.table_definitions.specs.Table.{Gluing, Row}
 use Rattle.table_definitions.specs.Places.{IsConnected, IsLeastUnreached}
-use Rattle.table_definitions.specs.Relabelling.{Relabelling, IsRelabelled, stand_in}
+use Rattle.table_definitions.specs.Relabelling.{Relabelling, AreIsomorphic, relabelled_place}
 use Rattle.signature_definitions.specs.Spelling.{IsSignature}
 use Rattle.signature_definitions.specs.Labellings.{IsLeastRelabelling}
 use Rattle.signature_definitions.specs.Census.{table_in, signature_in, IsCensus}
@@ -42,7 +42,7 @@ abbrev pub image_line : ℕ → Gluing → List ℕ
 image_line tet s = line (decimal tet ++ codes " " ++ decimal s.tet ++ codes " " ++ digits_of s.perm)
 
 abbrev pub relabelling_text : Relabelling → List ℕ
-relabelling_text by = line (codes "same") ++ classes_text (λ tet. image_line tet (stand_in by tet)) (length by.images)
+relabelling_text by = line (codes "same") ++ classes_text (λ tet. image_line tet (relabelled_place by tet)) (length by.images)
 
 unfoldable pub different_text : List ℕ
 different_text = line (codes "different")
@@ -53,7 +53,7 @@ different_outcome = done different_text
 -- the answer is the least relabelling that carries the first table to the second, or that there is none
 abbrev pub IsCompared : List Row → List Row → Outcome → Type 0
 IsCompared first second o = ((by : Relabelling) × IsLeastRelabelling first second by × (o ≡ done (relabelling_text by)))
-    ⊎ ((IsRelabelled first second → ⊥) × (o ≡ different_outcome))
+    ⊎ ((AreIsomorphic first second → ⊥) × (o ≡ different_outcome))
 
 -- the answer of `same` to two tables: the first, and then the second, is to be connected
 abbrev pub IsSameAnswer : List Row × List Row → Outcome → Type 0

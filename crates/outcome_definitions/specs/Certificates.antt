@@ -37,8 +37,8 @@ unfoldable pub moves_text : List Move → List ℕ
 moves_text moves = flat_map move_text moves
 
 -- a table, followed by a line for each move
-abbrev pub moves_behind : List Row → List Move → List ℕ
-moves_behind rows moves = table_text rows ++ moves_text moves
+abbrev pub table_then_moves : List Row → List Move → List ℕ
+table_then_moves rows moves = table_text rows ++ moves_text moves
 
 -- whether a descent reached the standard sphere, and its number of moves
 abbrev pub descent_word : Bool → List ℕ

@@ -39,12 +39,12 @@ large_outcome taken kind = record {
 }
 
 -- the answer names the first step of an enumeration of which a number exceeds the limit
-abbrev pub IsPastAnswered : Enumeration → Outcome → Type 0
-IsPastAnswered e o = (taken : List ℕ) × (kind : Named) × IsPastLimit e taken kind × (o ≡ large_outcome taken kind)
+abbrev pub IsLargeAnswered : Enumeration → Outcome → Type 0
+IsLargeAnswered e o = (taken : List ℕ) × (kind : Named) × IsPastLimit e taken kind × (o ≡ large_outcome taken kind)
 
 -- the answer of an enumeration whose vectors go by this name
 abbrev pub IsEnumerationAnswer : List ℕ → Enumeration → Outcome → Type 0
-IsEnumerationAnswer name e o = ((taken : List ℕ) × (list : List (List ℕ)) × IsListed e taken list × (o ≡ list_outcome name list)) ⊎ IsPastAnswered e o
+IsEnumerationAnswer name e o = ((taken : List ℕ) × (list : List (List ℕ)) × IsListed e taken list × (o ≡ list_outcome name list)) ⊎ IsLargeAnswered e o
 
 -- the rays of a cone in text
 abbrev pub ray_enumeration : Order → ℕ → ConeText → Enumeration

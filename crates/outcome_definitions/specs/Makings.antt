@@ -16,12 +16,12 @@ use Rattle.certificate_definitions.specs.Makings.{IsMade}
 use Rattle.outcome_definitions.specs.declared.Status.TheVariants.{Done}
 use Rattle.outcome_definitions.specs.Lines.{number_line}
 use Rattle.outcome_definitions.specs.Outcomes.{Outcome}
-use Rattle.outcome_definitions.specs.Enumerations.{AreUpTo, IsPastAnswered}
-use Rattle.outcome_definitions.specs.Certificates.{moves_behind}
+use Rattle.outcome_definitions.specs.Enumerations.{AreUpTo, IsLargeAnswered}
+use Rattle.outcome_definitions.specs.Certificates.{table_then_moves}
 
 -- the table, followed by the moves of its certificate
 abbrev pub make_outcome : List Row → List Move → Outcome
-make_outcome table certificate = record { status = Done; text = moves_behind table certificate }
+make_outcome table certificate = record { status = Done; text = table_then_moves table certificate }
 
 -- the answer of `make` to a seed and a number of moves
 pub record IsMakeAnswer (seed moves : ℕ) (o : Outcome) : Type 0 where
@@ -64,7 +64,7 @@ pub record AreSummedUp (n : Numbers) (e : Enumeration) (o : Outcome) : Type 0 wh
 pub record IsSummary (n : Numbers) (table : List Row) (o : Outcome) : Type 0 where
   pub equations : List EquationRow
   pub of_table : AreEquations Standard table equations
-  pub told : AreSummedUp n (table_enumeration Standard Given limit table equations) o ⊎ IsPastAnswered (table_enumeration Standard Given limit table equations) o
+  pub told : AreSummedUp n (table_enumeration Standard Given limit table equations) o ⊎ IsLargeAnswered (table_enumeration Standard Given limit table equations) o
 
 -- the answer of `bulk` to a seed and a number of moves: a table is made, its certificate is one, and its surfaces are summed up
 pub record IsBulkAnswer (seed moves : ℕ) (o : Outcome) : Type 0 where

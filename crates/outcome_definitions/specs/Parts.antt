@@ -1,7 +1,7 @@
 -- What `csig` and `csame` are to answer: the component signature of a table, and the relabelling that is answered of two tables.
 use Rattle.std.specs.Prelude.{◌≡◌, ◌⊎◌, ℕ, List}
 use Rattle.table_definitions.specs.Table.{Row}
-use Rattle.table_definitions.specs.Relabelling.{Relabelling, IsRelabelled}
+use Rattle.table_definitions.specs.Relabelling.{Relabelling, AreIsomorphic}
 use Rattle.component_definitions.specs.ComponentSignature.{IsComponentSignature}
 use Rattle.component_definitions.specs.SameParts.{IsSameParts}
 use Rattle.text_definitions.specs.Written.{line}
@@ -22,4 +22,4 @@ pub record AreSameParts (first second : List Row) (o : Outcome) : Type 0 where
 
 -- the answer of `csame` to two tables: such a relabelling, or that none carries the first to the second
 abbrev pub IsSamePartsAnswer : List Row × List Row → Outcome → Type 0
-IsSamePartsAnswer pair o = AreSameParts pair.0 pair.1 o ⊎ ((IsRelabelled pair.0 pair.1 → ⊥) × (o ≡ different_outcome))
+IsSamePartsAnswer pair o = AreSameParts pair.0 pair.1 o ⊎ ((AreIsomorphic pair.0 pair.1 → ⊥) × (o ≡ different_outcome))

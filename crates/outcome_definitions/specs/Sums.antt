@@ -14,7 +14,7 @@ use Rattle.surface_definitions.specs.QuadEquations.{AreEquations}
 use Rattle.surface_definitions.specs.TableSurfaces.{table_enumeration}
 use Rattle.surface_definitions.specs.Verdict.{Verdict, verdict_text}
 use Rattle.surface_vector_definitions.specs.Answers.{verdict_in, IsFit, IsUnfit}
-use Rattle.sum_definitions.specs.Sums.{Term, IsSum, IsLargeTurn}
+use Rattle.sum_definitions.specs.Sums.{Term, IsSum, IsLargeStep}
 use Rattle.sum_definitions.specs.declared.LargeTurn.{LargeTurn}
 use Rattle.sum_definitions.specs.Adding.{add_fault}
 use Rattle.sum_definitions.specs.declared.AddFault.TheVariants.{ZeroTimes, Large, NotEqual}
@@ -25,7 +25,7 @@ use Rattle.outcome_definitions.specs.declared.Status.{Status}
 use Rattle.outcome_definitions.specs.declared.Status.TheVariants as statuses
 use Rattle.outcome_definitions.specs.Lines.{accepted_text}
 use Rattle.outcome_definitions.specs.Outcomes.{Outcome}
-use Rattle.outcome_definitions.specs.Enumerations.{IsPastAnswered}
+use Rattle.outcome_definitions.specs.Enumerations.{IsLargeAnswered}
 
 -- the item of this number is the first of a list that fails
 pub record IsFirst {A : Type 0} (Passes Fails : A → Type 0) (list : List A) (number : ℕ) : Type 0 where
@@ -84,7 +84,7 @@ IsVerdict coords rows equations x checked = verdict_in coords rows equations x �
 -- the sum of a vector, or the first step at which a multiple of an entry exceeds the limit, and the first such column
 abbrev pub IsSummed : ℕ → List (List ℕ) → List ℕ → Result Block LargeTurn → Type 0
 IsSummed most list x (Ok block) = (block.vector ≡ x) × IsSum most list x block.times block.terms
-IsSummed most list x (Err large) = IsLargeTurn most list x large.turn large.column
+IsSummed most list x (Err large) = IsLargeStep most list x large.turn large.column
 
 -- a table, followed by blocks
 abbrev pub sums_text : List Row → List Block → List ℕ
@@ -107,7 +107,7 @@ pub record AreSums (most : ℕ) (e : Enumeration) (rows : List Row) (vectors : L
 -- vectors that pass the check are answered as sums of the vertex surfaces, unless a number of the enumeration exceeds
 -- the limit
 abbrev pub IsDecomposed : ℕ → Enumeration → List Row → List (List ℕ) → Result (List (Unit {0})) (ℕ × VectorFault) → Outcome → Type 0
-IsDecomposed most e rows vectors (Ok passed) o = AreSums most e rows vectors o ⊎ IsPastAnswered e o
+IsDecomposed most e rows vectors (Ok passed) o = AreSums most e rows vectors o ⊎ IsLargeAnswered e o
 IsDecomposed most e rows vectors (Err unfit) o = o ≡ sum_refusal_outcome unfit.0 (Unfit unfit.1)
 
 -- the answer of `decompose` to a table and vectors: the check of each vector comes first

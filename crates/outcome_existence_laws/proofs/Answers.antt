@@ -1,7 +1,7 @@
 -- There is an answer to each table and to each two.
 use Rattle.std.proofs.Common.{List, ◌⊎◌, inl, inr, refl}
 use Rattle.table_definitions.specs.Table.{Row, IsTable}
-use Rattle.table_definitions.specs.Relabelling.{IsRelabelled}
+use Rattle.table_definitions.specs.Relabelling.{AreIsomorphic}
 use Rattle.component_laws.proofs.Signatures.{component_signatures_tell}
 use Rattle.outcome_definitions.specs.Outcomes.{Outcome}
 use Rattle.outcome_definitions.specs.Canonical.{done, relabelling_text, different_outcome}
@@ -11,7 +11,7 @@ use Rattle.outcome_existence_laws.proofs.LeastExists.{same_or_not}
 use Rattle.outcome_existence_laws.proofs.Ordering.{some_component_signature}
 use Rattle.outcome_existence_laws.proofs.PartRelabellings.{some_same_parts}
 
-pub relabelled_or_not : (first second : List Row) → IsTable first → IsTable second → IsRelabelled first second ⊎ (IsRelabelled first second → ⊥)
+pub relabelled_or_not : (first second : List Row) → IsTable first → IsTable second → AreIsomorphic first second ⊎ (AreIsomorphic first second → ⊥)
 relabelled_or_not first second tf ts =
     let a = some_component_signature first tf in
     let b = some_component_signature second ts in

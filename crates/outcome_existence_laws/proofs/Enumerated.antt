@@ -2,7 +2,7 @@
 use Rattle.std.proofs.Common.{◌≢◌, ℕ, List, length, inl, inr, refl}
 use Rattle.std.specs.Prelude.{codes}
 use Rattle.std.proofs.lemmas.List.Elements.{All-nil}
-use Rattle.cone_definitions.specs.Surfaces.{PairsAreApart}
+use Rattle.cone_definitions.specs.Surfaces.{PairsAreOfTwoColumns}
 use Rattle.cone_definitions.specs.Listings.{Enumeration}
 use Rattle.cone_definitions.specs.declared.Order.{Order}
 use Rattle.cone_text_definitions.specs.ConeText.{Cone}
@@ -16,7 +16,7 @@ use Rattle.outcome_definitions.specs.Outcomes.{Outcome}
 use Rattle.outcome_definitions.specs.Enumerations.{list_outcome, large_outcome, IsEnumerationAnswer, ray_enumeration, IsSurfacesAnswer}
 use Rattle.outcome_definitions.specs.Answers.{verify_outcome, IsVerdictsAnswer}
 
-some_enumeration : (name : List ℕ) (e : Enumeration) → PairsAreApart e.pairs → (o : Outcome) × IsEnumerationAnswer name e o
+some_enumeration : (name : List ℕ) (e : Enumeration) → PairsAreOfTwoColumns e.pairs → (o : Outcome) × IsEnumerationAnswer name e o
 some_enumeration name e apart = elim (enumeration_ends e apart) [
   | inl h ↦ (list_outcome name h.1, inl (h.0, h.1, h.2, refl))
   | inr h ↦ (large_outcome h.0 h.1, inr (h.0, h.1, h.2, refl))

@@ -7,7 +7,7 @@ use Rattle.table_definitions.specs.Lists.{is_list_before}
 use Rattle.table_definitions.specs.Permutation.{index, words}
 use Rattle.table_definitions.specs.Table.{Row, IsTable}
 use Rattle.table_definitions.specs.Places.{IsConnected}
-use Rattle.table_definitions.specs.Relabelling.{Relabelling, IsRelabelling, IsRelabelled, stand_in}
+use Rattle.table_definitions.specs.Relabelling.{Relabelling, IsRelabelling, AreIsomorphic, relabelled_place}
 use Rattle.table_definitions.proofs.Carried.{length-images, carried_is_table}
 use Rattle.table_definitions.proofs.Permutations.{words_permute, inverse_permutes}
 use Rattle.table_definitions.proofs.ListLaws.{not_before_itself}
@@ -71,7 +71,7 @@ module _ (second target : List Row) (ts : IsTable second) (cs : IsConnected seco
   ]
 
 -- where there are no tetrahedra nothing stands for the first
-no_stand : (by : Relabelling) → IsRelabelling 0 by → stand_in by 0 ≡ record { tet = 0; perm = [] }
+no_stand : (by : Relabelling) → IsRelabelling 0 by → relabelled_place by 0 ≡ record { tet = 0; perm = [] }
 no_stand by h = (λ j. record { tet = image by.images (length-images 0 by h) j; perm = perm by.perms h.perms j })
   where
     image : (xs : List ℕ) → length xs ≡ 0 → slice_index xs 0 ≡ 0
@@ -82,7 +82,7 @@ no_stand by h = (λ j. record { tet = image by.images (length-images 0 by h) j; 
     perm [] e = refl
     perm (x ∷ xs) e = absurd (omega (arith, e))
 
-module _ (first second : List Row) (tf : IsTable first) (ts : IsTable second) (cf : IsConnected first) (cs : IsConnected second) (r : IsRelabelled first second) where
+module _ (first second : List Row) (tf : IsTable first) (ts : IsTable second) (cf : IsConnected first) (cs : IsConnected second) (r : AreIsomorphic first second) where
   equal : length first ≡ length second
   equal = sym r.2.same_length
 
@@ -94,7 +94,7 @@ module _ (first second : List Row) (tf : IsTable first) (ts : IsTable second) (c
         | inr f ↦ (between (length first) w.0 f.2.0, first_match_is_least first second w.1 w.0 tf ts some equal w.2 f.2.0 (record { found = (f.0, f.1, f.2.1, f.3) }))
       ]
 
-  none_before : (other : Relabelling) → Relabels first second other → length first ≡ 0 → is_stand_in_before (stand_in other 0) (stand_in r.0 0) ≡ false
+  none_before : (other : Relabelling) → Relabels first second other → length first ≡ 0 → is_stand_in_before (relabelled_place other 0) (relabelled_place r.0 0) ≡ false
   unfolding index
   none_before other o none = ap₂ is_stand_in_before (no_stand other (subst (λ n. IsRelabelling n other) none o.0)) (no_stand r.0 (subst (λ n. IsRelabelling n r.0) none r.1))
 

@@ -4,7 +4,7 @@ use Rattle.std.proofs.lemmas.Bool.{cases_lt}
 use Rattle.std.proofs.lemmas.List.FromFn.{length-map-range_with_len}
 use Rattle.plain_facts.proofs.Members.{contains_at}
 use Rattle.table_definitions.specs.Table.{Gluing, Row, IsTable}
-use Rattle.table_definitions.specs.Relabelling.{Relabelling, IsRelabelled}
+use Rattle.table_definitions.specs.Relabelling.{Relabelling, AreIsomorphic}
 use Rattle.signature_definitions.specs.Labellings.{IsLeastRelabelling}
 use Rattle.signature_laws.specs.Between.{made}
 use Rattle.signature_laws.proofs.Standing.{made_stands}
@@ -24,7 +24,7 @@ use Rattle.component_laws.proofs.DraftLemmas.{is_same_parts}
 use Rattle.outcome_existence_laws.proofs.LeastExists.{least_exists}
 use Rattle.outcome_existence_laws.proofs.Ordering.{in_order}
 
-same_texts : (first second : List Row) (P Q : List Part) (E F : List Entry) → IsTable first → IsTable second → AreParts first P → AreParts second Q → AreInOrder P E → AreInOrder Q F → IsRelabelled first second → texts_of E ≡ texts_of F
+same_texts : (first second : List Row) (P Q : List Part) (E F : List Entry) → IsTable first → IsTable second → AreParts first P → AreParts second Q → AreInOrder P E → AreInOrder Q F → AreIsomorphic first second → texts_of E ≡ texts_of F
 same_texts first second P Q E F tf ts p q o o' r =
     let a = signed first P E tf p o in
     let b = signed second Q F ts q o' in
@@ -139,7 +139,7 @@ module _ (n : ℕ) (P : List Part) (E : List Entry) (Q : List Part) (F : List En
   unfolding by
   same_parts_told = (made n stands, is_same_parts n P E Q F m (made n stands) long_images long_perms written)
 
-pub some_same_parts : (first second : List Row) → IsTable first → IsTable second → IsRelabelled first second → (by : Relabelling) × IsSameParts first second by
+pub some_same_parts : (first second : List Row) → IsTable first → IsTable second → AreIsomorphic first second → (by : Relabelling) × IsSameParts first second by
 some_same_parts first second tf ts r =
     let o = in_order first tf in
     let q = in_order second ts in

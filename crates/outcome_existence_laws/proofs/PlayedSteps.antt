@@ -7,7 +7,7 @@ use Rattle.table_definitions.specs.Table.{Row, IsTable}
 use Rattle.move_definitions.specs.declared.MoveFault.{MoveFault}
 use Rattle.move_definitions.specs.Moves.{Move, play_fault, IsCore, PlaysAll}
 use Rattle.move_definitions.specs.MoveText.{Step, play, undo, redo}
-use Rattle.move_definitions.specs.Sessions.{Session, IsTableOf, begun, with_move, one_less, one_more, StepAnswer, done, illegal, undone, redone, nothing, IsStep, AreSteps}
+use Rattle.move_definitions.specs.Sessions.{Session, IsTableOf, begun, with_move, one_less, one_more, StepAnswer, done, illegal, undone, redone, nothing, IsSessionStep, AreSteps}
 use Rattle.certificate_laws.proofs.Made.{accepted_leads}
 use Rattle.move_laws.proofs.Played.{all_led_table, played_on}
 use Rattle.outcome_definitions.specs.Outcomes.{Outcome}
@@ -31,7 +31,7 @@ table_of : (s : Session) → IsSound s → (table : List Row) × IsTableOf s tab
 table_of s h = let b = played_before s.first s.moves h.led.0 s.played h.led.1 in (b.0, record { in_range = h.in_range; reached = b.1; others = h.led })
 
 abbrev Answered : Session → Step → Type 0
-Answered s step = (answer : StepAnswer) × (next : Session) × IsStep s step answer next × IsSound next
+Answered s step = (answer : StepAnswer) × (next : Session) × IsSessionStep s step answer next × IsSound next
 
 play_step : (s : Session) (m : Move) → IsSound s → IsCore m.core → Answered s (play m)
 play_step s m h core = by_fault (play_fault t.0 m) refl

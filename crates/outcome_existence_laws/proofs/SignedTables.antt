@@ -7,7 +7,7 @@ use Rattle.std.proofs.lemmas.List.Elements.{All-from_recursion}
 use Rattle.cone_definitions.proofs.Below.{all_or_one, all_or_first}
 use Rattle.table_definitions.specs.Table.{Row, IsTable}
 use Rattle.table_definitions.specs.Places.{IsConnected, IsLeastUnreached}
-use Rattle.signature_definitions.specs.Census.{table_in, signature_in, IsCensus, IsPlaced}
+use Rattle.signature_definitions.specs.Census.{table_in, signature_in, IsCensus, IsClassed}
 use Rattle.signature_definitions.proofs.CensusLaws.{census_goes_on, empty_census}
 use Rattle.signature_laws.proofs.Uniqueness.{tells_tables}
 use Rattle.signature_laws.proofs.Connected.{connected_or_unreached_lem}
@@ -37,7 +37,7 @@ some_same pair tf ts = elim (connected_or_unreached_lem pair.0 tf) [
 ]
 
 -- a text has a place among signatures, or is put behind them
-placed : (before : List (List ℕ)) (text : List ℕ) → (class : ℕ) × (now : List (List ℕ)) × IsPlaced before text class now
+placed : (before : List (List ℕ)) (text : List ℕ) → (class : ℕ) × (now : List (List ℕ)) × IsClassed before text class now
 placed before text = elim (all_or_one (λ c. signature_in before c ≢ text) (λ c. signature_in before c ≡ text) decide (length before)) [
   | inl nowhere ↦ (length before, before ++ text ∷ [], inr (record { last = refl; nowhere = nowhere; appended = refl }))
   | inr found ↦ (found.0, before, inl (record { in_range = found.1; found = found.2; kept = refl }))

@@ -5,7 +5,7 @@ use Rattle.std.proofs.lemmas.Bool.{cases_lt}
 use Rattle.std.proofs.lemmas.List.Elements.{All-nil, All-cons, All-head, All-tail}
 use Rattle.text_definitions.specs.Written.{limit}
 use Rattle.cone_definitions.specs.Listings.{Enumeration}
-use Rattle.cone_definitions.specs.Surfaces.{PairsAreApart}
+use Rattle.cone_definitions.specs.Surfaces.{PairsAreOfTwoColumns}
 use Rattle.cone_definitions.specs.declared.Order.TheVariants.{Given}
 use Rattle.table_definitions.specs.Table.{Row, IsTable}
 use Rattle.surface_definitions.specs.declared.Coords.TheVariants.{Standard}
@@ -14,7 +14,7 @@ use Rattle.certificate_laws.proofs.Made.{tables_are_made_lem, made_are_certified
 use Rattle.cone_laws.proofs.Ended.{enumeration_ends}
 use Rattle.skeleton_laws.proofs.Equated.{some_equations}
 use Rattle.outcome_definitions.specs.Outcomes.{Outcome}
-use Rattle.outcome_definitions.specs.Enumerations.{AreUpTo, IsPastAnswered, large_outcome}
+use Rattle.outcome_definitions.specs.Enumerations.{AreUpTo, IsLargeAnswered, large_outcome}
 use Rattle.outcome_definitions.specs.Makings.{IsGreatestEntry, Numbers, summary_outcome, AreSummedUp, IsSummary, IsBulkAnswer}
 use Rattle.surface_coordinate_laws.proofs.ClashPairs.{clashes_apart}
 
@@ -73,7 +73,7 @@ some_greatest (x ∷ list) =
       )
     ]
 
-summed_up : (n : Numbers) (e : Enumeration) → PairsAreApart e.pairs → (o : Outcome) × (AreSummedUp n e o ⊎ IsPastAnswered e o)
+summed_up : (n : Numbers) (e : Enumeration) → PairsAreOfTwoColumns e.pairs → (o : Outcome) × (AreSummedUp n e o ⊎ IsLargeAnswered e o)
 summed_up n e apart = elim (enumeration_ends e apart) [
   | inl l ↦
       let g = some_greatest l.1 in

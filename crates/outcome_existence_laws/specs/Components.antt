@@ -2,7 +2,7 @@
 use Rattle.std.specs.Prelude.{◌⊎◌, ℕ, List}
 use Rattle.table_definitions.specs.Table.{Row, IsTable}
 use Rattle.table_definitions.specs.Places.{IsConnected}
-use Rattle.table_definitions.specs.Relabelling.{Relabelling, IsRelabelled}
+use Rattle.table_definitions.specs.Relabelling.{Relabelling, AreIsomorphic}
 use Rattle.signature_definitions.specs.Labellings.{IsLeastRelabelling}
 use Rattle.component_definitions.specs.ComponentSignature.{IsComponentSignature}
 use Rattle.component_definitions.specs.SameParts.{IsSameParts}
@@ -14,13 +14,13 @@ SomeComponentSignature = (rows : List Row) → IsTable rows → (text : List ℕ
 -- of two connected tables, of which one can be relabelled to the other, a relabelling is answered
 abbrev pub SomeLeastRelabelling : Type 0
 SomeLeastRelabelling =
-    (first second : List Row) → IsTable first → IsTable second → IsConnected first → IsConnected second → IsRelabelled first second
+    (first second : List Row) → IsTable first → IsTable second → IsConnected first → IsConnected second → AreIsomorphic first second
     → (by : Relabelling) × IsLeastRelabelling first second by
 
 -- of two tables, of which one can be relabelled to the other, a relabelling is answered part by part
 abbrev pub SomeSameParts : Type 0
-SomeSameParts = (first second : List Row) → IsTable first → IsTable second → IsRelabelled first second → (by : Relabelling) × IsSameParts first second by
+SomeSameParts = (first second : List Row) → IsTable first → IsTable second → AreIsomorphic first second → (by : Relabelling) × IsSameParts first second by
 
 -- two tables can be relabelled to each other or not
 abbrev pub RelabelledOrNot : Type 0
-RelabelledOrNot = (first second : List Row) → IsTable first → IsTable second → IsRelabelled first second ⊎ (IsRelabelled first second → ⊥)
+RelabelledOrNot = (first second : List Row) → IsTable first → IsTable second → AreIsomorphic first second ⊎ (AreIsomorphic first second → ⊥)

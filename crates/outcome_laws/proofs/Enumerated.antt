@@ -6,13 +6,13 @@ use Rattle.cone_definitions.specs.declared.Order.TheVariants.{Free}
 use Rattle.cone_definitions.proofs.Next.{one_surface_list_lem}
 use Rattle.cone_definitions.proofs.PastLimit.{one_past, none_past}
 use Rattle.outcome_definitions.specs.Outcomes.{Outcome}
-use Rattle.outcome_definitions.specs.Enumerations.{IsPastAnswered, IsEnumerationAnswer, list_outcome, large_outcome}
+use Rattle.outcome_definitions.specs.Enumerations.{IsLargeAnswered, IsEnumerationAnswer, list_outcome, large_outcome}
 
 one_list : (e : Enumeration) (taken others : List ℕ) (list other : List (List ℕ)) → IsListed e taken list → IsListed e others other → list ≡ other
 one_list e taken others list other h g =
     one_surface_list_lem e.system.columns e.system.rows e.system.rows e.pairs list other (IsPermutation-refl e.system.rows) h.surfaces g.surfaces
 
-pub one_past_told : (e : Enumeration) (o p : Outcome) → e.order ≢ Free → IsPastAnswered e o → IsPastAnswered e p → o ≡ p
+pub one_past_told : (e : Enumeration) (o p : Outcome) → e.order ≢ Free → IsLargeAnswered e o → IsLargeAnswered e p → o ≡ p
 one_past_told e o p some h g = (let both = one_past e h.0 g.0 h.1 g.1 some h.2 g.2 in h.3 ∙ ap₂ large_outcome both.0 both.1 ∙ sym g.3)
 
 pub one_enumeration : (name : List ℕ) (e : Enumeration) (o p : Outcome) → e.order ≢ Free → IsEnumerationAnswer name e o → IsEnumerationAnswer name e p → o ≡ p

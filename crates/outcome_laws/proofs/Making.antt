@@ -14,7 +14,7 @@ use Rattle.surface_definitions.specs.TableSurfaces.{table_enumeration}
 use Rattle.move_definitions.specs.Moves.{Move}
 use Rattle.certificate_laws.proofs.Made.{tables_are_made_lem, one_is_made_lem}
 use Rattle.outcome_definitions.specs.Outcomes.{Outcome}
-use Rattle.outcome_definitions.specs.Enumerations.{IsPastAnswered}
+use Rattle.outcome_definitions.specs.Enumerations.{IsLargeAnswered}
 use Rattle.outcome_definitions.specs.Makings.{make_outcome, IsMakeAnswer, IsGreatestEntry, Numbers, summary_outcome, AreSummedUp, IsSummary, IsBulkAnswer}
 use Rattle.surface_definitions.proofs.OneSystem.{one_equations}
 use Rattle.outcome_laws.proofs.Enumerated.{one_past_told}
@@ -38,7 +38,7 @@ one_greatest list a b h k = le_antisymm (h.least b k.up_to) (k.least a h.up_to)
 given_named : (e : Enumeration) → e.order ≡ Given → e.order ≢ Free
 given_named e g f = cc
 
-one_told : (n : Numbers) (e : Enumeration) (o p : Outcome) → e.order ≢ Free → AreSummedUp n e o ⊎ IsPastAnswered e o → AreSummedUp n e p ⊎ IsPastAnswered e p → o ≡ p
+one_told : (n : Numbers) (e : Enumeration) (o p : Outcome) → e.order ≢ Free → AreSummedUp n e o ⊎ IsLargeAnswered e o → AreSummedUp n e p ⊎ IsLargeAnswered e p → o ≡ p
 one_told n e o p some (inl h) (inl k) =
     let list : h.list ≡ k.list = one_surface_list_lem e.system.columns e.system.rows e.system.rows e.pairs h.list k.list (IsPermutation-refl e.system.rows) h.listed.surfaces k.listed.surfaces in
     let greatest : h.greatest ≡ k.greatest = one_greatest k.list h.greatest k.greatest (subst (λ (xs : List (List ℕ)). IsGreatestEntry xs h.greatest) list h.is_greatest) k.is_greatest in
@@ -50,7 +50,7 @@ one_told n e o p some (inr h) (inr k) = one_past_told e o p some h k
 pub one_summary : (n : Numbers) (table : List Row) (o p : Outcome) → IsSummary n table o → IsSummary n table p → o ≡ p
 one_summary n table o p h k =
     let e : h.equations ≡ k.equations = one_equations Standard table h.equations k.equations h.of_table k.of_table in
-    let there = subst (λ (q : List EquationRow). AreSummedUp n (table_enumeration Standard Given limit table q) p ⊎ IsPastAnswered (table_enumeration Standard Given limit table q) p) (sym e) k.told in
+    let there = subst (λ (q : List EquationRow). AreSummedUp n (table_enumeration Standard Given limit table q) p ⊎ IsLargeAnswered (table_enumeration Standard Given limit table q) p) (sym e) k.told in
     one_told n (table_enumeration Standard Given limit table h.equations) o p (given_named (table_enumeration Standard Given limit table h.equations) refl) h.told there
 
 pub one_bulk : (seed moves : ℕ) (o p : Outcome) → IsBulkAnswer seed moves o → IsBulkAnswer seed moves p → o ≡ p

@@ -4,7 +4,7 @@ use Rattle.table_definitions.specs.Table.{Row}
 use Rattle.move_definitions.specs.declared.MoveFault.{MoveFault}
 use Rattle.move_definitions.specs.Moves.{Move, play_fault}
 use Rattle.move_definitions.specs.MoveText.{Step, play, undo, redo}
-use Rattle.move_definitions.specs.Sessions.{Session, IsTableOf, begun, IsRefused, IsAccepted, StepAnswer, done, illegal, undone, redone, nothing, IsStep, AreSteps}
+use Rattle.move_definitions.specs.Sessions.{Session, IsTableOf, begun, IsRefused, IsAccepted, StepAnswer, done, illegal, undone, redone, nothing, IsSessionStep, AreSteps}
 use Rattle.outcome_definitions.specs.Outcomes.{Outcome}
 use Rattle.outcome_definitions.specs.Scripts.{script_outcome, IsScriptAnswer}
 use Rattle.move_laws.proofs.Played.{all_played_same}
@@ -22,7 +22,7 @@ not_both s m f h k =
     let same : None ≡ Some f = sym h.2 ∙ ap (λ (t : List Row). play_fault t m) (one_table s h.0 k.0 h.1 k.1) ∙ k.2 in cc
 
 -- a step has one answer, and leads to one session
-one_step : (s : Session) (step : Step) (a b : StepAnswer) (n m : Session) → IsStep s step a n → IsStep s step b m → (a ≡ b) × (n ≡ m)
+one_step : (s : Session) (step : Step) (a b : StepAnswer) (n m : Session) → IsSessionStep s step a n → IsSessionStep s step b m → (a ≡ b) × (n ≡ m)
 one_step s (play move) done done n m h k = (cc, h.1 ∙ sym k.1)
 one_step s (play move) done (illegal f) n m h k = absurd (not_both s move f h.0 k.0)
 one_step s (play move) done undone n m h k = absurd k

@@ -11,7 +11,7 @@ use Rattle.text_document_definitions.specs.Documents.{moves_document}
 use Rattle.outcome_definitions.specs.Outcomes.{Outcome, IsReadOutcome}
 use Rattle.outcome_definitions.specs.Canonical.{done}
 use Rattle.outcome_definitions.specs.Lines.{accepted_text}
-use Rattle.outcome_definitions.specs.Certificates.{check_outcome, moves_behind, IsCheckAnswer}
+use Rattle.outcome_definitions.specs.Certificates.{check_outcome, table_then_moves, IsCheckAnswer}
 use Rattle.outcome_definitions.specs.declared.Status.TheVariants.{Done, Refused}
 use Rattle.certificate_definitions.specs.declared.CheckFault.{CheckFault}
 use Rattle.certificate_definitions.specs.Answers.{CheckAnswer, IsChecked}
@@ -45,7 +45,7 @@ read_as rows moves o document table c e =
     )
 
 pub certificates_accepted : CertificatesAreAccepted
-certificates_accepted rows moves table c o = read_as rows moves o (moves_document (moves_behind rows moves)) table c (written_moves_read rows moves c.0 table c.1)
+certificates_accepted rows moves table c o = read_as rows moves o (moves_document (table_then_moves rows moves)) table c (written_moves_read rows moves c.0 table c.1)
 
 pub reached_accepted : ReachedDescentsAreAccepted
 reached_accepted rows d table h r = certificates_accepted rows d.moves table (descents_certify_lem rows d.moves d.table table h.descent (h.reached.0 r))

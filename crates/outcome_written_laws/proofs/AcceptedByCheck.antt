@@ -19,7 +19,7 @@ use Rattle.outcome_definitions.specs.Answers.{IsOutcomeOf, IsAnswerTo, is_too_lo
 use Rattle.outcome_definitions.specs.Outcomes.{Outcome, too_long_outcome, IsReadOutcome}
 use Rattle.outcome_definitions.specs.Canonical.{done}
 use Rattle.outcome_definitions.specs.Lines.{accepted_text}
-use Rattle.outcome_definitions.specs.Certificates.{moves_behind, IsCheckAnswer}
+use Rattle.outcome_definitions.specs.Certificates.{table_then_moves, IsCheckAnswer}
 use Rattle.outcome_definitions.specs.Makings.{IsMakeAnswer}
 use Rattle.outcome_answer_laws.proofs.Asked.{within, not_long}
 use Rattle.outcome_written_laws.specs.Certificates.{IsAcceptedByCheck, CheckAcceptsCertificates, CheckAcceptsDescents, CheckAcceptsMade}
@@ -37,13 +37,13 @@ accepted_by_check text short read words o asked = (
 )
 
 pub check_accepts_certificates : CheckAcceptsCertificates
-check_accepts_certificates rows moves table c short = accepted_by_check (moves_behind rows moves) short (certificates_accepted rows moves table c)
+check_accepts_certificates rows moves table c short = accepted_by_check (table_then_moves rows moves) short (certificates_accepted rows moves table c)
 
 -- as many moves as a table may have tetrahedra are within the limit
-short_by : (rows : List Row) (moves : List Move) → IsTable rows → IsCertificate rows moves → length moves ≤ max_tets → length (moves_behind rows moves) ≤ most_bytes
+short_by : (rows : List Row) (moves : List Move) → IsTable rows → IsCertificate rows moves → length moves ≤ max_tets → length (table_then_moves rows moves) ≤ most_bytes
 short_by rows moves table c few =
     let n : length rows ≤ max_tets = table.few in
-    let s : length (moves_behind rows moves) ≤ 9 + 37 * length rows + 28 * length moves = written_moves_short rows moves c.0 table c.1 in
+    let s : length (table_then_moves rows moves) ≤ 9 + 37 * length rows + 28 * length moves = written_moves_short rows moves c.0 table c.1 in
     omega arith
 
 pub check_accepts_descents : CheckAcceptsDescents
@@ -65,5 +65,5 @@ check_accepts_made words bytes o seed most asked outcome =
     let few : most ≤ most_moves = accepted_in_range words (Make seed most) asked in
     let table : IsTable h.table = made_table seed most h.table h.certificate h.made in
     let c : IsCertificate h.table h.certificate = made_are_certified_lem seed most h.table h.certificate h.made in
-    let is : o.text ≡ moves_behind h.table h.certificate = ap (λ (p : Outcome). p.text) h.outcome in
+    let is : o.text ≡ table_then_moves h.table h.certificate = ap (λ (p : Outcome). p.text) h.outcome in
     subst IsAcceptedByCheck (sym is) (check_accepts_certificates h.table h.certificate table c (short_by h.table h.certificate table c (made_short seed most h.table h.certificate few h.made)))

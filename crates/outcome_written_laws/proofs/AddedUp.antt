@@ -13,7 +13,7 @@ use Rattle.surface_definitions.specs.declared.Coords.{Coords}
 use Rattle.surface_definitions.specs.declared.VectorFault.TheVariants.{Large}
 use Rattle.surface_definitions.specs.QuadEquations.{AreEquations}
 use Rattle.surface_definitions.specs.Coordinates.{columns, clash_list}
-use Rattle.surface_definitions.specs.Laws.{IsAccepted}
+use Rattle.surface_definitions.specs.Laws.{IsAcceptedVector}
 use Rattle.surface_definitions.proofs.VerdictLaws.{accepted_by}
 use Rattle.surface_vector_definitions.specs.Answers.{IsFit}
 use Rattle.sum_definitions.specs.Sums.{Term, IsSum, HasRays}
@@ -138,7 +138,7 @@ module _ (coords : Coords) (most : ℕ) (rows : List Row) (equations : List Equa
     (surfaces : IsSurfaceList (columns coords (length rows)) equations (clash_list coords (length rows)) list) where
   pub fit_has_rays : (x : List ℕ) → IsFit coords rows equations x → HasRays (columns coords (length rows)) equations list x
   fit_has_rays x fit =
-      let a : IsAccepted limit (columns coords (length rows)) equations (clash_list coords (length rows)) x = accepted_by limit (columns coords (length rows)) equations (clash_list coords (length rows)) x fit in
+      let a : IsAcceptedVector limit (columns coords (length rows)) equations (clash_list coords (length rows)) x = accepted_by limit (columns coords (length rows)) equations (clash_list coords (length rows)) x fit in
       surfaces_are_rays_lem (columns coords (length rows)) equations (clash_list coords (length rows)) list x surfaces a.solves a.admissible
 
   listed_surface : (v : List ℕ) → Contains list v → IsAdmissibleSolution coords rows equations v
@@ -184,7 +184,7 @@ module _ (coords : Coords) (most : ℕ) (rows : List Row) (equations : List Equa
             let m : slice_index term.vector j ≤ term.count * slice_index term.vector j = second_factor term.count (slice_index term.vector j) some.0 in
             let e : block.times * slice_index block.vector j ≡ 1 * slice_index block.vector j = ap (λ n. n * slice_index block.vector j) once in omega arith
 
-        parts : IsAccepted limit (columns coords (length rows)) equations (clash_list coords (length rows)) block.vector
+        parts : IsAcceptedVector limit (columns coords (length rows)) equations (clash_list coords (length rows)) block.vector
         parts = accepted_by limit (columns coords (length rows)) equations (clash_list coords (length rows)) block.vector fit
 
         small_below : IsSmallTerm equations term

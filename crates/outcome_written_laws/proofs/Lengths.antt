@@ -14,7 +14,7 @@ use Rattle.move_definitions.specs.Moves.{Move, IsCore, PlaysAll}
 use Rattle.move_definitions.specs.MoveText.{core_words, move_text}
 use Rattle.move_definitions.proofs.CoreTests.{cores, on_cores}
 use Rattle.move_laws.proofs.Legal.{HasNoFault, no_fault}
-use Rattle.outcome_definitions.specs.Certificates.{moves_text, moves_behind}
+use Rattle.outcome_definitions.specs.Certificates.{moves_text, table_then_moves}
 use Rattle.outcome_written_laws.proofs.WrittenTables.{each_from_places}
 use Rattle.outcome_written_laws.specs.Certificates.{WrittenMovesAreShort}
 
@@ -130,5 +130,5 @@ unfolding moves_text
 written_moves_short rows moves last table led =
     let head : length (table_text rows) ≤ 9 + 37 * length rows = table_short rows table in
     let tail : length (flat_map move_text moves) ≤ 28 * length moves = each_short 28 move_text moves (played_short rows moves last led) in
-    let both : length (moves_behind rows moves) ≡ length (table_text rows) + length (moves_text moves) = length-append (table_text rows) (moves_text moves) in
+    let both : length (table_then_moves rows moves) ≡ length (table_text rows) + length (moves_text moves) = length-append (table_text rows) (moves_text moves) in
     omega arith

@@ -6,11 +6,11 @@ use Rattle.certificate_definitions.specs.Makings.{IsMade}
 use Rattle.certificate_laws.proofs.Made.{made_are_certified_lem, made_table}
 use Rattle.text_document_definitions.specs.Documents.{moves_document}
 use Rattle.outcome_definitions.specs.Outcomes.{Outcome}
-use Rattle.outcome_definitions.specs.Certificates.{moves_behind}
+use Rattle.outcome_definitions.specs.Certificates.{table_then_moves}
 use Rattle.outcome_written_laws.specs.Moves.{MadeAreRead, MadeAreCertified}
 use Rattle.outcome_written_laws.proofs.WrittenMoves.{written_moves_read}
 
-made_read : (seed most : ℕ) (table : List Row) (certificate : List Move) → IsMade seed most table certificate → moves_document (moves_behind table certificate) ≡ Ok (table, certificate)
+made_read : (seed most : ℕ) (table : List Row) (certificate : List Move) → IsMade seed most table certificate → moves_document (table_then_moves table certificate) ≡ Ok (table, certificate)
 made_read seed most table certificate made =
     let c = made_are_certified_lem seed most table certificate made in
     written_moves_read table certificate c.0 (made_table seed most table certificate made) c.1

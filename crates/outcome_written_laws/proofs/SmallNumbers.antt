@@ -8,7 +8,7 @@ use Rattle.text_definitions.specs.Written.{limit}
 use Rattle.cone_definitions.specs.Vectors.{IsNonzero}
 use Rattle.cone_definitions.specs.Rows.{Row}
 use Rattle.cone_definitions.proofs.Entries.{zero_or_nonzero}
-use Rattle.sum_definitions.specs.Sums.{Term, State, IsSum, LeadsTo, HasRays}
+use Rattle.sum_definitions.specs.Sums.{Term, State, IsSum, ReachesState, HasRays}
 use Rattle.sum_definitions.specs.Adding.{sum_at}
 use Rattle.sum_laws.specs.Laws.{IsSumOfRays}
 use Rattle.sum_laws.proofs.Turns.{led_reached, listed_ray}
@@ -45,7 +45,7 @@ module _ (columns : ℕ) (rows : List Row) (list : List (List ℕ)) (x : List �
   last = record { times = times; terms = terms; rest = s.rest }
 
   -- a vector of zeros is taken once
-  once : (turns : ℕ) (t : State) → ((j : ℕ) → slice_index x j ≡ 0) → LeadsTo most list x turns t → t.times ≡ 1
+  once : (turns : ℕ) (t : State) → ((j : ℕ) → slice_index x j ≡ 0) → ReachesState most list x turns t → t.times ≡ 1
   once zero t none e = ap (λ (u : State). u.times) e
   once (suc turns) t none led =
       let left : IsNonzero led.0.rest = led.2.left in

@@ -7,7 +7,7 @@ use Rattle.std.proofs.lemmas.List.Elements.{All-cons, All-get_or, All-nil}
 use Rattle.text_definitions.specs.Written.{limit}
 use Rattle.cone_definitions.specs.Rows.{Row as EquationRow, IsZeroAt, IsSolution}
 use Rattle.cone_definitions.specs.Elimination.{HasLargePart, HasPartsWithin}
-use Rattle.cone_definitions.specs.Met.{IsMet}
+use Rattle.cone_definitions.specs.Met.{HoldsWithin}
 use Rattle.cone_definitions.specs.Surfaces.{IsAdmissible}
 use Rattle.cone_definitions.proofs.Decided.{parts_or_large}
 use Rattle.table_definitions.specs.Table.{Row}
@@ -84,7 +84,7 @@ module _ (coords : Coords) (rows : List Row) (equations : List EquationRow) (x :
       past = subst (λ (equation : EquationRow). HasLargePart limit equation x) (sym (ap (λ (es : List EquationRow). slice_index_or es row []) f.stands
           ∙ ap (λ n. slice_index_or (f.before ++ f.value ∷ f.after) n []) f.number_is ∙ get_or-append_seam f.before f.value f.after [])) f.fails
 
-      met : (j : ℕ) → j < length f.before → IsMet limit x (slice_index_or equations j [])
+      met : (j : ℕ) → j < length f.before → HoldsWithin limit x (slice_index_or equations j [])
       met j l =
           let same : slice_index_or equations j [] ≡ slice_index_or f.before j [] =
           ap (λ (es : List EquationRow). slice_index_or es j []) f.stands ∙ get_or_append_left f.before (f.value ∷ f.after) [] j l in

@@ -7,7 +7,7 @@ use Rattle.table_definitions.specs.Table.{Row}
 use Rattle.move_definitions.specs.Moves.{Move, PlaysAll}
 use Rattle.move_laws.proofs.Legal.{HasNoFault, no_fault}
 use Rattle.text_document_laws.proofs.Lawful.{moves_laws}
-use Rattle.outcome_definitions.specs.Certificates.{moves_text, moves_behind}
+use Rattle.outcome_definitions.specs.Certificates.{moves_text, table_then_moves}
 use Rattle.outcome_written_laws.proofs.WrittenTables.{BeginsWithTable, table_lines}
 use Rattle.outcome_written_laws.specs.Moves.{IsWritable, WrittenMovesAreLines, WrittenMovesAreRead}
 use Rattle.outcome_written_laws.proofs.MoveLines.{only_moves}
@@ -27,8 +27,8 @@ played_writable rows (m ∷ ms) last (next, plays, rest) =
 pub written_moves_read : WrittenMovesAreRead
 unfolding moves_text
 written_moves_read rows moves last table led =
-    let b : BeginsWithTable rows table (moves_behind rows moves) (moves_text moves) = table_lines rows table (moves_text moves) in
-    (moves_laws.reads (moves_behind rows moves) (rows, moves)).1 (
+    let b : BeginsWithTable rows table (table_then_moves rows moves) (moves_text moves) = table_lines rows table (moves_text moves) in
+    (moves_laws.reads (table_then_moves rows moves) (rows, moves)).1 (
       b.lines,
       lines_from (2 + length rows) (pieces (moves_text moves)),
       b.split,

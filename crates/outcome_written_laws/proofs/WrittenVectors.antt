@@ -5,7 +5,7 @@ use Rattle.std.specs.List.{All, AllZip, AllByRecursion}
 use Rattle.std.proofs.lemmas.List.Elements.{recursion_from_All}
 use Rattle.text_definitions.specs.Text.{Line, pieces, line_of, lines_from, lines_of}
 use Rattle.text_definitions.specs.Written.{limit}
-use Rattle.table_definitions.specs.Grammar.{IsNumber}
+use Rattle.table_definitions.specs.Grammar.{IsDecimalUpTo}
 use Rattle.cone_text_definitions.specs.VectorText.{vector_text, list_text}
 use Rattle.surface_definitions.specs.Grammar.{IsVectorLine}
 use Rattle.outcome_definitions.specs.Enumerations.{AreUpTo}
@@ -24,7 +24,7 @@ pub entries_are_texts : (x : List ℕ) → AreEntries x → AllByRecursion IsTex
 entries_are_texts [] h = tt
 entries_are_texts (entry ∷ x) h = (decimal_is_text entry (entry_small entry h.0), entries_are_texts x h.1)
 
-pub entries_are_numbers : (x : List ℕ) → AreEntries x → AllZip (IsNumber limit) (map decimal x) x
+pub entries_are_numbers : (x : List ℕ) → AreEntries x → AllZip (IsDecimalUpTo limit) (map decimal x) x
 entries_are_numbers [] h = tt
 entries_are_numbers (entry ∷ x) h = (record { value = decimal_value-decimal entry (entry_small entry h.0); up_to = h.0 }, entries_are_numbers x h.1)
 

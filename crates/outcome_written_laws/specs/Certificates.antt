@@ -11,7 +11,7 @@ use Rattle.command_definitions.specs.Words.{accepted_request}
 use Rattle.outcome_definitions.specs.Outcomes.{Outcome, IsReadOutcome}
 use Rattle.outcome_definitions.specs.Canonical.{done}
 use Rattle.outcome_definitions.specs.Lines.{accepted_text}
-use Rattle.outcome_definitions.specs.Certificates.{moves_behind, IsCheckAnswer}
+use Rattle.outcome_definitions.specs.Certificates.{table_then_moves, IsCheckAnswer}
 use Rattle.outcome_definitions.specs.Answers.{IsOutcome, most_bytes}
 
 -- `check` answers that moves are accepted exactly where they are a certificate
@@ -20,7 +20,7 @@ AcceptedAreCertificates = (rows : List Row) (moves : List Move) (o : Outcome) �
 
 -- the one answer of `check` to this text is that the moves are accepted
 abbrev pub IsAccepted : List Row → List Move → Type 0
-IsAccepted rows moves = (o : Outcome) → IsReadOutcome (moves_document (moves_behind rows moves)) IsCheckAnswer o ↔ (o ≡ done accepted_text)
+IsAccepted rows moves = (o : Outcome) → IsReadOutcome (moves_document (table_then_moves rows moves)) IsCheckAnswer o ↔ (o ≡ done accepted_text)
 
 abbrev pub CertificatesAreAccepted : Type 0
 CertificatesAreAccepted = (rows : List Row) (moves : List Move) → IsTable rows → IsCertificate rows moves → IsAccepted rows moves
@@ -35,7 +35,7 @@ MadeTablesAreAccepted = (seed most : ℕ) (table : List Row) (certificate : List
 
 -- the text of a table and of moves that lead from it has at most 37 bytes for a tetrahedron and 28 for a move
 abbrev pub WrittenMovesAreShort : Type 0
-WrittenMovesAreShort = (rows : List Row) (moves : List Move) (last : List Row) → IsTable rows → PlaysAll rows moves last → length (moves_behind rows moves) ≤ 9 + 37 * length rows + 28 * length moves
+WrittenMovesAreShort = (rows : List Row) (moves : List Move) (last : List Row) → IsTable rows → PlaysAll rows moves last → length (table_then_moves rows moves) ≤ 9 + 37 * length rows + 28 * length moves
 
 -- where words ask for `check`, the one outcome of this text is that the moves are accepted
 abbrev pub IsAcceptedByCheck : List ℕ → Type 0
@@ -44,11 +44,11 @@ IsAcceptedByCheck text = (words : List (List ℕ)) (o : Outcome) → accepted_re
 -- so it is of a certificate whose text an input may have
 abbrev pub CheckAcceptsCertificates : Type 0
 CheckAcceptsCertificates =
-    (rows : List Row) (moves : List Move) → IsTable rows → IsCertificate rows moves → length (moves_behind rows moves) ≤ most_bytes → IsAcceptedByCheck (moves_behind rows moves)
+    (rows : List Row) (moves : List Move) → IsTable rows → IsCertificate rows moves → length (table_then_moves rows moves) ≤ most_bytes → IsAcceptedByCheck (table_then_moves rows moves)
 
 -- of the moves of a descent that reached the standard sphere
 abbrev pub CheckAcceptsDescents : Type 0
-CheckAcceptsDescents = (rows : List Row) (d : Descended) → IsTable rows → IsDescended rows d → d.reached ≡ true → IsAcceptedByCheck (moves_behind rows d.moves)
+CheckAcceptsDescents = (rows : List Row) (d : Descended) → IsTable rows → IsDescended rows d → d.reached ≡ true → IsAcceptedByCheck (table_then_moves rows d.moves)
 
 -- and of what `make` writes
 abbrev pub CheckAcceptsMade : Type 0

@@ -9,7 +9,7 @@ use Rattle.move_definitions.specs.Grammar.{IsMoveLine}
 use Rattle.move_definitions.specs.Certificates.{IsCertificate}
 use Rattle.text_document_definitions.specs.Documents.{moves_document}
 use Rattle.outcome_definitions.specs.Outcomes.{Outcome}
-use Rattle.outcome_definitions.specs.Certificates.{moves_behind}
+use Rattle.outcome_definitions.specs.Certificates.{table_then_moves}
 use Rattle.outcome_definitions.specs.Makings.{IsMakeAnswer}
 
 -- a move that a line can hold
@@ -22,7 +22,7 @@ WrittenMovesAreLines = (moves : List Move) → All IsWritable moves → AllZip I
 
 -- what is written for a table and moves that lead from it is read as them
 abbrev pub WrittenMovesAreRead : Type 0
-WrittenMovesAreRead = (rows : List Row) (moves : List Move) (last : List Row) → IsTable rows → PlaysAll rows moves last → moves_document (moves_behind rows moves) ≡ Ok (rows, moves)
+WrittenMovesAreRead = (rows : List Row) (moves : List Move) (last : List Row) → IsTable rows → PlaysAll rows moves last → moves_document (table_then_moves rows moves) ≡ Ok (rows, moves)
 
 -- the answer of `make` is read as a table and moves: those that it answered
 abbrev pub MadeAreRead : Type 0

@@ -9,7 +9,7 @@ use Rattle.command_definitions.specs.declared.Request.TheVariants.{Crush, Descen
 use Rattle.outcome_definitions.specs.declared.Status.TheVariants.{Done}
 use Rattle.outcome_definitions.specs.Outcomes.{Outcome}
 use Rattle.outcome_definitions.specs.Canonical.{done}
-use Rattle.outcome_definitions.specs.Certificates.{moves_behind, descent_text}
+use Rattle.outcome_definitions.specs.Certificates.{table_then_moves, descent_text}
 use Rattle.outcome_answer_laws.specs.Requests.{IsOutcomeTo}
 use Rattle.surface_crushing_laws.specs.Laws.{HasNoQuads}
 use Rattle.outcome_written_laws.specs.Certificates.{IsAccepted}
@@ -33,7 +33,7 @@ pub record IsDescentRead (rows : List Row) (o : Outcome) : Type 0 where
   pub descends : IsDescended rows descended
   pub outcome : o ≡ done (descent_text descended)
   pub table : table_document (table_text descended.table) ≡ Ok descended.table
-  pub moves : moves_document (moves_behind rows descended.moves) ≡ Ok (rows, descended.moves)
+  pub moves : moves_document (table_then_moves rows descended.moves) ≡ Ok (rows, descended.moves)
   pub accepted : descended.reached ≡ true → IsAccepted rows descended.moves
 
 abbrev pub DescentsAreRead : Type 0

@@ -13,7 +13,7 @@ use Rattle.table_definitions.specs.Permutation.{image}
 use Rattle.table_definitions.specs.Table.{Gluing, Row, Face}
 use Rattle.table_definitions.proofs.Bijections.{range-push, below-push}
 use Rattle.table_definitions.proofs.Ranks.{rank, length-picked, at_rank}
-use Rattle.move_definitions.specs.Moves.{Move, Facet, facet, old_facets, new_facet, facet_stand_in, kept_stand_in, stand_in_of, stand_in_at, facet_gluing}
+use Rattle.move_definitions.specs.Moves.{Move, Facet, facet, old_facets, new_facet, facet_place_after, kept_place_after, place_after_of, place_after, facet_gluing}
 use Rattle.move_definitions.specs.Undos.{taken_numbers}
 use Rattle.move_laws.specs.Facets.{IsOldFacet, AreOldFacets, outer_gluing, fresh_gluing}
 
@@ -87,16 +87,16 @@ old_found rows m facets t f old e =
     (length m.core + k.0, subst (λ (g : Facet). IsOldFacet rows m (length m.core + k.0) g) k.2 (old.each k.0 f k.1))
 
 pub stand_some : (rows : List Row) (m : Move) (facets : List Facet) (f : Facet) (x : Face) (t l : ℕ) → facets ≡ old_facets rows m → Some f ≡ find (λ (f : Facet). f.tet == t) facets → t ≡ x.tet → l ≡ image f.labels x.face
-    → facet_stand_in rows m f l ≡ stand_in_at rows m x
+    → facet_place_after rows m f l ≡ place_after rows m x
 stand_some rows m facets f x t l are e et el =
-    ap (facet_stand_in rows m f) el
-    ∙ ap (stand_in_of rows m x) (e ∙ ap (λ u. find (λ (g : Facet). g.tet == u) facets) et ∙ ap (find (λ (g : Facet). g.tet == x.tet)) are)
+    ap (facet_place_after rows m f) el
+    ∙ ap (place_after_of rows m x) (e ∙ ap (λ u. find (λ (g : Facet). g.tet == u) facets) et ∙ ap (find (λ (g : Facet). g.tet == x.tet)) are)
 
-pub stand_none : (rows : List Row) (m : Move) (facets : List Facet) (x : Face) (t : ℕ) (s : Gluing) → facets ≡ old_facets rows m → None ≡ find (λ (f : Facet). f.tet == t) facets → t ≡ x.tet → s ≡ kept_stand_in rows m t
-    → Some s ≡ stand_in_at rows m x
+pub stand_none : (rows : List Row) (m : Move) (facets : List Facet) (x : Face) (t : ℕ) (s : Gluing) → facets ≡ old_facets rows m → None ≡ find (λ (f : Facet). f.tet == t) facets → t ≡ x.tet → s ≡ kept_place_after rows m t
+    → Some s ≡ place_after rows m x
 stand_none rows m facets x t s are e et es =
-    ap (λ (k : Gluing). Some k) (es ∙ ap (kept_stand_in rows m) et)
-    ∙ ap (stand_in_of rows m x) (e ∙ ap (λ u. find (λ (g : Facet). g.tet == u) facets) et ∙ ap (find (λ (g : Facet). g.tet == x.tet)) are)
+    ap (λ (k : Gluing). Some k) (es ∙ ap (kept_place_after rows m) et)
+    ∙ ap (place_after_of rows m x) (e ∙ ap (λ u. find (λ (g : Facet). g.tet == u) facets) et ∙ ap (find (λ (g : Facet). g.tet == x.tet)) are)
 
 pub fresh_is : (rows : List Row) (m : Move) (own label : ℕ) (f : Facet) → IsOldFacet rows m label f → outer_gluing rows m f own ≡ fresh_gluing rows m own label
 fresh_is rows m own label f F =

@@ -2,7 +2,7 @@
 use Rattle.std.proofs.Common.{◌≡◌, ℕ, ◌<◌, ◌≤◌, List, length, get_or, sym, ap, ◌∙◌, subst, arith, inl, inr}
 use Rattle.std.specs.Prelude.{◌⊎◌, ◌≢◌, ◌-◌, ◌+◌}
 use Rattle.std.proofs.lemmas.Bool.{cases_eq}
-use Rattle.table_definitions.specs.Lists.{in_place_of}
+use Rattle.table_definitions.specs.Lists.{substitute}
 use Rattle.table_definitions.specs.Permutation.{image, IsPermutationOfFour}
 use Rattle.table_definitions.specs.Table.{Row}
 use Rattle.table_definitions.proofs.InPlace.{in_place-same, in_place-other}
@@ -12,10 +12,10 @@ use Rattle.move_laws.proofs.LabelLaws.{permutes_from, by_permutes, length_by, ve
 use Rattle.move_laws.proofs.FacetLaws.{new_is_facet}
 
 -- a label in place of itself
-in_own_place : (a b l : ℕ) → a ≡ b → in_place_of a b l ≡ l
+in_own_place : (a b l : ℕ) → a ≡ b → substitute a b l ≡ l
 in_own_place a b l same = by_case (cases_eq l a)
   where
-    by_case : (l ≡ a) ⊎ (l ≢ a) → in_place_of a b l ≡ l
+    by_case : (l ≡ a) ⊎ (l ≢ a) → substitute a b l ≡ l
     by_case (inl e) = in_place-same a b l e ∙ sym same ∙ sym e
     by_case (inr d) = in_place-other a b l d
 

@@ -1,7 +1,7 @@
 //! Facets of a 4-simplex, as tetrahedra of a table.
 
 ghost use Rattle.std.specs.Prelude.{◌≡◌, ◌<◌, ◌≤◌, map, slice_index_or, None};
-ghost use Rattle.table_definitions.specs.Lists.{in_place_of};
+ghost use Rattle.table_definitions.specs.Lists.{substitute};
 ghost use Rattle.table_definitions.specs.Permutation.{image, preimage, compose};
 ghost use Rattle.table_definitions.specs.Table as gluings;
 ghost use Rattle.table_definitions.specs.Table.{IsTable};
@@ -82,7 +82,7 @@ fn glue_in(row: &Row, face: u8) -> Option<Glue>
 /// The label of vertex `v` of the tetrahedron across the face opposite `label`.
 fn label_behind(labels: &[u8; 4], label: u8, perm: Perm4, v: u8) -> u8
     requires { v < 4 }
-    ensures { result ≡ in_place_of label 4 (image labels.now (preimage perm v)) }
+    ensures { result ≡ substitute label 4 (image labels.now (preimage perm v)) }
 {
     let before = labels[perm.preimage(v) as usize];
     if before == label { 4 } else { before }
@@ -90,7 +90,7 @@ fn label_behind(labels: &[u8; 4], label: u8, perm: Perm4, v: u8) -> u8
 
 /// The facet across the face of `own` opposite label `label`, whose gluing is `glue`.
 pub fn facet_behind(own: Facet, label: u8, glue: Glue) -> Facet
-    ensures { result ≡ moves.facet_behind own label glue }
+    ensures { result ≡ moves.facet_across own label glue }
 {
     Facet {
         tet: glue.tet,
@@ -134,14 +134,14 @@ fn labels_reached(labels: &[u8; 4], perm: Perm4) -> [u8; 4]
 
 /// `label`, or `new` if it equals `old`.
 pub fn replace_label(label: u8, old: u8, new: u8) -> u8
-    ensures { result ≡ in_place_of old new label }
+    ensures { result ≡ substitute old new label }
 {
     if label == old { new } else { label }
 }
 
 /// The labels to which the gluing of `f` to `g` has to map.
 fn labels_wanted(f: Facet, g: Facet) -> [u8; 4]
-    ensures { result ≡ map (in_place_of g.missing f.missing) f.labels }
+    ensures { result ≡ map (substitute g.missing f.missing) f.labels }
 {
     let [a, b, c, d] = f.labels;
     [

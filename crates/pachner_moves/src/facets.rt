@@ -1,7 +1,7 @@
 //! The new facets of a move, and the images of old faces in them.
 
 ghost use Rattle.std.specs.Prelude.{◌≡◌, ◌≢◌, ◌<◌, ◌≤◌, filter, find, not, ◌==◌, map, All};
-ghost use Rattle.table_definitions.specs.Lists.{below, closed_up, in_place_of};
+ghost use Rattle.table_definitions.specs.Lists.{below, rank_without, substitute};
 ghost use Rattle.table_definitions.specs.Permutation.{IsPermutationOfFour, identity};
 ghost use Rattle.table_definitions.specs.Table.{max_tets, IsTable};
 ghost use Rattle.table_definitions.specs.Relabelling.{gluing_under};
@@ -69,7 +69,7 @@ pub fn new_facet(table: &Table, m: &Move, label: Label) -> Facet
 
 /// The vertex of `facet` with label `label`, or with `missing` if `label` is the one that `facet` lacks.
 fn vertex_beside(facet: Facet, missing: u8, label: u8) -> u8
-    ensures value { result ≡ moves.vertex_of facet (in_place_of facet.missing missing label) }
+    ensures value { result ≡ moves.vertex_of facet (substitute facet.missing missing label) }
 {
     vertex_of(&facet.labels, replace_label(label, facet.missing, missing))
 }
@@ -107,7 +107,7 @@ pub fn glue_to_new(table: &Table, m: &Move, f: Facet, label: Label) -> Glue
 /// moved region.
 fn facet_stand_in(table: &Table, m: &Move, f: Facet, label: u8) -> Option<Glue>
     requires { IsFacet f }
-    ensures { result ≡ moves.facet_stand_in table.now m.now f label }
+    ensures { result ≡ moves.facet_place_after table.now m.now f label }
 {
     if label >= m.core.size() {
         return None;
@@ -118,7 +118,7 @@ fn facet_stand_in(table: &Table, m: &Move, f: Facet, label: u8) -> Option<Glue>
 
 /// The number of tetrahedron `tet` after the tetrahedra of `facets` are removed.
 pub fn closed_number(facets: &[Facet], tet: u32) -> u32
-    ensures { result ≡ closed_up (map (λ f. f.tet) facets.now) tet }
+    ensures { result ≡ rank_without (map (λ f. f.tet) facets.now) tet }
 {
     let before = facets.iter().filter(|f| f.tet < tet).count();
     (tet as usize).saturating_sub(before) as u32
@@ -126,7 +126,7 @@ pub fn closed_number(facets: &[Facet], tet: u32) -> u32
 
 /// The image of `tet`, a tetrahedron that the move retains.
 fn retained_stand_in(taken: TakenOut<'_>, tet: u32) -> Glue
-    ensures { result ≡ moves.kept_stand_in taken.entry.table.now taken.entry.m.now tet }
+    ensures { result ≡ moves.kept_place_after taken.entry.table.now taken.entry.m.now tet }
 {
     Glue {
         tet: closed_number(taken.facets, tet),
@@ -148,7 +148,7 @@ pub fn facet_of(facets: &[Facet], tet: u32) -> Option<Facet>
 
 /// The image, at face `x`, of its tetrahedron.
 fn stand_in(taken: TakenOut<'_>, x: Face) -> Option<Glue>
-    ensures { result ≡ moves.stand_in_at taken.entry.table.now taken.entry.m.now x }
+    ensures { result ≡ moves.place_after taken.entry.table.now taken.entry.m.now x }
 {
     match facet_of(taken.facets, x.tet) {
         Some(f) => facet_stand_in(taken.table, taken.m, f, f.labels[x.face as usize]),

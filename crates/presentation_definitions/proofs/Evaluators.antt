@@ -5,7 +5,7 @@ use Rattle.table_definitions.specs.Lists.{below, has}
 use Rattle.table_definitions.specs.Table.{Gluing, Row, Face, glue, faces, face_number}
 use Rattle.table_definitions.specs.Classes.{least, degree}
 use Rattle.table_definitions.specs.Places.{Place, across, whole, face_of}
-use Rattle.skeleton_definitions.specs.Corners.{first_corner, inner_edges, left_through}
+use Rattle.skeleton_definitions.specs.Corners.{first_corner, internal_edges, left_through}
 use Rattle.skeleton_definitions.specs.Skeleton.{Skeleton}
 use Rattle.skeleton_definitions.proofs.Evaluators.{neighbours_by, vertex_classes, edge_classes, face_classes, count_of, walk_from}
 use Rattle.presentation_definitions.specs.Trees.{evens, is_odd_number}
@@ -65,8 +65,8 @@ abbrev pub presentation_by : Skeleton → List ℕ → List ℕ → Presentation
 presentation_by s ds generators = record {
   generators = generators;
   turning = map (λ c. turns_by s ds (face_of (least s.faces.classes c))) generators;
-  edges = inner_edges s.rows s.edges.classes s.edges.count;
-  relators = map (λ c. filter_map (λ k. letter_of s generators (face_number (left_through k))) (walk_from s.rows (first_corner (least s.edges.classes c)))) (inner_edges s.rows s.edges.classes s.edges.count);
+  edges = internal_edges s.rows s.edges.classes s.edges.count;
+  relators = map (λ c. filter_map (λ k. letter_of s generators (face_number (left_through k))) (walk_from s.rows (first_corner (least s.edges.classes c)))) (internal_edges s.rows s.edges.classes s.edges.count);
 }
 
 abbrev pub presentation_of : Skeleton → Presentation

@@ -5,7 +5,7 @@ use Rattle.table_definitions.specs.Lists.{has}
 use Rattle.table_definitions.specs.Table.{Gluing, Row, Face, glue, face_number}
 use Rattle.table_definitions.specs.Classes.{least, is_least, degree}
 use Rattle.table_definitions.specs.Places.{face_of}
-use Rattle.skeleton_definitions.specs.Corners.{Corner, inner_edges, left_through}
+use Rattle.skeleton_definitions.specs.Corners.{Corner, internal_edges, left_through}
 use Rattle.skeleton_definitions.specs.Skeleton.{Skeleton, IsAround}
 use Rattle.presentation_definitions.specs.declared.Letter.{Letter}
 use Rattle.presentation_definitions.specs.Trees.{IsTreeFace, IsTreePath, evens, is_odd_number}
@@ -56,5 +56,5 @@ pub record Presentation : Type 0 where
 pub record IsPresentation (s : Skeleton) (p : Presentation) : Type 0 where
   pub generators : AreGenerators s p.generators
   pub turning : AllZip (IsTurning s) p.generators p.turning
-  pub edges : p.edges ≡ inner_edges s.rows s.edges.classes s.edges.count
+  pub edges : p.edges ≡ internal_edges s.rows s.edges.classes s.edges.count
   pub relators : AllZip (IsRelator s p.generators) p.edges p.relators

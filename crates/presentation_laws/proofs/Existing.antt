@@ -11,7 +11,7 @@ use Rattle.table_definitions.specs.Table.{Gluing, Face, glue, face_number}
 use Rattle.table_definitions.specs.Classes.{least, degree}
 use Rattle.table_definitions.specs.Places.{face_of, IsConnected, is_boundary_edge}
 use Rattle.table_definitions.proofs.TableLaws.{glued_tet}
-use Rattle.skeleton_definitions.specs.Corners.{inner_edges, left_through}
+use Rattle.skeleton_definitions.specs.Corners.{internal_edges, left_through}
 use Rattle.skeleton_definitions.specs.Skeleton.{Skeleton, IsSkeleton}
 use Rattle.presentation_definitions.specs.declared.Letter.{Letter}
 use Rattle.presentation_definitions.specs.Trees.{IsTreeFace, evens, is_odd_number}
@@ -113,13 +113,13 @@ module _ (s : Skeleton) (h : IsSkeleton s) where
         g = some_generators
 
         edges : List ℕ
-        edges = inner_edges s.rows s.edges.classes s.edges.count
+        edges = internal_edges s.rows s.edges.classes s.edges.count
 
         t : (turning : List Bool) × AllZip (IsTurning s) g.0 turning
         t = zip_exists (IsTurning s) g.0 (λ i l. let w = generator_at s g.0 i g.1 l in some_turning (slice_index g.0 i) w.0 w.1.0)
 
-        inside : All (λ c. c < s.edges.count) (inner_edges s.rows s.edges.classes s.edges.count)
+        inside : All (λ c. c < s.edges.count) (internal_edges s.rows s.edges.classes s.edges.count)
         inside = All-filter (λ c. not (is_boundary_edge s.rows s.edges.classes c)) (λ c. c < s.edges.count) (below s.edges.count) (below_inside s.edges.count)
 
-        r : (relators : List (List Letter)) × AllZip (IsRelator s g.0) (inner_edges s.rows s.edges.classes s.edges.count) relators
-        r = zip_exists (IsRelator s g.0) (inner_edges s.rows s.edges.classes s.edges.count) (λ i l. some_relator g.0 _ (inside i 0 l))
+        r : (relators : List (List Letter)) × AllZip (IsRelator s g.0) (internal_edges s.rows s.edges.classes s.edges.count) relators
+        r = zip_exists (IsRelator s g.0) (internal_edges s.rows s.edges.classes s.edges.count) (λ i l. some_relator g.0 _ (inside i 0 l))

@@ -5,7 +5,7 @@ use Rattle.plain_facts.proofs.Members.{same_numbers}
 use Rattle.table_definitions.specs.Table.{Gluing, Row, face_number}
 use Rattle.table_definitions.specs.Classes.{least}
 use Rattle.table_definitions.specs.Places.{face_of, is_boundary_edge}
-use Rattle.skeleton_definitions.specs.Corners.{Corner, first_corner, GoesRound, IsWalk, left_through}
+use Rattle.skeleton_definitions.specs.Corners.{Corner, first_corner, GoesAround, IsTourFrom, left_through}
 use Rattle.skeleton_definitions.specs.Skeleton.{Skeleton}
 use Rattle.presentation_definitions.specs.Trees.{IsTreePath, evens, is_odd_number}
 use Rattle.presentation_definitions.specs.declared.Letter.{Letter}
@@ -14,19 +14,19 @@ use Rattle.presentation_laws.proofs.TreeLaws.{one_path}
 
 -- ---- one walk
 
-one_round : (rows : List Row) (first k : Corner) (xs ys : List Corner) → GoesRound rows first k xs → GoesRound rows first k ys → xs ≡ ys
+one_round : (rows : List Row) (first k : Corner) (xs ys : List Corner) → GoesAround rows first k xs → GoesAround rows first k ys → xs ≡ ys
 one_round rows first k [] [] a b = refl
 one_round rows first k [] (l ∷ ls) a b = let z : Some first ≡ Some l = sym a ∙ b.0 in let same : first ≡ l = cc in absurd (b.1 (sym same))
 one_round rows first k (l ∷ ls) [] a b = let z : Some first ≡ Some l = sym b ∙ a.0 in let same : first ≡ l = cc in absurd (a.1 (sym same))
 one_round rows first k (l ∷ ls) (m ∷ ms) a b = let z : Some l ≡ Some m = sym a.0 ∙ b.0 in let same : l ≡ m = cc in
-    ap₂ (λ c cs. c ∷ cs) same (one_round rows first m ls ms (subst (λ c. GoesRound rows first c ls) same a.2) b.2)
+    ap₂ (λ c cs. c ∷ cs) same (one_round rows first m ls ms (subst (λ c. GoesAround rows first c ls) same a.2) b.2)
 
-one_walk : (rows : List Row) (first : Corner) (xs ys : List Corner) → IsWalk rows first xs → IsWalk rows first ys → xs ≡ ys
+one_walk : (rows : List Row) (first : Corner) (xs ys : List Corner) → IsTourFrom rows first xs → IsTourFrom rows first ys → xs ≡ ys
 one_walk rows first [] ys a b = absurd a
 one_walk rows first (k ∷ ks) [] a b = absurd b
-one_walk rows first (k ∷ ks) (l ∷ ls) a b = let same : k ≡ l = a.0 ∙ sym b.0 in ap₂ (λ c cs. c ∷ cs) same (one_round rows first l ks ls (subst (λ c. GoesRound rows first c ks) same a.1) b.1)
+one_walk rows first (k ∷ ks) (l ∷ ls) a b = let same : k ≡ l = a.0 ∙ sym b.0 in ap₂ (λ c cs. c ∷ cs) same (one_round rows first l ks ls (subst (λ c. GoesAround rows first c ks) same a.1) b.1)
 
-one_around : (boundary : Bool) (rows : List Row) (first : Corner) (xs ys : List Corner) → MatchBool boundary (xs ≡ []) (IsWalk rows first xs) → MatchBool boundary (ys ≡ []) (IsWalk rows first ys) → xs ≡ ys
+one_around : (boundary : Bool) (rows : List Row) (first : Corner) (xs ys : List Corner) → MatchBool boundary (xs ≡ []) (IsTourFrom rows first xs) → MatchBool boundary (ys ≡ []) (IsTourFrom rows first ys) → xs ≡ ys
 one_around true rows first xs ys a b = a ∙ sym b
 one_around false rows first xs ys a b = one_walk rows first xs ys a b
 

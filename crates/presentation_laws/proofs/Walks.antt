@@ -11,7 +11,7 @@ use Rattle.table_definitions.proofs.PermutationLaws.{is_odd-compose}
 use Rattle.table_definitions.proofs.Permutations.{compose_permutes}
 use Rattle.table_definitions.proofs.Computed.{computed}
 use Rattle.table_definitions.proofs.ListFacts.{list_all-below}
-use Rattle.skeleton_definitions.specs.Corners.{Corner, corner_behind, step, first_corner, corner_of, GoesRound, IsWalk, left_through}
+use Rattle.skeleton_definitions.specs.Corners.{Corner, corner_across, step, first_corner, corner_of, GoesAround, IsTourFrom, left_through}
 use Rattle.skeleton_definitions.specs.Skeleton.{Skeleton, IsSkeleton}
 use Rattle.presentation_definitions.specs.Trees.{is_odd_number}
 use Rattle.presentation_definitions.specs.declared.Letter.{Letter}
@@ -28,12 +28,12 @@ swap_odd : is_odd swap ≡ true
 unfolding computed
 swap_odd = refl
 
-word_behind : (k : Corner) (g : Gluing) → corner_word (corner_behind k g) ≡ compose g.perm (compose (corner_word k) swap)
+word_behind : (k : Corner) (g : Gluing) → corner_word (corner_across k g) ≡ compose g.perm (compose (corner_word k) swap)
 unfolding computed
 word_behind k g = refl
 
 -- an even gluing changes the parity of the corner, and an odd one keeps it
-even_behind : (k : Corner) (g : Gluing) → IsPermutationOfFour g.perm → IsPermutationOfFour (corner_word k) → not (is_odd g.perm) ≡ differs (is_odd (corner_word k)) (is_odd (corner_word (corner_behind k g)))
+even_behind : (k : Corner) (g : Gluing) → IsPermutationOfFour g.perm → IsPermutationOfFour (corner_word k) → not (is_odd g.perm) ≡ differs (is_odd (corner_word k)) (is_odd (corner_word (corner_across k g)))
 even_behind k g hg hk = sym (ap (differs (is_odd (corner_word k))) (ap is_odd (word_behind k g) ∙ is_odd-compose g.perm (compose (corner_word k) swap) hg (compose_permutes (corner_word k) swap hk swap_permutes)
     ∙ ap (λ b. if is_odd g.perm then not b else b) (is_odd-compose (corner_word k) swap hk swap_permutes ∙ ap (λ b. if is_odd (corner_word k) then not b else b) swap_odd))
     ∙ around (is_odd (corner_word k)) (is_odd g.perm))
@@ -74,20 +74,20 @@ module _ (s : Skeleton) (h : IsSkeleton s) (connected : IsConnected s.rows) wher
   record Steps (k l : Corner) : Type 0 where
     g : Gluing
     glued : glue s.rows (left_through k) ≡ Some g
-    is : corner_behind k g ≡ l
+    is : corner_across k g ≡ l
 
   steps : (k l : Corner) → step s.rows k ≡ Some l → Steps k l
   steps k l e = cases (glue s.rows (left_through k)) refl
     where
       cases : (o : Option Gluing) → glue s.rows (left_through k) ≡ o → Steps k l
-      cases None d = let z : None ≡ Some l = ap (option_map (corner_behind k)) (sym d) ∙ e in absurd cc
-      cases (Some g) d = let z : Some (corner_behind k g) ≡ Some l = ap (option_map (corner_behind k)) (sym d) ∙ e in let same : corner_behind k g ≡ l = cc in record { g = g; glued = d; is = same }
+      cases None d = let z : None ≡ Some l = ap (option_map (corner_across k)) (sym d) ∙ e in absurd cc
+      cases (Some g) d = let z : Some (corner_across k g) ≡ Some l = ap (option_map (corner_across k)) (sym d) ∙ e in let same : corner_across k g ≡ l = cc in record { g = g; glued = d; is = same }
 
   step_turns : (k l : Corner) → IsPermutationOfFour (corner_word k) → Steps k l → (turn_at k ≡ differs (mark k) (mark l)) × IsPermutationOfFour (corner_word l)
   unfolding turn
   step_turns k l hk w = (
     ap (turn_glued k.tet) w.glued ∙ ap (λ b. differs (sign_at k.tet) (differs b (sign_at w.g.tet))) (even_behind k w.g hg hk)
-        ∙ around (sign_at k.tet) (is_odd (corner_word k)) (is_odd (corner_word (corner_behind k w.g))) (sign_at w.g.tet) ∙ ap (λ c. differs (mark k) (mark c)) w.is,
+        ∙ around (sign_at k.tet) (is_odd (corner_word k)) (is_odd (corner_word (corner_across k w.g))) (sign_at w.g.tet) ∙ ap (λ c. differs (mark k) (mark c)) w.is,
     subst (λ c. IsPermutationOfFour (corner_word c)) w.is (corner_behind_permutes k w.g hg hk),
   )
     where
@@ -112,7 +112,7 @@ module _ (s : Skeleton) (h : IsSkeleton s) (connected : IsConnected s.rows) wher
       around false false false true = refl
       around false false false false = refl
 
-  walk_turns : (first k : Corner) (ls : List Corner) → IsPermutationOfFour (corner_word k) → GoesRound s.rows first k ls → total (k ∷ ls) ≡ differs (mark k) (mark first)
+  walk_turns : (first k : Corner) (ls : List Corner) → IsPermutationOfFour (corner_word k) → GoesAround s.rows first k ls → total (k ∷ ls) ≡ differs (mark k) (mark first)
   unfolding total
   walk_turns first k [] hk w = differs_false (turn_at k) ∙ (step_turns k first hk (steps k first w)).0
   walk_turns first k (l ∷ ls) hk w = let t = step_turns k l hk (steps k l w.0) in
@@ -129,7 +129,7 @@ module _ (s : Skeleton) (h : IsSkeleton s) (connected : IsConnected s.rows) wher
     AllGlued [] = Unit {0}
     AllGlued (k ∷ ks) = ((g : Gluing) × (glue s.rows (left_through k) ≡ Some g)) × AllGlued ks
 
-    round_glued : (first k : Corner) (ls : List Corner) → GoesRound s.rows first k ls → AllGlued (k ∷ ls)
+    round_glued : (first k : Corner) (ls : List Corner) → GoesAround s.rows first k ls → AllGlued (k ∷ ls)
     unfolding AllGlued
     round_glued first k [] w = let t = steps k first w in ((t.g, t.glued), tt)
     round_glued first k (l ∷ ls) w = let t = steps k l w.0 in ((t.g, t.glued), round_glued first l ls w.2)
@@ -151,7 +151,7 @@ module _ (s : Skeleton) (h : IsSkeleton s) (connected : IsConnected s.rows) wher
         by_letter (Some letter) e rest = ap (λ o. is_odd_number (count_by (turns p) (cons_option o (filter_map letter_at ks)))) e ∙ odd_more (turns p) letter (filter_map letter_at ks)
             ∙ ap₂ differs (told.some letter e ∙ turn_is_at) rest
 
-    walk_even : (first : Corner) (corners : List Corner) → IsPermutationOfFour (corner_word first) → IsWalk s.rows first corners → is_odd_number (count_by (turns p) (filter_map letter_at corners)) ≡ false
+    walk_even : (first : Corner) (corners : List Corner) → IsPermutationOfFour (corner_word first) → IsTourFrom s.rows first corners → is_odd_number (count_by (turns p) (filter_map letter_at corners)) ≡ false
     walk_even first [] hf w = absurd w
     walk_even first (k ∷ ks) hf w = letters_turn (k ∷ ks) (round_glued first k ks w.1) ∙ walk_turns first k ks (subst (λ c. IsPermutationOfFour (corner_word c)) (sym w.0) hf) w.1
         ∙ ap (λ c. differs (mark c) (mark first)) w.0 ∙ differs_self (mark first)
@@ -162,7 +162,7 @@ module _ (s : Skeleton) (h : IsSkeleton s) (connected : IsConnected s.rows) wher
         first : Corner
         first = first_corner (least s.edges.classes c)
 
-        by_boundary : (b : Bool) → MatchBool b (r.corners ≡ []) (IsWalk s.rows first r.corners) → is_odd_number (count_by (turns p) (filter_map letter_at r.corners)) ≡ false
+        by_boundary : (b : Bool) → MatchBool b (r.corners ≡ []) (IsTourFrom s.rows first r.corners) → is_odd_number (count_by (turns p) (filter_map letter_at r.corners)) ≡ false
         by_boundary true e = ap (λ ks. is_odd_number (count_by (turns p) (filter_map letter_at ks))) e
         by_boundary false w = walk_even first r.corners (first_permutes (least s.edges.classes c)) w
 

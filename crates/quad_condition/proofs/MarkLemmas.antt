@@ -13,7 +13,7 @@ use Rattle.ray_steps.specs.Clashes.{AreClashes, IsInUnion, IsClashFree}
 use Rattle.surface_coordinate_laws.specs.ClashPairs.{is_clash}
 use Rattle.quad_condition.specs.Partners.{partners}
 use Rattle.quad_condition.specs.Bits.{IsOfEither, IsMarkedIn, HasTwo}
-use Rattle.quad_condition.specs.Marks.{is_marked, AreMarks, AreNear, AreMasks, HasNear}
+use Rattle.quad_condition.specs.Marks.{is_marked, AreMarks, AreDistanceMasks, AreMasks, HasPairAtDistance}
 use Rattle.quad_condition.proofs.Pairs.{Pairs, IsPrefix, prefix_by, pairs_prefix, partners_before, partners_more, pairs_before, all_pairs}
 use Rattle.surface_coordinate_laws.proofs.Ranges.{flat_map-more}
 use Rattle.surface_coordinate_laws.proofs.ClashPairs.{all_of_pairs}
@@ -138,7 +138,7 @@ of_either : (sa sb : List Bool) (a b : List ℕ) (column : ℕ) → AreWordsOf s
 of_either sa sb a b column p q (inl h) = inl (p.bits column ∙ h)
 of_either sa sb a b column p q (inr h) = inr (q.bits column ∙ h)
 
-pub near_is_clash : (coords : Coords) (n : ℕ) (near : List (Vec ℕ Global)) (sa sb : List Bool) (a b : List ℕ) → AreNear coords n near → AreWordsOf sa a → AreWordsOf sb b → HasNear near a b
+pub near_is_clash : (coords : Coords) (n : ℕ) (near : List (Vec ℕ Global)) (sa sb : List Bool) (a b : List ℕ) → AreDistanceMasks coords n near → AreWordsOf sa a → AreWordsOf sb b → HasPairAtDistance near a b
     → IsClashFree (clash_list coords n) sa sb → ⊥
 near_is_clash coords n near sa sb a b marks p q h free =
     let c : ℕ = h.pair.column in
@@ -172,7 +172,7 @@ element_at (x ∷ xs) zero l = (x, λ d. refl)
 element_at (x ∷ xs) (suc k) l = element_at xs k (omega arith)
 
 pub free_of_clashes : (coords : Coords) (n : ℕ) (near : List (Vec ℕ Global)) (mask : List ℕ) (sa sb : List Bool) (a b : List ℕ) → AreMasks coords n near mask → AreWordsOf sa a → AreWordsOf sb b
-    → (HasNear near a b → ⊥) → (HasTwo mask a b → ⊥) → IsClashFree (clash_list coords n) sa sb
+    → (HasPairAtDistance near a b → ⊥) → (HasTwo mask a b → ⊥) → IsClashFree (clash_list coords n) sa sb
 free_of_clashes coords n near mask sa sb a b marks p q no_near no_two =
     all_of_pairs (λ x. ¬ (IsInUnion sa sb x.0 × IsInUnion sa sb x.1)) coords n (λ c e less within clashes both.
     ⊎_elim (octagon c e less within both) (one_tet c e less within both)
@@ -230,14 +230,14 @@ any_default (y ∷ ys) zero x l e d = e
 any_default (y ∷ ys) (suc k) x l e d = any_default ys k x (omega arith) e d
 
 pub decides_two : (coords : Coords) (n : ℕ) (near : List (Vec ℕ Global)) (mask : List ℕ) (sa sb : List Bool) (a b : List ℕ) (r : Bool) → AreMasks coords n near mask → AreWordsOf sa a → AreWordsOf sb b
-    → (HasNear near a b → ⊥) → (IsTrue r ↔ HasTwo mask a b) → IsTrue (not r) ↔ IsClashFree (clash_list coords n) sa sb
+    → (HasPairAtDistance near a b → ⊥) → (IsTrue r ↔ HasTwo mask a b) → IsTrue (not r) ↔ IsClashFree (clash_list coords n) sa sb
 decides_two coords n near mask sa sb a b r marks p q no_near two = (
   (λ t. free_of_clashes coords n near mask sa sb a b marks p q no_near (λ h. false≢true (sym (ap not (two.1 h)) ∙ t))),
   (λ free. ap not (false_from_ne_true r (λ t. two_is_clash coords n mask sa sb a b marks.octagon_marks p q (two.0 t) free))),
 )
 
 pub decides_near : (coords : Coords) (n : ℕ) (near : List (Vec ℕ Global)) (mask : List ℕ) (sa sb : List Bool) (a b : List ℕ) (r : Bool) → AreMasks coords n near mask → AreWordsOf sa a → AreWordsOf sb b
-    → r ≡ true → (IsTrue r ↔ HasNear near a b) → IsTrue (not r) ↔ IsClashFree (clash_list coords n) sa sb
+    → r ≡ true → (IsTrue r ↔ HasPairAtDistance near a b) → IsTrue (not r) ↔ IsClashFree (clash_list coords n) sa sb
 decides_near coords n near mask sa sb a b r marks p q is close = (
   (λ t. absurd (false≢true (sym (ap not is) ∙ t))),
   (λ free. absurd (near_is_clash coords n near sa sb a b marks.near_marks p q (close.0 is) free)),

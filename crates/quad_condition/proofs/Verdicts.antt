@@ -2,7 +2,7 @@
 use Rattle.std.proofs.Common.{◌≡◌, ◌≢◌, ℕ, ℤ, List, length, Option, sym}
 use Rattle.std.specs.List.{All, find}
 use Rattle.std.specs.Prelude.{Err}
-use Rattle.cone_definitions.specs.Met.{IsMet}
+use Rattle.cone_definitions.specs.Met.{HoldsWithin}
 use Rattle.surface_definitions.specs.Verdict.{both_nonzero, clash_verdict, verdict}
 use Rattle.surface_definitions.specs.declared.VectorFault.TheVariants.{Length}
 use Rattle.cone_arithmetic.specs.Faults.{SolutionFails}
@@ -22,6 +22,6 @@ row_answer max n rows pairs x (Passed i) e h = sym (large_told max n rows pairs 
 row_answer max n rows pairs x (NotZero i) e h =
     sym (failure_told max n rows pairs x i e h.in_range h.earlier h.within h.not_zero)
 
-pub clash_answer : (max n : ℕ) (rows : List SparseRow) (pairs : List (ℕ × ℕ)) (x : List ℕ) (found : Option (ℕ × ℕ)) → length x ≡ n → All (IsMet max x) rows → found ≡ find (both_nonzero x) pairs
+pub clash_answer : (max n : ℕ) (rows : List SparseRow) (pairs : List (ℕ × ℕ)) (x : List ℕ) (found : Option (ℕ × ℕ)) → length x ≡ n → All (HoldsWithin max x) rows → found ≡ find (both_nonzero x) pairs
     → clash_verdict found ≡ verdict max n rows pairs x
 clash_answer max n rows pairs x found e met f = sym (clash_told max n rows pairs x found e met f)

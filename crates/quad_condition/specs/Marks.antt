@@ -22,16 +22,16 @@ pub record AreMarks (coords : Coords) (n least distance : ℕ) (words : List ℕ
   pub bits : (column : ℕ) → bit_of words column ≡ (nat_lt column (columns coords n) && is_marked coords least distance column)
 
 -- a mask of quads and octagons for each distance within a tetrahedron, from 1 on
-pub record AreNear (coords : Coords) (n : ℕ) (near : List (Vec ℕ Global)) : Type 0 where
+pub record AreDistanceMasks (coords : Coords) (n : ℕ) (near : List (Vec ℕ Global)) : Type 0 where
   pub reach : length near + 1 ≡ columns_each coords - triangles_each coords
   pub each : (k : ℕ) (d : Vec ℕ Global) → k < length near → AreMarks coords n (triangles_each coords) (k + 1) (slice_index_or near k d).items
 
 pub record AreMasks (coords : Coords) (n : ℕ) (near : List (Vec ℕ Global)) (octagons : List ℕ) : Type 0 where
-  pub near_marks : AreNear coords n near
+  pub near_marks : AreDistanceMasks coords n near
   pub octagon_marks : AreMarks coords n 7 0 octagons
 
 -- a column of a mask and the one at its distance ahead are both of a or of b
-pub record HasNear (near : List (Vec ℕ Global)) (a b : List ℕ) : Type 0 where
+pub record HasPairAtDistance (near : List (Vec ℕ Global)) (a b : List ℕ) : Type 0 where
   pub place : ℕ
   pub in_range : place < length near
   pub mask : Vec ℕ Global

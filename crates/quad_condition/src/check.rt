@@ -4,7 +4,7 @@ ghost use Rattle.std.specs.Prelude.{◌≡◌, ◌↔◌, ◌≤◌, IsOk};
 ghost use Rattle.table_definitions.specs.Table.{max_tets};
 ghost use Rattle.surface_definitions.specs.Coordinates as coordinates;
 ghost use Rattle.surface_definitions.specs.Verdict.{verdict};
-ghost use Rattle.surface_definitions.specs.Laws.{IsAccepted};
+ghost use Rattle.surface_definitions.specs.Laws.{IsAcceptedVector};
 ghost use Rattle.quad_condition.specs.Faults.{fault_of};
 
 use crate::clashes::first_clash;
@@ -33,7 +33,7 @@ pub fn check_vector(
     requires tets { tets ≤ max_tets }
     requires columns { system.now.columns ≡ coordinates.columns coords tets }
     ensures verdict { result ≡ verdict MAX_ENTRY system.now.columns system.now.rows (coordinates.clash_list coords tets) x.now }
-    ensures accepts { IsOk result ↔ IsAccepted MAX_ENTRY system.now.columns system.now.rows (coordinates.clash_list coords tets) x.now }
+    ensures accepts { IsOk result ↔ IsAcceptedVector MAX_ENTRY system.now.columns system.now.rows (coordinates.clash_list coords tets) x.now }
 {
     if x.len() != system.columns() as usize {
         return Err(VectorFault::Length { got: x.len() });

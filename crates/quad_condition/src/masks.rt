@@ -6,7 +6,7 @@ ghost use Rattle.table_definitions.specs.Table.{max_tets};
 ghost use Rattle.surface_definitions.specs.Coordinates as coordinates;
 ghost use Rattle.ray_steps.specs.Clashes.{IsClashFree};
 ghost use Rattle.quad_condition.specs.Marks as marks;
-ghost use Rattle.quad_condition.specs.Marks.{AreMarks, AreNear, HasNear};
+ghost use Rattle.quad_condition.specs.Marks.{AreMarks, AreDistanceMasks, HasPairAtDistance};
 
 use crate::words::{has_pair_ahead, has_two};
 use no_memory::NoMemory;
@@ -73,7 +73,7 @@ fn mask(
 /// The masks of the distances within a tetrahedron, from 1 on.
 fn near_masks(alloc: Global, coords: Coords, tets: u32) -> Result<Vec<Vec<u64>>, NoMemory>
     requires { tets ≤ max_tets }
-    ensures { IfOk result (λ near. AreNear coords tets near.items) }
+    ensures { IfOk result (λ near. AreDistanceMasks coords tets near.items) }
 {
     let least = triangles_each(coords);
     let mut near = Vec::new(alloc);
@@ -88,7 +88,7 @@ fn has_near(near: &[Vec<u64>], a: &[u64], b: &[u64]) -> bool
     requires few { length near.now ≤ 10 }
     requires first { (k : ℕ) (d : Vec ℕ Global) → k < length near.now → length (slice_index_or near.now k d).items ≡ length a.now }
     requires second { length b.now ≡ length a.now }
-    ensures { IsTrue result ↔ HasNear near.now a.now b.now }
+    ensures { IsTrue result ↔ HasPairAtDistance near.now a.now b.now }
 {
     for (k, mask) in near.iter().enumerate() {
         if has_pair_ahead(mask, a, b, k as u32 + 1) {

@@ -2,7 +2,7 @@
 //! of each class, whose height is so great that none falls below 0.
 
 ghost use Rattle.std.specs.Prelude.{◌≡◌, ℕ, ◌+◌, ◌*◌, ◌<◌, Bool, true, false, List, [], length, slice_index_or, IfOk, OnOk};
-ghost use Rattle.table_walk_laws.specs.Search.{IsMarked, IsClosed, IsSearch, IsTurn, work_left};
+ghost use Rattle.table_walk_laws.specs.Search.{IsMarked, IsClosed, IsSearch, IsSearchStep, work_left};
 ghost use Rattle.skeleton_definitions.specs.Skeleton.{IsSkeleton};
 ghost use Rattle.quad_lift.specs.Spreads.{vertices_round, round_before, AreSpread, AreAllSpread};
 
@@ -24,7 +24,7 @@ impl QuadVector<'_> {
         requires a_face { face < 4 }
         ensures spread { OnOk result (AreSpread self.now.skeleton.now self.now.entries.now marked.new heights.new) }
         ensures kept { OnOk result ((i : ℕ) → IsMarked marked.old i → IsMarked marked.new i) }
-        ensures turn { OnOk result ((first : List Bool) → IsTurn (vertices_round self.now.skeleton.now.rows) first vertex (round_before self.now.skeleton.now.rows vertex face) marked.old pending.old.items → IsTurn (vertices_round self.now.skeleton.now.rows) first vertex (round_before self.now.skeleton.now.rows vertex (face + 1)) marked.new pending.new.items) }
+        ensures turn { OnOk result ((first : List Bool) → IsSearchStep (vertices_round self.now.skeleton.now.rows) first vertex (round_before self.now.skeleton.now.rows vertex face) marked.old pending.old.items → IsSearchStep (vertices_round self.now.skeleton.now.rows) first vertex (round_before self.now.skeleton.now.rows vertex (face + 1)) marked.new pending.new.items) }
         ensures work { OnOk result (work_left marked.new pending.new.items ≡ work_left marked.old pending.old.items) }
     {
         let Some(step) = self.across(vertex, face) else {
@@ -51,7 +51,7 @@ impl QuadVector<'_> {
         requires spread { AreSpread self.now.skeleton.now self.now.entries.now marked.old heights.old }
         requires marked { IsMarked marked.old vertex }
         ensures spread { OnOk result (AreSpread self.now.skeleton.now self.now.entries.now marked.new heights.new) }
-        ensures turn { OnOk result ((first : List Bool) → IsTurn (vertices_round self.now.skeleton.now.rows) first vertex [] marked.old pending.old.items → IsSearch (vertices_round self.now.skeleton.now.rows) first marked.new pending.new.items) }
+        ensures turn { OnOk result ((first : List Bool) → IsSearchStep (vertices_round self.now.skeleton.now.rows) first vertex [] marked.old pending.old.items → IsSearch (vertices_round self.now.skeleton.now.rows) first marked.new pending.new.items) }
         ensures work { OnOk result (work_left marked.new pending.new.items ≡ work_left marked.old pending.old.items) }
     {
         for face in 0..4 {

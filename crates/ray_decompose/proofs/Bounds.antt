@@ -7,7 +7,7 @@ use Rattle.std.proofs.lemmas.List.Sums.{get_or-le-sum_by}
 use Rattle.cone_definitions.specs.Vectors.{IsInside, multiple}
 use Rattle.cone_definitions.specs.Rows.{Row, IsPrimitiveExtreme}
 use Rattle.cone_definitions.proofs.Entries.{inside_trans, zero_or_nonzero, IsNonzero-inside}
-use Rattle.sum_definitions.specs.Sums.{Term, State, IsLeastFraction, repeated, difference, taken_out, IsTurn, IsWithinTimes, LeadsTo, IsSum, IsLargeTurn, HasRays}
+use Rattle.sum_definitions.specs.Sums.{Term, State, IsLeastFraction, repeated, difference, taken_out, IsSumStep, IsWithinTimes, ReachesState, IsSum, IsLargeStep, HasRays}
 use Rattle.sum_definitions.specs.Adding.{sum_at}
 use Rattle.sum_laws.proofs.Fractions.{least_at}
 use Rattle.sum_laws.proofs.Turns.{IsReached, led_reached, listed_ray, turn_smaller, turn_takes_out, not_inside}
@@ -34,7 +34,7 @@ part_fits q m x S r l e h = omega (arith, ap (λ n. q * n) e)
 term_fits : (q c v m x S r l : ℕ) → v ≢ 0 → c * v ≤ S → m * x ≡ S + r → q * m * x ≤ l → q * c ≤ l
 term_fits q c v m x S r l some h e within = at_least (q * c) v l some (let t : q * (c * v) ≤ q * S = mul-le-mul_left q h in omega (arith, ap (λ n. q * n) e))
 
-module _ (columns : ℕ) (rows : List Row) (list : List (List ℕ)) (x : List ℕ) (h : HasRays columns rows list x) (limit turn : ℕ) (s : State) (led : LeadsTo limit list x turn s) where
+module _ (columns : ℕ) (rows : List Row) (list : List (List ℕ)) (x : List ℕ) (h : HasRays columns rows list x) (limit turn : ℕ) (s : State) (led : ReachesState limit list x turn s) where
   reached : IsReached columns rows list x s
   reached = led_reached columns rows list x h limit turn s led
 
@@ -53,7 +53,7 @@ module _ (columns : ℕ) (rows : List Row) (list : List (List ℕ)) (x : List �
 
   module _ (i p q : ℕ) (l : i < length list) (inside : IsInside (slice_index_or list i []) s.rest) (none : NoneBefore list s.rest i)
       (fraction : IsLeastFraction s.rest (slice_index_or list i []) p q) where
-    pub turn_at : IsTurn list s (taken_out s p q (slice_index_or list i []))
+    pub turn_at : IsSumStep list s (taken_out s p q (slice_index_or list i []))
     turn_at = record {
       left = IsNonzero-inside (slice_index_or list i []) s.rest inside (ray_at i l).extreme.nonzero;
       vector = slice_index_or list i [];
@@ -83,8 +83,8 @@ module _ (columns : ℕ) (rows : List Row) (list : List (List ℕ)) (x : List �
       same = ap (λ ts. record { times = q * s.times; terms = ts; rest = difference (multiple q s.rest) (multiple p (slice_index_or list i [])) }) (sym are) ∙
           ap (λ r. record { times = q * s.times; terms = terms; rest = r }) (sym is)
 
-      pub leads_on : LeadsTo limit list x (suc turn) (record { times = q * s.times; terms = terms; rest = rest })
-      leads_on = subst (λ n. LeadsTo limit list x (suc turn) n) same (s, led, turn_at, within)
+      pub leads_on : ReachesState limit list x (suc turn) (record { times = q * s.times; terms = terms; rest = rest })
+      leads_on = subst (λ n. ReachesState limit list x (suc turn) n) same (s, led, turn_at, within)
 
       pub none_again : NoneBefore list rest (i + 1)
       unfolding turn_at
@@ -98,7 +98,7 @@ module _ (columns : ℕ) (rows : List Row) (list : List (List ℕ)) (x : List �
 -- a turn at a place of the list, as the code comes to it
 pub record Turn (columns : ℕ) (rows : List Row) (list : List (List ℕ)) (x : List ℕ) (limit times : ℕ) (terms : List Term) (rest : List ℕ) (i p q : ℕ) : Type 0 where
   pub rays : HasRays columns rows list x
-  pub led : LeadsTo limit list x (length terms) (record { times = times; terms = terms; rest = rest })
+  pub led : ReachesState limit list x (length terms) (record { times = times; terms = terms; rest = rest })
   pub none : NoneBefore list rest i
   pub in_range : i < length list
   pub inside : IsInside (slice_index_or list i []) rest
@@ -112,7 +112,7 @@ pub same_lengths : (v w a b : List ℕ) → v ≡ a → w ≡ b → length a ≡
 same_lengths v w a b e f g = ap length e ∙ g ∙ sym (ap length f)
 
 pub turn_is : (columns : ℕ) (rows : List Row) (list : List (List ℕ)) (x : List ℕ) (limit times : ℕ) (terms : List Term) (rest : List ℕ) (i p q : ℕ) (item v r : List ℕ) →
-    HasRays columns rows list x → LeadsTo limit list x (length terms) (record { times = times; terms = terms; rest = rest }) → NoneBefore list rest i → i < length list →
+    HasRays columns rows list x → ReachesState limit list x (length terms) (record { times = times; terms = terms; rest = rest }) → NoneBefore list rest i → i < length list →
     item ≡ slice_index_or list i item → v ≡ item → r ≡ rest → IsInside v r → IsLeastFraction r v p q → Turn columns rows list x limit times terms rest i p q
 turn_is columns rows list x limit times terms rest i p q item v r h led none l is e f inside fraction = record {
   rays = h;
@@ -133,8 +133,8 @@ module _ (columns : ℕ) (rows : List Row) (list : List (List ℕ)) (x : List �
   pub ray_width : length (slice_index_or list i []) ≡ columns
   ray_width = (t.rays.rays i [] t.in_range).extreme.solution.width
 
-  pub large_turn : (turn column : ℕ) → turn ≡ length terms → IsFirstLarge limit x (q * times) column → IsLargeTurn limit list x turn column
-  large_turn turn column e h = subst (λ n. IsLargeTurn limit list x n column) (sym e) (record {
+  pub large_turn : (turn column : ℕ) → turn ≡ length terms → IsFirstLarge limit x (q * times) column → IsLargeStep limit list x turn column
+  large_turn turn column e h = subst (λ n. IsLargeStep limit list x n column) (sym e) (record {
     before = record { times = times; terms = terms; rest = rest };
     next = taken_out (record { times = times; terms = terms; rest = rest }) p q (slice_index_or list i []);
     led = t.led;
@@ -146,10 +146,10 @@ module _ (columns : ℕ) (rows : List Row) (list : List (List ℕ)) (x : List �
   -- where the turn leads
   pub goes_on : (times' : ℕ) (terms' : List Term) (rest' : List ℕ) → IsWithinTimes limit x (q * times) → times' ≡ q * times →
       terms' ≡ map (repeated q) terms ++ record { count = p; vector = slice_index_or list i [] } ∷ [] → rest' ≡ difference (multiple q rest) (multiple p (slice_index_or list i [])) →
-      record { led : LeadsTo limit list x (length terms') (record { times = times'; terms = terms'; rest = rest' }); none : NoneBefore list rest' (i + 1) }
+      record { led : ReachesState limit list x (length terms') (record { times = times'; terms = terms'; rest = rest' }); none : NoneBefore list rest' (i + 1) }
   goes_on times' terms' rest' within e are is = record {
-    led = subst (λ n. LeadsTo limit list x n (record { times = times'; terms = terms'; rest = rest' })) longer
-        (subst (λ m. LeadsTo limit list x (suc (length terms)) (record { times = m; terms = terms'; rest = rest' })) (sym e)
+    led = subst (λ n. ReachesState limit list x n (record { times = times'; terms = terms'; rest = rest' })) longer
+        (subst (λ m. ReachesState limit list x (suc (length terms)) (record { times = m; terms = terms'; rest = rest' })) (sym e)
         (leads_on columns rows list x t.rays limit (length terms) (record { times = times; terms = terms; rest = rest }) t.led i p q t.in_range t.inside t.none t.fraction within terms' rest' are is));
     none = none_again columns rows list x t.rays limit (length terms) (record { times = times; terms = terms; rest = rest }) t.led i p q t.in_range t.inside t.none t.fraction within terms' rest' are is;
   }
@@ -169,7 +169,7 @@ none_there list rest i none out k b c = elim (cases_eq k i) [
 ]
 
 pub ends : (columns : ℕ) (rows : List Row) (list : List (List ℕ)) (x : List ℕ) (limit times : ℕ) (terms : List Term) (rest : List ℕ) (i : ℕ) → HasRays columns rows list x →
-    LeadsTo limit list x (length terms) (record { times = times; terms = terms; rest = rest }) → NoneBefore list rest i → length list ≤ i → IsSum limit list x times terms
+    ReachesState limit list x (length terms) (record { times = times; terms = terms; rest = rest }) → NoneBefore list rest i → length list ≤ i → IsSum limit list x times terms
 ends columns rows list x limit times terms rest i h led none past = record {
   turns = length terms;
   rest = rest;

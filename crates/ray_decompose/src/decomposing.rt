@@ -2,7 +2,7 @@
 
 ghost use Rattle.std.specs.Prelude.{IfOk, IfErr};
 ghost use Rattle.no_memory.specs.Failures.{IfFault};
-ghost use Rattle.sum_definitions.specs.Sums.{HasRays, IsSum, IsLargeTurn};
+ghost use Rattle.sum_definitions.specs.Sums.{HasRays, IsSum, IsLargeStep};
 ghost use Rattle.sum_laws.specs.Laws.{IsSumOfRays};
 
 use crate::columns::first_large;
@@ -43,7 +43,7 @@ pub fn decompose(
     requires { HasRays system.now.columns system.now.rows list.now x.now }
     ensures ok { IfOk result (λ sum. IsSum limit list.now x.now sum.times sum.terms.items) }
     ensures right { IfOk result (λ sum. IsSumOfRays list.now limit x.now sum.times sum.terms.items) }
-    ensures err { IfErr result (λ e. IfFault e (λ large. IsLargeTurn limit list.now x.now large.turn large.column)) }
+    ensures err { IfErr result (λ e. IfFault e (λ large. IsLargeStep limit list.now x.now large.turn large.column)) }
 {
     let mut times = 1;
     let mut terms: Vec<Term> = Vec::with_capacity(alloc, system.columns() as usize)?;

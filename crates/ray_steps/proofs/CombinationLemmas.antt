@@ -14,7 +14,7 @@ use Rattle.cone_arithmetic.specs.Combinations.{IsCombinationBy, IsReducedBy}
 use Rattle.ray_steps.specs.declared.signs.Sign.{Sign}
 use Rattle.ray_steps.specs.declared.signs.Sign.TheVariants.{Zero, Positive, Negative}
 use Rattle.ray_steps.specs.Next.{step_of}
-use Rattle.ray_steps.specs.Signs.{IsSignAt, AreSigns, IsSignedPair, IsTaken, ComesFromPlaces, GivesFrom, IsStepAt, IsMadeUpTo}
+use Rattle.ray_steps.specs.Signs.{IsSignAt, AreSigns, IsSignedPair, IsDoneBefore, ComesFromPlaces, GivesFrom, IsStepAt, IsMadeUpTo}
 
 -- a combination by the values of a row is that of the row
 pub combination_by_row : (row : Row) (at_u at_w : ℕ) (u w z : List ℕ) → at_u ≡ value_at row u → at_w ≡ magnitude_at row w → IsCombinationBy at_u at_w u w z → IsCombination row u w z
@@ -68,15 +68,15 @@ module _ (limit : ℕ) (pairs : List Clash) (rays : List (List ℕ)) (signs : Li
           place_is_one (step_of pairs step.columns step.before step.row) rays step.surfaces j w p.w_in_range q.w_in_range same.1,
         )
 
-  taken_weaker : (i j u w : ℕ) → IsTaken u w i j → IsTaken u w i (j + 1)
+  taken_weaker : (i j u w : ℕ) → IsDoneBefore u w i j → IsDoneBefore u w i (j + 1)
   taken_weaker i j u w (inl h) = inl h
   taken_weaker i j u w (inr h) = inr (h.0, let e = h.1 in omega arith)
 
-  taken_cases : (i j u w : ℕ) → IsTaken u w i (j + 1) → IsTaken u w i j ⊎ ((u ≡ i) × (w ≡ j))
+  taken_cases : (i j u w : ℕ) → IsDoneBefore u w i (j + 1) → IsDoneBefore u w i j ⊎ ((u ≡ i) × (w ≡ j))
   taken_cases i j u w (inl h) = inl (inl h)
   taken_cases i j u w (inr h) = ⊎_elim (λ less. inl (inr (h.0, less))) (λ more. inr (h.0, let e = h.1 in omega arith)) (cases_lt w j)
 
-  comes_weaker : (i j k l : ℕ) → ((u w : ℕ) → IsTaken u w i j → IsTaken u w k l) → (x : List ℕ) → ComesFromPlaces limit pairs rays signs i j x → ComesFromPlaces limit pairs rays signs k l x
+  comes_weaker : (i j k l : ℕ) → ((u w : ℕ) → IsDoneBefore u w i j → IsDoneBefore u w k l) → (x : List ℕ) → ComesFromPlaces limit pairs rays signs i j x → ComesFromPlaces limit pairs rays signs k l x
   comes_weaker i j k l more x h = record { u = h.u; w = h.w; taken = more h.u h.w h.taken; pair = h.pair; reduced = h.reduced }
 
   -- a pair of places that is none gives nothing

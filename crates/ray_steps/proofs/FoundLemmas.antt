@@ -9,7 +9,7 @@ use Rattle.cone_definitions.specs.Surfaces.{Clash, IsAdmissibleUnion}
 use Rattle.cone_definitions.specs.Vectors.{IsInsideUnion, ray_at}
 use Rattle.support_bits.specs.Columns.{support_of, IsInsideUnionOf, Meets}
 use Rattle.support_table.specs.Counts.{columns_in_either}
-use Rattle.support_table.specs.Joins.{AreJoinedTo}
+use Rattle.support_table.specs.Joins.{AreClashingColumns}
 use Rattle.support_table.specs.Tables.{Table}
 use Rattle.residual_pairs.specs.Residuals.{support_at, IsResidualInside, IsRival, IsMinimal, AreMinimal}
 use Rattle.residual_pairs.proofs.CandidateLemmas.{inside_union, inside_residual}
@@ -18,7 +18,7 @@ use Rattle.ray_steps.specs.declared.signs.Sign.{Sign}
 use Rattle.ray_steps.specs.declared.signs.Sign.TheVariants.{Zero}
 use Rattle.ray_steps.specs.Rivals.{HasAllSupports}
 use Rattle.ray_steps.specs.Unions.{HaveSmallUnions}
-use Rattle.ray_steps.specs.Signs.{IsNegative, IsFacePair, IsSignedPair, ComesFromPlaces, IsMadeUpTo}
+use Rattle.ray_steps.specs.Signs.{IsNegative, IsAdjacentPair, IsSignedPair, ComesFromPlaces, IsMadeUpTo}
 use Rattle.ray_steps.proofs.CombinationLemmas.{made_next}
 use Rattle.ray_steps.proofs.PlaceLemmas.{HaveTaken}
 use Rattle.ray_steps.proofs.RivalLemmas.{apart_inside, not_face_clash}
@@ -32,7 +32,7 @@ places_apart pairs rays signs i j p e = subst IsNegative (sym p.negative ∙ ap 
 -- ---- minimal residuals make face pairs
 
 module _ (pairs : List Clash) (rays : List (List ℕ)) (i columns most : ℕ) (joined : List Bool) (table : Table) (h : HasAllSupports rays columns table)
-    (joins : AreJoinedTo pairs (support_of (ray_at rays i)) joined) (outer : List Bool) (outer_is : outer ≡ support_of (ray_at rays i)) where
+    (joins : AreClashingColumns pairs (support_of (ray_at rays i)) joined) (outer : List Bool) (outer_is : outer ≡ support_of (ray_at rays i)) where
   support_is : (k : ℕ) → support_at table.supports k ≡ support_of (ray_at rays k)
   support_is k = ap (λ ss. get_or ss k []) h.supports ∙ get_or-map support_of rays k []
 
@@ -57,7 +57,7 @@ module _ (pairs : List Clash) (rays : List (List ℕ)) (i columns most : ℕ) (j
       let within = size_within outer (support_at table.supports k) (support_at table.supports j) (inside_union outer (support_at table.supports k) (support_at table.supports j) inside) in
       omega (arith, near, within)
 
-  face_if_minimal : (j : ℕ) → IsMinimal table.supports outer joined i most j → IsAdmissibleUnion pairs (ray_at rays i) (ray_at rays j) → IsFacePair pairs rays i j
+  face_if_minimal : (j : ℕ) → IsMinimal table.supports outer joined i most j → IsAdmissibleUnion pairs (ray_at rays i) (ray_at rays j) → IsAdjacentPair pairs rays i j
   face_if_minimal j m admissible = record {
     no_clash = admissible;
     no_third = λ k less inside. elim (cases_eq k i) [
@@ -72,7 +72,7 @@ module _ (pairs : List Clash) (rays : List (List ℕ)) (i columns most : ℕ) (j
   }
 
   minimal_if_face : HaveSmallUnions columns most pairs rays → i < length rays → length (ray_at rays i) ≡ columns →
-      (j : ℕ) → j < length rays → j ≢ i → IsFacePair pairs rays i j → IsMinimal table.supports outer joined i most j
+      (j : ℕ) → j < length rays → j ≢ i → IsAdjacentPair pairs rays i j → IsMinimal table.supports outer joined i most j
   minimal_if_face small i_in wide j within other face = record {
     rival = record {
       in_range = omega (arith, as_many);
@@ -90,7 +90,7 @@ module _ (pairs : List Clash) (rays : List (List ℕ)) (i columns most : ℕ) (j
   found_in_range places k d m within = let less = (m.each k d within).rival.in_range in omega (arith, as_many)
 
   pub found_face : (places : List ℕ) (k d : ℕ) → AreMinimal table.supports outer joined i most places → k < length places →
-      IsAdmissibleUnion pairs (ray_at rays i) (ray_at rays (get_or places k d)) → IsFacePair pairs rays i (get_or places k d)
+      IsAdmissibleUnion pairs (ray_at rays i) (ray_at rays (get_or places k d)) → IsAdjacentPair pairs rays i (get_or places k d)
   found_face places k d m within = face_if_minimal (get_or places k d) (m.each k d within)
 
   pub pairs_found : HaveSmallUnions columns most pairs rays → i < length rays → length (ray_at rays i) ≡ columns → (signs : List Sign) (places : List ℕ) → AreMinimal table.supports outer joined i most places → (w : ℕ) → IsSignedPair pairs rays signs i w → Contains places w

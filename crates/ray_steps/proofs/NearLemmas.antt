@@ -2,15 +2,15 @@
 use Rattle.std.proofs.Common.{◌≡◌, ℕ, ◌+◌, ◌<◌, ◌≤◌, ⊎_elim, List, Bool, length, get_or, [], subst, arith}
 use Rattle.cone_definitions.specs.Surfaces.{Clash}
 use Rattle.support_bits.specs.Columns.{support_of, Meets}
-use Rattle.support_table.specs.Joins.{AreJoinedTo}
+use Rattle.support_table.specs.Joins.{AreClashingColumns}
 use Rattle.ray_steps.specs.declared.negatives.Negatives.{Negatives}
 use Rattle.ray_steps.specs.declared.signs.Sign.{Sign}
 use Rattle.cone_definitions.specs.Vectors.{ray_at}
-use Rattle.ray_steps.specs.Signs.{IsFacePair, IsMadeUpTo}
+use Rattle.ray_steps.specs.Signs.{IsAdjacentPair, IsMadeUpTo}
 use Rattle.ray_steps.specs.declared.rays.RayWithSupport.{RayWithSupport}
 use Rattle.ray_steps.specs.Rays.{rays_of, AreOfWidth}
 use Rattle.ray_steps.specs.Unions.{HaveSmallUnions}
-use Rattle.ray_steps.specs.Negatives.{AreNegatives, IsFar, IsFirstNear}
+use Rattle.ray_steps.specs.Negatives.{AreNegatives, IsRuledOut, IsFirstNotRuledOut}
 use Rattle.ray_steps.proofs.RayLemmas.{length-rays_of, ray_width}
 use Rattle.ray_steps.proofs.RivalLemmas.{support_read, support_of_rival, count_of_rivals, not_face_clash}
 use Rattle.ray_steps.proofs.CombinationLemmas.{made_next}
@@ -19,9 +19,9 @@ use Rattle.ray_steps.proofs.UnionLemmas.{not_face_large}
 
 -- a far ray makes no pair
 pub not_face_far : (pairs : List Clash) (rays : List (List ℕ)) (signs : List Sign) (i columns most k : ℕ) (joined : List Bool) (negatives : Negatives) (a : List Bool) →
-    AreJoinedTo pairs (support_of (ray_at rays i)) joined → HaveSmallUnions columns most pairs rays → AreNegatives rays signs columns negatives → length signs ≡ length rays →
+    AreClashingColumns pairs (support_of (ray_at rays i)) joined → HaveSmallUnions columns most pairs rays → AreNegatives rays signs columns negatives → length signs ≡ length rays →
     i < length rays → length (ray_at rays i) ≡ columns → a ≡ support_of (ray_at rays i) → k < length negatives.places.items →
-    IsFar a joined most (get_or negatives.table.supports k []) → ¬ IsFacePair pairs rays i (get_or negatives.places.items k 0)
+    IsRuledOut a joined most (get_or negatives.table.supports k []) → ¬ IsAdjacentPair pairs rays i (get_or negatives.places.items k 0)
 not_face_far pairs rays signs i columns most k joined negatives a h small n count i_in wide a_is within far =
     let j = get_or negatives.places.items k 0 in
     let b_is = support_of_rival rays columns negatives.places.items negatives.table k n.table within in
@@ -33,8 +33,8 @@ not_face_far pairs rays signs i columns most k joined negatives a h small n coun
 
 -- up to the first ray that isn't far, the pairs are taken
 pub near_taken : (limit : ℕ) (pairs : List Clash) (ray_list : List RayWithSupport) (signs : List Sign) (i columns most m n : ℕ) (joined : List Bool) (negatives : Negatives) (u : RayWithSupport) (made : List (List ℕ)) →
-    AreJoinedTo pairs (support_of (ray_at (rays_of ray_list) i)) joined → HaveSmallUnions columns most pairs (rays_of ray_list) → AreNegatives (rays_of ray_list) signs columns negatives → length signs ≡ length ray_list →
-    i < length ray_list → AreOfWidth columns ray_list → ray_at (rays_of ray_list) i ≡ u.ray → IsFirstNear u.support joined most negatives.table.supports m n →
+    AreClashingColumns pairs (support_of (ray_at (rays_of ray_list) i)) joined → HaveSmallUnions columns most pairs (rays_of ray_list) → AreNegatives (rays_of ray_list) signs columns negatives → length signs ≡ length ray_list →
+    i < length ray_list → AreOfWidth columns ray_list → ray_at (rays_of ray_list) i ≡ u.ray → IsFirstNotRuledOut u.support joined most negatives.table.supports m n →
     HaveTaken limit pairs (rays_of ray_list) signs negatives.places.items i m made → (n ≤ length negatives.places.items) × HaveTaken limit pairs (rays_of ray_list) signs negatives.places.items i n made
 near_taken limit pairs ray_list signs i columns most m n joined negatives u made h small neg count i_in widths read near taken =
     let rays = rays_of ray_list in
@@ -51,8 +51,8 @@ near_taken limit pairs ray_list signs i columns most m n joined negatives u made
 
 -- where no negative ray is near, there is no pair
 pub none_near : (limit : ℕ) (pairs : List Clash) (ray_list : List RayWithSupport) (signs : List Sign) (i columns most n : ℕ) (joined : List Bool) (negatives : Negatives) (u : RayWithSupport) (made : List (List ℕ)) →
-    AreJoinedTo pairs (support_of (ray_at (rays_of ray_list) i)) joined → HaveSmallUnions columns most pairs (rays_of ray_list) → AreNegatives (rays_of ray_list) signs columns negatives → length signs ≡ length ray_list →
-    i < length ray_list → AreOfWidth columns ray_list → ray_at (rays_of ray_list) i ≡ u.ray → IsFirstNear u.support joined most negatives.table.supports 0 n → length negatives.places.items ≤ n →
+    AreClashingColumns pairs (support_of (ray_at (rays_of ray_list) i)) joined → HaveSmallUnions columns most pairs (rays_of ray_list) → AreNegatives (rays_of ray_list) signs columns negatives → length signs ≡ length ray_list →
+    i < length ray_list → AreOfWidth columns ray_list → ray_at (rays_of ray_list) i ≡ u.ray → IsFirstNotRuledOut u.support joined most negatives.table.supports 0 n → length negatives.places.items ≤ n →
     IsMadeUpTo limit pairs (rays_of ray_list) signs i 0 made → IsMadeUpTo limit pairs (rays_of ray_list) signs (i + 1) 0 made
 none_near limit pairs ray_list signs i columns most n joined negatives u made h small neg count i_in widths read near past so_far =
     let rays = rays_of ray_list in

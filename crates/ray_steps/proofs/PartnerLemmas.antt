@@ -7,8 +7,8 @@ use Rattle.std.proofs.lemmas.List.Elements.{Contains-push, Contains-push_cases, 
 use Rattle.cone_definitions.specs.Surfaces.{Clash}
 use Rattle.support_bits.specs.Columns.{HasColumn, IsUnion}
 use Rattle.ray_steps.proofs.UnitedLemmas.{left_true, right_true}
-use Rattle.support_table.specs.Joins.{AreJoinedTo}
-use Rattle.ray_steps.specs.Partners.{IsNoted, IsPartnerOf, ArePartners, IsJoinedBelow}
+use Rattle.support_table.specs.Joins.{AreClashingColumns}
+use Rattle.ray_steps.specs.Partners.{IsInserted, IsClashSetOf, AreClashSets, IsJoinedBelow}
 
 no_column : (n column : ℕ) → ¬ HasColumn (replicate n false) column
 no_column n column h = ⊎_elim
@@ -17,7 +17,7 @@ no_column n column h = ⊎_elim
     (cases_lt column n)
 
 -- with no pair a column has no partner
-pub partner_none : (columns column : ℕ) → IsPartnerOf columns [] column (replicate columns false)
+pub partner_none : (columns column : ℕ) → IsClashSetOf columns [] column (replicate columns false)
 partner_none columns column = record {
   count = length-replicate columns false;
   each = λ other. (
@@ -58,8 +58,8 @@ joined_more n partners support joined after h has_n union = record {
 }
 
 -- all columns of the support
-pub joined_all : (columns : ℕ) (pairs : List Clash) (partners : List (List Bool)) (support joined : List Bool) → ArePartners columns pairs partners → length support ≡ columns →
-    IsJoinedBelow (length support) partners support joined → AreJoinedTo pairs support joined
+pub joined_all : (columns : ℕ) (pairs : List Clash) (partners : List (List Bool)) (support joined : List Bool) → AreClashSets columns pairs partners → length support ≡ columns →
+    IsJoinedBelow (length support) partners support joined → AreClashingColumns pairs support joined
 joined_all columns pairs partners support joined p wide h = record {
   count = h.count;
   each = λ other. (
@@ -104,7 +104,7 @@ module _ (one other : ℕ) (old : List (List Bool)) (within : one < length old) 
       ))
       (cases_eq k one)
 
-  pub noted : IsNoted one other old more
+  pub noted : IsInserted one other old more
   noted = record {
     count = length-set old one (set (get_or old one []) other true);
     widths = λ k. ⊎_elim
@@ -115,8 +115,8 @@ module _ (one other : ℕ) (old : List (List Bool)) (within : one < length old) 
   }
 
 -- the partners by pairs and one pair more
-pub partners_more : (columns : ℕ) (pairs : List Clash) (pair : Clash) (old mid new : List (List Bool)) → ArePartners columns pairs old →
-    IsNoted pair.0 pair.1 old mid → IsNoted pair.1 pair.0 mid new → ArePartners columns (pairs ++ pair ∷ []) new
+pub partners_more : (columns : ℕ) (pairs : List Clash) (pair : Clash) (old mid new : List (List Bool)) → AreClashSets columns pairs old →
+    IsInserted pair.0 pair.1 old mid → IsInserted pair.1 pair.0 mid new → AreClashSets columns (pairs ++ pair ∷ []) new
 partners_more columns pairs pair old mid new h first second = record {
   count = second.count ∙ first.count ∙ h.count;
   each = λ k less. let at = before k less in record {
@@ -130,35 +130,35 @@ partners_more columns pairs pair old mid new h first second = record {
   };
 }
   where
-    before : (k : ℕ) → k < length new → IsPartnerOf columns pairs k (get_or old k [])
+    before : (k : ℕ) → k < length new → IsClashSetOf columns pairs k (get_or old k [])
     before k less = h.each k (let n = second.count in let m = first.count in omega (arith, less, n, m))
 
     longer : (k other : ℕ) → Contains pairs (other, k) ⊎ Contains pairs (k, other) → Contains (pairs ++ pair ∷ []) (other, k) ⊎ Contains (pairs ++ pair ∷ []) (k, other)
     longer k other is = ⊎_elim (λ c. inl (Contains-append_left pairs (pair ∷ []) (other, k) c)) (λ c. inr (Contains-append_left pairs (pair ∷ []) (k, other) c)) is
 
-    kept : (k other : ℕ) → IsPartnerOf columns pairs k (get_or old k []) → Contains pairs (other, k) ⊎ Contains pairs (k, other) → HasColumn (get_or new k []) other
+    kept : (k other : ℕ) → IsClashSetOf columns pairs k (get_or old k []) → Contains pairs (other, k) ⊎ Contains pairs (k, other) → HasColumn (get_or new k []) other
     kept k other at is = (second.each k other).1 (inl ((first.each k other).1 (inl ((at.each other).1 is))))
 
-    forth : (k other : ℕ) → IsPartnerOf columns pairs k (get_or old k []) → Contains (pairs ++ pair ∷ []) (other, k) → HasColumn (get_or new k []) other
+    forth : (k other : ℕ) → IsClashSetOf columns pairs k (get_or old k []) → Contains (pairs ++ pair ∷ []) (other, k) → HasColumn (get_or new k []) other
     forth k other at c = ⊎_elim (λ o. kept k other at (inl o))
         (λ (e : pair ≡ (other, k)). (second.each k other).1 (inr (sym (ap (λ p. p.1) e), sym (ap (λ p. p.0) e))))
         (Contains-push_cases pairs pair (other, k) c)
 
-    back : (k other : ℕ) → IsPartnerOf columns pairs k (get_or old k []) → Contains (pairs ++ pair ∷ []) (k, other) → HasColumn (get_or new k []) other
+    back : (k other : ℕ) → IsClashSetOf columns pairs k (get_or old k []) → Contains (pairs ++ pair ∷ []) (k, other) → HasColumn (get_or new k []) other
     back k other at c = ⊎_elim (λ o. kept k other at (inr o))
         (λ (e : pair ≡ (k, other)). (second.each k other).1 (inl ((first.each k other).1 (inr (sym (ap (λ p. p.0) e), sym (ap (λ p. p.1) e))))))
         (Contains-push_cases pairs pair (k, other) c)
 
 -- one column more has its partners
 pub partners_push : (columns : ℕ) (pairs : List Clash) (partners : List (List Bool)) (partner : List Bool) (column : ℕ) → length partners ≡ column →
-    ((k : ℕ) → k < length partners → IsPartnerOf columns pairs k (get_or partners k [])) → IsPartnerOf columns pairs column partner →
-    (k : ℕ) → k < length (partners ++ partner ∷ []) → IsPartnerOf columns pairs k (get_or (partners ++ partner ∷ []) k [])
+    ((k : ℕ) → k < length partners → IsClashSetOf columns pairs k (get_or partners k [])) → IsClashSetOf columns pairs column partner →
+    (k : ℕ) → k < length (partners ++ partner ∷ []) → IsClashSetOf columns pairs k (get_or (partners ++ partner ∷ []) k [])
 partners_push columns pairs partners partner column count each last k within = ⊎_elim
-    (λ old. subst (IsPartnerOf columns pairs k) (sym (get_or_append_left partners (partner ∷ []) [] k old)) (each k old))
+    (λ old. subst (IsClashSetOf columns pairs k) (sym (get_or_append_left partners (partner ∷ []) [] k old)) (each k old))
     (λ new. let n = length-append partners (partner ∷ []) in let e : column ≡ k = omega (arith, n, count, within, new) in
-    subst₂ (λ i p. IsPartnerOf columns pairs i p) e (sym (get_or_push partners partner [] k (count ∙ e))) last)
+    subst₂ (λ i p. IsClashSetOf columns pairs i p) e (sym (get_or_push partners partner [] k (count ∙ e))) last)
     (cases_lt k (length partners))
 
 -- each partner is as wide as there are columns
-pub partner_widths : (columns n : ℕ) (pairs : List Clash) (partners : List (List Bool)) → ArePartners columns pairs partners → columns ≡ n → All (λ partner. length partner ≡ n) partners
+pub partner_widths : (columns n : ℕ) (pairs : List Clash) (partners : List (List Bool)) → AreClashSets columns pairs partners → columns ≡ n → All (λ partner. length partner ≡ n) partners
 partner_widths columns n pairs partners h same k d less = ap length (get_or_default partners k d [] less) ∙ (h.each k less).count ∙ same

@@ -9,12 +9,12 @@ use Rattle.cone_definitions.proofs.Decided.{IsFreeOf}
 use Rattle.support_bits.specs.Columns.{support_of, HasColumn, IsInsideUnionOf, Meets}
 use Rattle.std.proofs.lemmas.List.{get_or_default, get_or-map, length-map}
 use Rattle.support_table.specs.Tables.{Table}
-use Rattle.support_table.specs.Joins.{AreJoinedTo}
+use Rattle.support_table.specs.Joins.{AreClashingColumns}
 use Rattle.ray_steps.specs.declared.rays.RayWithSupport.{RayWithSupport}
-use Rattle.ray_steps.specs.Signs.{IsFacePair}
+use Rattle.ray_steps.specs.Signs.{IsAdjacentPair}
 use Rattle.ray_steps.specs.declared.rivals.Rivals.{Rivals}
 use Rattle.ray_steps.specs.Rays.{rays_of}
-use Rattle.ray_steps.specs.Rivals.{IsApart, AreApart, HasSupportsOf, HaveRivals, AreRivals, IsThirdInside}
+use Rattle.ray_steps.specs.Rivals.{IsCompatible, AreCompatible, HasSupportsOf, HaveCompatible, AreCompatibleWith, IsThirdInside}
 use Rattle.ray_steps.proofs.SupportLemmas.{inside_iff, clash_free_iff}
 use Rattle.ray_steps.specs.Clashes.{IsClashFree}
 use Rattle.support_table.proofs.JoinLemmas.{nonzero_from_column}
@@ -39,7 +39,7 @@ pub meets_from_test : (v : RayWithSupport) (x : List ℕ) (columns : List Bool) 
 meets_from_test v x columns test x_is answers is = subst (λ s. Meets s columns) (support_read v x x_is) (answers.0 is)
 
 -- one place more
-pub apart_push : (rays : List (List ℕ)) (columns : List Bool) (n : ℕ) (places : List ℕ) → AreApart rays columns n places → AreApart rays columns (n + 1) (places ++ n ∷ [])
+pub apart_push : (rays : List (List ℕ)) (columns : List Bool) (n : ℕ) (places : List ℕ) → AreCompatible rays columns n places → AreCompatible rays columns (n + 1) (places ++ n ∷ [])
 apart_push rays columns n places h = record {
   in_range = All-push (λ k. k < n + 1) places n (λ k d within. let less = h.in_range k d within in omega arith) (omega arith);
   complete = λ k less apart. ⊎_elim
@@ -48,12 +48,12 @@ apart_push rays columns n places h = record {
       (cases_lt k n);
 }
 
-pub apart_skip : (rays : List (List ℕ)) (columns : List Bool) (n : ℕ) (places : List ℕ) → AreApart rays columns n places → ¬ IsApart rays columns n → AreApart rays columns (n + 1) places
+pub apart_skip : (rays : List (List ℕ)) (columns : List Bool) (n : ℕ) (places : List ℕ) → AreCompatible rays columns n places → ¬ IsCompatible rays columns n → AreCompatible rays columns (n + 1) places
 apart_skip rays columns n places h none = record {
   in_range = λ k d within. let less = h.in_range k d within in omega arith;
   complete = λ k less apart. ⊎_elim
       (λ old. h.complete k old apart)
-      (λ last. let e : k ≡ n = omega arith in absurd (none (subst (IsApart rays columns) e apart)))
+      (λ last. let e : k ≡ n = omega arith in absurd (none (subst (IsCompatible rays columns) e apart)))
       (cases_lt k n);
 }
 
@@ -72,7 +72,7 @@ holds_pair v u w column other inside has_v has_u = (
     at_other h = nonzero_from_column u other has_u h.0
 
 -- a ray inside an admissible union has no column that clashes with one of the first ray
-pub apart_inside : (pairs : List Clash) (v u w : List ℕ) (joined : List Bool) → AreJoinedTo pairs (support_of u) joined → IsAdmissibleUnion pairs u w → IsInsideUnion v u w → ¬ Meets (support_of v) joined
+pub apart_inside : (pairs : List Clash) (v u w : List ℕ) (joined : List Bool) → AreClashingColumns pairs (support_of u) joined → IsAdmissibleUnion pairs u w → IsInsideUnion v u w → ¬ Meets (support_of v) joined
 apart_inside pairs v u w joined joins admissible inside meets =
     let is = (joins.each meets.0).0 meets.2 in
     let none = holds_pair v u w meets.0 is.0 inside meets.1 is.1 in
@@ -82,7 +82,7 @@ apart_inside pairs v u w joined joins admissible inside meets =
     is.2
 
 -- a pair whose second ray has a column that clashes with one of the first
-pub not_face_clash : (pairs : List Clash) (rays : List (List ℕ)) (i j : ℕ) (joined : List Bool) → AreJoinedTo pairs (support_of (ray_at rays i)) joined → Meets (support_of (ray_at rays j)) joined → ¬ IsFacePair pairs rays i j
+pub not_face_clash : (pairs : List Clash) (rays : List (List ℕ)) (i j : ℕ) (joined : List Bool) → AreClashingColumns pairs (support_of (ray_at rays i)) joined → Meets (support_of (ray_at rays j)) joined → ¬ IsAdjacentPair pairs rays i j
 not_face_clash pairs rays i j joined joins meets face =
     apart_inside pairs (ray_at rays j) (ray_at rays i) (ray_at rays j) joined joins face.no_clash (λ column at_u at_w. at_w) meets
 
@@ -103,17 +103,17 @@ inside_rival rays i j columns m places table a b h within a_is b_is =
     rw (support_of_rival rays columns places table m h within, a_is, b_is) (inside_iff (ray_at rays (get_or places m 0)) (ray_at rays i) (ray_at rays j))
 
 -- a pair with a third ray
-pub not_face_third : (pairs : List Clash) (rays : List (List ℕ)) (i j columns m : ℕ) (rivals : Rivals) (a b : List Bool) → AreRivals pairs rays i columns rivals → a ≡ support_of (ray_at rays i) → b ≡ support_of (ray_at rays j) →
-    m < length rivals.places.items → IsThirdInside rivals.places.items rivals.table.supports i j a b m → ¬ IsFacePair pairs rays i j
+pub not_face_third : (pairs : List Clash) (rays : List (List ℕ)) (i j columns m : ℕ) (rivals : Rivals) (a b : List Bool) → AreCompatibleWith pairs rays i columns rivals → a ≡ support_of (ray_at rays i) → b ≡ support_of (ray_at rays j) →
+    m < length rivals.places.items → IsThirdInside rivals.places.items rivals.table.supports i j a b m → ¬ IsAdjacentPair pairs rays i j
 not_face_third pairs rays i j columns m rivals a b h a_is b_is within third face =
     let k = get_or rivals.places.items m 0 in
     ⊎_elim third.0 third.1
     (face.no_third k (h.listed.places.in_range m 0 within) ((inside_rival rays i j columns m rivals.places.items rivals.table a b h.listed.table within a_is b_is).0 third.2))
 
 -- where no third rival lies inside, an admissible union makes a pair
-pub face_from_rivals : (pairs : List Clash) (rays : List (List ℕ)) (i j columns : ℕ) (rivals : Rivals) (a b : List Bool) → AreRivals pairs rays i columns rivals → a ≡ support_of (ray_at rays i) → b ≡ support_of (ray_at rays j) →
+pub face_from_rivals : (pairs : List Clash) (rays : List (List ℕ)) (i j columns : ℕ) (rivals : Rivals) (a b : List Bool) → AreCompatibleWith pairs rays i columns rivals → a ≡ support_of (ray_at rays i) → b ≡ support_of (ray_at rays j) →
     ((m : ℕ) → m < length rivals.places.items → ¬ IsThirdInside rivals.places.items rivals.table.supports i j a b m) →
-    IsAdmissibleUnion pairs (ray_at rays i) (ray_at rays j) → IsFacePair pairs rays i j
+    IsAdmissibleUnion pairs (ray_at rays i) (ray_at rays j) → IsAdjacentPair pairs rays i j
 face_from_rivals pairs rays i j columns rivals a b h a_is b_is none admissible = record {
   no_clash = admissible;
   no_third = λ k within inside. ⊎_elim
@@ -136,14 +136,14 @@ face_from_rivals pairs rays i j columns rivals a b h a_is b_is none admissible =
         )
 
 -- the same columns clash with the ray at i, so the rivals at hand are its own
-pub rivals_kept : (pairs : List Clash) (ray_list : List RayWithSupport) (i columns : ℕ) (before : Rivals) (v : RayWithSupport) (joined : List Bool) → ray_at (rays_of ray_list) i ≡ v.ray → AreJoinedTo pairs v.support joined → joined ≡ before.joined →
-    HaveRivals (rays_of ray_list) columns before → AreRivals pairs (rays_of ray_list) i columns before
+pub rivals_kept : (pairs : List Clash) (ray_list : List RayWithSupport) (i columns : ℕ) (before : Rivals) (v : RayWithSupport) (joined : List Bool) → ray_at (rays_of ray_list) i ≡ v.ray → AreClashingColumns pairs v.support joined → joined ≡ before.joined →
+    HaveCompatible (rays_of ray_list) columns before → AreCompatibleWith pairs (rays_of ray_list) i columns before
 rivals_kept pairs ray_list i columns before v joined read joins same listed = record {
-  joined = subst₂ (AreJoinedTo pairs) (support_read v (ray_at (rays_of ray_list) i) read) same joins;
+  joined = subst₂ (AreClashingColumns pairs) (support_read v (ray_at (rays_of ray_list) i) read) same joins;
   listed = listed;
 }
 
-pub rivals_made : {E : Type 0} (pairs : List Clash) (ray_list : List RayWithSupport) (i columns : ℕ) (v : RayWithSupport) (joined : List Bool) (made : Result Rivals E) → ray_at (rays_of ray_list) i ≡ v.ray → AreJoinedTo pairs v.support joined →
-    IfOk made (λ rivals. rivals.joined ≡ joined) → IfOk made (HaveRivals (rays_of ray_list) columns) → IfOk made (AreRivals pairs (rays_of ray_list) i columns)
+pub rivals_made : {E : Type 0} (pairs : List Clash) (ray_list : List RayWithSupport) (i columns : ℕ) (v : RayWithSupport) (joined : List Bool) (made : Result Rivals E) → ray_at (rays_of ray_list) i ≡ v.ray → AreClashingColumns pairs v.support joined →
+    IfOk made (λ rivals. rivals.joined ≡ joined) → IfOk made (HaveCompatible (rays_of ray_list) columns) → IfOk made (AreCompatibleWith pairs (rays_of ray_list) i columns)
 rivals_made pairs ray_list i columns v joined (Ok rivals) read joins same listed = rivals_kept pairs ray_list i columns rivals v joined read joins (sym same) listed
 rivals_made pairs ray_list i columns v joined (Err fault) read joins same listed = tt

@@ -14,7 +14,7 @@ use Rattle.cone_row_laws.proofs.Sums.{plus-turned, minus-turned}
 use Rattle.cone_arithmetic.specs.Combinations.{IsCombinationBy, IsReducedBy}
 use Rattle.ray_steps.specs.declared.signs.Sign.{Sign}
 use Rattle.ray_steps.specs.declared.signs.Sign.TheVariants.{Zero, Positive, Negative}
-use Rattle.ray_steps.specs.Signs.{IsSignAt, AreSigns, IsBoundedSign, IsFacePair, IsSignedPair, ComesFromPlaces, IsStepAt, IsMadeUpTo}
+use Rattle.ray_steps.specs.Signs.{IsSignAt, AreSigns, IsBoundedSign, IsAdjacentPair, IsSignedPair, ComesFromPlaces, IsStepAt, IsMadeUpTo}
 use Rattle.ray_steps.specs.Turned.{turned_sign}
 
 -- ---- signs
@@ -61,7 +61,7 @@ signs-turned limit rays signs row h = record {
 union-turned : (pairs : List Clash) (u w : List ℕ) → IsAdmissibleUnion pairs u w → IsAdmissibleUnion pairs w u
 union-turned pairs u w h k d within = ⊎_elim (λ first. inl (first.1, first.0)) (λ second. inr (second.1, second.0)) (h k d within)
 
-face-turned : (pairs : List Clash) (rays : List (List ℕ)) (i j : ℕ) → IsFacePair pairs rays i j → IsFacePair pairs rays j i
+face-turned : (pairs : List Clash) (rays : List (List ℕ)) (i j : ℕ) → IsAdjacentPair pairs rays i j → IsAdjacentPair pairs rays j i
 face-turned pairs rays i j h = record {
   no_clash = union-turned pairs (ray_at rays i) (ray_at rays j) h.no_clash;
   no_third = λ k within inside. ⊎_elim (λ e. inr e) (λ e. inl e) (h.no_third k within (λ column at_u at_w. inside column at_w at_u));

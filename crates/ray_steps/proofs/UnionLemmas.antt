@@ -6,7 +6,7 @@ use Rattle.cone_definitions.specs.Vectors.{ray_at}
 use Rattle.support_bits.specs.Columns.{support_of}
 use Rattle.cone_laws.specs.Unions.{union_size}
 use Rattle.cone_laws.proofs.Places.{places_bound}
-use Rattle.ray_steps.specs.Signs.{IsFacePair}
+use Rattle.ray_steps.specs.Signs.{IsAdjacentPair}
 use Rattle.ray_steps.specs.Unions.{HaveSmallUnions}
 use Rattle.support_table.specs.Counts.{columns_in_either}
 use Rattle.support_table.proofs.BitCounts.{columns_of_vectors}
@@ -17,7 +17,7 @@ small_unions columns rows pairs rays h i j i_in j_in face = places_bound columns
 -- the union of a pair has few columns, as the supports have it
 pub near_face : (columns most : ℕ) (pairs : List Clash) (rays : List (List ℕ)) (i j : ℕ) (a b : List Bool) → HaveSmallUnions columns most pairs rays →
     i < length rays → j < length rays → a ≡ support_of (ray_at rays i) → b ≡ support_of (ray_at rays j) → length (ray_at rays i) ≡ columns →
-    IsFacePair pairs rays i j → columns_in_either a b ≤ most
+    IsAdjacentPair pairs rays i j → columns_in_either a b ≤ most
 near_face columns most pairs rays i j a b small i_in j_in a_is b_is wide face =
     let bound = small i j i_in j_in face in
     let e : columns_in_either a b ≡ union_size columns (ray_at rays i) (ray_at rays j) = subst (λ n. columns_in_either a b ≡ union_size n (ray_at rays i) (ray_at rays j)) wide
@@ -27,6 +27,6 @@ near_face columns most pairs rays i j a b small i_in j_in a_is b_is wide face =
 -- places whose union has more columns are no pair
 pub not_face_large : (columns most : ℕ) (pairs : List Clash) (rays : List (List ℕ)) (i j : ℕ) (a b : List Bool) → HaveSmallUnions columns most pairs rays →
     i < length rays → j < length rays → a ≡ support_of (ray_at rays i) → b ≡ support_of (ray_at rays j) → length (ray_at rays i) ≡ columns →
-    most < columns_in_either a b → ¬ IsFacePair pairs rays i j
+    most < columns_in_either a b → ¬ IsAdjacentPair pairs rays i j
 not_face_large columns most pairs rays i j a b small i_in j_in a_is b_is wide large face =
     let near = near_face columns most pairs rays i j a b small i_in j_in a_is b_is wide face in omega (arith, near, large)

@@ -13,12 +13,12 @@ pub record AreNegatives (rays : List (List ℕ)) (signs : List Sign) (columns : 
   pub table : HasSupportsOf rays columns negatives.places.items negatives.table
 
 -- the support contains a joined column, or its union with a has more than `most` columns
-abbrev pub IsFar : List Bool → List Bool → ℕ → List Bool → Type 0
-IsFar a joined most support = Meets support joined ⊎ (most < columns_in_either a support)
+abbrev pub IsRuledOut : List Bool → List Bool → ℕ → List Bool → Type 0
+IsRuledOut a joined most support = Meets support joined ⊎ (most < columns_in_either a support)
 
 -- the least index from start on whose support is not far, or else the number of supports
-pub record IsFirstNear (a joined : List Bool) (most : ℕ) (supports : List (List Bool)) (start place : ℕ) : Type 0 where
+pub record IsFirstNotRuledOut (a joined : List Bool) (most : ℕ) (supports : List (List Bool)) (start place : ℕ) : Type 0 where
   pub least : start ≤ place
   pub within : place ≤ length supports
-  pub near : place < length supports → ¬ IsFar a joined most (slice_index_or supports place [])
-  pub earlier : (k : ℕ) → start ≤ k → k < place → IsFar a joined most (slice_index_or supports k [])
+  pub near : place < length supports → ¬ IsRuledOut a joined most (slice_index_or supports place [])
+  pub earlier : (k : ℕ) → start ≤ k → k < place → IsRuledOut a joined most (slice_index_or supports k [])

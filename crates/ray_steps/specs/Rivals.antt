@@ -4,18 +4,18 @@ use Rattle.std.specs.List.{All}
 use Rattle.cone_definitions.specs.Surfaces.{Clash}
 use Rattle.cone_definitions.specs.Vectors.{ray_at}
 use Rattle.support_bits.specs.Columns.{support_of, IsInsideUnionOf, Meets}
-use Rattle.support_table.specs.Joins.{AreJoinedTo}
+use Rattle.support_table.specs.Joins.{AreClashingColumns}
 use Rattle.support_table.specs.Tables.{Table}
 use Rattle.ray_steps.specs.declared.rivals.Rivals.{Rivals}
 
 -- the support of ray k contains none of the columns
-abbrev pub IsApart : List (List ℕ) → List Bool → ℕ → Type 0
-IsApart rays columns k = ¬ Meets (support_of (ray_at rays k)) columns
+abbrev pub IsCompatible : List (List ℕ) → List Bool → ℕ → Type 0
+IsCompatible rays columns k = ¬ Meets (support_of (ray_at rays k)) columns
 
 -- the indices below n of the rays whose supports contain none of the columns
-pub record AreApart (rays : List (List ℕ)) (columns : List Bool) (n : ℕ) (places : List ℕ) : Type 0 where
+pub record AreCompatible (rays : List (List ℕ)) (columns : List Bool) (n : ℕ) (places : List ℕ) : Type 0 where
   pub in_range : All (λ k. k < n) places
-  pub complete : (k : ℕ) → k < n → IsApart rays columns k → Contains places k
+  pub complete : (k : ℕ) → k < n → IsCompatible rays columns k → Contains places k
 
 -- the table has the supports of the rays with the indices places
 pub record HasSupportsOf (rays : List (List ℕ)) (columns : ℕ) (places : List ℕ) (table : Table) : Type 0 where
@@ -28,15 +28,15 @@ pub record HasAllSupports (rays : List (List ℕ)) (columns : ℕ) (table : Tabl
   pub supports : table.supports ≡ map support_of rays
 
 -- the indices and supports of all rays that contain none of the columns rivals.joined
-pub record HaveRivals (rays : List (List ℕ)) (columns : ℕ) (rivals : Rivals) : Type 0 where
+pub record HaveCompatible (rays : List (List ℕ)) (columns : ℕ) (rivals : Rivals) : Type 0 where
   pub count : length rivals.joined ≡ columns
-  pub places : AreApart rays rivals.joined (length rays) rivals.places.items
+  pub places : AreCompatible rays rivals.joined (length rays) rivals.places.items
   pub table : HasSupportsOf rays columns rivals.places.items rivals.table
 
 -- rivals.joined is the set of columns that clash with ray i, and the rivals are the rays that contain none of them
-pub record AreRivals (pairs : List Clash) (rays : List (List ℕ)) (i columns : ℕ) (rivals : Rivals) : Type 0 where
-  pub joined : AreJoinedTo pairs (support_of (ray_at rays i)) rivals.joined
-  pub listed : HaveRivals rays columns rivals
+pub record AreCompatibleWith (pairs : List Clash) (rays : List (List ℕ)) (i columns : ℕ) (rivals : Rivals) : Type 0 where
+  pub joined : AreClashingColumns pairs (support_of (ray_at rays i)) rivals.joined
+  pub listed : HaveCompatible rays columns rivals
 
 -- the ray listed at m is neither i nor j, and its support lies in the union of a and b
 abbrev pub IsThirdInside : List ℕ → List (List Bool) → ℕ → ℕ → List Bool → List Bool → ℕ → Type 0

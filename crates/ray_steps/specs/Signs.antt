@@ -43,7 +43,7 @@ pub record IsFirstLargeRay (limit : ℕ) (row : Row) (rays : List (List ℕ)) (x
   pub earlier : (k : ℕ) → k < place → HasPartsWithin limit row (ray_at rays k)
 
 -- rays i and j are adjacent: the union of their supports contains no clashing pair and the support of no third ray
-pub record IsFacePair (pairs : List Clash) (rays : List (List ℕ)) (i j : ℕ) : Type 0 where
+pub record IsAdjacentPair (pairs : List Clash) (rays : List (List ℕ)) (i j : ℕ) : Type 0 where
   pub no_clash : IsAdmissibleUnion pairs (ray_at rays i) (ray_at rays j)
   pub no_third : (k : ℕ) → k < length rays → IsInsideUnion (ray_at rays k) (ray_at rays i) (ray_at rays j) → (k ≡ i) ⊎ (k ≡ j)
 
@@ -61,17 +61,17 @@ pub record IsSignedPair (pairs : List Clash) (rays : List (List ℕ)) (signs : L
   pub at_w : ℕ
   pub positive : slice_index_or signs u Zero ≡ Positive at_u
   pub negative : slice_index_or signs w Zero ≡ Negative at_w
-  pub face : IsFacePair pairs rays u w
+  pub face : IsAdjacentPair pairs rays u w
 
 -- the pair u, w comes before i, j in lexicographic order: it is among the pairs done so far
-abbrev pub IsTaken : ℕ → ℕ → ℕ → ℕ → Type 0
-IsTaken u w i j = (u < i) ⊎ ((u ≡ i) × (w < j))
+abbrev pub IsDoneBefore : ℕ → ℕ → ℕ → ℕ → Type 0
+IsDoneBefore u w i j = (u < i) ⊎ ((u ≡ i) × (w < j))
 
 -- x is the combination of a pair done so far
 pub record ComesFromPlaces (limit : ℕ) (pairs : List Clash) (rays : List (List ℕ)) (signs : List Sign) (i j : ℕ) (x : List ℕ) : Type 0 where
   pub u : ℕ
   pub w : ℕ
-  pub taken : IsTaken u w i j
+  pub taken : IsDoneBefore u w i j
   pub pair : IsSignedPair pairs rays signs u w
   pub reduced : IsReducedBy limit pair.at_u pair.at_w (ray_at rays u) (ray_at rays w) x
 
@@ -93,7 +93,7 @@ pub record IsStepAt (limit : ℕ) (pairs : List Clash) (rays : List (List ℕ)) 
 -- the list consists of the combinations of the pairs done so far, each once
 pub record IsMadeUpTo (limit : ℕ) (pairs : List Clash) (rays : List (List ℕ)) (signs : List Sign) (i j : ℕ) (made : List (List ℕ)) : Type 0 where
   pub comes : All (ComesFromPlaces limit pairs rays signs i j) made
-  pub gives : (u w : ℕ) → IsTaken u w i j → IsSignedPair pairs rays signs u w → GivesFrom limit pairs rays signs made u w
+  pub gives : (u w : ℕ) → IsDoneBefore u w i j → IsSignedPair pairs rays signs u w → GivesFrom limit pairs rays signs made u w
   pub apart : IsStepAt limit pairs rays signs → AllPairs (λ x y. x ≢ y) made
 
 -- x, y is the first pair of which an entry exceeds the limit
@@ -105,7 +105,7 @@ pub record IsFirstLargePair (limit : ℕ) (pairs : List Clash) (rays : List (Lis
   pub pair : IsSignedPair pairs rays signs u w
   pub column : ℕ
   pub large : HasFirstPast limit pair.at_u pair.at_w (ray_at rays u) (ray_at rays w) column
-  pub earlier : (k l : ℕ) → IsTaken k l u w → IsSignedPair pairs rays signs k l →
+  pub earlier : (k l : ℕ) → IsDoneBefore k l u w → IsSignedPair pairs rays signs k l →
       (p : IsSignedPair pairs rays signs k l) × (z : List ℕ) × IsReducedBy limit p.at_u p.at_w (ray_at rays k) (ray_at rays l) z
 
 -- x is a ray of sign zero with an index of at least m

@@ -5,14 +5,14 @@ use Rattle.cone_definitions.specs.Surfaces.{Clash, IsAdmissibleUnion}
 use Rattle.ray_steps.specs.declared.rays.RayWithSupport.{RayWithSupport}
 use Rattle.ray_steps.specs.declared.signs.Sign.{Sign}
 use Rattle.ray_steps.specs.Rays.{rays_of, AreOfWidth}
-use Rattle.ray_steps.specs.Signs.{IsBoundedSign, IsFacePair, IsMadeUpTo, AreSigns}
-use Rattle.ray_steps.specs.Rivals.{HaveRivals}
+use Rattle.ray_steps.specs.Signs.{IsBoundedSign, IsAdjacentPair, IsMadeUpTo, AreSigns}
+use Rattle.ray_steps.specs.Rivals.{HaveCompatible}
 use Rattle.ray_steps.specs.Faults.{IsFirstLargeSum}
 use Rattle.cone_definitions.specs.Elimination.{Named}
 use Rattle.cone_definitions.specs.Rows.{Row}
 use Rattle.cone_definitions.specs.Vectors.{ray_at}
 use Rattle.support_bits.specs.Columns.{support_of}
-use Rattle.support_table.specs.Joins.{AreJoinedTo}
+use Rattle.support_table.specs.Joins.{AreClashingColumns}
 use Rattle.ray_steps.specs.Turned.{turned_sign}
 use Rattle.ray_steps.specs.declared.combinations.Combinations.{Combinations}
 use Rattle.ray_steps.specs.declared.combinations.CombinationsSoFar.{CombinationsSoFar}
@@ -46,7 +46,7 @@ pub record IsStep (columns : ℕ) (pairs : List Clash) (ray_list : List RayWithS
 pub record AreMadeBelow (step : StepData) (i : ℕ) (made : CombinationsSoFar) : Type 0 where
   pub so_far : IsMadeUpTo step.limit step.pairs step.rays step.signs i 0 (rays_of made.ray_list.items)
   pub widths : AreOfWidth step.columns made.ray_list.items
-  pub rivals : IfSome made.rivals (HaveRivals step.rays step.columns)
+  pub rivals : IfSome made.rivals (HaveCompatible step.rays step.columns)
 
 -- the list consists of the combinations of the pairs before i, j
 pub record AreMadeTo (step : StepData) (i j : ℕ) (ray_list : List RayWithSupport) : Type 0 where
@@ -54,14 +54,14 @@ pub record AreMadeTo (step : StepData) (i j : ℕ) (ray_list : List RayWithSuppo
   pub widths : AreOfWidth step.columns ray_list
 
 -- rays i and j are adjacent unless the union of their supports contains a clashing pair
-abbrev pub IsFaceIfAdmissible : StepData → ℕ → ℕ → Type 0
-IsFaceIfAdmissible step i j = IsAdmissibleUnion step.pairs (ray_at step.rays i) (ray_at step.rays j) → IsFacePair step.pairs step.rays i j
+abbrev pub IsAdjacentIfAdmissible : StepData → ℕ → ℕ → Type 0
+IsAdjacentIfAdmissible step i j = IsAdmissibleUnion step.pairs (ray_at step.rays i) (ray_at step.rays j) → IsAdjacentPair step.pairs step.rays i j
 
 -- a search for the third rays of ray i
 pub record IsSearchAt (step : StepData) (i : ℕ) (search : Search) : Type 0 where
   pub in_range : i < length step.rays
-  pub joined : AreJoinedTo step.pairs (support_of (ray_at step.rays i)) search.joined
-  pub rivals : IfSome search.rivals (HaveRivals step.rays step.columns)
+  pub joined : AreClashingColumns step.pairs (support_of (ray_at step.rays i)) search.joined
+  pub rivals : IfSome search.rivals (HaveCompatible step.rays step.columns)
 
 -- the list consists of the combinations of all pairs of the step
 pub record AreMadeOf (step : StepData) (ray_list : List RayWithSupport) : Type 0 where

@@ -4,12 +4,12 @@ use Rattle.cone_definitions.specs.Surfaces.{Clash, IsAdmissibleUnion}
 use Rattle.cone_definitions.specs.Vectors.{ray_at}
 use Rattle.cone_laws.specs.Unions.{union_size}
 use Rattle.support_table.specs.Counts.{columns_in_either}
-use Rattle.ray_steps.specs.Signs.{IsFacePair}
+use Rattle.ray_steps.specs.Signs.{IsAdjacentPair}
 
 -- the union of each adjacent pair has at most `most` columns
 abbrev pub HaveSmallUnions : ℕ → ℕ → List Clash → List (List ℕ) → Type 0
 HaveSmallUnions columns most pairs rays =
-    (i j : ℕ) → i < length rays → j < length rays → IsFacePair pairs rays i j → union_size columns (ray_at rays i) (ray_at rays j) ≤ most
+    (i j : ℕ) → i < length rays → j < length rays → IsAdjacentPair pairs rays i j → union_size columns (ray_at rays i) (ray_at rays j) ≤ most
 
 -- one of two supports has at most one column
 abbrev pub HasSingle : List Bool → List Bool → Type 0
@@ -22,4 +22,4 @@ IsSingle x = (column : ℕ) × ((other : ℕ) → other ≢ column → slice_ind
 -- two rays, one of which has a single column, are adjacent unless their union contains a clashing pair
 abbrev pub MakeSinglesPairs : List Clash → List (List ℕ) → Type 0
 MakeSinglesPairs pairs rays =
-    (i j : ℕ) → i < length rays → j < length rays → IsSingle (ray_at rays i) ⊎ IsSingle (ray_at rays j) → IsAdmissibleUnion pairs (ray_at rays i) (ray_at rays j) → IsFacePair pairs rays i j
+    (i j : ℕ) → i < length rays → j < length rays → IsSingle (ray_at rays i) ⊎ IsSingle (ray_at rays j) → IsAdmissibleUnion pairs (ray_at rays i) (ray_at rays j) → IsAdjacentPair pairs rays i j

@@ -3,7 +3,7 @@
 ghost use Rattle.std.specs.Prelude.{◌≡◌, ℕ, ◌↔◌, List, length, IsTrue, IfOk};
 ghost use Rattle.cone_definitions.specs.Surfaces.{Clash};
 ghost use Rattle.ray_steps.specs.Clashes.{AreClashes, IsClashFree};
-ghost use Rattle.support_table.specs.Joins.{AreJoinedTo};
+ghost use Rattle.support_table.specs.Joins.{AreClashingColumns};
 
 use crate::partners::{partners_of, partners_of_support};
 use no_memory::NoMemory;
@@ -48,14 +48,14 @@ pub struct Clashes<C: Compatible> {
 }
 
 impl<C: Compatible> Model for Clashes<C> {
-    ghost use Rattle.ray_steps.specs.Partners.{ArePartners};
+    ghost use Rattle.ray_steps.specs.Partners.{AreClashSets};
     ghost use Rattle.ray_steps.specs.Clashes.{ClashData};
 
     ghost Value = { ClashData };
 
     ghost view = { λ c. record { columns = C.width c.test; pairs = C.clashing c.test } };
 
-    ghost invariant = { λ c. ArePartners (C.width c.test) (C.clashing c.test) c.partners.items × C.decides c.test };
+    ghost invariant = { λ c. AreClashSets (C.width c.test) (C.clashing c.test) c.partners.items × C.decides c.test };
 }
 
 impl<C: Compatible> Clashes<C> {
@@ -96,7 +96,7 @@ impl<C: Compatible> Clashes<C> {
     /// The columns that clash with a column of `support`.
     pub fn joined(&self, alloc: Global, support: &Support) -> Result<Support, NoMemory>
         requires { length support.now ≡ self.now.columns }
-        ensures { IfOk result (AreJoinedTo self.now.pairs support.now) }
+        ensures { IfOk result (AreClashingColumns self.now.pairs support.now) }
     {
         partners_of_support(alloc, &self.partners, support)
     }

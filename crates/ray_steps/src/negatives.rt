@@ -3,7 +3,7 @@
 ghost use Rattle.std.specs.Prelude.{◌≡◌, ◌<◌, ◌≤◌, ◌↔◌, [], length, IsTrue, IfOk, slice_index_or};
 ghost use Rattle.ray_steps.specs.Rays.{rays_of};
 ghost use Rattle.ray_steps.specs.Signs.{AreNegativePlaces};
-ghost use Rattle.ray_steps.specs.Negatives.{AreNegatives, IsFar, IsFirstNear};
+ghost use Rattle.ray_steps.specs.Negatives.{AreNegatives, IsRuledOut, IsFirstNotRuledOut};
 
 use crate::ray_list::RayList;
 use crate::rivals::supports_at;
@@ -49,7 +49,7 @@ fn is_far(table: &SupportTable, place: usize, a: &Support, joined: &Support, mos
     requires in_range { place < length table.now.supports }
     requires first { length a.now ≡ table.now.columns }
     requires second { length joined.now ≡ table.now.columns }
-    ensures { IsTrue result ↔ IsFar a.now joined.now most (slice_index_or table.now.supports place []) }
+    ensures { IsTrue result ↔ IsRuledOut a.now joined.now most (slice_index_or table.now.supports place []) }
 {
     let _columns = a.columns();
     let words = table.words_at(place);
@@ -68,7 +68,7 @@ pub fn first_near(
     requires start { start ≤ length table.now.supports }
     requires first { length a.now ≡ table.now.columns }
     requires second { length joined.now ≡ table.now.columns }
-    ensures { IsFirstNear a.now joined.now most table.now.supports start result }
+    ensures { IsFirstNotRuledOut a.now joined.now most table.now.supports start result }
 {
     let mut place = start;
     while place < table.len() {

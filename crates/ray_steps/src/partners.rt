@@ -3,7 +3,7 @@
 ghost use Rattle.std.specs.Prelude.{◌≡◌, ◌<◌, [], length, slice_index_or, IfOk};
 ghost use Rattle.std.specs.List.{All};
 ghost use Rattle.ray_steps.specs.Clashes.{AreClashes};
-ghost use Rattle.ray_steps.specs.Partners.{IsNoted, ArePartners, IsJoinedBelow};
+ghost use Rattle.ray_steps.specs.Partners.{IsInserted, AreClashSets, IsJoinedBelow};
 
 use no_memory::NoMemory;
 use std::alloc::Global;
@@ -11,7 +11,7 @@ use support_bits::Support;
 
 /// One empty set for each of `columns` columns.
 fn no_partners(alloc: Global, columns: u32) -> Result<Vec<Support>, NoMemory>
-    ensures { IfOk result (λ partners. ArePartners columns [] partners.items) }
+    ensures { IfOk result (λ partners. AreClashSets columns [] partners.items) }
 {
     let mut partners = Vec::with_capacity(alloc, columns as usize)?;
     for _number in 0..columns {
@@ -24,7 +24,7 @@ fn no_partners(alloc: Global, columns: u32) -> Result<Vec<Support>, NoMemory>
 fn note(partners: &mut Vec<Support>, one: u32, other: u32)
     requires one { one < length partners.old.items }
     requires other { other < length (slice_index_or partners.old.items one []) }
-    ensures { IsNoted one other partners.old.items partners.new.items }
+    ensures { IsInserted one other partners.old.items partners.new.items }
 {
     partners[one as usize].insert(other);
 }
@@ -36,7 +36,7 @@ pub fn partners_of(
     columns: u32,
 ) -> Result<Vec<Support>, NoMemory>
     requires { AreClashes columns clashes.now }
-    ensures { IfOk result (λ partners. ArePartners columns clashes.now partners.items) }
+    ensures { IfOk result (λ partners. AreClashSets columns clashes.now partners.items) }
 {
     let mut partners = no_partners(alloc, columns)?;
     for pair in clashes {

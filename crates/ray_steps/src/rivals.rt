@@ -3,7 +3,7 @@
 ghost use Rattle.std.specs.Prelude.{◌≡◌, ◌<◌, length, IfOk};
 ghost use Rattle.std.specs.List.{All};
 ghost use Rattle.ray_steps.specs.Rays.{rays_of, AreOfWidth};
-ghost use Rattle.ray_steps.specs.Rivals.{AreApart, HasSupportsOf, HasAllSupports, HaveRivals};
+ghost use Rattle.ray_steps.specs.Rivals.{AreCompatible, HasSupportsOf, HasAllSupports, HaveCompatible};
 
 use crate::ray_list::RayList;
 use crate::rays::RayWithSupport;
@@ -27,7 +27,7 @@ fn places_apart(
     columns: &Support,
 ) -> Result<Vec<usize>, NoMemory>
     requires widths { AreOfWidth (length columns.now) ray_list.now }
-    ensures { IfOk result (λ places. AreApart (rays_of ray_list.now) columns.now (length ray_list.now) places.items) }
+    ensures { IfOk result (λ places. AreCompatible (rays_of ray_list.now) columns.now (length ray_list.now) places.items) }
 {
     let mut places = Vec::new(alloc);
     for (k, kept) in ray_list.iter().enumerate() {
@@ -55,7 +55,7 @@ pub fn supports_at(alloc: Global, rays: RayList, places: &[usize]) -> Result<Sup
 pub fn rivals_with(alloc: Global, rays: RayList, joined: Support) -> Result<Rivals, NoMemory>
     requires { length joined ≡ rays.columns }
     ensures joined { IfOk result (λ rivals. rivals.joined ≡ joined) }
-    ensures rivals { IfOk result (HaveRivals (rays_of rays.entry.items.now) rays.entry.columns) }
+    ensures rivals { IfOk result (HaveCompatible (rays_of rays.entry.items.now) rays.entry.columns) }
 {
     let places = places_apart(alloc, rays.items, &joined)?;
     let table = supports_at(alloc, rays, &places)?;

@@ -4,9 +4,9 @@ ghost use Rattle.std.specs.Prelude.{◌≡◌, ◌+◌, ◌<◌, ◌↔◌, leng
 ghost use Rattle.ray_steps.specs.Faults.{IfLarge, IsFirstLargeValue};
 ghost use Rattle.ray_steps.specs.Rays.{rays_of, AreOfWidth};
 ghost use Rattle.ray_steps.specs.Negatives.{AreNegatives};
-ghost use Rattle.ray_steps.specs.Rivals.{HaveRivals, HasAllSupports};
-ghost use Rattle.ray_steps.specs.Signs.{IsFacePair, IsNextFrom};
-ghost use Rattle.ray_steps.specs.Steps.{AreStepRays, IsStepOf, IsSearchAt, AreMadeBelow, AreMadeTo, AreMadeOf, IsFaceIfAdmissible, AreCombinedOf, IsFirstLargeOf, IsFirstLargeEitherWay, turned_step};
+ghost use Rattle.ray_steps.specs.Rivals.{HaveCompatible, HasAllSupports};
+ghost use Rattle.ray_steps.specs.Signs.{IsAdjacentPair, IsNextFrom};
+ghost use Rattle.ray_steps.specs.Steps.{AreStepRays, IsStepOf, IsSearchAt, AreMadeBelow, AreMadeTo, AreMadeOf, IsAdjacentIfAdmissible, AreCombinedOf, IsFirstLargeOf, IsFirstLargeEitherWay, turned_step};
 
 use crate::combinations::{Combinations, CombinationsSoFar, Search};
 use crate::compatible::{Clashes, Compatible};
@@ -77,7 +77,7 @@ impl<'a, C: Compatible> Step<'a, C> {
     /// A search for the third rays of ray `i`, given compatible rays that an earlier search gathered.
     fn search_at(&self, alloc: Global, i: usize, rivals: Option<Rivals>) -> Result<Search, NoMemory>
         requires in_range { i < length self.now.rays }
-        requires rivals { IfSome rivals (HaveRivals self.now.rays self.now.columns) }
+        requires rivals { IfSome rivals (HaveCompatible self.now.rays self.now.columns) }
         ensures { IfOk result (IsSearchAt self.now i) }
     {
         let clashes = self.clashes;
@@ -98,9 +98,9 @@ impl<'a, C: Compatible> Step<'a, C> {
         before: Option<Rivals>,
     ) -> Result<Rivals, NoMemory>
         requires count { length joined.now ≡ self.now.columns }
-        requires before { IfSome before (HaveRivals self.now.rays self.now.columns) }
+        requires before { IfSome before (HaveCompatible self.now.rays self.now.columns) }
         ensures joined { IfOk result (λ rivals. rivals.joined ≡ joined.now) }
-        ensures rivals { IfOk result (HaveRivals self.now.rays self.now.columns) }
+        ensures rivals { IfOk result (HaveCompatible self.now.rays self.now.columns) }
     {
         if let Some(rivals) = before {
             if rivals.joined.same(joined) {
@@ -127,7 +127,7 @@ impl<'a, C: Compatible> Step<'a, C> {
     ) -> Result<bool, NoMemory>
         requires second { j < length self.now.rays }
         requires search { IsSearchAt self.now i search.old }
-        ensures face { IfOk result (λ face. IsTrue face ↔ IsFacePair self.now.pairs self.now.rays i j) }
+        ensures face { IfOk result (λ face. IsTrue face ↔ IsAdjacentPair self.now.pairs self.now.rays i j) }
         ensures search { OnOk result (IsSearchAt self.now i search.new) }
         ensures joined { search.new.joined ≡ search.old.joined }
     {
@@ -197,7 +197,7 @@ impl<'a, C: Compatible> Step<'a, C> {
     ) -> Result<(), StepFault>
         requires first { i < length self.now.rays }
         requires second { j < length self.now.rays }
-        requires face { IsFaceIfAdmissible self.now i j }
+        requires face { IsAdjacentIfAdmissible self.now i j }
         requires made { AreMadeTo self.now i j made.old.items }
         ensures ok { OnOk result (AreMadeTo self.now i (j + 1) made.new.items) }
         ensures err { IfErr result (IfLarge (IsFirstLargeOf self.now)) }

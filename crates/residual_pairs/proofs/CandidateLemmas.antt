@@ -13,7 +13,7 @@ use Rattle.support_table.specs.Counts.{columns_in_either}
 use Rattle.residual_pairs.specs.declared.least.Least.{Least}
 use Rattle.residual_pairs.specs.declared.rivals.Rival.{Rival}
 use Rattle.residual_pairs.specs.Residuals.{support_at, IsResidualInside, IsRival, IsMinimal, AreMinimal}
-use Rattle.residual_pairs.specs.Rivals.{IsSized, HasPlace, AreRivals, AreMarks, IsHit, AreUnhit, AreCandidates, AreInOrder, AreLeast, AreAlone, IsCovered, rival_at, LiesInside}
+use Rattle.residual_pairs.specs.Rivals.{IsSized, HasPlace, AreRivals, AreMarks, IsHit, AreUnhit, AreCandidates, AreInOrder, AreLeast, AreUnrepeated, IsCovered, rival_at, LiesInside}
 use Rattle.residual_pairs.proofs.SizeLemmas.{inside_chain, inside_self, size_within, single_inside}
 use Rattle.residual_pairs.proofs.LeastLemmas.{smaller}
 
@@ -111,11 +111,11 @@ in_order_from_sorted supports outer joined own most order h up = record {
 
 -- ---- the places of those that no other doubles
 
-module _ (least : Least) (n : ℕ) (places : List ℕ) (h : AreAlone least n places) where
+module _ (least : Least) (n : ℕ) (places : List ℕ) (h : AreUnrepeated least n places) where
   alone_each : All (λ place. (i : ℕ) × (i < n + 1) × (get_or least.doubled.items i false ≡ false) × ((rival_at least.rivals.items i).place ≡ place)) places
   alone_each k d within = let s = h.each k d within in (s.0, omega (arith, s.1), s.2, s.3)
 
-  pub alone_push : n < length least.rivals.items → (place : ℕ) → place ≡ (rival_at least.rivals.items n).place → get_or least.doubled.items n false ≡ false → AreAlone least (n + 1) (places ++ place ∷ [])
+  pub alone_push : n < length least.rivals.items → (place : ℕ) → place ≡ (rival_at least.rivals.items n).place → get_or least.doubled.items n false ≡ false → AreUnrepeated least (n + 1) (places ++ place ∷ [])
   alone_push within place is single = record {
     each = All-push (λ place. (i : ℕ) × (i < n + 1) × (get_or least.doubled.items i false ≡ false) × ((rival_at least.rivals.items i).place ≡ place)) places place alone_each (n, omega arith, single, sym is);
     apart = λ differ. all_pairs_push (λ p q. p ≢ q) places place (h.apart differ) (λ k d inside same. let s = h.each k d inside in differ s.0 n s.1 within (s.3 ∙ same ∙ is));
@@ -125,7 +125,7 @@ module _ (least : Least) (n : ℕ) (places : List ℕ) (h : AreAlone least n pla
         (cases_lt i n);
   }
 
-  pub alone_skip : get_or least.doubled.items n false ≡ true → AreAlone least (n + 1) places
+  pub alone_skip : get_or least.doubled.items n false ≡ true → AreUnrepeated least (n + 1) places
   alone_skip twice = record {
     each = alone_each;
     apart = h.apart;
@@ -222,7 +222,7 @@ module _ (supports : List (List Bool)) (outer joined : List Bool) (own most : �
       (subst (λ k. IsInsideUnionOf (support_at supports (rival_at least.rivals.items i).place) outer (support_at supports k)) same (inside_self outer (support_at supports (rival_at least.rivals.items i).place))) in
       omega (arith, e, less)
 
-  pub are_minimal : (before after : List ℕ) → AreAlone least (length least.rivals.items) before → IsPermutation before after → IsNonDecreasingBy (λ p. p) after →
+  pub are_minimal : (before after : List ℕ) → AreUnrepeated least (length least.rivals.items) before → IsPermutation before after → IsNonDecreasingBy (λ p. p) after →
       AreMinimal supports outer joined own most after
   are_minimal before after alone moves up = record {
     each = All-permutation (IsMinimal supports outer joined own most) before after moves

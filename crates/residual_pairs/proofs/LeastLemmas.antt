@@ -6,7 +6,7 @@ use Rattle.std.proofs.Math.Seq.{get_or-append_seam}
 use Rattle.residual_pairs.specs.declared.least.Least.{Least}
 use Rattle.residual_pairs.specs.declared.rivals.Rival.{Rival}
 use Rattle.residual_pairs.specs.Residuals.{support_at}
-use Rattle.residual_pairs.specs.Rivals.{AreFound, rival_at, LiesInside, IsCovered, IsDoubled, AreLeast, AreInOrder, IsOneMore, IsMet, IsNoted}
+use Rattle.residual_pairs.specs.Rivals.{AreFound, rival_at, LiesInside, IsCovered, IsDoubled, AreLeast, AreInOrder, IsOneMore, IsRepeated, IsRecorded}
 use Rattle.residual_pairs.proofs.SizeLemmas.{inside_self, size_within, same_size}
 
 module _ (supports : List (List Bool)) (outer : List Bool) (order : List Rival) (o : AreInOrder supports outer order) where
@@ -130,7 +130,7 @@ module _ (supports : List (List Bool)) (outer : List Bool) (order : List Rival) 
 
     -- ---- the residual of one lies inside
 
-    module _ (met : IsMet supports outer (rival_at order n) old new) where
+    module _ (met : IsRepeated supports outer (rival_at order n) old new) where
       as_before : (i : ℕ) → rival_at new.rivals.items i ≡ rival_at old.rivals.items i
       as_before i = ap (λ (rs : List Rival). rival_at rs i) met.rivals
 
@@ -205,5 +205,5 @@ module _ (supports : List (List Bool)) (outer : List Bool) (order : List Rival) 
         doubled = λ i i_in twice. subst (IsDoubled supports outer order (n + 1)) (sym (as_before i)) (doubled_after i (omega (arith, still_long)) twice);
       }
 
-    pub noted : IsNoted supports outer (rival_at order n) old new → AreLeast supports outer order (n + 1) new
+    pub noted : IsRecorded supports outer (rival_at order n) old new → AreLeast supports outer order (n + 1) new
     noted is = elim is [ inl more ↦ one_more more | inr met ↦ met_once_more met ]

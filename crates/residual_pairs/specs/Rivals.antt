@@ -117,18 +117,18 @@ pub record IsOneMore (supports : List (List Bool)) (outer : List Bool) (rival : 
   pub rivals : new.rivals.items ≡ old.rivals.items ++ rival ∷ []
   pub doubled : new.doubled.items ≡ old.doubled.items ++ false ∷ []
 
-pub record IsMet (supports : List (List Bool)) (outer : List Bool) (rival : Rival) (old new : Least) : Type 0 where
+pub record IsRepeated (supports : List (List Bool)) (outer : List Bool) (rival : Rival) (old new : Least) : Type 0 where
   pub k : ℕ
   pub at : IsInsideAt supports outer old.rivals.items rival.place k
   pub rivals : new.rivals.items ≡ old.rivals.items
   pub doubled : (((rival_at old.rivals.items k).size ≡ rival.size) × (new.doubled.items ≡ slice_set old.doubled.items k true)) ⊎
       (((rival_at old.rivals.items k).size ≢ rival.size) × (new.doubled.items ≡ old.doubled.items))
 
-abbrev pub IsNoted : List (List Bool) → List Bool → Rival → Least → Least → Type 0
-IsNoted supports outer rival old new = IsOneMore supports outer rival old new ⊎ IsMet supports outer rival old new
+abbrev pub IsRecorded : List (List Bool) → List Bool → Rival → Least → Least → Type 0
+IsRecorded supports outer rival old new = IsOneMore supports outer rival old new ⊎ IsRepeated supports outer rival old new
 
 -- the places of the first n rivals of least residual that aren't met twice
-pub record AreAlone (least : Least) (n : ℕ) (places : List ℕ) : Type 0 where
+pub record AreUnrepeated (least : Least) (n : ℕ) (places : List ℕ) : Type 0 where
   pub each : All (λ place. (i : ℕ) × (i < n) × (slice_index_or least.doubled.items i false ≡ false) × ((rival_at least.rivals.items i).place ≡ place)) places
   pub apart : ((i j : ℕ) → i < j → j < length least.rivals.items → (rival_at least.rivals.items i).place ≢ (rival_at least.rivals.items j).place) →
       AllPairs (λ p q. p ≢ q) places

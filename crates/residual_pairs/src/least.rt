@@ -1,7 +1,7 @@
 //! The candidates of minimal residual, and which of these residuals occur twice.
 
 ghost use Rattle.std.specs.Prelude.{◌≡◌, ℕ, ◌<◌, length, IfOk, IfSome, IfNone, OnOk};
-ghost use Rattle.residual_pairs.specs.Rivals.{AreFound, AreInOrder, AreLeast, IsNoted, IsInsideAt};
+ghost use Rattle.residual_pairs.specs.Rivals.{AreFound, AreInOrder, AreLeast, IsRecorded, IsInsideAt};
 
 use crate::rivals::Rival;
 use no_memory::NoMemory;
@@ -56,7 +56,7 @@ fn note(
     requires places { AreFound table.now.supports least.old.rivals.items }
     requires place { rival.place < length table.now.supports }
     requires count { length least.old.doubled.items ≡ length least.old.rivals.items }
-    ensures { OnOk result (IsNoted table.now.supports outer.now rival least.old least.new) }
+    ensures { OnOk result (IsRecorded table.now.supports outer.now rival least.old least.new) }
 {
     match one_inside(table, outer, &least.rivals, rival.place, least.hint) {
         Some(at) => {

@@ -4,7 +4,7 @@ ghost use Rattle.std.specs.Prelude.{◌≡◌, ◌+◌, ◌<◌, length, IfOk};
 ghost use Rattle.std.specs.List.Sorted.{IsPermutation, IsNonDecreasingBy};
 ghost use Rattle.support_table.specs.Counts.{columns_in_either};
 ghost use Rattle.residual_pairs.specs.Residuals.{AreMinimal};
-ghost use Rattle.residual_pairs.specs.Rivals.{AreCandidates, AreAlone};
+ghost use Rattle.residual_pairs.specs.Rivals.{AreCandidates, AreUnrepeated};
 
 use crate::least::{Least, least_of};
 use crate::marks::{marks_of, unhit};
@@ -54,7 +54,7 @@ fn sort_by_size(rivals: &mut Vec<Rival>)
 /// The indices of the rays of minimal residual that no other candidate has.
 fn alone(alloc: Global, least: &Least) -> Result<Vec<usize>, NoMemory>
     requires { length least.now.doubled.items ≡ length least.now.rivals.items }
-    ensures { IfOk result (λ places. AreAlone least.now (length least.now.rivals.items) places.items) }
+    ensures { IfOk result (λ places. AreUnrepeated least.now (length least.now.rivals.items) places.items) }
 {
     let mut places = Vec::new(alloc);
     for at in 0..least.rivals.len() {

@@ -8,7 +8,7 @@ use Rattle.std.proofs.lemmas.Bool.{cases_lt, false≢true, cond-true, cond-false
 use Rattle.std.proofs.lemmas.List.{get_or_default, get_or-map, length-map, map-append}
 use Rattle.std.proofs.lemmas.List.Folds.{list_any_at, Any-from_list_any}
 use Rattle.std.proofs.lemmas.List.Sums.{position_or_len_is, fails_before_first, passes_at_first}
-use Rattle.signature_definitions.specs.Census.{signature_in, IsKnown, IsFresh, IsPlaced}
+use Rattle.signature_definitions.specs.Census.{signature_in, IsOldClass, IsNewClass, IsClassed}
 use Rattle.signature_census.specs.Texts.{texts_of}
 
 -- whether two texts have the same bytes
@@ -46,7 +46,7 @@ module _ (text : Vec ℕ Global) (before : List (Vec ℕ Global)) where
       default_any k x h e = get_or_default before k text x h ∙ e
 
   known : (class : ℕ) (now : List (Vec ℕ Global)) → list_any (is_same text) before ≡ true → class ≡ position_or_len (is_same text) before → now ≡ before
-      → IsKnown (texts_of before) text.items class (texts_of now)
+      → IsOldClass (texts_of before) text.items class (texts_of now)
   known class now any place kept = record {
     in_range = let less = found_place any in omega (arith, length-map before (λ (v : Vec ℕ Global). v.items));
     found = rw place (text_at (position_or_len (is_same text) before) (found_place any)
@@ -55,7 +55,7 @@ module _ (text : Vec ℕ Global) (before : List (Vec ℕ Global)) where
   }
 
   fresh : (class : ℕ) (now : List (Vec ℕ Global)) → list_any (is_same text) before ≡ false → class ≡ position_or_len (is_same text) before → now ≡ before ++ text ∷ []
-      → IsFresh (texts_of before) text.items class (texts_of now)
+      → IsNewClass (texts_of before) text.items class (texts_of now)
   fresh class now none place pushed = record {
     last = place ∙ position_or_len_is (is_same text) before (length before) text (omega arith) (differs none) (λ h. absurd (omega arith)) ∙ sym (length-map before (λ (v : Vec ℕ Global). v.items));
     nowhere = λ c h e.
@@ -65,9 +65,9 @@ module _ (text : Vec ℕ Global) (before : List (Vec ℕ Global)) where
   }
 
   pub placed : (class : ℕ) (now : List (Vec ℕ Global)) → class ≡ position_or_len (is_same text) before
-      → now ≡ (if list_any (is_same text) before then before else before ++ text ∷ []) → IsPlaced (texts_of before) text.items class (texts_of now)
+      → now ≡ (if list_any (is_same text) before then before else before ++ text ∷ []) → IsClassed (texts_of before) text.items class (texts_of now)
   placed class now place keys = by (list_any (is_same text) before) refl
     where
-      by : (b : Bool) → list_any (is_same text) before ≡ b → IsPlaced (texts_of before) text.items class (texts_of now)
+      by : (b : Bool) → list_any (is_same text) before ≡ b → IsClassed (texts_of before) text.items class (texts_of now)
       by true e = inl (known class now e place (keys ∙ cond-true (list_any (is_same text) before) before (before ++ text ∷ []) e))
       by false e = inr (fresh class now e place (keys ∙ cond-false (list_any (is_same text) before) before (before ++ text ∷ []) e))

@@ -61,10 +61,10 @@ abbrev pub named_face : NotOrdered → Face
 named_face f = record { tet = f.tet; face = f.face }
 
 -- a call takes the face, or answers that it isn't in order
-abbrev pub Takes : {X : Type 0} → Walking → Face → Result X (Failure NotOrdered) → Option Walking → Type 0
-Takes new x (Ok u) taken = taken ≡ Some new
-Takes new x (Err NoMemory) taken = Unit {0}
-Takes new x (Err (Fault f)) taken = (taken ≡ None) × (named_face f ≡ x)
+abbrev pub TakesFace : {X : Type 0} → Walking → Face → Result X (Failure NotOrdered) → Option Walking → Type 0
+TakesFace new x (Ok u) taken = taken ≡ Some new
+TakesFace new x (Err NoMemory) taken = Unit {0}
+TakesFace new x (Err (Fault f)) taken = (taken ≡ None) × (named_face f ≡ x)
 
 -- the walk through all faces
 pub record IsWholeWalk (rows : List Row) (w : Walk) : Type 0 where

@@ -5,7 +5,7 @@ ghost use Rattle.table_definitions.specs.Lists.{same_list};
 ghost use Rattle.table_definitions.specs.Permutation.{identity};
 ghost use Rattle.table_definitions.specs.Table as gluings;
 ghost use Rattle.signature_text_laws.specs.Walks as walks;
-ghost use Rattle.signature_codec.specs.Views.{walk_view, named_face, Takes, IsWholeWalk, StopsAt};
+ghost use Rattle.signature_codec.specs.Views.{walk_view, named_face, TakesFace, IsWholeWalk, StopsAt};
 
 use gluing_table::{Face, Glue, Table};
 use no_memory::Failure;
@@ -49,7 +49,7 @@ fn is_identity(perm: Perm4) -> bool
 /// Visits `face`, and fails with `NotOrdered` if it is not in order.
 fn take_face(walk: &mut Walk, table: &Table, face: Face) -> Result<(), SpellFault>
     requires { face.tet < length table.now }
-    ensures takes { Takes (walk_view walk.new) face result (walks.take_face table.now face (walk_view walk.old)) }
+    ensures takes { TakesFace (walk_view walk.new) face result (walks.take_face table.now face (walk_view walk.old)) }
 {
     if face.tet >= walk.seen {
         return Err(Failure::Fault(not_ordered(face)));

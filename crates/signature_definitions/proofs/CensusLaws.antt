@@ -6,9 +6,9 @@ use Rattle.std.proofs.Math.Seq.{get_or-append_seam}
 use Rattle.plain_facts.proofs.Numbers.{last_or_before}
 use Rattle.table_definitions.specs.Table.{Row, IsTable}
 use Rattle.table_definitions.specs.Classes.{IsNumbering}
-use Rattle.table_definitions.specs.Relabelling.{IsRelabelled}
+use Rattle.table_definitions.specs.Relabelling.{AreIsomorphic}
 use Rattle.signature_definitions.specs.Spelling.{IsSignature}
-use Rattle.signature_definitions.specs.Census.{table_in, signature_in, AreRelabelled, IsCensus, IsKnown, IsFresh, IsPlaced}
+use Rattle.signature_definitions.specs.Census.{table_in, signature_in, AreRelabelled, IsCensus, IsOldClass, IsNewClass, IsClassed}
 
 -- a census of no tables
 pub empty_census : IsCensus [] [] []
@@ -29,9 +29,9 @@ pub record Step (tables : List (List Row)) (a : List Row) (classes : List ℕ) (
   pub table : IsTable a
   pub census : IsCensus tables classes before
   pub signature : IsSignature a text
-  pub placed : IsPlaced before text class now
+  pub placed : IsClassed before text class now
 
-module _ (tell : (a b : List Row) (s t : List ℕ) → IsTable a → IsTable b → IsSignature a s → IsSignature b t → (s ≡ t) ↔ IsRelabelled a b) where
+module _ (tell : (a b : List Row) (s t : List ℕ) → IsTable a → IsTable b → IsSignature a s → IsSignature b t → (s ≡ t) ↔ AreIsomorphic a b) where
   module _ (tables : List (List Row)) (a : List Row) (classes : List ℕ) (before : List (List ℕ)) (text : List ℕ) (class : ℕ) (now : List (List ℕ))
       (s : Step tables a classes before text class now) where
     abbrev numbers : IsNumbering (length tables) (AreRelabelled tables) classes (length before)
@@ -70,42 +70,42 @@ module _ (tell : (a b : List Row) (s t : List ℕ) → IsTable a → IsTable b �
 
     -- the class of an earlier table is that of the new one exactly where their signatures are equal
     by_signature : (i : ℕ) → i < length tables → (slice_index classes i ≡ class) ↔ (text_of i ≡ text)
-    by_signature i h = ⊎_elim (λ (k : IsKnown before text class now). known k) (λ (f : IsFresh before text class now). fresh f) s.placed
+    by_signature i h = ⊎_elim (λ (k : IsOldClass before text class now). known k) (λ (f : IsNewClass before text class now). fresh f) s.placed
       where
-        known : IsKnown before text class now → (slice_index classes i ≡ class) ↔ (text_of i ≡ text)
+        known : IsOldClass before text class now → (slice_index classes i ≡ class) ↔ (text_of i ≡ text)
         known k = ((λ e. ap (signature_in before) e ∙ k.found), (λ e. one_class (slice_index classes i) class (numbers.in_range i h) k.in_range (e ∙ sym k.found)))
 
-        fresh : IsFresh before text class now → (slice_index classes i ≡ class) ↔ (text_of i ≡ text)
+        fresh : IsNewClass before text class now → (slice_index classes i ≡ class) ↔ (text_of i ≡ text)
         fresh f = (
           (λ e. absurd (let below = numbers.in_range i h in let last = f.last in omega arith)),
           (λ e. absurd (f.nowhere (slice_index classes i) (numbers.in_range i h) e)),
         )
 
-    with_earlier : (i : ℕ) → i < length tables → (slice_index classes i ≡ class) ↔ IsRelabelled (table_in tables i) a
+    with_earlier : (i : ℕ) → i < length tables → (slice_index classes i ≡ class) ↔ AreIsomorphic (table_in tables i) a
     with_earlier i h =
         let one = by_signature i h in
         let two = tell (table_in tables i) a (text_of i) text (s.are_tables i h) s.table (s.census.signed i h) s.signature in
         ((λ e. two.0 (one.0 e)), (λ r. one.1 (two.1 r)))
 
-    from_new : (i : ℕ) → i < length tables → (class ≡ slice_index classes i) ↔ IsRelabelled a (table_in tables i)
+    from_new : (i : ℕ) → i < length tables → (class ≡ slice_index classes i) ↔ AreIsomorphic a (table_in tables i)
     from_new i h =
         let one = by_signature i h in
         let two = tell a (table_in tables i) text (text_of i) s.table (s.are_tables i h) s.signature (s.census.signed i h) in
         ((λ e. two.0 (sym (one.0 (sym e)))), (λ r. sym (one.1 (sym (two.1 r)))))
 
-    to_itself : (class ≡ class) ↔ IsRelabelled a a
+    to_itself : (class ≡ class) ↔ AreIsomorphic a a
     to_itself = ((λ e. (tell a a text text s.table s.table s.signature s.signature).0 refl), (λ r. refl))
 
     -- classes and tables, at their places in the longer lists
     at_places : (i j c d : ℕ) (one other : List Row) → slice_index numbered i ≡ c → slice_index numbered j ≡ d → table_in more i ≡ one → table_in more j ≡ other
-        → (c ≡ d) ↔ IsRelabelled one other → (slice_index numbered i ≡ slice_index numbered j) ↔ AreRelabelled more i j
+        → (c ≡ d) ↔ AreIsomorphic one other → (slice_index numbered i ≡ slice_index numbered j) ↔ AreRelabelled more i j
     at_places i j c d one other ec ed e f h = ((λ same. back (h.0 (sym ec ∙ same ∙ ed))), (λ r. ec ∙ h.1 (forth r) ∙ sym ed))
       where
-        back : IsRelabelled one other → AreRelabelled more i j
-        back r = subst (λ (x : List Row). IsRelabelled x (table_in more j)) (sym e) (subst (λ (y : List Row). IsRelabelled one y) (sym f) r)
+        back : AreIsomorphic one other → AreRelabelled more i j
+        back r = subst (λ (x : List Row). AreIsomorphic x (table_in more j)) (sym e) (subst (λ (y : List Row). AreIsomorphic one y) (sym f) r)
 
-        forth : AreRelabelled more i j → IsRelabelled one other
-        forth r = subst (λ (y : List Row). IsRelabelled one y) f (subst (λ (x : List Row). IsRelabelled x (table_in more j)) e r)
+        forth : AreRelabelled more i j → AreIsomorphic one other
+        forth r = subst (λ (y : List Row). AreIsomorphic one y) f (subst (λ (x : List Row). AreIsomorphic x (table_in more j)) e r)
 
     joined_at : (i j : ℕ) → (i < length tables) ⊎ (i ≡ length tables) → (j < length tables) ⊎ (j ≡ length tables)
         → (slice_index numbered i ≡ slice_index numbered j) ↔ AreRelabelled more i j
@@ -126,21 +126,21 @@ module _ (tell : (a b : List Row) (s t : List ℕ) → IsTable a → IsTable b �
 
     -- the place of the new signature is one of the signatures
     class_in_range : class < length now
-    class_in_range = ⊎_elim (λ (k : IsKnown before text class now). rw k.kept k.in_range)
-        (λ (f : IsFresh before text class now). rw f.appended (let last = f.last in omega (arith, length-append before (text ∷ [])))) s.placed
+    class_in_range = ⊎_elim (λ (k : IsOldClass before text class now). rw k.kept k.in_range)
+        (λ (f : IsNewClass before text class now). rw f.appended (let last = f.last in omega (arith, length-append before (text ∷ [])))) s.placed
 
     -- the signatures so far stay
     at_least : length before ≤ length now
-    at_least = ⊎_elim (λ (k : IsKnown before text class now). rw k.kept (omega arith))
-        (λ (f : IsFresh before text class now). rw f.appended (omega (arith, length-append before (text ∷ [])))) s.placed
+    at_least = ⊎_elim (λ (k : IsOldClass before text class now). rw k.kept (omega arith))
+        (λ (f : IsNewClass before text class now). rw f.appended (omega (arith, length-append before (text ∷ [])))) s.placed
 
     kept_signature : (c : ℕ) → c < length before → signature_in now c ≡ signature_in before c
-    kept_signature c h = ⊎_elim (λ (k : IsKnown before text class now). ap (λ (ts : List (List ℕ)). signature_in ts c) k.kept)
-        (λ (f : IsFresh before text class now). ap (λ (ts : List (List ℕ)). signature_in ts c) f.appended ∙ get_or-append before (text ∷ []) [] c h) s.placed
+    kept_signature c h = ⊎_elim (λ (k : IsOldClass before text class now). ap (λ (ts : List (List ℕ)). signature_in ts c) k.kept)
+        (λ (f : IsNewClass before text class now). ap (λ (ts : List (List ℕ)). signature_in ts c) f.appended ∙ get_or-append before (text ∷ []) [] c h) s.placed
 
     new_signature : signature_in now class ≡ text
-    new_signature = ⊎_elim (λ (k : IsKnown before text class now). ap (λ (ts : List (List ℕ)). signature_in ts class) k.kept ∙ k.found)
-        (λ (f : IsFresh before text class now). ap (λ (ts : List (List ℕ)). signature_in ts class) f.appended
+    new_signature = ⊎_elim (λ (k : IsOldClass before text class now). ap (λ (ts : List (List ℕ)). signature_in ts class) k.kept ∙ k.found)
+        (λ (f : IsNewClass before text class now). ap (λ (ts : List (List ℕ)). signature_in ts class) f.appended
         ∙ ap (signature_in (before ++ text ∷ [])) f.last ∙ get_or-append_seam before text [] []) s.placed
 
     in_range_at : (i : ℕ) → (i < length tables) ⊎ (i ≡ length tables) → slice_index numbered i < length now
@@ -166,19 +166,19 @@ module _ (tell : (a b : List Row) (s t : List ℕ) → IsTable a → IsTable b �
         (m.0, subst (λ (x : ℕ). m.0 < x) (sym h) m.1, m.2)
       where
         lesser : c < class → c < length before
-        lesser less = ⊎_elim (λ (k : IsKnown before text class now). let r = k.in_range in omega arith)
-            (λ (f : IsFresh before text class now). let r = f.last in omega arith) s.placed
+        lesser less = ⊎_elim (λ (k : IsOldClass before text class now). let r = k.in_range in omega arith)
+            (λ (f : IsNewClass before text class now). let r = f.last in omega arith) s.placed
 
     met_at : (c : ℕ) → (c < length before) ⊎ (c ≡ class) → (i : ℕ) × (i < length more) × (slice_index numbered i ≡ c)
     met_at c (inl h) = let m = met_before c (numbers.none_empty c h) in (m.0, (let less : m.0 < length tables = m.1 in omega (arith, one_more)), m.2)
     met_at c (inr e) = (length tables, omega (arith, one_more), last_class ∙ sym e)
 
     old_or_new : (c : ℕ) → c < length now → (c < length before) ⊎ (c ≡ class)
-    old_or_new c h = ⊎_elim (λ (k : IsKnown before text class now). inl (subst (λ (ts : List (List ℕ)). c < length ts) k.kept h))
-        (λ (f : IsFresh before text class now). last_of f (last_or_before (length before) c
+    old_or_new c h = ⊎_elim (λ (k : IsOldClass before text class now). inl (subst (λ (ts : List (List ℕ)). c < length ts) k.kept h))
+        (λ (f : IsNewClass before text class now). last_of f (last_or_before (length before) c
         (let less : c < length (before ++ text ∷ []) = subst (λ (ts : List (List ℕ)). c < length ts) f.appended h in omega (arith, length-append before (text ∷ []))))) s.placed
       where
-        last_of : IsFresh before text class now → (c < length before) ⊎ (c ≡ length before) → (c < length before) ⊎ (c ≡ class)
+        last_of : IsNewClass before text class now → (c < length before) ⊎ (c ≡ length before) → (c < length before) ⊎ (c ≡ class)
         last_of f (inl l) = inl l
         last_of f (inr e) = inr (e ∙ sym f.last)
 

@@ -6,7 +6,7 @@ use Rattle.std.specs.List.{list_any}
 use Rattle.table_definitions.specs.Lists.{below, same_list, is_list_before, first_some}
 use Rattle.table_definitions.specs.Permutation.{four, words}
 use Rattle.table_definitions.specs.Table.{Gluing, Row, Face, glue, faces, same_face}
-use Rattle.table_definitions.specs.Relabelling.{Relabelling, stand_in, face_under, gluing_under}
+use Rattle.table_definitions.specs.Relabelling.{Relabelling, relabelled_place, face_under, gluing_under}
 use Rattle.signature_definitions.specs.WalkOrder.{first_unordered}
 use Rattle.signature_definitions.specs.Spelling.{spelling}
 use Rattle.signature_definitions.specs.declared.SigFault.TheVariants as sig_faults
@@ -45,7 +45,7 @@ long_faults = (refl, refl, refl, refl, refl, refl, refl, refl, refl)
 -- the table to which a relabelling carries one tetrahedron
 carried_face : Relabelling → List Row → Face → Face → Option (Option Gluing)
 carried_face by rows y x =
-    if same_face (face_under (stand_in by x.tet) x) y then Some (option_map (λ g. gluing_under (stand_in by x.tet) (stand_in by g.tet) g) (glue rows x)) else None
+    if same_face (face_under (relabelled_place by x.tet) x) y then Some (option_map (λ g. gluing_under (relabelled_place by x.tet) (relabelled_place by g.tet) g) (glue rows x)) else None
 
 relabelled : Relabelling → List Row → List Row
 relabelled by rows = map (λ t. map (λ f. option_flatten (first_some (carried_face by rows (record { tet = t; face = f })) (faces (length rows)))) four) (below (length rows))

@@ -2,7 +2,7 @@
 use Rattle.std.specs.Prelude.{◌≡◌, ◌↔◌, ◌<◌, ℕ, List, length}
 use Rattle.table_definitions.specs.Table.{Row, IsTable}
 use Rattle.table_definitions.specs.Places.{IsConnected}
-use Rattle.table_definitions.specs.Relabelling.{Relabelling, IsRelabelled}
+use Rattle.table_definitions.specs.Relabelling.{Relabelling, AreIsomorphic}
 use Rattle.signature_definitions.specs.Spelling.{IsSignature}
 use Rattle.signature_definitions.specs.Labellings.{Start, IsWalked, IsLeastRelabelling}
 
@@ -14,16 +14,16 @@ WalksAgree =
 
 -- Theorem: a relabelling carries a table to a table and has an inverse; relabellings compose, and keep tables connected
 abbrev pub RelabelsTables : Type 0
-RelabelsTables = (rows new : List Row) → IsTable rows → IsRelabelled rows new → IsTable new
+RelabelsTables = (rows new : List Row) → IsTable rows → AreIsomorphic rows new → IsTable new
 
 abbrev pub RelabelsBack : Type 0
-RelabelsBack = (rows new : List Row) → IsTable rows → IsRelabelled rows new → IsRelabelled new rows
+RelabelsBack = (rows new : List Row) → IsTable rows → AreIsomorphic rows new → AreIsomorphic new rows
 
 abbrev pub RelabelsOn : Type 0
-RelabelsOn = (rows next last : List Row) → IsTable rows → IsRelabelled rows next → IsRelabelled next last → IsRelabelled rows last
+RelabelsOn = (rows next last : List Row) → IsTable rows → AreIsomorphic rows next → AreIsomorphic next last → AreIsomorphic rows last
 
 abbrev pub RelabelsConnected : Type 0
-RelabelsConnected = (rows new : List Row) → IsTable rows → IsRelabelled rows new → IsConnected rows → IsConnected new
+RelabelsConnected = (rows new : List Row) → IsTable rows → AreIsomorphic rows new → IsConnected rows → IsConnected new
 
 -- a table has one signature at most
 abbrev pub OneSignature : Type 0
@@ -33,7 +33,7 @@ OneSignature = (rows : List Row) (text other : List ℕ) → IsSignature rows te
 abbrev pub SignaturesTellTables : Type 0
 SignaturesTellTables =
     (first second : List Row) (text other : List ℕ) → IsTable first → IsTable second → IsSignature first text → IsSignature second other
-    → (text ≡ other) ↔ IsRelabelled first second
+    → (text ≡ other) ↔ AreIsomorphic first second
 
 -- one relabelling is answered of two tables
 abbrev pub OneLeastRelabelling : Type 0

@@ -2,7 +2,7 @@
 use Rattle.std.specs.Prelude.{◌≡◌, ℕ, Bool, false, ◌&&◌, ◌||◌, List, length, nat_lt, ◌==◌}
 use Rattle.table_definitions.specs.Permutation.{index}
 use Rattle.table_definitions.specs.Table.{Gluing, Row}
-use Rattle.table_definitions.specs.Relabelling.{Relabelling, IsRelabelling, Carries, stand_in}
+use Rattle.table_definitions.specs.Relabelling.{Relabelling, IsRelabelling, Carries, relabelled_place}
 use Rattle.signature_definitions.specs.WalkOrder.{IsWalkOrdered}
 
 -- a tetrahedron, and the new vertex of each of its vertices
@@ -12,7 +12,7 @@ pub record Start : Type 0 where
 
 -- the relabelling takes the start's tetrahedron to 0, by the start's permutation
 abbrev pub BeginsAt : Relabelling → Start → Type 0
-BeginsAt by start = stand_in by start.tet ≡ record { tet = 0; perm = start.perm }
+BeginsAt by start = relabelled_place by start.tet ≡ record { tet = 0; perm = start.perm }
 
 -- the relabelling carries the first table to the second
 abbrev pub Relabels : List Row → List Row → Relabelling → Type 0
@@ -31,4 +31,4 @@ is_stand_in_before s r = nat_lt s.tet r.tet || ((s.tet == r.tet) && nat_lt (inde
 -- of the relabellings that carry the first table to the second, none puts an earlier one in tetrahedron 0's place
 pub record IsLeastRelabelling (first second : List Row) (by : Relabelling) : Type 0 where
   pub relabels : Relabels first second by
-  pub least : (other : Relabelling) → Relabels first second other → is_stand_in_before (stand_in other 0) (stand_in by 0) ≡ false
+  pub least : (other : Relabelling) → Relabels first second other → is_stand_in_before (relabelled_place other 0) (relabelled_place by 0) ≡ false

@@ -4,7 +4,7 @@ use Rattle.std.specs.List.{position}
 use Rattle.table_definitions.specs.Lists.{is_list_before}
 use Rattle.table_definitions.specs.Permutation.{index}
 use Rattle.table_definitions.specs.Table.{Gluing, Row, Face, IsTable, glue, other_side, faces, is_face_before}
-use Rattle.table_definitions.specs.Relabelling.{IsRelabelled}
+use Rattle.table_definitions.specs.Relabelling.{AreIsomorphic}
 use Rattle.signature_definitions.specs.WalkOrder.{is_seen, IsWalkOrdered}
 
 -- the characters of the values 0 to 63
@@ -77,5 +77,5 @@ pub record Spells (text : List ℕ) (rows : List Row) : Type 0 where
 
 -- the text spells a table to which the rows can be relabelled, and no text before it does
 pub record IsSignature (rows : List Row) (text : List ℕ) : Type 0 where
-  pub found : (new : List Row) × IsRelabelled rows new × Spells text new
-  pub least : (new : List Row) (other : List ℕ) → IsRelabelled rows new → Spells other new → is_list_before other text ≡ false
+  pub found : (new : List Row) × AreIsomorphic rows new × Spells text new
+  pub least : (new : List Row) (other : List ℕ) → AreIsomorphic rows new → Spells other new → is_list_before other text ≡ false

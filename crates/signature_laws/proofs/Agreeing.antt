@@ -6,7 +6,7 @@ use Rattle.std.proofs.lemmas.Bool.{cases_lt}
 use Rattle.std.proofs.lemmas.List.{ext_get_or}
 use Rattle.table_definitions.specs.Permutation.{IsPermutationOfFour, preimage, inverse, compose}
 use Rattle.table_definitions.specs.Table.{Gluing, Row, Face, IsTable, glue}
-use Rattle.table_definitions.specs.Relabelling.{Relabelling, IsRelabelling, Carries, stand_in, face_under, gluing_under}
+use Rattle.table_definitions.specs.Relabelling.{Relabelling, IsRelabelling, Carries, relabelled_place, face_under, gluing_under}
 use Rattle.table_definitions.proofs.Carried.{stands_for, image_in_range, perm_permutes, images_apart, StandsFor}
 use Rattle.table_definitions.proofs.Permutations.{preimage_below, image-preimage, inverse_permutes, compose_permutes}
 use Rattle.signature_definitions.specs.Labellings.{Start, IsWalked}
@@ -51,7 +51,7 @@ module _ (rows new other : List Row) (by others : Relabelling) (table : IsTable 
   record Agree (k s : ℕ) : Type 0 where
     first : SeenBelow new k s
     second : SeenBelow other k s
-    both : (v : ℕ) → v < s → (t : ℕ) × (t < n) × (slice_index by.images t ≡ v) × (stand_in by t ≡ stand_in others t)
+    both : (v : ℕ) → v < s → (t : ℕ) × (t < n) × (slice_index by.images t ≡ v) × (relabelled_place by t ≡ relabelled_place others t)
 
   begun : Agree 0 1
   begun = record {
@@ -66,12 +66,12 @@ module _ (rows new other : List Row) (by others : Relabelling) (table : IsTable 
   inside' : (k : ℕ) → k < 4 * n → k < 4 * length other
   inside' k l = let e = w'.relabels.1.same_length in omega (arith, e)
 
-  same_at : (t u : ℕ) → t < n → u < n → slice_index by.images t ≡ slice_index by.images u → stand_in by t ≡ stand_in others t → stand_in by u ≡ stand_in others u
-  same_at t u l m e same = let one : t ≡ u = images_apart n by w.relabels.0 t u l m e in subst (λ v. stand_in by v ≡ stand_in others v) one same
+  same_at : (t u : ℕ) → t < n → u < n → slice_index by.images t ≡ slice_index by.images u → relabelled_place by t ≡ relabelled_place others t → relabelled_place by u ≡ relabelled_place others u
+  same_at t u l m e same = let one : t ≡ u = images_apart n by w.relabels.0 t u l m e in subst (λ v. relabelled_place by v ≡ relabelled_place others v) one same
 
   -- a face that leads to a tetrahedron
-  glued_on : (k s t : ℕ) (x : Face) (g : Gluing) → k < 4 * n → Agree k s → x.tet < n → glue rows x ≡ Some g → stand_in by x.tet ≡ stand_in others x.tet
-      → glue new (face_of k) ≡ Some (gluing_under (stand_in by x.tet) (stand_in by g.tet) g) → glue other (face_of k) ≡ Some (gluing_under (stand_in others x.tet) (stand_in others g.tet) g) → (s' : ℕ) × Agree (k + 1) s'
+  glued_on : (k s t : ℕ) (x : Face) (g : Gluing) → k < 4 * n → Agree k s → x.tet < n → glue rows x ≡ Some g → relabelled_place by x.tet ≡ relabelled_place others x.tet
+      → glue new (face_of k) ≡ Some (gluing_under (relabelled_place by x.tet) (relabelled_place by g.tet) g) → glue other (face_of k) ≡ Some (gluing_under (relabelled_place others x.tet) (relabelled_place others g.tet) g) → (s' : ℕ) × Agree (k + 1) s'
   glued_on k s t x g l a m e same there there' = ⊎_elim old next (cases_lt (slice_index by.images g.tet) s)
     where
       behind : g.tet < n
@@ -80,13 +80,13 @@ module _ (rows new other : List Row) (by others : Relabelling) (table : IsTable 
       old : slice_index by.images g.tet < s → (s' : ℕ) × Agree (k + 1) s'
       old b =
           let p = a.both (slice_index by.images g.tet) b in
-          let one : stand_in by g.tet ≡ stand_in others g.tet = same_at p.0 g.tet p.1 behind p.2 p.3 in
+          let one : relabelled_place by g.tet ≡ relabelled_place others g.tet = same_at p.0 g.tet p.1 behind p.2 p.3 in
           let images : slice_index by.images g.tet ≡ slice_index others.images g.tet = ap (λ (q : Gluing). q.tet) one in
           let b' : slice_index others.images g.tet < s = omega arith in (
             s,
             record {
-              first = to_seen new k s (gluing_under (stand_in by x.tet) (stand_in by g.tet) g) (inside k l) a.first there b;
-              second = to_seen other k s (gluing_under (stand_in others x.tet) (stand_in others g.tet) g) (inside' k l) a.second there' b';
+              first = to_seen new k s (gluing_under (relabelled_place by x.tet) (relabelled_place by g.tet) g) (inside k l) a.first there b;
+              second = to_seen other k s (gluing_under (relabelled_place others x.tet) (relabelled_place others g.tet) g) (inside' k l) a.second there' b';
               both = a.both;
             },
           )
@@ -102,25 +102,25 @@ module _ (rows new other : List Row) (by others : Relabelling) (table : IsTable 
       next : s ≤ slice_index by.images g.tet → (s' : ℕ) × Agree (k + 1) s'
       next b =
           let b' : s ≤ slice_index others.images g.tet = ⊎_elim (λ (c : slice_index others.images g.tet < s). absurd (not_old b c)) (λ (c : s ≤ slice_index others.images g.tet). c) (cases_lt (slice_index others.images g.tet) s) in
-          let on = to_next new k s (gluing_under (stand_in by x.tet) (stand_in by g.tet) g) w.ordered (inside k l) a.first there b in
-          let on' = to_next other k s (gluing_under (stand_in others x.tet) (stand_in others g.tet) g) w'.ordered (inside' k l) a.second there' b' in
+          let on = to_next new k s (gluing_under (relabelled_place by x.tet) (relabelled_place by g.tet) g) w.ordered (inside k l) a.first there b in
+          let on' = to_next other k s (gluing_under (relabelled_place others x.tet) (relabelled_place others g.tet) g) w'.ordered (inside' k l) a.second there' b' in
           let tets : slice_index by.images g.tet ≡ slice_index others.images g.tet = on.next ∙ sym on'.next in
           let perms = on.identical ∙ sym on'.identical in
-          let whole : gluing_under (stand_in by x.tet) (stand_in by g.tet) g ≡ gluing_under (stand_in others x.tet) (stand_in others g.tet) g = λ i. record { tet = tets i; perm = perms i } in
-          let alike : gluing_under (stand_in by x.tet) (stand_in by g.tet) g ≡ gluing_under (stand_in by x.tet) (stand_in others g.tet) g = whole ∙ ap (λ (q : Gluing). gluing_under q (stand_in others g.tet) g) (sym same) in
-          let one : stand_in by g.tet ≡ stand_in others g.tet =
-          one_behind (stand_in by x.tet) (stand_in by g.tet) (stand_in others g.tet) g (perm_permutes n by w.relabels.0 x.tet m) (perm_permutes n by w.relabels.0 g.tet behind)
+          let whole : gluing_under (relabelled_place by x.tet) (relabelled_place by g.tet) g ≡ gluing_under (relabelled_place others x.tet) (relabelled_place others g.tet) g = λ i. record { tet = tets i; perm = perms i } in
+          let alike : gluing_under (relabelled_place by x.tet) (relabelled_place by g.tet) g ≡ gluing_under (relabelled_place by x.tet) (relabelled_place others g.tet) g = whole ∙ ap (λ (q : Gluing). gluing_under q (relabelled_place others g.tet) g) (sym same) in
+          let one : relabelled_place by g.tet ≡ relabelled_place others g.tet =
+          one_behind (relabelled_place by x.tet) (relabelled_place by g.tet) (relabelled_place others g.tet) g (perm_permutes n by w.relabels.0 x.tet m) (perm_permutes n by w.relabels.0 g.tet behind)
           (perm_permutes n others w'.relabels.0 g.tet behind) (table.permutes x g e) alike in
           (s + 1, record { first = on.seen; second = on'.seen; both = λ v c. at v c on.next one })
         where
-          at : (v : ℕ) → v < s + 1 → slice_index by.images g.tet ≡ s → stand_in by g.tet ≡ stand_in others g.tet → (t : ℕ) × (t < n) × (slice_index by.images t ≡ v) × (stand_in by t ≡ stand_in others t)
+          at : (v : ℕ) → v < s + 1 → slice_index by.images g.tet ≡ s → relabelled_place by g.tet ≡ relabelled_place others g.tet → (t : ℕ) × (t < n) × (slice_index by.images t ≡ v) × (relabelled_place by t ≡ relabelled_place others t)
           at v c is one = ⊎_elim (λ (d : v < s). a.both v d) (λ (d : s ≤ v). (g.tet, behind, is ∙ omega arith, one)) (cases_lt v s)
 
   -- one more face
   agree_on : (k s : ℕ) → k < 4 * n → Agree k s → (s' : ℕ) × Agree (k + 1) s'
   agree_on k s l a = at (a.both (k / 4) (tet_below new w.ordered (k / 4) k s (let e = w.relabels.1.same_length in omega (arith, e)) (omega arith) (let m = inside k l in omega (arith, m)) a.first))
     where
-      at : (t : ℕ) × (t < n) × (slice_index by.images t ≡ k / 4) × (stand_in by t ≡ stand_in others t) → (s' : ℕ) × Agree (k + 1) s'
+      at : (t : ℕ) × (t < n) × (slice_index by.images t ≡ k / 4) × (relabelled_place by t ≡ relabelled_place others t) → (s' : ℕ) × Agree (k + 1) s'
       at (t, m, e, same) = cases (glue rows x) refl
         where
           p : List ℕ
@@ -135,25 +135,25 @@ module _ (rows new other : List Row) (by others : Relabelling) (table : IsTable 
           lf : preimage p (k % 4) < 4
           lf = preimage_below p hp (k % 4) (omega arith)
 
-          is : face_under (stand_in by t) x ≡ face_of k
+          is : face_under (relabelled_place by t) x ≡ face_of k
           is = let f = image-preimage p hp (k % 4) (omega arith) in λ i. record { tet = e i; face = f i }
 
-          here : glue new (face_of k) ≡ option_map (λ g. gluing_under (stand_in by t) (stand_in by g.tet) g) (glue rows x)
+          here : glue new (face_of k) ≡ option_map (λ g. gluing_under (relabelled_place by t) (relabelled_place by g.tet) g) (glue rows x)
           here = ap (glue new) (sym is) ∙ w.relabels.1.glued x m lf
 
-          here' : glue other (face_of k) ≡ option_map (λ g. gluing_under (stand_in others t) (stand_in others g.tet) g) (glue rows x)
+          here' : glue other (face_of k) ≡ option_map (λ g. gluing_under (relabelled_place others t) (relabelled_place others g.tet) g) (glue rows x)
           here' = ap (glue other) (sym is) ∙ ap (λ (q : Gluing). glue other (face_under q x)) same ∙ w'.relabels.1.glued x m lf
 
           cases : (o : Option Gluing) → glue rows x ≡ o → (s' : ℕ) × Agree (k + 1) s'
           cases None g = (
             s,
             record {
-              first = at_boundary new k s (inside k l) a.first (here ∙ ap (option_map (λ g. gluing_under (stand_in by t) (stand_in by g.tet) g)) g);
-              second = at_boundary other k s (inside' k l) a.second (here' ∙ ap (option_map (λ g. gluing_under (stand_in others t) (stand_in others g.tet) g)) g);
+              first = at_boundary new k s (inside k l) a.first (here ∙ ap (option_map (λ g. gluing_under (relabelled_place by t) (relabelled_place by g.tet) g)) g);
+              second = at_boundary other k s (inside' k l) a.second (here' ∙ ap (option_map (λ g. gluing_under (relabelled_place others t) (relabelled_place others g.tet) g)) g);
               both = a.both;
             },
           )
-          cases (Some g) f = glued_on k s t x g l a m f same (here ∙ ap (option_map (λ g. gluing_under (stand_in by t) (stand_in by g.tet) g)) f) (here' ∙ ap (option_map (λ g. gluing_under (stand_in others t) (stand_in others g.tet) g)) f)
+          cases (Some g) f = glued_on k s t x g l a m f same (here ∙ ap (option_map (λ g. gluing_under (relabelled_place by t) (relabelled_place by g.tet) g)) f) (here' ∙ ap (option_map (λ g. gluing_under (relabelled_place others t) (relabelled_place others g.tet) g)) f)
 
   agree_upto : (k : ℕ) → k ≤ 4 * n → (s : ℕ) × Agree k s
   agree_upto zero l = (1, begun)
@@ -166,7 +166,7 @@ module _ (rows new other : List Row) (by others : Relabelling) (table : IsTable 
   pub one_relabelling : by ≡ others
   one_relabelling = same_relabelling n by others w.relabels.0 w'.relabels.0 (λ t l. at t l)
     where
-      at : (t : ℕ) → t < n → stand_in by t ≡ stand_in others t
+      at : (t : ℕ) → t < n → relabelled_place by t ≡ relabelled_place others t
       at t l =
           let end = agree_upto (4 * n) (omega arith) in
           let m : slice_index by.images t < n = image_in_range n by w.relabels.0 t l in

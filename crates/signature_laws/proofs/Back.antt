@@ -4,7 +4,7 @@ use Rattle.std.specs.Prelude.{option_map, slice_index}
 use Rattle.std.specs.List.{slice_index_or}
 use Rattle.table_definitions.specs.Permutation.{IsPermutationOfFour, image, inverse, compose}
 use Rattle.table_definitions.specs.Table.{Gluing, Row, Face, IsTable, glue}
-use Rattle.table_definitions.specs.Relabelling.{Relabelling, IsRelabelling, Carries, stand_in, face_under, gluing_under}
+use Rattle.table_definitions.specs.Relabelling.{Relabelling, IsRelabelling, Carries, relabelled_place, face_under, gluing_under}
 use Rattle.table_definitions.proofs.Permutations.{carried_twice, image_below, image-compose, preimage-image, image-inverse, inverse_permutes, compose_permutes}
 use Rattle.table_definitions.proofs.Carried.{stands_for, image_in_range, perm_permutes, comes_from, images_apart, StandsFor}
 use Rattle.table_definitions.proofs.Faces.{face_at}
@@ -14,7 +14,7 @@ use Rattle.signature_laws.proofs.Standing.{made_stands, CanStand, made_relabelli
 
 -- on the way back t stands for what stands for t
 pub inverted_stands : (n : ℕ) (by : Relabelling) → IsRelabelling n by → (t : ℕ) → t < n
-    → stand_in (inverted n by) (slice_index by.images t) ≡ record { tet = t; perm = inverse (slice_index_or by.perms t []) }
+    → relabelled_place (inverted n by) (slice_index by.images t) ≡ record { tet = t; perm = inverse (slice_index_or by.perms t []) }
 inverted_stands n by h t l =
     let e : place_of by (slice_index by.images t) ≡ t = place_of-image n by h t l in
     made_stands n (back_of by) (slice_index by.images t) (image_in_range n by h t l) ∙ (λ i. record { tet = e i; perm = inverse (slice_index_or by.perms (e i) []) })
@@ -45,41 +45,41 @@ carries_back rows new by table h c = record {
     n = length rows
 
     back_at : (x : Face) → x.tet < n → x.face < 4
-        → glue rows (face_under (stand_in (inverted n by) (slice_index by.images x.tet)) (face_under (stand_in by x.tet) x))
-        ≡ option_map (λ g. gluing_under (stand_in (inverted n by) (slice_index by.images x.tet)) (stand_in (inverted n by) g.tet) g) (glue new (face_under (stand_in by x.tet) x))
+        → glue rows (face_under (relabelled_place (inverted n by) (slice_index by.images x.tet)) (face_under (relabelled_place by x.tet) x))
+        ≡ option_map (λ g. gluing_under (relabelled_place (inverted n by) (slice_index by.images x.tet)) (relabelled_place (inverted n by) g.tet) g) (glue new (face_under (relabelled_place by x.tet) x))
     back_at x lt lf =
         let s : List ℕ = slice_index_or by.perms x.tet [] in
         let hs : IsPermutationOfFour s = perm_permutes n by h x.tet lt in
         let here = inverted_stands n by h x.tet lt in
         let home : image (inverse s) (image s x.face) ≡ x.face = image-inverse s (image s x.face) (image_below s hs x.face lf) ∙ preimage-image s hs x.face lf in
-        ap (λ (g : Gluing). glue rows (face_under g (face_under (stand_in by x.tet) x))) here ∙ ap (λ f. glue rows (face_at x.tet f)) home
+        ap (λ (g : Gluing). glue rows (face_under g (face_under (relabelled_place by x.tet) x))) here ∙ ap (λ f. glue rows (face_at x.tet f)) home
         ∙ cases (glue rows x) refl
-        ∙ ap (λ (b : Gluing). option_map (λ (g : Gluing). gluing_under b (stand_in (inverted n by) g.tet) g) (glue new (face_under (stand_in by x.tet) x))) (sym here)
+        ∙ ap (λ (b : Gluing). option_map (λ (g : Gluing). gluing_under b (relabelled_place (inverted n by) g.tet) g) (glue new (face_under (relabelled_place by x.tet) x))) (sym here)
       where
         cases : (o : Option Gluing) → glue rows x ≡ o
-            → glue rows x ≡ option_map (λ (g : Gluing). gluing_under (record { tet = x.tet; perm = inverse (slice_index_or by.perms x.tet []) }) (stand_in (inverted n by) g.tet) g) (glue new (face_under (stand_in by x.tet) x))
+            → glue rows x ≡ option_map (λ (g : Gluing). gluing_under (record { tet = x.tet; perm = inverse (slice_index_or by.perms x.tet []) }) (relabelled_place (inverted n by) g.tet) g) (glue new (face_under (relabelled_place by x.tet) x))
         cases None e = rw (c.glued x lt lf, e) refl
         cases (Some g) e = rw (c.glued x lt lf, e) (ap (λ (k : Gluing). Some k) (sym (again g e)))
           where
             again : (g : Gluing) → glue rows x ≡ Some g
-                → gluing_under (record { tet = x.tet; perm = inverse (slice_index_or by.perms x.tet []) }) (stand_in (inverted n by) (slice_index by.images g.tet)) (gluing_under (stand_in by x.tet) (stand_in by g.tet) g) ≡ g
+                → gluing_under (record { tet = x.tet; perm = inverse (slice_index_or by.perms x.tet []) }) (relabelled_place (inverted n by) (slice_index by.images g.tet)) (gluing_under (relabelled_place by x.tet) (relabelled_place by g.tet) g) ≡ g
             again g e =
                 let m : g.tet < n = table.in_range x g e in
                 let s : List ℕ = slice_index_or by.perms x.tet [] in
                 let r : List ℕ = slice_index_or by.perms g.tet [] in
                 let p : compose (inverse r) (compose (compose r (compose g.perm (inverse s))) (inverse (inverse s))) ≡ g.perm = carried_and_back s r g.perm (perm_permutes n by h x.tet lt) (perm_permutes n by h g.tet m) (table.permutes x g e) in
-                ap (λ (b : Gluing). gluing_under (record { tet = x.tet; perm = inverse s }) b (gluing_under (stand_in by x.tet) (stand_in by g.tet) g)) (inverted_stands n by h g.tet m)
+                ap (λ (b : Gluing). gluing_under (record { tet = x.tet; perm = inverse s }) b (gluing_under (relabelled_place by x.tet) (relabelled_place by g.tet) g)) (inverted_stands n by h g.tet m)
                 ∙ (λ i. record { tet = g.tet; perm = p i })
 
     glued_at : (y : Face) → y.tet < n → y.face < 4
-        → glue rows (face_under (stand_in (inverted n by) y.tet) y) ≡ option_map (λ g. gluing_under (stand_in (inverted n by) y.tet) (stand_in (inverted n by) g.tet) g) (glue new y)
+        → glue rows (face_under (relabelled_place (inverted n by) y.tet) y) ≡ option_map (λ g. gluing_under (relabelled_place (inverted n by) y.tet) (relabelled_place (inverted n by) g.tet) g) (glue new y)
     glued_at y lt lf =
         let q : (x : Face) × StandsFor rows new by y x = stands_for rows new by h c y lt lf in
-        subst (λ (z : Face). glue rows (face_under (stand_in (inverted n by) z.tet) z) ≡ option_map (λ g. gluing_under (stand_in (inverted n by) z.tet) (stand_in (inverted n by) g.tet) g) (glue new z)) q.1.is
+        subst (λ (z : Face). glue rows (face_under (relabelled_place (inverted n by) z.tet) z) ≡ option_map (λ g. gluing_under (relabelled_place (inverted n by) z.tet) (relabelled_place (inverted n by) g.tet) g) (glue new z)) q.1.is
         (back_at q.0 q.1.tet q.1.face)
 
 -- one relabelling, and then another
-pub after_stands : (n : ℕ) (second first : Relabelling) (t : ℕ) → t < n → stand_in (after n second first) t ≡ after_of second first t
+pub after_stands : (n : ℕ) (second first : Relabelling) (t : ℕ) → t < n → relabelled_place (after n second first) t ≡ after_of second first t
 after_stands n second first t l = made_stands n (after_of second first) t l
 
 pub after_relabelling : (n : ℕ) (second first : Relabelling) → IsRelabelling n second → IsRelabelling n first → IsRelabelling n (after n second first)
@@ -101,7 +101,7 @@ carries_on rows next last second first table h k c d = record {
     n = length rows
 
     both : ℕ → Gluing
-    both t = stand_in (after n second first) t
+    both t = relabelled_place (after n second first) t
 
     glued_at : (x : Face) → x.tet < n → x.face < 4 → glue last (face_under (both x.tet) x) ≡ option_map (λ g. gluing_under (both x.tet) (both g.tet) g) (glue rows x)
     glued_at x lt lf =
@@ -114,16 +114,16 @@ carries_on rows next last second first table h k c d = record {
         let m' : slice_index first.images x.tet < length next = omega (arith, long) in
         ap (λ (b : Gluing). glue last (face_under b x)) here
         ∙ ap (λ f. glue last (face_at (slice_index second.images (slice_index first.images x.tet)) f)) (image-compose p2 p1 h1 x.face lf)
-        ∙ d.glued (face_under (stand_in first x.tet) x) m' (image_below p1 h1 x.face lf)
+        ∙ d.glued (face_under (relabelled_place first x.tet) x) m' (image_below p1 h1 x.face lf)
         ∙ cases (glue rows x) refl
       where
         cases : (o : Option Gluing) → glue rows x ≡ o
-            → option_map (λ (g : Gluing). gluing_under (stand_in second (slice_index first.images x.tet)) (stand_in second g.tet) g) (glue next (face_under (stand_in first x.tet) x)) ≡ option_map (λ g. gluing_under (both x.tet) (both g.tet) g) (glue rows x)
+            → option_map (λ (g : Gluing). gluing_under (relabelled_place second (slice_index first.images x.tet)) (relabelled_place second g.tet) g) (glue next (face_under (relabelled_place first x.tet) x)) ≡ option_map (λ g. gluing_under (both x.tet) (both g.tet) g) (glue rows x)
         cases None e = rw (c.glued x lt lf, e) refl
         cases (Some g) e = rw (c.glued x lt lf, e) (ap (λ (j : Gluing). Some j) (twice g e))
           where
             twice : (g : Gluing) → glue rows x ≡ Some g
-                → gluing_under (stand_in second (slice_index first.images x.tet)) (stand_in second (slice_index first.images g.tet)) (gluing_under (stand_in first x.tet) (stand_in first g.tet) g) ≡ gluing_under (both x.tet) (both g.tet) g
+                → gluing_under (relabelled_place second (slice_index first.images x.tet)) (relabelled_place second (slice_index first.images g.tet)) (gluing_under (relabelled_place first x.tet) (relabelled_place first g.tet) g) ≡ gluing_under (both x.tet) (both g.tet) g
             twice g e =
                 let m : g.tet < n = table.in_range x g e in
                 let s : List ℕ = slice_index_or first.perms x.tet [] in

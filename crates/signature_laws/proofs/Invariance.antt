@@ -5,21 +5,21 @@ use Rattle.std.specs.List.{slice_index_or}
 use Rattle.table_definitions.specs.Permutation.{image}
 use Rattle.table_definitions.specs.Table.{Row, Face, IsTable, glue}
 use Rattle.table_definitions.specs.Places.{Place, whole, across, along, IsJoined, IsConnected}
-use Rattle.table_definitions.specs.Relabelling.{Relabelling, IsRelabelling, IsRelabelled, Carries, stand_in, gluing_under}
+use Rattle.table_definitions.specs.Relabelling.{Relabelling, IsRelabelling, AreIsomorphic, Carries, relabelled_place, gluing_under}
 use Rattle.table_definitions.proofs.TableLaws.{glued_face, glued_tet}
 use Rattle.table_definitions.proofs.ChainLaws.{kept_along, joined_refl, joined_trans, crossed}
 use Rattle.table_definitions.proofs.Carried.{comes_from, carried_is_table}
 use Rattle.signature_laws.specs.Between.{inverted, after}
 use Rattle.signature_laws.proofs.Back.{inverted_relabelling, carries_back, after_relabelling, carries_on}
 
-pub relabels_back : (rows new : List Row) → IsTable rows → IsRelabelled rows new → IsRelabelled new rows
+pub relabels_back : (rows new : List Row) → IsTable rows → AreIsomorphic rows new → AreIsomorphic new rows
 relabels_back rows new table r = (
   inverted (length rows) r.0,
   subst (λ m. IsRelabelling m (inverted (length rows) r.0)) (sym r.2.same_length) (inverted_relabelling (length rows) r.0 r.1),
   carries_back rows new r.0 table r.1 r.2,
 )
 
-pub relabels_on : (rows next last : List Row) → IsTable rows → IsRelabelled rows next → IsRelabelled next last → IsRelabelled rows last
+pub relabels_on : (rows next last : List Row) → IsTable rows → AreIsomorphic rows next → AreIsomorphic next last → AreIsomorphic rows last
 relabels_on rows next last table a b =
     let second : IsRelabelling (length rows) b.0 = subst (λ m. IsRelabelling m b.0) a.2.same_length b.1 in (
       after (length rows) b.0 a.0,
@@ -27,7 +27,7 @@ relabels_on rows next last table a b =
       carries_on rows next last b.0 a.0 table second a.1 a.2 b.2,
     )
 
-pub relabels_table : (rows new : List Row) → IsTable rows → IsRelabelled rows new → IsTable new
+pub relabels_table : (rows new : List Row) → IsTable rows → AreIsomorphic rows new → IsTable new
 relabels_table rows new table r = carried_is_table rows new r.0 table r.1 r.2
 
 -- a chain is carried along
@@ -40,15 +40,15 @@ module _ (rows new : List Row) (by : Relabelling) (table : IsTable rows) (c : Ca
       let s = crossed rows p f q h.0 e in
       let x : Face = record { tet = p.tet; face = f } in
       let f' : ℕ = image (slice_index_or by.perms p.tet []) f in
-      let there : glue new (record { tet = slice_index by.images p.tet; face = f' }) ≡ Some (gluing_under (stand_in by p.tet) (stand_in by s.g.tet) s.g) =
-      c.glued x (glued_tet rows x s.g s.glued) (glued_face rows x s.g table.four_faces s.glued) ∙ ap (option_map (λ k. gluing_under (stand_in by p.tet) (stand_in by k.tet) k)) s.glued in
+      let there : glue new (record { tet = slice_index by.images p.tet; face = f' }) ≡ Some (gluing_under (relabelled_place by p.tet) (relabelled_place by s.g.tet) s.g) =
+      c.glued x (glued_tet rows x s.g s.glued) (glued_face rows x s.g table.four_faces s.glued) ∙ ap (option_map (λ k. gluing_under (relabelled_place by p.tet) (relabelled_place by k.tet) k)) s.glued in
       let step : along new (whole (slice_index by.images p.tet)) (f' ∷ []) ≡ Some (whole (slice_index by.images s.g.tet)) = rw there refl in
       (s.bare, joined_trans new (whole (slice_index by.images start.tet)) (whole (slice_index by.images p.tet)) (whole (slice_index by.images q.tet)) h.1 (f' ∷ [], step ∙ ap (λ t. Some (whole (slice_index by.images t))) s.to))
 
   pub led : (t u : ℕ) → IsJoined rows (whole t) (whole u) → IsJoined new (whole (slice_index by.images t)) (whole (slice_index by.images u))
   led t u j = (kept_along rows (Led (whole t)) (led_on (whole t)) j.0 (whole t) (whole u) (refl, joined_refl new (whole (slice_index by.images t))) j.1).1
 
-pub relabels_connected : (rows new : List Row) → IsTable rows → IsRelabelled rows new → IsConnected rows → IsConnected new
+pub relabels_connected : (rows new : List Row) → IsTable rows → AreIsomorphic rows new → IsConnected rows → IsConnected new
 relabels_connected rows new table r connected t u lt lu =
     let same = r.2.same_length in
     let a = comes_from (length rows) r.0 r.1 t (omega (arith, same)) in

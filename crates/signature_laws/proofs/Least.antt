@@ -7,7 +7,7 @@ use Rattle.plain_facts.proofs.Truths.{by_bool}
 use Rattle.table_definitions.specs.Lists.{is_list_before}
 use Rattle.table_definitions.specs.Permutation.{IsPermutationOfFour, words, index}
 use Rattle.table_definitions.specs.Table.{Gluing, Row, Face, IsTable, faces}
-use Rattle.table_definitions.specs.Relabelling.{IsRelabelling, IsRelabelled, stand_in}
+use Rattle.table_definitions.specs.Relabelling.{IsRelabelling, AreIsomorphic, relabelled_place}
 use Rattle.table_definitions.proofs.ListLaws.{not_before_itself}
 use Rattle.signature_definitions.specs.WalkOrder.{is_ordered_at, first_unordered, IsWalkOrdered}
 use Rattle.signature_definitions.specs.Spelling.{Spells, IsSignature, spelling}
@@ -81,7 +81,7 @@ least_is_signature rows text h = record {
   least = λ new other r s. none_before new other r s;
 }
   where
-    none_before : (new : List Row) (other : List ℕ) → IsRelabelled rows new → Spells other new → is_list_before other text ≡ false
+    none_before : (new : List Row) (other : List ℕ) → AreIsomorphic rows new → Spells other new → is_list_before other text ≡ false
     none_before new other r s =
         let i : ℕ = h.found.0 in
         let low : i < 24 * length rows = h.found.1 in
@@ -89,7 +89,7 @@ least_is_signature rows text h = record {
         let p : List ℕ = slice_index_or r.0.perms a.0 [] in
         let hp = perm_permutes (length rows) r.0 r.1 a.0 a.1 in
         let tet = a.2 in
-        let begins : stand_in r.0 a.0 ≡ record { tet = 0; perm = p } = λ i. record { tet = tet i; perm = p } in
+        let begins : relabelled_place r.0 a.0 ≡ record { tet = 0; perm = p } = λ i. record { tet = tet i; perm = p } in
         let w : IsWalked rows (record { tet = a.0; perm = p }) r.0 new = record { relabels = (r.1, r.2); begins = begins; ordered = s.ordered } in
         let walked : IsWalked rows (numbered_start (24 * a.0 + index p)) r.0 new = subst (λ (start : Start). IsWalked rows start r.0 new) (sym (number_of a.0 p hp)) w in
         let under = index_below p hp in

@@ -9,11 +9,11 @@ use Rattle.plain_facts.proofs.Truths.{by_bool}
 use Rattle.table_definitions.specs.Table.{Gluing, Row}
 use Rattle.signature_definitions.specs.Labellings.{Start}
 use Rattle.table_definitions.proofs.Marked.{mark_same, mark_other, or-false as or_false}
-use Rattle.signature_laws.specs.Orders.{start_at, is_met, start_behind, follow, IsWalking, AreMet}
+use Rattle.signature_laws.specs.Orders.{start_at, is_visited, start_behind, follow, IsWalking, AreVisited}
 use Rattle.signature_laws.proofs.Growing.{met_from}
 
 -- what stands in the order is in range
-pub met_inside : (order : List Start) (marks : List Bool) (i : ℕ) → AreMet order marks → i < length order → (start_at order i).tet < length marks
+pub met_inside : (order : List Start) (marks : List Bool) (i : ℕ) → AreVisited order marks → i < length order → (start_at order i).tet < length marks
 met_inside order marks i h l = ⊎_elim
     (λ (m : (start_at order i).tet < length marks). m)
     (λ (m : length marks ≤ (start_at order i).tet).
@@ -24,32 +24,32 @@ met_inside order marks i h l = ⊎_elim
 pub met_below : (rows : List Row) (order : List Start) (marks : List Bool) (i : ℕ) → IsWalking rows order marks → i < length order → (start_at order i).tet < length rows
 met_below rows order marks i h l = let m = met_inside order marks i h.met l in let s = h.size in omega (arith, m, s)
 
-is_met-push : (order : List Start) (s : Start) (t : ℕ) → is_met (order ++ s ∷ []) t ≡ (is_met order t || (s.tet == t))
-is_met-push order s t = list_any-append (λ (r : Start). r.tet == t) order (s ∷ []) ∙ ap (λ b. is_met order t || b) (or_false (s.tet == t))
+is_met-push : (order : List Start) (s : Start) (t : ℕ) → is_visited (order ++ s ∷ []) t ≡ (is_visited order t || (s.tet == t))
+is_met-push order s t = list_any-append (λ (r : Start). r.tet == t) order (s ∷ []) ∙ ap (λ b. is_visited order t || b) (or_false (s.tet == t))
 
 -- the marks say so of one more
-pub push_marks : (order : List Start) (s : Start) (marks : List Bool) → s.tet < length marks → AreMet order marks → AreMet (order ++ s ∷ []) (slice_set marks s.tet true)
+pub push_marks : (order : List Start) (s : Start) (marks : List Bool) → s.tet < length marks → AreVisited order marks → AreVisited (order ++ s ∷ []) (slice_set marks s.tet true)
 push_marks order s marks l h t = ⊎_elim
     (λ (e : t ≡ s.tet).
     let there : get_or (slice_set marks s.tet true) t false ≡ true = rw e (mark_same marks s.tet l) in
     let here : (s.tet == t) ≡ true = eq-eqb s.tet t (sym e) in
-    there ∙ sym (is_met-push order s t ∙ or_right (is_met order t) (s.tet == t) here))
+    there ∙ sym (is_met-push order s t ∙ or_right (is_visited order t) (s.tet == t) here))
     (λ (d : t ≡ s.tet → ⊥).
     let away : (s.tet == t) ≡ false = by_bool (s.tet == t) (λ e. absurd (d (sym (eqb-true s.tet t e)))) (λ e. e) in
-    mark_other marks s.tet t d ∙ h t ∙ sym (is_met-push order s t ∙ ap (λ b. is_met order t || b) away ∙ or_false (is_met order t)))
+    mark_other marks s.tet t d ∙ h t ∙ sym (is_met-push order s t ∙ ap (λ b. is_visited order t || b) away ∙ or_false (is_visited order t)))
     (cases_eq t s.tet)
 
 -- the marks once a gluing is followed
-pub follow_met : (from : Start) (g : Gluing) (order : List Start) (marks : List Bool) → AreMet order marks → g.tet < length marks → AreMet (follow (get_or marks g.tet false) from g order) (slice_set marks g.tet true)
+pub follow_met : (from : Start) (g : Gluing) (order : List Start) (marks : List Bool) → AreVisited order marks → g.tet < length marks → AreVisited (follow (get_or marks g.tet false) from g order) (slice_set marks g.tet true)
 follow_met from g order marks h l = by_bool (get_or marks g.tet false) (λ e. old e) (λ e. fresh e)
   where
-    old : get_or marks g.tet false ≡ true → AreMet (follow (get_or marks g.tet false) from g order) (slice_set marks g.tet true)
+    old : get_or marks g.tet false ≡ true → AreVisited (follow (get_or marks g.tet false) from g order) (slice_set marks g.tet true)
     old e t = rw e (⊎_elim
         (λ (same : t ≡ g.tet). rw same (mark_same marks g.tet l ∙ sym e ∙ h g.tet))
         (λ (d : t ≡ g.tet → ⊥). mark_other marks g.tet t d ∙ h t)
         (cases_eq t g.tet))
 
-    fresh : get_or marks g.tet false ≡ false → AreMet (follow (get_or marks g.tet false) from g order) (slice_set marks g.tet true)
+    fresh : get_or marks g.tet false ≡ false → AreVisited (follow (get_or marks g.tet false) from g order) (slice_set marks g.tet true)
     fresh e = rw e (push_marks order (start_behind from g) marks l h)
 
 pub follow_marks : (rows : List Row) (from : Start) (g : Gluing) (order new : List Start) (marks marked : List Bool) → IsWalking rows order marks → g.tet < length marks

@@ -8,7 +8,7 @@ use Rattle.std.proofs.lemmas.List.FromFn.{get_or-map-range_with_len, length-map-
 use Rattle.plain_facts.proofs.Truths.{by_bool}
 use Rattle.table_definitions.specs.Permutation.{IsPermutationOfFour, words, index, inverse, compose, identity}
 use Rattle.table_definitions.specs.Table.{Gluing, Row, IsTable}
-use Rattle.table_definitions.specs.Relabelling.{Relabelling, IsRelabelling, IsRelabelled, Carries, stand_in}
+use Rattle.table_definitions.specs.Relabelling.{Relabelling, IsRelabelling, AreIsomorphic, Carries, relabelled_place}
 use Rattle.table_definitions.proofs.Permutations.{words_permute, index-words, index_below, words_at, inverse_permutes, inverse-inverse, compose-identity, identity-compose}
 use Rattle.table_definitions.proofs.Carried.{image_in_range, length-images, perm_permutes, comes_from}
 use Rattle.signature_definitions.specs.Labellings.{IsWalked, Relabels, is_stand_in_before, IsLeastRelabelling}
@@ -44,26 +44,26 @@ module _ (first second new : List Row) (by : Relabelling) (table : IsTable first
           subst P (sym equal) (carries_on second first new by (inverted n other) table2 (subst (λ m. IsRelabelling m by) equal w.relabels.0) (subst (λ m. IsRelabelling m (inverted n other)) equal (inverted_relabelling n other r.0))
           (carries_back first second other table r.0 r.1) w.relabels.1)
 
-      begun : stand_in (after n by (inverted n other)) (k / 24) ≡ record { tet = 0; perm = inverse (slice_index_or words (k % 24) []) }
+      begun : relabelled_place (after n by (inverted n other)) (k / 24) ≡ record { tet = 0; perm = inverse (slice_index_or words (k % 24) []) }
       begun =
           let under = index_below (slice_index_or other.perms 0 []) hp in
           let q : k / 24 ≡ slice_index other.images 0 = omega (arith, e, under) in
           let i : k % 24 ≡ index (slice_index_or other.perms 0 []) = omega (arith, e, under) in
           let word : slice_index_or words (k % 24) [] ≡ slice_index_or other.perms 0 [] = ap (λ j. slice_index_or words j []) i ∙ words_at (slice_index_or other.perms 0 []) hp in
           let low : slice_index other.images 0 < n = image_in_range n other r.0 0 some in
-          let home : stand_in (inverted n other) (slice_index other.images 0) ≡ record { tet = 0; perm = inverse (slice_index_or other.perms 0 []) } = inverted_stands n other r.0 0 some in
+          let home : relabelled_place (inverted n other) (slice_index other.images 0) ≡ record { tet = 0; perm = inverse (slice_index_or other.perms 0 []) } = inverted_stands n other r.0 0 some in
           let tets : slice_index (inverted n other).images (slice_index other.images 0) ≡ 0 = ap (λ (g : Gluing). g.tet) home in
           let perms : slice_index_or (inverted n other).perms (slice_index other.images 0) [] ≡ inverse (slice_index_or other.perms 0 []) = ap (λ (g : Gluing). g.perm) home in
-          let on : stand_in by 0 ≡ record { tet = 0; perm = identity } = w.begins in
+          let on : relabelled_place by 0 ≡ record { tet = 0; perm = identity } = w.begins in
           let to : slice_index by.images (slice_index (inverted n other).images (slice_index other.images 0)) ≡ 0 = ap (slice_index by.images) tets ∙ ap (λ (g : Gluing). g.tet) on in
           let by_perm : slice_index_or by.perms (slice_index (inverted n other).images (slice_index other.images 0)) [] ≡ identity = ap (λ t. slice_index_or by.perms t []) tets ∙ ap (λ (g : Gluing). g.perm) on in
           let whole : compose (slice_index_or by.perms (slice_index (inverted n other).images (slice_index other.images 0)) []) (slice_index_or (inverted n other).perms (slice_index other.images 0) []) ≡ inverse (slice_index_or words (k % 24) []) =
           ap (λ a. compose a (slice_index_or (inverted n other).perms (slice_index other.images 0) [])) by_perm ∙ ap (compose identity) perms ∙ identity-compose (inverse (slice_index_or other.perms 0 [])) (inverse_permutes (slice_index_or other.perms 0 []) hp)
           ∙ ap inverse (sym word) in
-          ap (stand_in (after n by (inverted n other))) q ∙ after_stands n by (inverted n other) (slice_index other.images 0) low ∙ (λ j. record { tet = to j; perm = whole j })
+          ap (relabelled_place (after n by (inverted n other))) q ∙ after_stands n by (inverted n other) (slice_index other.images 0) low ∙ (λ j. record { tet = to j; perm = whole j })
 
   -- where no walk matches, there is no relabelling
-  pub no_relabelling : ((i : ℕ) → i < 24 * length second → IsNoMatch second new i) → IsRelabelled first second → ⊥
+  pub no_relabelling : ((i : ℕ) → i < 24 * length second → IsNoMatch second new i) → AreIsomorphic first second → ⊥
   no_relabelling none r =
       let k : ℕ = 24 * slice_index r.0.images 0 + index (slice_index_or r.0.perms 0 []) in
       let low : slice_index r.0.images 0 < n = image_in_range n r.0 r.1 0 some in
@@ -75,14 +75,14 @@ module _ (first second new : List Row) (by : Relabelling) (table : IsTable first
     back_relabelling : IsRelabelling n back
     back_relabelling = subst (λ l. IsRelabelling l back) (sym equal) m.relabels.0
 
-    stands_by : stand_in (between n by back) 0 ≡ start_gluing i
+    stands_by : relabelled_place (between n by back) 0 ≡ start_gluing i
     stands_by =
         let low : i / 24 < n = omega (arith, equal) in
         let p : List ℕ = slice_index_or words (i % 24) [] in
         let hp = words_permute (i % 24) (omega arith) in
         let home = inverted_stands n back back_relabelling (i / 24) low in
-        let on : stand_in by 0 ≡ record { tet = 0; perm = identity } = w.begins in
-        let there : stand_in back (i / 24) ≡ record { tet = 0; perm = inverse p } = m.begins in
+        let on : relabelled_place by 0 ≡ record { tet = 0; perm = identity } = w.begins in
+        let there : relabelled_place back (i / 24) ≡ record { tet = 0; perm = inverse p } = m.begins in
         let at : slice_index by.images 0 ≡ slice_index back.images (i / 24) = ap (λ (g : Gluing). g.tet) on ∙ sym (ap (λ (g : Gluing). g.tet) there) in
         let tets : slice_index (inverted n back).images (slice_index by.images 0) ≡ i / 24 = ap (slice_index (inverted n back).images) at ∙ ap (λ (g : Gluing). g.tet) home in
         let perms : slice_index_or (inverted n back).perms (slice_index by.images 0) [] ≡ p =
@@ -99,7 +99,7 @@ module _ (first second new : List Row) (by : Relabelling) (table : IsTable first
         )
 
     -- an earlier start than this one's would have matched
-    earlier : (other : Relabelling) → Relabels first second other → is_stand_in_before (stand_in other 0) (start_gluing i) ≡ true → 24 * slice_index other.images 0 + index (slice_index_or other.perms 0 []) < i
+    earlier : (other : Relabelling) → Relabels first second other → is_stand_in_before (relabelled_place other 0) (start_gluing i) ≡ true → 24 * slice_index other.images 0 + index (slice_index_or other.perms 0 []) < i
     earlier other r h =
         let q : List ℕ = slice_index_or other.perms 0 [] in
         let under = index_below q (perm_permutes n other r.0 0 some) in
@@ -115,10 +115,10 @@ module _ (first second new : List Row) (by : Relabelling) (table : IsTable first
     pub least_between : ((k : ℕ) → k < i → IsNoMatch second new k) → IsLeastRelabelling first second (between n by back)
     least_between none = record { relabels = relabels_between; least = λ other r. not_before other r }
       where
-        not_before : (other : Relabelling) → Relabels first second other → is_stand_in_before (stand_in other 0) (stand_in (between n by back) 0) ≡ false
-        not_before other r = by_bool (is_stand_in_before (stand_in other 0) (stand_in (between n by back) 0))
+        not_before : (other : Relabelling) → Relabels first second other → is_stand_in_before (relabelled_place other 0) (relabelled_place (between n by back) 0) ≡ false
+        not_before other r = by_bool (is_stand_in_before (relabelled_place other 0) (relabelled_place (between n by back) 0))
             (λ b.
-            let h : is_stand_in_before (stand_in other 0) (start_gluing i) ≡ true = ap (is_stand_in_before (stand_in other 0)) (sym stands_by) ∙ b in
+            let h : is_stand_in_before (relabelled_place other 0) (start_gluing i) ≡ true = ap (is_stand_in_before (relabelled_place other 0)) (sym stands_by) ∙ b in
             let k : ℕ = 24 * slice_index other.images 0 + index (slice_index_or other.perms 0 []) in
             absurd (none k (earlier other r h) (after n by (inverted n other)) (back_walk other r k refl)))
             (λ b. b)
@@ -156,10 +156,10 @@ module _ (n : ℕ) (first second : Relabelling) (h : IsRelabelling n first) (h2 
   pub images_in_range : (t : ℕ) → t < n → slice_index images t < n
   images_in_range t l = let a = met t l in let b = a.1 in let c = a.3 in omega (arith, b, c)
 
-  stands : (t : ℕ) → t < n → stand_in (record { images = images; perms = perms }) t ≡ stand_in (between n first second) t
+  stands : (t : ℕ) → t < n → relabelled_place (record { images = images; perms = perms }) t ≡ relabelled_place (between n first second) t
   stands t l =
       let a = met t l in
-      let there : stand_in (inverted n second) (slice_index second.images a.0) ≡ record { tet = a.0; perm = inverse (slice_index_or second.perms a.0 []) } = inverted_stands n second h2 a.0 a.1 in
+      let there : relabelled_place (inverted n second) (slice_index second.images a.0) ≡ record { tet = a.0; perm = inverse (slice_index_or second.perms a.0 []) } = inverted_stands n second h2 a.0 a.1 in
       let tet : slice_index images t ≡ slice_index (inverted n second).images (slice_index first.images t) = a.3 ∙ sym (ap (λ (g : Gluing). g.tet) there) ∙ ap (slice_index (inverted n second).images) a.2 in
       let back : slice_index_or (inverted n second).perms (slice_index first.images t) [] ≡ inverse (slice_index_or second.perms (slice_index images t) []) =
       ap (λ v. slice_index_or (inverted n second).perms v []) (sym a.2) ∙ ap (λ (g : Gluing). g.perm) there ∙ ap (λ v. inverse (slice_index_or second.perms v [])) (sym a.3) in

@@ -10,13 +10,13 @@ use Rattle.plain_facts.proofs.Truths.{by_bool}
 use Rattle.table_definitions.specs.Lists.{below}
 use Rattle.table_definitions.specs.Permutation.{IsPermutationOfFour}
 use Rattle.table_definitions.specs.Table.{Gluing}
-use Rattle.table_definitions.specs.Relabelling.{Relabelling, IsRelabelling, stand_in}
+use Rattle.table_definitions.specs.Relabelling.{Relabelling, IsRelabelling, relabelled_place}
 use Rattle.signature_laws.specs.Between.{made, place_of}
 use Rattle.table_definitions.proofs.Bijections.{onto, IsDistinct-from_before}
 use Rattle.table_definitions.proofs.Carried.{length-images, images_apart}
 
 -- relabellings by which the same stands for each tetrahedron are the same
-pub same_relabelling : (n : ℕ) (by other : Relabelling) → IsRelabelling n by → IsRelabelling n other → ((t : ℕ) → t < n → stand_in by t ≡ stand_in other t) → by ≡ other
+pub same_relabelling : (n : ℕ) (by other : Relabelling) → IsRelabelling n by → IsRelabelling n other → ((t : ℕ) → t < n → relabelled_place by t ≡ relabelled_place other t) → by ≡ other
 same_relabelling n by other h k same =
     let long = length-images n by h in
     let long' = length-images n other k in
@@ -26,7 +26,7 @@ same_relabelling n by other h k same =
     λ i. record { images = images i; perms = perms i }
 
 -- a relabelling that is made has what it is made of
-pub made_stands : (n : ℕ) (f : ℕ → Gluing) (t : ℕ) → t < n → stand_in (made n f) t ≡ f t
+pub made_stands : (n : ℕ) (f : ℕ → Gluing) (t : ℕ) → t < n → relabelled_place (made n f) t ≡ f t
 unfolding made
 made_stands n f t l =
     let a : get_or (map (λ t. (f t).tet) (below n)) t 0 ≡ (f t).tet = get_or-map-range_with_len (λ t. (f t).tet) 0 n t t 0 l (omega arith) in

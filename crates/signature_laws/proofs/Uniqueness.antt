@@ -6,7 +6,7 @@ use Rattle.table_definitions.specs.Lists.{is_list_before}
 use Rattle.table_definitions.specs.Permutation.{IsPermutationOfFour, index}
 use Rattle.table_definitions.specs.Table.{Gluing, Row, Face, IsTable, glue}
 use Rattle.table_definitions.specs.Places.{Place, whole, across, IsConnected}
-use Rattle.table_definitions.specs.Relabelling.{Relabelling, IsRelabelled, stand_in, face_under, gluing_under}
+use Rattle.table_definitions.specs.Relabelling.{Relabelling, AreIsomorphic, relabelled_place, face_under, gluing_under}
 use Rattle.table_definitions.proofs.TableLaws.{glued_face, glued_tet}
 use Rattle.table_definitions.proofs.ChainLaws.{kept_along, crossed}
 use Rattle.signature_definitions.specs.Spelling.{Spells, IsSignature}
@@ -73,16 +73,16 @@ one_signature rows text other s t =
     neither_before text other (t.least s.found.0 text s.found.1 s.found.2) (s.least t.found.0 other t.found.1 t.found.2)
 
 -- tables with one signature are relabelled to one table
-pub tells_tables : (first second : List Row) (text other : List ℕ) → IsTable first → IsTable second → IsSignature first text → IsSignature second other → (text ≡ other) ↔ IsRelabelled first second
+pub tells_tables : (first second : List Row) (text other : List ℕ) → IsTable first → IsTable second → IsSignature first text → IsSignature second other → (text ≡ other) ↔ AreIsomorphic first second
 tells_tables first second text other a b s t = (there, back)
   where
-    there : text ≡ other → IsRelabelled first second
+    there : text ≡ other → AreIsomorphic first second
     there e =
         let one : s.found.0 ≡ t.found.0 = ok_same s.found.0 t.found.0 (sym (spelled_read text s.found.0 s.found.2) ∙ spelled_read text t.found.0 (subst (λ (w : List ℕ). Spells w t.found.0) (sym e) t.found.2)) in
-        let to : IsRelabelled first t.found.0 = subst (IsRelabelled first) one s.found.1 in
+        let to : AreIsomorphic first t.found.0 = subst (AreIsomorphic first) one s.found.1 in
         relabels_on first t.found.0 second a to (relabels_back second t.found.0 b t.found.1)
 
-    back : IsRelabelled first second → text ≡ other
+    back : AreIsomorphic first second → text ≡ other
     back r = neither_before text other
         (t.least s.found.0 text (relabels_on second first s.found.0 b (relabels_back first second a r) s.found.1) s.found.2)
         (s.least t.found.0 other (relabels_on first second t.found.0 a r t.found.1) t.found.2)
@@ -104,7 +104,7 @@ neither_stand_in s r hs hr e f =
 -- relabellings of a connected table agree where they agree at tetrahedron 0
 module _ (first second : List Row) (by other : Relabelling) (table : IsTable first) (r : Relabels first second by) (r' : Relabels first second other) where
   abbrev Agrees : Place → Type 0
-  Agrees p = (p.vertices ≡ []) × (p.tet < length first) × (stand_in by p.tet ≡ stand_in other p.tet)
+  Agrees p = (p.vertices ≡ []) × (p.tet < length first) × (relabelled_place by p.tet ≡ relabelled_place other p.tet)
 
   agrees_on : (p : Place) (f : ℕ) (q : Place) → Agrees p → across first p f ≡ Some q → Agrees q
   agrees_on p f q a e =
@@ -113,19 +113,19 @@ module _ (first second : List Row) (by other : Relabelling) (table : IsTable fir
       let m : s.g.tet < length first = table.in_range x s.g s.glued in
       let lt = glued_tet first x s.g s.glued in
       let lf = glued_face first x s.g table.four_faces s.glued in
-      let here : glue second (face_under (stand_in by p.tet) x) ≡ Some (gluing_under (stand_in by p.tet) (stand_in by s.g.tet) s.g) = r.1.glued x lt lf ∙ ap (option_map (λ k. gluing_under (stand_in by p.tet) (stand_in by k.tet) k)) s.glued in
-      let here' : glue second (face_under (stand_in other p.tet) x) ≡ Some (gluing_under (stand_in other p.tet) (stand_in other s.g.tet) s.g) = r'.1.glued x lt lf ∙ ap (option_map (λ k. gluing_under (stand_in other p.tet) (stand_in other k.tet) k)) s.glued in
-      let both : Some (gluing_under (stand_in by p.tet) (stand_in by s.g.tet) s.g) ≡ Some (gluing_under (stand_in by p.tet) (stand_in other s.g.tet) s.g) =
-      sym here ∙ ap (λ (b : Gluing). glue second (face_under b x)) a.2 ∙ here' ∙ ap (λ (b : Gluing). Some (gluing_under b (stand_in other s.g.tet) s.g)) (sym a.2) in
-      let one : stand_in by s.g.tet ≡ stand_in other s.g.tet =
-      one_behind (stand_in by p.tet) (stand_in by s.g.tet) (stand_in other s.g.tet) s.g (perm_permutes (length first) by r.0 p.tet lt) (perm_permutes (length first) by r.0 s.g.tet m)
+      let here : glue second (face_under (relabelled_place by p.tet) x) ≡ Some (gluing_under (relabelled_place by p.tet) (relabelled_place by s.g.tet) s.g) = r.1.glued x lt lf ∙ ap (option_map (λ k. gluing_under (relabelled_place by p.tet) (relabelled_place by k.tet) k)) s.glued in
+      let here' : glue second (face_under (relabelled_place other p.tet) x) ≡ Some (gluing_under (relabelled_place other p.tet) (relabelled_place other s.g.tet) s.g) = r'.1.glued x lt lf ∙ ap (option_map (λ k. gluing_under (relabelled_place other p.tet) (relabelled_place other k.tet) k)) s.glued in
+      let both : Some (gluing_under (relabelled_place by p.tet) (relabelled_place by s.g.tet) s.g) ≡ Some (gluing_under (relabelled_place by p.tet) (relabelled_place other s.g.tet) s.g) =
+      sym here ∙ ap (λ (b : Gluing). glue second (face_under b x)) a.2 ∙ here' ∙ ap (λ (b : Gluing). Some (gluing_under b (relabelled_place other s.g.tet) s.g)) (sym a.2) in
+      let one : relabelled_place by s.g.tet ≡ relabelled_place other s.g.tet =
+      one_behind (relabelled_place by p.tet) (relabelled_place by s.g.tet) (relabelled_place other s.g.tet) s.g (perm_permutes (length first) by r.0 p.tet lt) (perm_permutes (length first) by r.0 s.g.tet m)
       (perm_permutes (length first) other r'.0 s.g.tet m) (table.permutes x s.g s.glued) cc in
-      (s.bare, subst (λ t. t < length first) s.to m, subst (λ t. stand_in by t ≡ stand_in other t) s.to one)
+      (s.bare, subst (λ t. t < length first) s.to m, subst (λ t. relabelled_place by t ≡ relabelled_place other t) s.to one)
 
-  pub agree_everywhere : IsConnected first → (0 < length first → stand_in by 0 ≡ stand_in other 0) → by ≡ other
+  pub agree_everywhere : IsConnected first → (0 < length first → relabelled_place by 0 ≡ relabelled_place other 0) → by ≡ other
   agree_everywhere connected begins = same_relabelling (length first) by other r.0 r'.0 (λ t l. at t l)
     where
-      at : (t : ℕ) → t < length first → stand_in by t ≡ stand_in other t
+      at : (t : ℕ) → t < length first → relabelled_place by t ≡ relabelled_place other t
       at t l =
           let some : 0 < length first = omega arith in
           let chain = connected 0 t some l in
@@ -133,4 +133,4 @@ module _ (first second : List Row) (by other : Relabelling) (table : IsTable fir
 
 pub one_least : (first second : List Row) (by other : Relabelling) → IsTable first → IsConnected first → IsLeastRelabelling first second by → IsLeastRelabelling first second other → by ≡ other
 one_least first second by other table connected a b = agree_everywhere first second by other table a.relabels b.relabels connected
-    (λ some. neither_stand_in (stand_in by 0) (stand_in other 0) (perm_permutes (length first) by a.relabels.0 0 some) (perm_permutes (length first) other b.relabels.0 0 some) (b.least by a.relabels) (a.least other b.relabels))
+    (λ some. neither_stand_in (relabelled_place by 0) (relabelled_place other 0) (perm_permutes (length first) by a.relabels.0 0 some) (perm_permutes (length first) other b.relabels.0 0 some) (b.least by a.relabels) (a.least other b.relabels))

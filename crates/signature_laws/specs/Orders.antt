@@ -3,7 +3,7 @@ use Rattle.std.specs.Prelude.{◌≡◌, ◌≢◌, ℕ, zero, suc, ◌*◌, ◌
 use Rattle.std.specs.List.{list_any, slice_index_or}
 use Rattle.table_definitions.specs.Permutation.{preimage, inverse, compose}
 use Rattle.table_definitions.specs.Table.{Gluing, Row, Face, glue}
-use Rattle.table_definitions.specs.Relabelling.{Relabelling, stand_in}
+use Rattle.table_definitions.specs.Relabelling.{Relabelling, relabelled_place}
 use Rattle.signature_definitions.specs.Labellings.{Start}
 
 -- what stands at a place in the order: the tetrahedron with this new number, and where its vertices go
@@ -11,8 +11,8 @@ abbrev pub start_at : List Start → ℕ → Start
 start_at order i = slice_index_or order i (record { tet = 0; perm = [] })
 
 -- whether a tetrahedron has a new number
-abbrev pub is_met : List Start → ℕ → Bool
-is_met order t = list_any (λ s. s.tet == t) order
+abbrev pub is_visited : List Start → ℕ → Bool
+is_visited order t = list_any (λ s. s.tet == t) order
 
 -- the start of the tetrahedron behind a gluing under which the gluing becomes the identity
 abbrev pub start_behind : Start → Gluing → Start
@@ -28,7 +28,7 @@ follow met from g order = if met then order else order ++ start_behind from g �
 
 abbrev pub follow_face : Start → Option Gluing → List Start → List Start
 follow_face from None order = order
-follow_face from (Some g) order = follow (is_met order g.tet) from g order
+follow_face from (Some g) order = follow (is_visited order g.tet) from g order
 
 -- the face at place k is the face k % 4 of the tetrahedron with the number k / 4
 abbrev pub take_face : List Row → ℕ → List Start → List Start
@@ -45,13 +45,13 @@ abbrev pub whole_order : List Row → Start → List Start
 whole_order rows start = order_after rows start (4 * length rows)
 
 -- the marks say which tetrahedra are met
-abbrev pub AreMet : List Start → List Bool → Type 0
-AreMet order marks = (t : ℕ) → slice_index_or marks t false ≡ is_met order t
+abbrev pub AreVisited : List Start → List Bool → Type 0
+AreVisited order marks = (t : ℕ) → slice_index_or marks t false ≡ is_visited order t
 
 -- what a walk keeps, between two faces
 pub record IsWalking (rows : List Row) (order : List Start) (marks : List Bool) : Type 0 where
   pub size : length marks ≡ length rows
-  pub met : AreMet order marks
+  pub met : AreVisited order marks
 
 -- each of the n tetrahedra stands in the order once
 pub record IsWholeOrder (n : ℕ) (order : List Start) : Type 0 where
@@ -61,4 +61,4 @@ pub record IsWholeOrder (n : ℕ) (order : List Start) : Type 0 where
 
 -- each tetrahedron goes to its place in the order
 abbrev pub Numbers : List Start → Relabelling → Type 0
-Numbers order by = (i : ℕ) → i < length order → stand_in by (start_at order i).tet ≡ record { tet = i; perm = (start_at order i).perm }
+Numbers order by = (i : ℕ) → i < length order → relabelled_place by (start_at order i).tet ≡ record { tet = i; perm = (start_at order i).perm }

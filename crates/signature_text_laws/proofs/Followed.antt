@@ -18,7 +18,7 @@ use Rattle.table_definitions.proofs.Permutations.{image_below, words_at}
 use Rattle.table_definitions.specs.Places.{face_of}
 use Rattle.table_definitions.proofs.Faces.{number-face_of}
 use Rattle.signature_text_laws.specs.Slots.{Slots, slot, meet_at, slot_boundary, slot_glued, slot_type, with_types, slot_next, slot_face, slot_faces}
-use Rattle.signature_text_laws.specs.Walks.{Walking, take_face, IsWalk}
+use Rattle.signature_text_laws.specs.Walks.{Walking, take_face, IsWalkTo}
 use Rattle.signature_text_laws.proofs.ReadLaws.{next_ok}
 use Rattle.signature_text_laws.proofs.Simulation.{faces-places}
 use Rattle.signature_text_laws.proofs.WalkLaws.{takes_on, takes_off, list_all-map}
@@ -104,7 +104,7 @@ pub record Step (rows : List Row) (k m : ℕ) (v : Walking) (s : Slots) : Type 0
   pub follows : Follows rows (k + 1) v to
   pub rest : Rest rows (k + 1) m to
 
-follow_step : (rows : List Row) (k m : ℕ) (w v : Walking) (s : Slots) → IsTable rows → k < 4 * length rows → IsWalk rows k w → Follows rows k w s → Rest rows k (suc m) s → k / 4 < w.seen → Took rows k w v → Step rows k m v s
+follow_step : (rows : List Row) (k m : ℕ) (w v : Walking) (s : Slots) → IsTable rows → k < 4 * length rows → IsWalkTo rows k w → Follows rows k w s → Rest rows k (suc m) s → k / 4 < w.seen → Took rows k w v → Step rows k m v s
 follow_step rows k m w v s table l walk f r hx (took_none e same) =
     let xs : List Face = faces_from (k + 1) m in
     let ts : List ℕ = filter_map (type_at rows) xs in
@@ -235,7 +235,7 @@ ordered_at rows k ordered l =
     list_all-below (λ m. is_ordered_at rows (face_of m)) (4 * length rows)
     (sym (list_all-map (is_ordered_at rows) face_of (below (4 * length rows))) ∙ ap (list_all (is_ordered_at rows)) (sym (faces-places (length rows))) ∙ ordered) k l
 
-taken_at : (rows : List Row) (k : ℕ) (w : Walking) → IsWalkOrdered rows → k < 4 * length rows → IsWalk rows k w → (v : Walking) × (take_face rows (face_of k) w ≡ Some v)
+taken_at : (rows : List Row) (k : ℕ) (w : Walking) → IsWalkOrdered rows → k < 4 * length rows → IsWalkTo rows k w → (v : Walking) × (take_face rows (face_of k) w ≡ Some v)
 taken_at rows k w ordered l walk = cases (take_face rows (face_of k) w) refl
   where
     cases : (o : Option Walking) → take_face rows (face_of k) w ≡ o → (v : Walking) × (take_face rows (face_of k) w ≡ Some v)
@@ -247,14 +247,14 @@ pub record Followed (rows : List Row) (m k : ℕ) (s : Slots) : Type 0 where
   pub to : Slots
   pub walk : Walking
   pub goes : slot_faces m k s ≡ Ok to
-  pub walked : IsWalk rows (4 * length rows) walk
+  pub walked : IsWalkTo rows (4 * length rows) walk
   pub follows : Follows rows (4 * length rows) walk to
 
-pub follow : (rows : List Row) (m k : ℕ) (w : Walking) (s : Slots) → IsTable rows → IsWalkOrdered rows → k + m ≡ 4 * length rows → IsWalk rows k w → Follows rows k w s → Rest rows k m s → Followed rows m k s
+pub follow : (rows : List Row) (m k : ℕ) (w : Walking) (s : Slots) → IsTable rows → IsWalkOrdered rows → k + m ≡ 4 * length rows → IsWalkTo rows k w → Follows rows k w s → Rest rows k m s → Followed rows m k s
 unfolding slot_faces
 follow rows zero k w s table ordered e walk f r =
     let end : k ≡ 4 * length rows = omega arith in
-    record { to = s; walk = w; goes = refl; walked = subst (λ (q : ℕ). IsWalk rows q w) end walk; follows = subst (λ (q : ℕ). Follows rows q w s) end f }
+    record { to = s; walk = w; goes = refl; walked = subst (λ (q : ℕ). IsWalkTo rows q w) end walk; follows = subst (λ (q : ℕ). Follows rows q w s) end f }
 follow rows (suc m) k w s table ordered e walk f r =
     let l : k < 4 * length rows = omega arith in
     let v = taken_at rows k w ordered l walk in

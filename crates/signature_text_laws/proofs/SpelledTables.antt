@@ -22,7 +22,7 @@ use Rattle.signature_definitions.specs.declared.SigFault.TheVariants.{NoMemory}
 use Rattle.signature_text_laws.specs.Faults.{Fails, Reads, SpellsNothing}
 use Rattle.signature_text_laws.specs.Parts.{parts_of, types_begun}
 use Rattle.signature_text_laws.specs.Slots.{Slots, slot, slot_faces, slots_begun, slot_row, slot_rows, IsSlots}
-use Rattle.signature_text_laws.specs.Walks.{Walking, walk_begun, IsWalk}
+use Rattle.signature_text_laws.specs.Walks.{Walking, walk_begun, IsWalkTo}
 use Rattle.signature_text_laws.proofs.ReadLaws.{next_ok}
 use Rattle.signature_text_laws.proofs.TypeLaws.{signature_table-joined}
 use Rattle.signature_text_laws.proofs.Simulation.{slots_join, faces-places}
@@ -139,7 +139,7 @@ pub record CountsAll (rows : List Row) : Type 0 where
   pub faces : 4 * length rows ≡ sum_by faces_of_type (face_types rows)
   pub ones : 0 < length rows → times_in (face_types rows) 1 + 1 ≡ length rows
 
-last_seen : (rows : List Row) (q : ℕ) (w : Walking) → length rows ≡ suc q → IsWalkOrdered rows → IsWalk rows (4 * length rows) w → q < w.seen
+last_seen : (rows : List Row) (q : ℕ) (w : Walking) → length rows ≡ suc q → IsWalkOrdered rows → IsWalkTo rows (4 * length rows) w → q < w.seen
 last_seen rows q w long ordered walk =
     let l : 4 * q < 4 * length rows = omega (arith, long) in
     let parts = and_parts (is_seen rows (record { tet = 4 * q / 4; face = 0 }) (4 * q / 4)) (is_ordered_gluing rows (face_of (4 * q)) (glue rows (face_of (4 * q)))) (ordered_at rows (4 * q) ordered l) in
@@ -165,7 +165,7 @@ counts_all rows table ordered =
     let times = ap (λ ts. times_in ts 1) types in
     record { faces = omega (arith, none, count, total); ones = λ some. all_ones (length rows) refl some r.walk r.walked ones times }
   where
-    all_ones : (n : ℕ) → length rows ≡ n → 0 < n → (w : Walking) → IsWalk rows (4 * length rows) w → w.seen ≡ 1 + times_in w.types 1 → times_in w.types 1 ≡ times_in (face_types rows) 1 → times_in (face_types rows) 1 + 1 ≡ n
+    all_ones : (n : ℕ) → length rows ≡ n → 0 < n → (w : Walking) → IsWalkTo rows (4 * length rows) w → w.seen ≡ 1 + times_in w.types 1 → times_in w.types 1 ≡ times_in (face_types rows) 1 → times_in (face_types rows) 1 + 1 ≡ n
     all_ones zero long some w walk ones times = absurd (omega arith)
     all_ones (suc q) long some w walk ones times =
         let last = last_seen rows q w long ordered walk in

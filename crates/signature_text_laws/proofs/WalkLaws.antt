@@ -12,7 +12,7 @@ use Rattle.table_definitions.specs.Permutation.{identity}
 use Rattle.table_definitions.specs.Table.{Gluing, Row, Face, IsTable, glue, other_side, is_face_before}
 use Rattle.signature_definitions.specs.WalkOrder.{is_glued_to, is_seen, is_ordered_gluing, is_ordered_at, first_unordered, IsWalkOrdered}
 use Rattle.signature_definitions.specs.Spelling.{type_of, seen_gluing, face_types, seen_gluings}
-use Rattle.signature_text_laws.specs.Walks.{Walking, with_type, take_glued, take_entry, take_face, walk_begun, IsWalk}
+use Rattle.signature_text_laws.specs.Walks.{Walking, with_type, take_glued, take_entry, take_face, walk_begun, IsWalkTo}
 use Rattle.signature_text_laws.proofs.Simulation.{faces-places}
 use Rattle.signature_text_laws.proofs.SeenLaws.{is_seen-more, is_seen-begun, is_seen-later}
 use Rattle.table_definitions.proofs.Marked.{or-false as or_none}
@@ -79,7 +79,7 @@ start : (k : ℕ) → record { tet = k / 4; face = 0 } ≡ face_of (first_place 
 start k = let a : k / 4 ≡ 4 * (k / 4) / 4 = omega arith in let b : 0 ≡ 4 * (k / 4) % 4 = omega arith in λ i. record { tet = a i; face = b i }
 
 -- whether the tetrahedron of a face was seen before its faces were taken
-tet_begun : (rows : List Row) (k : ℕ) (w : Walking) → k < 4 * length rows → IsWalk rows k w → is_seen rows (record { tet = k / 4; face = 0 }) (k / 4) ≡ nat_lt (k / 4) w.seen
+tet_begun : (rows : List Row) (k : ℕ) (w : Walking) → k < 4 * length rows → IsWalkTo rows k w → is_seen rows (record { tet = k / 4; face = 0 }) (k / 4) ≡ nat_lt (k / 4) w.seen
 tet_begun rows k w l h = ⊎_elim
     (λ (early : first_place k < k).
     let t : first_place k / 4 ≡ k / 4 = omega arith in
@@ -98,9 +98,9 @@ tet_begun rows k w l h = ⊎_elim
     (cases_lt (first_place k) k)
 
 -- one more face
-walk_more : (rows : List Row) (k : ℕ) (w v : Walking) (o : Option Gluing) (t : Option ℕ) (q : Option Gluing) → k < 4 * length rows → IsWalk rows k w → glue rows (face_of k) ≡ o
+walk_more : (rows : List Row) (k : ℕ) (w v : Walking) (o : Option Gluing) (t : Option ℕ) (q : Option Gluing) → k < 4 * length rows → IsWalkTo rows k w → glue rows (face_of k) ≡ o
     → ((u : ℕ) → (nat_lt u w.seen || is_glued_to u o) ≡ nat_lt u v.seen) → is_ordered_at rows (face_of k) ≡ true → type_of rows (face_of k) o ≡ t → seen_gluing rows (face_of k) o ≡ q
-    → v.types ≡ w.types ++ listed t → v.gluings ≡ w.gluings ++ listed q → (0 < length rows → v.seen ≤ length rows) → IsWalk rows (k + 1) v
+    → v.types ≡ w.types ++ listed t → v.gluings ≡ w.gluings ++ listed q → (0 < length rows → v.seen ≤ length rows) → IsWalkTo rows (k + 1) v
 walk_more rows k w v o t q l h e seen ordered type gluing types gluings most = record {
   seen = λ u. is_seen-more rows k u (omega arith) ∙ ap (λ b. b || is_glued_to u (glue rows (face_of k))) (h.seen u) ∙ ap (λ p. nat_lt u w.seen || is_glued_to u p) e ∙ seen u;
   ordered = below_more _ k h.ordered ordered;
@@ -135,13 +135,13 @@ before_tet x y h = ⊎_elim (λ (l : y.tet ≤ x.tet). l) (λ (l : x.tet < y.tet
     cases_le a b = ⊎_elim (λ (l : b < a). inr l) (λ (l : a ≤ b). inl l) (cases_lt b a)
 
 -- the face at k is in order where its gluing is, since its tetrahedron is seen
-ordered_here : (rows : List Row) (k : ℕ) (w : Walking) (o : Option Gluing) → k < 4 * length rows → IsWalk rows k w → glue rows (face_of k) ≡ o → nat_lt (k / 4) w.seen ≡ true
+ordered_here : (rows : List Row) (k : ℕ) (w : Walking) (o : Option Gluing) → k < 4 * length rows → IsWalkTo rows k w → glue rows (face_of k) ≡ o → nat_lt (k / 4) w.seen ≡ true
     → is_ordered_gluing rows (face_of k) o ≡ true → is_ordered_at rows (face_of k) ≡ true
 ordered_here rows k w o l h e seen ordered =
     and_from _ _ (tet_begun rows k w l h ∙ seen) (ap (is_ordered_gluing rows (face_of k)) e ∙ ordered)
 
-glued_on : (rows : List Row) (k : ℕ) (w v : Walking) (g : Gluing) → IsTable rows → k < 4 * length rows → IsWalk rows k w → glue rows (face_of k) ≡ Some g → nat_lt (k / 4) w.seen ≡ true
-    → take_glued (face_of k) g w ≡ Some v → IsWalk rows (k + 1) v
+glued_on : (rows : List Row) (k : ℕ) (w v : Walking) (g : Gluing) → IsTable rows → k < 4 * length rows → IsWalkTo rows k w → glue rows (face_of k) ≡ Some g → nat_lt (k / 4) w.seen ≡ true
+    → take_glued (face_of k) g w ≡ Some v → IsWalkTo rows (k + 1) v
 glued_on rows k w v g table l h e seen taken = by_bool (is_face_before (other_side (face_of k) g) (face_of k))
     (λ before.
     let made : w ≡ v = some_same w v (sym (if_true _ _ _ before) ∙ taken) in
@@ -149,7 +149,7 @@ glued_on rows k w v g table l h e seen taken = by_bool (is_face_before (other_si
     let s : k / 4 < w.seen = ltb-true (k / 4) w.seen seen in
     let lt : g.tet < w.seen = omega arith in
     let ordered : is_ordered_gluing rows (face_of k) (Some g) ≡ true = or_left _ _ (h.seen g.tet ∙ lt-ltb g.tet w.seen lt) in
-    subst (IsWalk rows (k + 1)) made (walk_more rows k w w (Some g) None None l h e (λ u. seen_same u w.seen g.tet lt) (ordered_here rows k w (Some g) l h e seen ordered)
+    subst (IsWalkTo rows (k + 1)) made (walk_more rows k w w (Some g) None None l h e (λ u. seen_same u w.seen g.tet lt) (ordered_here rows k w (Some g) l h e seen ordered)
     (rw before refl) (rw before refl) (sym (append-nil w.types)) (sym (append-nil w.gluings)) h.most))
     (λ later.
     let rest = sym (if_false _ _ _ later) ∙ taken in
@@ -159,7 +159,7 @@ glued_on rows k w v g table l h e seen taken = by_bool (is_face_before (other_si
     let made : record w { types = w.types ++ 2 ∷ []; gluings = w.gluings ++ g ∷ [] } ≡ v = some_same _ v (sym (if_true _ _ _ old) ∙ rest) in
     let is_old : is_seen rows (face_of k) g.tet ≡ true = h.seen g.tet ∙ old in
     let ordered : is_ordered_gluing rows (face_of k) (Some g) ≡ true = or_left _ _ is_old in
-    subst (IsWalk rows (k + 1)) made (walk_more rows k w (record w { types = w.types ++ 2 ∷ []; gluings = w.gluings ++ g ∷ [] }) (Some g) (Some 2) (Some g) l h e
+    subst (IsWalkTo rows (k + 1)) made (walk_more rows k w (record w { types = w.types ++ 2 ∷ []; gluings = w.gluings ++ g ∷ [] }) (Some g) (Some 2) (Some g) l h e
     (λ u. seen_same u w.seen g.tet lt) (ordered_here rows k w (Some g) l h e seen ordered) (rw (later, is_old) refl) (rw (later, is_old) refl) refl refl h.most))
     (λ new.
     let last = sym (if_false _ _ _ new) ∙ rest in
@@ -171,19 +171,19 @@ glued_on rows k w v g table l h e seen taken = by_bool (is_face_before (other_si
     let is_new : is_seen rows (face_of k) g.tet ≡ false = h.seen g.tet ∙ new in
     let ordered : is_ordered_gluing rows (face_of k) (Some g) ≡ true = glued_order rows (face_of k) g w.seen h.seen ∙ or_right _ _ next in
     let inside : g.tet < length rows = table.in_range (face_of k) g e in
-    subst (IsWalk rows (k + 1)) made (walk_more rows k w (record w { seen = w.seen + 1; types = w.types ++ 1 ∷ [] }) (Some g) (Some 1) None l h e
+    subst (IsWalkTo rows (k + 1)) made (walk_more rows k w (record w { seen = w.seen + 1; types = w.types ++ 1 ∷ [] }) (Some g) (Some 1) None l h e
     (λ u. seen_next u w.seen g.tet same) (ordered_here rows k w (Some g) l h e seen ordered) (rw (later, is_new) refl) (rw (later, is_new) refl) refl (sym (append-nil w.gluings)) (λ some. omega arith)))
     (λ none. absurd (let never = sym (if_false _ _ _ none) ∙ last in cc))))
 
 -- a face that is taken was in order
-pub takes_on : (rows : List Row) (k : ℕ) (w v : Walking) → IsTable rows → k < 4 * length rows → IsWalk rows k w → take_face rows (face_of k) w ≡ Some v → IsWalk rows (k + 1) v
+pub takes_on : (rows : List Row) (k : ℕ) (w v : Walking) → IsTable rows → k < 4 * length rows → IsWalkTo rows k w → take_face rows (face_of k) w ≡ Some v → IsWalkTo rows (k + 1) v
 takes_on rows k w v table l h taken = by_bool (nat_lt (k / 4) w.seen)
     (λ seen. entry (glue rows (face_of k)) refl seen (sym (if_true (nat_lt (k / 4) w.seen) (take_entry (face_of k) (glue rows (face_of k)) w) None seen) ∙ taken))
     (λ unseen. absurd (let never = sym (if_false (nat_lt (k / 4) w.seen) (take_entry (face_of k) (glue rows (face_of k)) w) None unseen) ∙ taken in cc))
   where
-    entry : (o : Option Gluing) → glue rows (face_of k) ≡ o → nat_lt (k / 4) w.seen ≡ true → take_entry (face_of k) o w ≡ Some v → IsWalk rows (k + 1) v
+    entry : (o : Option Gluing) → glue rows (face_of k) ≡ o → nat_lt (k / 4) w.seen ≡ true → take_entry (face_of k) o w ≡ Some v → IsWalkTo rows (k + 1) v
     entry None e seen made =
-        subst (IsWalk rows (k + 1)) (some_same (with_type 0 w) v made)
+        subst (IsWalkTo rows (k + 1)) (some_same (with_type 0 w) v made)
         (walk_more rows k w (with_type 0 w) None (Some 0) None l h e (λ u. or_none (nat_lt u w.seen)) (ordered_here rows k w None l h e seen refl) refl refl refl (sym (append-nil w.gluings)) h.most)
     entry (Some g) e seen made = glued_on rows k w v g table l h e seen made
 
@@ -198,7 +198,7 @@ glued_off rows k w g seen stopped = by_bool (is_face_before (other_side (face_of
     (λ next. absurd (let never = sym (if_true _ _ _ next) ∙ last in cc))
     (λ none. glued_order rows (face_of k) g w.seen seen ∙ or_from (nat_lt g.tet w.seen) _ new none)))
 
-pub takes_off : (rows : List Row) (k : ℕ) (w : Walking) → k < 4 * length rows → IsWalk rows k w → take_face rows (face_of k) w ≡ None → is_ordered_at rows (face_of k) ≡ false
+pub takes_off : (rows : List Row) (k : ℕ) (w : Walking) → k < 4 * length rows → IsWalkTo rows k w → take_face rows (face_of k) w ≡ None → is_ordered_at rows (face_of k) ≡ false
 takes_off rows k w l h stopped = by_bool (nat_lt (k / 4) w.seen)
     (λ seen. and_right (is_seen rows (record { tet = k / 4; face = 0 }) (k / 4)) (is_ordered_gluing rows (face_of k) (glue rows (face_of k)))
     (entry (glue rows (face_of k)) (sym (if_true (nat_lt (k / 4) w.seen) (take_entry (face_of k) (glue rows (face_of k)) w) None seen) ∙ stopped)))
@@ -209,7 +209,7 @@ takes_off rows k w l h stopped = by_bool (nat_lt (k / 4) w.seen)
     entry (Some g) e = glued_off rows k w g h.seen e
 
 -- before the first face
-pub walk_begins : (rows : List Row) → IsWalk rows 0 walk_begun
+pub walk_begins : (rows : List Row) → IsWalkTo rows 0 walk_begun
 walk_begins rows = record {
   seen = λ u. is_seen-begun rows u ∙ only_zero u;
   ordered = λ m l. absurd (omega arith);
@@ -226,15 +226,15 @@ pub list_all-map : {A B : Type 0} (p : B → Bool) (f : A → B) (xs : List A) �
 list_all-map p f [] = refl
 list_all-map p f (x ∷ xs) = ap (λ b. p (f x) && b) (list_all-map p f xs)
 
-pub walk_ordered : (rows : List Row) (k : ℕ) (w : Walking) → k ≡ 4 * length rows → IsWalk rows k w → IsWalkOrdered rows
+pub walk_ordered : (rows : List Row) (k : ℕ) (w : Walking) → k ≡ 4 * length rows → IsWalkTo rows k w → IsWalkOrdered rows
 walk_ordered rows k w e h =
     ap (list_all (is_ordered_at rows)) (faces-places (length rows)) ∙ list_all-map (is_ordered_at rows) face_of (below (4 * length rows))
     ∙ list_all-true (λ m. is_ordered_at rows (face_of m)) 0 (4 * length rows) (λ m low high. h.ordered m (omega arith))
 
-pub walk_types : (rows : List Row) (k : ℕ) (w : Walking) → k ≡ 4 * length rows → IsWalk rows k w → w.types ≡ face_types rows
+pub walk_types : (rows : List Row) (k : ℕ) (w : Walking) → k ≡ 4 * length rows → IsWalkTo rows k w → w.types ≡ face_types rows
 walk_types rows k w e h = h.types ∙ ap (λ m. filter_map (λ x. type_of rows x (glue rows x)) (map face_of (below m))) e ∙ ap (filter_map (λ x. type_of rows x (glue rows x))) (sym (faces-places (length rows)))
 
-pub walk_gluings : (rows : List Row) (k : ℕ) (w : Walking) → k ≡ 4 * length rows → IsWalk rows k w → w.gluings ≡ seen_gluings rows
+pub walk_gluings : (rows : List Row) (k : ℕ) (w : Walking) → k ≡ 4 * length rows → IsWalkTo rows k w → w.gluings ≡ seen_gluings rows
 walk_gluings rows k w e h = h.gluings ∙ ap (λ m. filter_map (λ x. seen_gluing rows x (glue rows x)) (map face_of (below m))) e ∙ ap (filter_map (λ x. seen_gluing rows x (glue rows x))) (sym (faces-places (length rows)))
 
 -- the first face that isn't in order
@@ -246,7 +246,7 @@ find_at p a (suc c) k low high before here = ⊎_elim
     rw h (find_at p (a + 1) c k (omega arith) (omega arith) (λ m l u. before m (omega arith) u) here))
     (cases_eq a k)
 
-pub first_unordered-at : (rows : List Row) (k : ℕ) (w : Walking) → k < 4 * length rows → IsWalk rows k w → is_ordered_at rows (face_of k) ≡ false → first_unordered rows ≡ Some (face_of k)
+pub first_unordered-at : (rows : List Row) (k : ℕ) (w : Walking) → k < 4 * length rows → IsWalkTo rows k w → is_ordered_at rows (face_of k) ≡ false → first_unordered rows ≡ Some (face_of k)
 unfolding first_unordered
 first_unordered-at rows k w l h e =
     ap (find (λ x. not (is_ordered_at rows x))) (faces-places (length rows))

@@ -18,7 +18,7 @@ use Rattle.table_definitions.proofs.Permutations.{image_below, words_permute, in
 use Rattle.table_definitions.specs.Places.{face_of}
 use Rattle.table_definitions.proofs.Faces.{number-face_of, face_of-number}
 use Rattle.signature_text_laws.specs.Slots.{Slots, slot, slot_face, slot_faces, slots_begun, slot_row, slot_rows, IsSlots}
-use Rattle.signature_text_laws.specs.Walks.{Walking, with_type, take_entry, take_face, walk_begun, IsWalk}
+use Rattle.signature_text_laws.specs.Walks.{Walking, with_type, take_entry, take_face, walk_begun, IsWalkTo}
 use Rattle.signature_text_laws.proofs.SlotLaws.{ok_same, face_kept}
 use Rattle.signature_text_laws.proofs.SeenLaws.{before_places}
 use Rattle.signature_text_laws.proofs.WalkLaws.{takes_on, walk_begins, walk_ordered, walk_types, walk_gluings}
@@ -120,13 +120,13 @@ walk_step n k rows parts s t w table l j hx (glues ts d i ds gs none types dests
 
 -- all faces
 walk_on : (n m k : ℕ) (rows : List Row) (parts : signatures.Parts) (s t : Slots) (w : Walking) → IsTable rows → length rows ≡ n → k + m ≡ 4 * n → IsJoined n k s → slot_faces m k s ≡ Ok t
-    → IsWalk rows k w → Parted parts w s → ((p : ℕ) (o : Option Gluing) → p < 4 * n → get_or t.met p None ≡ Some o → glue rows (face_of p) ≡ o)
-    → (v : Walking) × IsWalk rows (4 * n) v × Parted parts v t × IsJoined n (4 * n) t
+    → IsWalkTo rows k w → Parted parts w s → ((p : ℕ) (o : Option Gluing) → p < 4 * n → get_or t.met p None ≡ Some o → glue rows (face_of p) ≡ o)
+    → (v : Walking) × IsWalkTo rows (4 * n) v × Parted parts v t × IsJoined n (4 * n) t
 unfolding slot_faces
 walk_on n zero k rows parts s t w table long e j h walk part fin =
     let same : s ≡ t = ok_same s t h in
     let end : k ≡ 4 * n = omega arith in
-    (w, subst (λ (q : ℕ). IsWalk rows q w) end walk, subst (Parted parts w) same part, subst (λ (q : ℕ). IsJoined n q t) end (subst (IsJoined n k) same j))
+    (w, subst (λ (q : ℕ). IsWalkTo rows q w) end walk, subst (Parted parts w) same part, subst (λ (q : ℕ). IsJoined n q t) end (subst (IsJoined n k) same j))
 walk_on n (suc m) k rows parts s t w table long e j h walk part fin =
     let a = bind_ok (slot_face (face_of k) s) (λ u. slot_faces m (k + 1) u) t h in
     let l : k < 4 * n = omega arith in
@@ -173,7 +173,7 @@ joined_parts n parts t fit sum table h =
     let end : 4 * n ≡ 4 * length rows = omega (arith, long) in
     finished n parts t rows w.0 end w.1 w.2 w.3
   where
-    finished : (n : ℕ) (parts : signatures.Parts) (t : Slots) (rows : List Row) (v : Walking) → 4 * n ≡ 4 * length rows → IsWalk rows (4 * n) v → Parted parts v t → IsJoined n (4 * n) t → IsPartedBy parts rows
+    finished : (n : ℕ) (parts : signatures.Parts) (t : Slots) (rows : List Row) (v : Walking) → 4 * n ≡ 4 * length rows → IsWalkTo rows (4 * n) v → Parted parts v t → IsJoined n (4 * n) t → IsPartedBy parts rows
     finished n parts t rows v end walk part j =
         let fit = j.fit in
         let size = fit.size in

@@ -35,7 +35,7 @@ abbrev pub walk_begun : Walking
 walk_begun = record { seen = 1; types = []; gluings = [] }
 
 -- the faces before a place are in order, and the walk has what is known of them
-pub record IsWalk (rows : List Row) (k : ℕ) (w : Walking) : Type 0 where
+pub record IsWalkTo (rows : List Row) (k : ℕ) (w : Walking) : Type 0 where
   pub seen : (u : ℕ) → is_seen rows (face_of k) u ≡ nat_lt u w.seen
   pub ordered : (m : ℕ) → m < k → is_ordered_at rows (face_of m) ≡ true
   pub types : w.types ≡ filter_map (λ x. type_of rows x (glue rows x)) (map face_of (below k))

@@ -7,7 +7,7 @@ use Rattle.table_definitions.specs.Table.{Row}
 use Rattle.table_definitions.specs.Classes.{degree}
 use Rattle.table_definitions.specs.Places.{is_boundary, is_boundary_edge, lies_in_boundary}
 use Rattle.skeleton_definitions.specs.Corners.{Corner}
-use Rattle.skeleton_class_laws.specs.Rounds.{next_corner, IsRoundUnless}
+use Rattle.skeleton_class_laws.specs.Rounds.{next_corner, IsTourUnlessBoundary}
 
 -- the degree of each of so many classes
 pub record AreDegrees (classes : List ℕ) (count : ℕ) (degrees : List ℕ) : Type 0 where
@@ -33,4 +33,4 @@ items_of v = v.items
 -- the walk round each of n edge classes, or none
 pub record AreRounds (rows : List Row) (firsts : List ℕ) (boundary : List Bool) (n : ℕ) (walks : List (Vec Corner Global)) : Type 0 where
   pub one_each : length walks ≡ n
-  pub told : (c : ℕ) (w : Vec Corner Global) → c < n → w ≡ slice_index_or walks c w → IsRoundUnless (next_corner rows) (slice_index_or boundary c false) (slice_index firsts c) w.items
+  pub told : (c : ℕ) (w : Vec Corner Global) → c < n → w ≡ slice_index_or walks c w → IsTourUnlessBoundary (next_corner rows) (slice_index_or boundary c false) (slice_index firsts c) w.items

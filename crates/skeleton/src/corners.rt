@@ -4,7 +4,7 @@ ghost use Rattle.std.specs.Prelude.{◌≡◌, ◌*◌, ◌<◌, ◌≤◌, ℕ,
 ghost use Rattle.table_definitions.specs.Permutation.{IsPermutationOfFour};
 ghost use Rattle.table_definitions.specs.Table.{max_tets};
 ghost use Rattle.table_walk_laws.specs.Walks.{IsInjectiveBelow, step_of};
-ghost use Rattle.skeleton_class_laws.specs.Rounds.{corner_at, next_corner, start_of, swap, word_at, IsRound, IsRoundUnless};
+ghost use Rattle.skeleton_class_laws.specs.Rounds.{corner_at, next_corner, start_of, swap, word_at, IsTour, IsTourUnlessBoundary};
 ghost use Rattle.skeleton.specs.Parts.{AreRounds};
 
 use crate::crossings::behind;
@@ -134,7 +134,7 @@ fn corners_of(alloc: Global, places: &[u32]) -> Result<Vec<Corner>, NoMemory>
 /// The tour of `edge`, from its first corner.
 fn walk(alloc: Global, corners: &NextCorners, edge: u32) -> Result<Vec<Corner>, NoMemory>
     requires { edge < 6 * corners.now.tets }
-    ensures { IfOk result (λ walk. IsRound (step_of corners.now.next.items) (start_of edge) walk.items) }
+    ensures { IfOk result (λ walk. IsTour (step_of corners.now.next.items) (start_of edge) walk.items) }
 {
     let start = ORDERS * (edge / 6) + STARTS[(edge % 6) as usize] as u32;
     let places = orbit(alloc, &corners.next, start)?;
@@ -149,7 +149,7 @@ fn walk_unless(
     edge: u32,
 ) -> Result<Vec<Corner>, NoMemory>
     requires { edge < 6 * corners.now.tets }
-    ensures { IfOk result (λ walk. IsRoundUnless (step_of corners.now.next.items) on_boundary edge walk.items) }
+    ensures { IfOk result (λ walk. IsTourUnlessBoundary (step_of corners.now.next.items) on_boundary edge walk.items) }
 {
     if on_boundary {
         return Ok(Vec::new(alloc));

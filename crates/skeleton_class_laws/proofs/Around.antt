@@ -6,7 +6,7 @@ use Rattle.table_definitions.specs.Classes.{least}
 use Rattle.table_definitions.specs.Places.{is_boundary_edge}
 use Rattle.skeleton_definitions.specs.Corners.{Corner}
 use Rattle.skeleton_definitions.specs.Skeleton.{Skeleton, IsSkeleton, IsAround}
-use Rattle.skeleton_class_laws.specs.Rounds.{corner_at, next_corner, start_of, IsRoundUnless}
+use Rattle.skeleton_class_laws.specs.Rounds.{corner_at, next_corner, start_of, IsTourUnlessBoundary}
 use Rattle.skeleton_class_laws.proofs.RoundLemmas.{next_injective}
 use Rattle.skeleton_class_laws.proofs.WalkLemmas.{start_below, around_class}
 use Rattle.skeleton_class_laws.proofs.FirstPlaces.{first_place}
@@ -17,7 +17,7 @@ zip_exists R [] h = ([], tt)
 zip_exists R (x ∷ xs) h = let first = h 0 (omega arith) in let rest = zip_exists R xs (λ i l. h (suc i) (omega arith)) in (first.0 ∷ rest.0, (first.1, rest.1))
 
 module _ (s : Skeleton) (h : IsSkeleton s) where
-  round : (c : ℕ) (b : Bool) → c < s.edges.count → least s.edges.classes c < 6 * length s.rows → (corners : List Corner) × IsRoundUnless (next_corner s.rows) b (least s.edges.classes c) corners
+  round : (c : ℕ) (b : Bool) → c < s.edges.count → least s.edges.classes c < 6 * length s.rows → (corners : List Corner) × IsTourUnlessBoundary (next_corner s.rows) b (least s.edges.classes c) corners
   round c true l inside = ([], refl)
   round c false l inside =
       let o = orbit_exists (next_corner s.rows) (start_of (least s.edges.classes c)) (24 * length s.rows) (next_injective s.rows h.table) (start_below (least s.edges.classes c) (length s.rows) inside) in

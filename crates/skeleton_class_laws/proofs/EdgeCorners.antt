@@ -11,7 +11,7 @@ use Rattle.table_definitions.specs.Places.{ends, SameEdge, is_boundary_edge}
 use Rattle.table_definitions.specs.Lists.{has}
 use Rattle.table_definitions.specs.Permutation.{four}
 use Rattle.table_definitions.proofs.ClassLaws.{least_is_least}
-use Rattle.skeleton_definitions.specs.Corners.{Corner, corner_of, first_corner, AreCorners, IsWalk}
+use Rattle.skeleton_definitions.specs.Corners.{Corner, corner_of, first_corner, AreCorners, IsTourFrom}
 use Rattle.skeleton_definitions.specs.Skeleton.{Skeleton, IsSkeleton, IsAround}
 use Rattle.skeleton_class_laws.specs.CornersIn.{IsCornerIn, AreCornersIn}
 use Rattle.skeleton_class_laws.proofs.Rounds.{walk_has_corners, walk_in_range}
@@ -82,7 +82,7 @@ pub record IsRound (s : Skeleton) (c : ℕ) (corners : List Corner) : Type 0 whe
 
 pub round_of : (s : Skeleton) (c : ℕ) (corners : List Corner) → IsSkeleton s → c < s.edges.count → is_boundary_edge s.rows s.edges.classes c ≡ false → IsAround s c corners → IsRound s c corners
 round_of s c corners skeleton l inner around =
-    let walk : IsWalk s.rows first corners = subst (λ (b : Bool). MatchBool b (corners ≡ []) (IsWalk s.rows first corners)) inner around in
+    let walk : IsTourFrom s.rows first corners = subst (λ (b : Bool). MatchBool b (corners ≡ []) (IsTourFrom s.rows first corners)) inner around in
     let start : IsCornerIn (length s.rows) first = first_in_range (length s.rows) (least s.edges.classes c) (least_in_range (6 * length s.rows) (SameEdge s.rows) s.edges.classes s.edges.count c skeleton.edges l) in
     let every : AreCorners s.rows first corners = walk_has_corners s.rows skeleton.table first start corners walk in
     let within : AreCornersIn (length s.rows) corners = All-from_get_or (IsCornerIn (length s.rows)) corners first (walk_in_range s.rows skeleton.table first start corners walk) in

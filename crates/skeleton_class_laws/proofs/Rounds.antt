@@ -7,7 +7,7 @@ use Rattle.table_definitions.specs.Permutation.{IsPermutationOfFour}
 use Rattle.table_definitions.specs.Table.{Gluing, Row, glue, IsTable}
 use Rattle.table_definitions.proofs.PermutationLaws.{image_below, image-of_inverse, images_apart}
 use Rattle.skeleton_class_laws.specs.CornersIn.{IsCornerIn}
-use Rattle.skeleton_definitions.specs.Corners.{Corner, left_through, came_through, corner_behind, step, steps, Reaches, GoesRound, IsWalk, AreCorners}
+use Rattle.skeleton_definitions.specs.Corners.{Corner, left_through, came_through, corner_across, step, steps, Reaches, GoesAround, IsTourFrom, AreCorners}
 
 -- the corner to which a way across a gluing leads, and the corner itself where there is none
 abbrev pub where_led : (Corner → Gluing → Corner) → Corner → Option Gluing → Corner
@@ -16,10 +16,10 @@ where_led way k (Some g) = way k g
 
 -- the next corner, and the corner before
 abbrev pub next : List Row → Corner → Corner
-next rows k = where_led corner_behind k (glue rows (left_through k))
+next rows k = where_led corner_across k (glue rows (left_through k))
 
 abbrev pub before : List Row → Corner → Corner
-before rows k = where_led corner_behind k (glue rows (came_through k))
+before rows k = where_led corner_across k (glue rows (came_through k))
 
 -- what the first of several steps leads to
 pub first_step : (rows : List Row) (n : ℕ) (l : Corner) (o : Option Corner) → option_and_then (λ m. steps rows n m) o ≡ Some l → (m : Corner) × (o ≡ Some m) × (steps rows n m ≡ Some l)
@@ -37,7 +37,7 @@ pub record IsStep (rows : List Row) (k l : Corner) : Type 0 where
   pub four : IsCornerIn (length rows) l
   pub back : k ≡ before rows l
 
-behind_is : (rows : List Row) → IsTable rows → (k l : Corner) → IsCornerIn (length rows) k → (g : Gluing) → glue rows (left_through k) ≡ Some g → corner_behind k g ≡ l → IsStep rows k l
+behind_is : (rows : List Row) → IsTable rows → (k l : Corner) → IsCornerIn (length rows) k → (g : Gluing) → glue rows (left_through k) ≡ Some g → corner_across k g ≡ l → IsStep rows k l
 behind_is rows table k l four g e is = subst (IsStep rows k) is (record {
   four = record {
     tet = table.in_range (left_through k) g e;
@@ -54,13 +54,13 @@ behind_is rows table k l four g e is = subst (IsStep rows k) is (record {
     b = sym (image-of_inverse g.perm k.b p four.b) i;
     c = sym (image-of_inverse g.perm k.c p four.c) i;
     d = sym (image-of_inverse g.perm k.d p four.d) i;
-  }) ∙ ap (where_led corner_behind (corner_behind k g)) (sym (table.leads_back (left_through k) g e));
+  }) ∙ ap (where_led corner_across (corner_across k g)) (sym (table.leads_back (left_through k) g e));
 })
   where
     p : IsPermutationOfFour g.perm
     p = table.permutes (left_through k) g e
 
-step_is : (rows : List Row) → IsTable rows → (k l : Corner) → IsCornerIn (length rows) k → (o : Option Gluing) → glue rows (left_through k) ≡ o → option_map (corner_behind k) o ≡ Some l → IsStep rows k l
+step_is : (rows : List Row) → IsTable rows → (k l : Corner) → IsCornerIn (length rows) k → (o : Option Gluing) → glue rows (left_through k) ≡ o → option_map (corner_across k) o ≡ Some l → IsStep rows k l
 step_is rows table k l four None e h = absurd cc
 step_is rows table k l four (Some g) e h = behind_is rows table k l four g e (cc)
 
@@ -69,27 +69,27 @@ is_step rows table k l four h = step_is rows table k l four (glue rows (left_thr
 
 -- the corners of a round, by their places
 module _ (rows : List Row) (first : Corner) where
-  next_at : (k : Corner) (ks : List Corner) → GoesRound rows first k ks → (i : ℕ) → i < length ks → step rows (get_or (k ∷ ks) i first) ≡ Some (get_or (k ∷ ks) (suc i) first)
+  next_at : (k : Corner) (ks : List Corner) → GoesAround rows first k ks → (i : ℕ) → i < length ks → step rows (get_or (k ∷ ks) i first) ≡ Some (get_or (k ∷ ks) (suc i) first)
   next_at k [] h i l = absurd (omega arith)
   next_at k (m ∷ ms) h zero l = h.0
   next_at k (m ∷ ms) h (suc i) l = next_at m ms h.2 i (omega arith)
 
-  last_at : (k : Corner) (ks : List Corner) → GoesRound rows first k ks → step rows (get_or (k ∷ ks) (length ks) first) ≡ Some first
+  last_at : (k : Corner) (ks : List Corner) → GoesAround rows first k ks → step rows (get_or (k ∷ ks) (length ks) first) ≡ Some first
   last_at k [] h = h
   last_at k (m ∷ ms) h = last_at m ms h.2
 
-  not_first : (k : Corner) (ks : List Corner) → GoesRound rows first k ks → (i : ℕ) → i < length ks → get_or ks i first ≢ first
+  not_first : (k : Corner) (ks : List Corner) → GoesAround rows first k ks → (i : ℕ) → i < length ks → get_or ks i first ≢ first
   not_first k [] h i l = absurd (omega arith)
   not_first k (m ∷ ms) h zero l = h.1
   not_first k (m ∷ ms) h (suc i) l = not_first m ms h.2 i (omega arith)
 
-  four_at : IsTable rows → (k : Corner) (ks : List Corner) → GoesRound rows first k ks → IsCornerIn (length rows) k → (i : ℕ) → i ≤ length ks → IsCornerIn (length rows) (get_or (k ∷ ks) i first)
+  four_at : IsTable rows → (k : Corner) (ks : List Corner) → GoesAround rows first k ks → IsCornerIn (length rows) k → (i : ℕ) → i ≤ length ks → IsCornerIn (length rows) (get_or (k ∷ ks) i first)
   four_at table k ks h four zero l = four
   four_at table k [] h four (suc i) l = absurd (omega arith)
   four_at table k (m ∷ ms) h four (suc i) l = four_at table m ms h.2 (is_step rows table k m four h.0).four i (omega arith)
 
   -- no corner stands at two places
-  once_at : IsTable rows → (k : Corner) (ks : List Corner) → k ≡ first → GoesRound rows first k ks → IsCornerIn (length rows) k → (i j : ℕ) → i < j → j ≤ length ks → get_or (k ∷ ks) i first ≢ get_or (k ∷ ks) j first
+  once_at : IsTable rows → (k : Corner) (ks : List Corner) → k ≡ first → GoesAround rows first k ks → IsCornerIn (length rows) k → (i j : ℕ) → i < j → j ≤ length ks → get_or (k ∷ ks) i first ≢ get_or (k ∷ ks) j first
   once_at table k ks e h four i zero less l same = absurd (omega arith)
   once_at table k ks e h four zero (suc j) less l same = not_first k ks h j (omega arith) (sym same ∙ e)
   once_at table k ks e h four (suc i) (suc j) less l same =
@@ -97,14 +97,14 @@ module _ (rows : List Row) (first : Corner) where
       let two : IsStep rows (get_or (k ∷ ks) j first) (get_or (k ∷ ks) (suc j) first) = is_step rows table _ _ (four_at table k ks h four j (omega arith)) (next_at k ks h j (omega arith)) in
       once_at table k ks e h four i j (omega arith) (omega arith) (one.back ∙ ap (before rows) same ∙ sym two.back)
 
-  reached_at : (k : Corner) (ks : List Corner) → k ≡ first → GoesRound rows first k ks → (i : ℕ) → i ≤ length ks → Reaches rows first (get_or (k ∷ ks) i first)
+  reached_at : (k : Corner) (ks : List Corner) → k ≡ first → GoesAround rows first k ks → (i : ℕ) → i ≤ length ks → Reaches rows first (get_or (k ∷ ks) i first)
   reached_at k ks e h zero l = (0, ap (λ c. Some c) (sym e))
   reached_at k ks e h (suc i) l =
       let r : Reaches rows first (get_or (k ∷ ks) i first) = reached_at k ks e h i (omega arith) in
       (suc r.0, steps_more rows r.0 first (get_or (k ∷ ks) i first) (get_or (k ∷ ks) (suc i) first) r.1 (next_at k ks h i (omega arith)))
 
   -- a step from a corner of the round leads to one of the round
-  closed : (k : Corner) (ks : List Corner) → k ≡ first → GoesRound rows first k ks → (i : ℕ) → i ≤ length ks → (m : Corner) → step rows (get_or (k ∷ ks) i first) ≡ Some m
+  closed : (k : Corner) (ks : List Corner) → k ≡ first → GoesAround rows first k ks → (i : ℕ) → i ≤ length ks → (m : Corner) → step rows (get_or (k ∷ ks) i first) ≡ Some m
       → (j : ℕ) × (j ≤ length ks) × (get_or (k ∷ ks) j first ≡ m)
   closed k ks e h i l m f = ⊎_elim
       (λ low. let n : step rows (get_or (k ∷ ks) i first) ≡ Some (get_or (k ∷ ks) (suc i) first) = next_at k ks h i low in (suc i, omega arith, same_some (sym n ∙ f)))
@@ -116,7 +116,7 @@ module _ (rows : List Row) (first : Corner) where
       same_some : {a b : Corner} → Some a ≡ Some b → a ≡ b
       same_some {a} {b} g = cc
 
-contained : (rows : List Row) (first k : Corner) (ks : List Corner) → k ≡ first → GoesRound rows first k ks → (m : Corner) (n i : ℕ) → i ≤ length ks → (c : Corner) → get_or (k ∷ ks) i first ≡ c → steps rows n c ≡ Some m
+contained : (rows : List Row) (first k : Corner) (ks : List Corner) → k ≡ first → GoesAround rows first k ks → (m : Corner) (n i : ℕ) → i ≤ length ks → (c : Corner) → get_or (k ∷ ks) i first ≡ c → steps rows n c ≡ Some m
     → Contains (k ∷ ks) m
 contained rows first k ks e h m zero i l c at f =
     let same : c ≡ m = cc in
@@ -131,7 +131,7 @@ contained rows first k ks e h m (suc n) i l c at f = go (step rows c) refl f (λ
         again next.0 next.1 d next.2 g
 
 -- the law: the walk until it is back lists all corners that steps reach, each once
-pub walk_has_corners : (rows : List Row) → IsTable rows → (first : Corner) → IsCornerIn (length rows) first → (corners : List Corner) → IsWalk rows first corners → AreCorners rows first corners
+pub walk_has_corners : (rows : List Row) → IsTable rows → (first : Corner) → IsCornerIn (length rows) first → (corners : List Corner) → IsTourFrom rows first corners → AreCorners rows first corners
 walk_has_corners rows table first four [] h = absurd h
 walk_has_corners rows table first four (k ∷ ks) h =
     let start : IsCornerIn (length rows) k = subst (IsCornerIn (length rows)) (sym h.0) four in
@@ -144,7 +144,7 @@ walk_has_corners rows table first four (k ∷ ks) h =
     }
 
 -- each of them is a corner of one of the tetrahedra
-pub walk_in_range : (rows : List Row) → IsTable rows → (first : Corner) → IsCornerIn (length rows) first → (corners : List Corner) → IsWalk rows first corners
+pub walk_in_range : (rows : List Row) → IsTable rows → (first : Corner) → IsCornerIn (length rows) first → (corners : List Corner) → IsTourFrom rows first corners
     → (i : ℕ) → i < length corners → IsCornerIn (length rows) (get_or corners i first)
 walk_in_range rows table first four [] h i l = absurd h
 walk_in_range rows table first four (k ∷ ks) h i l = four_at rows first table k ks h.1 (subst (IsCornerIn (length rows)) (sym h.0) four) i (omega arith)

@@ -10,7 +10,7 @@ use Rattle.table_definitions.specs.Table.{Gluing, Row, glue, IsTable}
 use Rattle.table_definitions.specs.Classes.{IsNumbering, least}
 use Rattle.skeleton_definitions.specs.Skeleton.{Skeleton, IsSkeleton, IsAround}
 use Rattle.table_definitions.specs.Places.{Place, edge, ends, edge_number, turned, across, is_boundary, lies_in_boundary, is_boundary_edge, IsJoined, SameEdge}
-use Rattle.skeleton_definitions.specs.Corners.{Corner, first_corner, GoesRound, IsWalk}
+use Rattle.skeleton_definitions.specs.Corners.{Corner, first_corner, GoesAround, IsTourFrom}
 use Rattle.table_definitions.proofs.ChainLaws.{joined_refl, joined_more}
 use Rattle.table_definitions.proofs.PermutationLaws.{image_below, images_apart}
 use Rattle.table_definitions.proofs.ListFacts.{list_all-below, same_list-true}
@@ -19,7 +19,7 @@ use Rattle.table_walk_laws.specs.Walks.{after, GoesOn, IsOrbit, last_of}
 use Rattle.table_walk_laws.proofs.Steps.{after_before}
 use Rattle.table_walk_laws.proofs.ChainLemmas.{going_on_has_cycle}
 use Rattle.skeleton_class_laws.specs.Crossings.{pair}
-use Rattle.skeleton_class_laws.specs.Rounds.{word_at, corner_by, corner_at, next_corner, word_behind, starts, start_of, IsRound, IsRoundUnless}
+use Rattle.skeleton_class_laws.specs.Rounds.{word_at, corner_by, corner_at, next_corner, word_across, starts, start_of, IsTour, IsTourUnlessBoundary}
 use Rattle.skeleton_class_laws.proofs.Cases.{ends-edge_number}
 use Rattle.skeleton_class_laws.proofs.CrossingLemmas.{across-glued}
 use Rattle.skeleton_class_laws.proofs.Marks.{any_more}
@@ -44,7 +44,7 @@ module _ (rows : List Row) (table : IsTable rows) where
   -- steps that come back, by corners
   goes_round : (first k : ℕ) (ks : List ℕ) → ((j : ℕ) → suc j < length (k ∷ ks) → next_corner rows (slice_index (k ∷ ks) j) ≡ Some (slice_index (k ∷ ks) (suc j)))
       → next_corner rows (last_of (k ∷ ks)) ≡ Some first → ((j : ℕ) → j < length ks → slice_index ks j ≢ first)
-      → GoesRound rows (corner_at first) (corner_at k) (map corner_at ks)
+      → GoesAround rows (corner_at first) (corner_at k) (map corner_at ks)
   goes_round first k [] steps back apart = step_corner rows table k ∙ ap (λ (o : Option ℕ). option_map corner_at o) back
   goes_round first k (l ∷ ls) steps back apart = (
     step_corner rows table k ∙ ap (λ (o : Option ℕ). option_map corner_at o) (steps 0 (omega arith)),
@@ -55,10 +55,10 @@ module _ (rows : List Row) (table : IsTable rows) where
       last : last_of (k ∷ l ∷ ls) ≡ last_of (l ∷ ls)
       last = let n : length (k ∷ l ∷ ls) - 1 ≡ suc (length (l ∷ ls) - 1) = omega arith in ap (slice_index (k ∷ l ∷ ls)) n
 
-  pub walk_from_round : (start : ℕ) (corners : List Corner) → GoesOn (next_corner rows) start → IsRound (next_corner rows) start corners → IsWalk rows (corner_at start) corners
-  walk_from_round start corners on (places, orbit, e) = subst (IsWalk rows (corner_at start)) (sym e) (by_places places orbit)
+  pub walk_from_round : (start : ℕ) (corners : List Corner) → GoesOn (next_corner rows) start → IsTour (next_corner rows) start corners → IsTourFrom rows (corner_at start) corners
+  walk_from_round start corners on (places, orbit, e) = subst (IsTourFrom rows (corner_at start)) (sym e) (by_places places orbit)
     where
-      by_places : (ps : List ℕ) → IsOrbit (next_corner rows) start ps → IsWalk rows (corner_at start) (map corner_at ps)
+      by_places : (ps : List ℕ) → IsOrbit (next_corner rows) start ps → IsTourFrom rows (corner_at start) (map corner_at ps)
       by_places [] o = let s : 1 ≤ length {A = ℕ} [] = o.walk.some in absurd (omega arith)
       by_places (k ∷ ks) o =
           let back : next_corner rows (last_of (k ∷ ks)) ≡ Some start = going_on_has_cycle (next_corner rows) start on (k ∷ ks) o in
@@ -75,10 +75,10 @@ module _ (rows : List Row) (table : IsTable rows) where
       let g = s.gluing in
       let p = word_at k in
       let h = table.permutes _ g s.glued in
-      let w = word_of g.tet (word_behind g.perm p) (behind_permutes g.perm p h (word_permutes k)) in
+      let w = word_of g.tet (word_across g.perm p) (behind_permutes g.perm p h (word_permutes k)) in
       let b = behind_images g.perm p h (word_permutes k) in
       let tet : m / 24 ≡ g.tet = ap (λ n. n / 24) s.lands ∙ w.0 in
-      let word : word_at m ≡ word_behind g.perm p = ap word_at s.lands ∙ w.1 in
+      let word : word_at m ≡ word_across g.perm p = ap word_at s.lands ∙ w.1 in
       let a0 : image (word_at m) 0 ≡ image g.perm (image p 0) = ap (λ (u : List ℕ). image u 0) word ∙ b.0 in
       let a1 : image (word_at m) 1 ≡ image g.perm (image p 1) = ap (λ (u : List ℕ). image u 1) word ∙ b.1 in
       let off0 : (image p 0 == image p 2) ≡ false = ne_eqb (image p 0) (image p 2) (images_apart p 0 2 (word_permutes k) (omega arith) (omega arith) (λ z. omega arith)) in
@@ -259,7 +259,7 @@ module _ (rows : List Row) (table : IsTable rows) (classes : List ℕ) (count : 
     where
       by_glue : (o : Option Gluing) → glue rows (record { tet = x / 24; face = image (word_at x) 2 }) ≡ o → glue rows (record { tet = x / 24; face = image (word_at x) 2 }) ≡ None
       by_glue None h = h
-      by_glue (Some g) h = absurd (let z : Some (24 * g.tet + index (word_behind g.perm (word_at x))) ≡ None = sym (next_corner-is rows x g h) ∙ e in cc)
+      by_glue (Some g) h = absurd (let z : Some (24 * g.tet + index (word_across g.perm (word_at x))) ≡ None = sym (next_corner-is rows x g h) ∙ e in cc)
 
   pub inner_goes_on : is_boundary_edge rows classes (slice_index classes first) ≡ false → GoesOn (next_corner rows) (start_of first)
   inner_goes_on inner x r e =
@@ -269,15 +269,15 @@ module _ (rows : List Row) (table : IsTable rows) (classes : List ℕ) (count : 
       false≢true (sym inner ∙ o)
 
   -- the walk, or no corner
-  pub around_by : (corners : List Corner) (b : Bool) → is_boundary_edge rows classes (slice_index classes first) ≡ b → MatchBool b (corners ≡ []) (IsRound (next_corner rows) (start_of first) corners)
-      → MatchBool b (corners ≡ []) (IsWalk rows (first_corner first) corners)
+  pub around_by : (corners : List Corner) (b : Bool) → is_boundary_edge rows classes (slice_index classes first) ≡ b → MatchBool b (corners ≡ []) (IsTour (next_corner rows) (start_of first) corners)
+      → MatchBool b (corners ≡ []) (IsTourFrom rows (first_corner first) corners)
   around_by corners true e h = h
-  around_by corners false e h = subst (λ k. IsWalk rows k corners) (start_is_first first) (walk_from_round rows table (start_of first) corners (inner_goes_on e) h)
+  around_by corners false e h = subst (λ k. IsTourFrom rows k corners) (start_is_first first) (walk_from_round rows table (start_of first) corners (inner_goes_on e) h)
 
 -- of a skeleton
 pub around_class : (s : Skeleton) (c first : ℕ) (b : Bool) (corners : List Corner) → IsSkeleton s → first ≡ least s.edges.classes c → first < 6 * length s.rows → slice_index s.edges.classes first ≡ c
-    → b ≡ is_boundary_edge s.rows s.edges.classes c → IsRoundUnless (next_corner s.rows) b first corners → IsAround s c corners
+    → b ≡ is_boundary_edge s.rows s.edges.classes c → IsTourUnlessBoundary (next_corner s.rows) b first corners → IsAround s c corners
 around_class s c first b corners k ef inside member eb h =
     let own : is_boundary_edge s.rows s.edges.classes (slice_index s.edges.classes first) ≡ b = ap (is_boundary_edge s.rows s.edges.classes) member ∙ sym eb in
-    let walk : MatchBool b (corners ≡ []) (IsWalk s.rows (first_corner first) corners) = around_by s.rows k.table s.edges.classes s.edges.count k.edges first inside corners b own h in
-    subst₂ (λ (t : Bool) (f : ℕ). MatchBool t (corners ≡ []) (IsWalk s.rows (first_corner f) corners)) eb ef walk
+    let walk : MatchBool b (corners ≡ []) (IsTourFrom s.rows (first_corner first) corners) = around_by s.rows k.table s.edges.classes s.edges.count k.edges first inside corners b own h in
+    subst₂ (λ (t : Bool) (f : ℕ). MatchBool t (corners ≡ []) (IsTourFrom s.rows (first_corner f) corners)) eb ef walk

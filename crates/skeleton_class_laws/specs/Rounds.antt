@@ -26,12 +26,12 @@ abbrev pub swap : List ℕ
 swap = 0 ∷ 1 ∷ 3 ∷ 2 ∷ []
 
 -- the order of the vertices behind a gluing
-unfoldable pub word_behind : List ℕ → List ℕ → List ℕ
-word_behind g p = compose (compose g p) swap
+unfoldable pub word_across : List ℕ → List ℕ → List ℕ
+word_across g p = compose (compose g p) swap
 
 -- the number of the next corner
 unfoldable pub next_corner : List Row → ℕ → Option ℕ
-next_corner rows k = option_map (λ (g : Gluing). 24 * g.tet + index (word_behind g.perm (word_at k))) (glue rows (record { tet = k / 24; face = image (word_at k) 2 }))
+next_corner rows k = option_map (λ (g : Gluing). 24 * g.tet + index (word_across g.perm (word_at k))) (glue rows (record { tet = k / 24; face = image (word_at k) 2 }))
 
 -- the corner at which the walk round edge i starts
 abbrev pub starts : List ℕ
@@ -41,9 +41,9 @@ abbrev pub start_of : ℕ → ℕ
 start_of i = 24 * (i / 6) + slice_index_or starts (i % 6) 0
 
 -- the corners of an orbit
-abbrev pub IsRound : (ℕ → Option ℕ) → ℕ → List Corner → Type 0
-IsRound next start corners = (places : List ℕ) × IsOrbit next start places × (corners ≡ map corner_at places)
+abbrev pub IsTour : (ℕ → Option ℕ) → ℕ → List Corner → Type 0
+IsTour next start corners = (places : List ℕ) × IsOrbit next start places × (corners ≡ map corner_at places)
 
 -- the corners of a walk, or none
-abbrev pub IsRoundUnless : (ℕ → Option ℕ) → Bool → ℕ → List Corner → Type 0
-IsRoundUnless next on_boundary edge corners = MatchBool on_boundary (corners ≡ []) (IsRound next (start_of edge) corners)
+abbrev pub IsTourUnlessBoundary : (ℕ → Option ℕ) → Bool → ℕ → List Corner → Type 0
+IsTourUnlessBoundary next on_boundary edge corners = MatchBool on_boundary (corners ≡ []) (IsTour next (start_of edge) corners)

@@ -4,7 +4,7 @@ use Rattle.std.proofs.Common.{◌≡◌, ℕ, pos, true, false, [], ◌∷◌, m
 use Rattle.table_definitions.specs.Places.{is_closed, is_boundary_edge, IsInvalidEdge}
 use Rattle.table_definitions.specs.Classes.{degree}
 use Rattle.skeleton_definitions.specs.declared.LinkKind.TheVariants.{Sphere, Disc, Torus, Klein}
-use Rattle.skeleton_definitions.specs.Corners.{Corner, first_corner, inner_edges}
+use Rattle.skeleton_definitions.specs.Corners.{Corner, first_corner, internal_edges}
 use Rattle.skeleton_definitions.proofs.Evaluators.{vertex_classes, edge_classes, face_classes, components, count_of, link_of, walk_from, is_orientable}
 use Rattle.table_definitions.proofs.Tables.{sphere, table_id, figure_eight, invalid}
 
@@ -45,6 +45,6 @@ corner a b c d = record { tet = 0; a = a; b = b; c = c; d = d }
 
 -- the walk round edge class 0, and the inner edges
 sphere_walk : (walk_from sphere (first_corner 0) ≡ corner 0 1 2 3 ∷ corner 1 2 0 3 ∷ corner 0 2 3 1 ∷ corner 3 1 0 2 ∷ corner 3 0 2 1 ∷ [])
-    × (inner_edges sphere (edge_classes sphere) 2 ≡ 0 ∷ 1 ∷ [])
+    × (internal_edges sphere (edge_classes sphere) 2 ≡ 0 ∷ 1 ∷ [])
 unfolding computed corner
 sphere_walk = (refl, refl)

@@ -22,12 +22,12 @@ abbrev pub came_through : Corner → Face
 came_through k = record { tet = k.tet; face = k.d }
 
 -- the corner across face c
-abbrev pub corner_behind : Corner → Gluing → Corner
-corner_behind k g = record { tet = g.tet; a = image g.perm k.a; b = image g.perm k.b; c = image g.perm k.d; d = image g.perm k.c }
+abbrev pub corner_across : Corner → Gluing → Corner
+corner_across k g = record { tet = g.tet; a = image g.perm k.a; b = image g.perm k.b; c = image g.perm k.d; d = image g.perm k.c }
 
 -- the next corner, if face c is glued
 abbrev pub step : List Row → Corner → Option Corner
-step rows k = option_map (corner_behind k) (glue rows (left_through k))
+step rows k = option_map (corner_across k) (glue rows (left_through k))
 
 -- the corner after n steps
 abbrev pub steps : List Row → ℕ → Corner → Option Corner
@@ -45,14 +45,14 @@ abbrev pub first_corner : ℕ → Corner
 first_corner i = corner_of (i / 6) (ends (i % 6)) (filter (λ v. not (has (ends (i % 6)) v)) four)
 
 -- the steps from corner k visit each corner of the list in order and then `first`, which is not in the list
-abbrev pub GoesRound : List Row → Corner → Corner → List Corner → Type 0
-GoesRound rows first k [] = step rows k ≡ Some first
-GoesRound rows first k (l ∷ ls) = (step rows k ≡ Some l) × (l ≢ first) × GoesRound rows first l ls
+abbrev pub GoesAround : List Row → Corner → Corner → List Corner → Type 0
+GoesAround rows first k [] = step rows k ≡ Some first
+GoesAround rows first k (l ∷ ls) = (step rows k ≡ Some l) × (l ≢ first) × GoesAround rows first l ls
 
 -- the walk from a corner until it is back
-abbrev pub IsWalk : List Row → Corner → List Corner → Type 0
-IsWalk rows first [] = ⊥
-IsWalk rows first (k ∷ ks) = (k ≡ first) × GoesRound rows first k ks
+abbrev pub IsTourFrom : List Row → Corner → List Corner → Type 0
+IsTourFrom rows first [] = ⊥
+IsTourFrom rows first (k ∷ ks) = (k ≡ first) × GoesAround rows first k ks
 
 -- all corners that steps reach from the first, each once
 pub record AreCorners (rows : List Row) (first : Corner) (corners : List Corner) : Type 0 where
@@ -60,5 +60,5 @@ pub record AreCorners (rows : List Row) (first : Corner) (corners : List Corner)
   pub once : (i j : ℕ) → i < j → j < length corners → slice_index_or corners i first ≢ slice_index_or corners j first
 
 -- the inner edge classes, ascending
-abbrev pub inner_edges : List Row → List ℕ → ℕ → List ℕ
-inner_edges rows classes count = filter (λ c. not (is_boundary_edge rows classes c)) (below count)
+abbrev pub internal_edges : List Row → List ℕ → ℕ → List ℕ
+internal_edges rows classes count = filter (λ c. not (is_boundary_edge rows classes c)) (below count)

@@ -6,7 +6,7 @@ use Rattle.table_definitions.specs.Table.{Row, IsTable}
 use Rattle.table_definitions.specs.Classes.{IsNumbering, least}
 use Rattle.table_definitions.specs.Places.{SameVertex, SameEdge, SameFace, IsInvalidEdge, RunsAgainst, is_boundary_edge}
 use Rattle.skeleton_definitions.specs.Orientation.{AreSigns, IsOrientable, StartTrue}
-use Rattle.skeleton_definitions.specs.Corners.{Corner, first_corner, IsWalk}
+use Rattle.skeleton_definitions.specs.Corners.{Corner, first_corner, IsTourFrom}
 use Rattle.skeleton_definitions.specs.Links.{SameDirected, IsLink}
 use Rattle.skeleton_definitions.specs.declared.Link.{Link}
 
@@ -50,7 +50,7 @@ IsOrientation rows (Some signs) = AreSigns rows signs × StartTrue rows signs
 -- the tour around an internal edge class from its least member, and no corner for a boundary class
 abbrev pub IsAround : Skeleton → ℕ → List Corner → Type 0
 IsAround s c corners =
-    MatchBool (is_boundary_edge s.rows s.edges.classes c) (corners ≡ []) (IsWalk s.rows (first_corner (least s.edges.classes c)) corners)
+    MatchBool (is_boundary_edge s.rows s.edges.classes c) (corners ≡ []) (IsTourFrom s.rows (first_corner (least s.edges.classes c)) corners)
 
 -- the links of the vertex classes below n, by the numbering of the directed edges
 pub record AreLinksUpTo (s : Skeleton) (directions : List ℕ) (n : ℕ) (links : List Link) : Type 0 where

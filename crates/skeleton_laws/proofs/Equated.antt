@@ -7,7 +7,7 @@ use Rattle.table_definitions.specs.Lists.{below}
 use Rattle.table_definitions.specs.Table.{Row, IsTable}
 use Rattle.table_definitions.specs.Places.{is_boundary_edge}
 use Rattle.table_definitions.proofs.TableLaws.{Among}
-use Rattle.skeleton_definitions.specs.Corners.{inner_edges}
+use Rattle.skeleton_definitions.specs.Corners.{internal_edges}
 use Rattle.skeleton_definitions.specs.Skeleton.{Skeleton, IsSkeleton}
 use Rattle.surface_definitions.specs.Coordinates.{columns}
 use Rattle.surface_definitions.specs.declared.Coords.{Coords}
@@ -21,7 +21,7 @@ use Rattle.skeleton_laws.proofs.Skeletons.{some_skeleton}
 
 module _ (s : Skeleton) (k : IsSkeleton s) where
   abbrev inner : List ℕ
-  inner = inner_edges s.rows s.edges.classes s.edges.count
+  inner = internal_edges s.rows s.edges.classes s.edges.count
 
   inner_at : (i : ℕ) → i < length inner → (slice_index inner i < s.edges.count) × (is_boundary_edge s.rows s.edges.classes (slice_index inner i) ≡ false)
   inner_at i l =

@@ -11,7 +11,7 @@ use Rattle.cone_definitions.specs.Listings.{IsPastLimit}
 use Rattle.cone_definitions.specs.declared.Order.TheVariants.{Given}
 use Rattle.double_description.specs.declared.engine.LargeStep.{LargeStep}
 use Rattle.table_definitions.specs.Table.{Row}
-use Rattle.table_definitions.specs.Grammar.{IsNumber}
+use Rattle.table_definitions.specs.Grammar.{IsDecimalUpTo}
 use Rattle.surface_definitions.specs.declared.Coords.{Coords}
 use Rattle.surface_definitions.specs.declared.VectorFault.{VectorFault}
 use Rattle.surface_definitions.specs.Coordinates.{columns, clash_list}
@@ -30,11 +30,11 @@ use Rattle.outcome_definitions.specs.declared.SumRefusal.TheVariants.{Unfit}
 use Rattle.outcome_definitions.specs.Outcomes.{Outcome}
 use Rattle.outcome_definitions.specs.Enumerations.{large_outcome}
 use Rattle.outcome_definitions.specs.Sums.{IsFirstRefused, IsVerdict, IsDecomposeAnswer, sum_refusal_outcome}
-use Rattle.sum_commands.specs.Telling.{AreInRange, HaveRays, TellsList}
+use Rattle.sum_commands.specs.Telling.{AreInRange, HaveRays, IsBlocksOutcome}
 use Rattle.sum_commands.proofs.Walks.{all_told}
 
 -- entries of documents are in range
-entry_in_range : (ws : List (List ℕ)) (xs : List ℕ) (column : ℕ) → AllZip (IsNumber limit) ws xs → slice_index xs column ≤ limit
+entry_in_range : (ws : List (List ℕ)) (xs : List ℕ) (column : ℕ) → AllZip (IsDecimalUpTo limit) ws xs → slice_index xs column ≤ limit
 entry_in_range [] [] column z = nothing_past column
   where
     nothing_past : (k : ℕ) → slice_index [] k ≤ limit
@@ -78,7 +78,7 @@ module _ (coords : Coords) (rows : List Row) (equations : List EquationRow) (of_
   unfit_told vectors v fault o first e = record { equations = equations; of_table = of_table; checked = Err (v, fault); verdicts = first; told = e }
 
   -- sums of the surfaces, where all pass
-  pub sums_told : (list vectors : List (List ℕ)) (o : Outcome) → AreTableSurfaces most coords rows Given list → All Passes vectors → TellsList most list rows vectors o → IsDecomposeAnswer coords most (rows, vectors) o
+  pub sums_told : (list vectors : List (List ℕ)) (o : Outcome) → AreTableSurfaces most coords rows Given list → All Passes vectors → IsBlocksOutcome most list rows vectors o → IsDecomposeAnswer coords most (rows, vectors) o
   sums_told list vectors o s passed told =
       let only = listed list s in
       let checks = all_told (IsVerdict coords rows equations) vectors passed in

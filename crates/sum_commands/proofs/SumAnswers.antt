@@ -4,12 +4,12 @@ use Rattle.std.specs.declared.alloc.Global.{Global}
 use Rattle.std.proofs.lemmas.Grind.{flat_map-append}
 use Rattle.table_definitions.specs.Table.{Row}
 use Rattle.table_definitions.specs.TableText.{table_text}
-use Rattle.sum_definitions.specs.Sums.{IsLargeTurn}
+use Rattle.sum_definitions.specs.Sums.{IsLargeStep}
 use Rattle.sum_definitions.specs.declared.LargeTurn.{LargeTurn}
 use Rattle.text_document_definitions.specs.Blocks.{Block, block_text, blocks_text}
 use Rattle.command_answers.specs.Reads.{all_entries}
 use Rattle.outcome_definitions.specs.Sums.{IsFirstRefused, IsSummed}
-use Rattle.sum_commands.specs.Telling.{AreSummedIn, TellsSum}
+use Rattle.sum_commands.specs.Telling.{AreSummedIn, AppendsBlock}
 use Rattle.sum_commands.proofs.Walks.{seen_more, first_refused, told_more, have_answers}
 
 abbrev pub entries : Vec ℕ Global → List ℕ
@@ -29,13 +29,13 @@ module _ (most : ℕ) (list : List (List ℕ)) (rows : List Row) where
   module _ (vs : List (Vec ℕ Global)) (v : ℕ) (x : Vec ℕ Global) (xs before now : List ℕ) (l : v < length vs) (e : x ≡ get_or vs v x) (same : xs ≡ x.items)
       (told : AreSummedIn most list rows (all_entries (take v vs)) before) where
     -- the block of one more vector
-    pub next_summed : (u : Unit {0}) → TellsSum most list xs before now (Ok u) → AreSummedIn most list rows (all_entries (take (v + 1) vs)) now
+    pub next_summed : (u : Unit {0}) → AppendsBlock most list xs before now (Ok u) → AreSummedIn most list rows (all_entries (take (v + 1) vs)) now
     next_summed u h =
         subst (λ (ys : List (List ℕ)). AreSummedIn most list rows ys now) (sym (seen_more entries vs v x l e))
-        (more_summed (all_entries (take v vs)) x.items before now told (subst (λ (ys : List ℕ). TellsSum most list ys before now (Ok u)) same h))
+        (more_summed (all_entries (take v vs)) x.items before now told (subst (λ (ys : List ℕ). AppendsBlock most list ys before now (Ok u)) same h))
 
     -- the sum of one more gets too large
-    pub large_told : (large : LargeTurn) → IsLargeTurn most list xs large.turn large.column → IsFirstRefused (IsSummed most list) (all_entries vs) v large
+    pub large_told : (large : LargeTurn) → IsLargeStep most list xs large.turn large.column → IsFirstRefused (IsSummed most list) (all_entries vs) v large
     large_told large h =
         first_refused entries (IsSummed most list) vs v x large l e (have_answers (IsSummed most list) (all_entries (take v vs)) told.told told.sums)
         (subst (λ (ys : List ℕ). IsSummed most list ys (Err large)) same h)

@@ -7,7 +7,7 @@ use Rattle.no_memory.specs.declared.Failure.TheVariants.{NoMemory, Fault}
 use Rattle.text_definitions.specs.Written.{limit}
 use Rattle.cone_definitions.specs.Systems.{System}
 use Rattle.table_definitions.specs.Table.{Row}
-use Rattle.sum_definitions.specs.Sums.{HasRays, IsLargeTurn}
+use Rattle.sum_definitions.specs.Sums.{HasRays, IsLargeStep}
 use Rattle.sum_definitions.specs.declared.LargeTurn.{LargeTurn}
 use Rattle.text_document_definitions.specs.Blocks.{Block, block_text}
 use Rattle.outcome_definitions.specs.Outcomes.{Outcome}
@@ -23,10 +23,10 @@ abbrev pub HaveRays : System → List (List ℕ) → List (List ℕ) → Type 0
 HaveRays system list vectors = All (HasRays system.columns system.rows list) vectors
 
 -- the block of a vector is appended, or its sum gets too large
-abbrev pub TellsSum : ℕ → List (List ℕ) → List ℕ → List ℕ → List ℕ → Result (Unit {0}) (Failure LargeTurn) → Type 0
-TellsSum most list x before now (Ok done) = (block : Block) × IsSummed most list x (Ok block) × (now ≡ before ++ block_text block)
-TellsSum most list x before now (Err (Fault large)) = IsLargeTurn most list x large.turn large.column
-TellsSum most list x before now (Err NoMemory) = Unit {0}
+abbrev pub AppendsBlock : ℕ → List (List ℕ) → List ℕ → List ℕ → List ℕ → Result (Unit {0}) (Failure LargeTurn) → Type 0
+AppendsBlock most list x before now (Ok done) = (block : Block) × IsSummed most list x (Ok block) × (now ≡ before ++ block_text block)
+AppendsBlock most list x before now (Err (Fault large)) = IsLargeStep most list x large.turn large.column
+AppendsBlock most list x before now (Err NoMemory) = Unit {0}
 
 -- text is the table and the blocks of these vectors
 pub record AreSummedIn (most : ℕ) (list : List (List ℕ)) (rows : List Row) (vectors : List (List ℕ)) (text : List ℕ) : Type 0 where
@@ -35,11 +35,11 @@ pub record AreSummedIn (most : ℕ) (list : List (List ℕ)) (rows : List Row) (
   pub lines : text ≡ sums_text rows told
 
 -- the table and the blocks of all vectors, or the first whose sum gets too large
-abbrev pub TellsSums : ℕ → List (List ℕ) → List Row → List (List ℕ) → Result (Vec ℕ Global) (Failure (FirstFault LargeTurn)) → Type 0
-TellsSums most list rows vectors (Ok text) = AreSummedIn most list rows vectors text.items
-TellsSums most list rows vectors (Err (Fault first)) = IsFirstRefused (IsSummed most list) vectors first.number first.fault
-TellsSums most list rows vectors (Err NoMemory) = Unit {0}
+abbrev pub WritesBlocks : ℕ → List (List ℕ) → List Row → List (List ℕ) → Result (Vec ℕ Global) (Failure (FirstFault LargeTurn)) → Type 0
+WritesBlocks most list rows vectors (Ok text) = AreSummedIn most list rows vectors text.items
+WritesBlocks most list rows vectors (Err (Fault first)) = IsFirstRefused (IsSummed most list) vectors first.number first.fault
+WritesBlocks most list rows vectors (Err NoMemory) = Unit {0}
 
 -- what is answered of the vectors is the outcome
-abbrev pub TellsList : ℕ → List (List ℕ) → List Row → List (List ℕ) → Outcome → Type 0
-TellsList most list rows vectors o = (told : Result (List Block) (ℕ × LargeTurn)) × AreAnswered (IsSummed most list) vectors told × (o ≡ sums_outcome rows told)
+abbrev pub IsBlocksOutcome : ℕ → List (List ℕ) → List Row → List (List ℕ) → Outcome → Type 0
+IsBlocksOutcome most list rows vectors o = (told : Result (List Block) (ℕ × LargeTurn)) × AreAnswered (IsSummed most list) vectors told × (o ≡ sums_outcome rows told)

@@ -9,7 +9,7 @@ ghost use Rattle.sum_definitions.specs.Sums.{HasRays};
 ghost use Rattle.command_answers.specs.Reads.{all_entries};
 ghost use Rattle.outcome_definitions.specs.Outcomes.{IsReadOutcome};
 ghost use Rattle.outcome_definitions.specs.Sums.{IsDecomposeAnswer};
-ghost use Rattle.sum_commands.specs.Telling.{TellsSum, TellsSums, TellsList, AreInRange, HaveRays};
+ghost use Rattle.sum_commands.specs.Telling.{AppendsBlock, WritesBlocks, IsBlocksOutcome, AreInRange, HaveRays};
 
 use crate::checks::{FirstFault, check_vectors};
 use crate::refusals::refusal_outcome;
@@ -39,7 +39,7 @@ fn append_sum(
     requires entries { (column : ℕ) → slice_index x.now column ≤ MAX_ENTRY }
     requires some_limit { 1 ≤ limit }
     requires most_limit { limit ≤ MAX_ENTRY }
-    ensures { TellsSum limit list.now x.now out.old.items out.new.items result }
+    ensures { AppendsBlock limit list.now x.now out.old.items out.new.items result }
 {
     let sum = ray_decompose::decompose(alloc, system, list, x, limit)?;
     append_block(alloc, out, x, &sum)?;
@@ -59,7 +59,7 @@ fn sums(
     requires entries { AreInRange (all_entries vectors.now) }
     requires some_limit { 1 ≤ limit }
     requires most_limit { limit ≤ MAX_ENTRY }
-    ensures { TellsSums limit list.now table.now (all_entries vectors.now) result }
+    ensures { WritesBlocks limit list.now table.now (all_entries vectors.now) result }
 {
     let mut text = Vec::new(alloc);
     write_table(alloc, table, &mut text)?;
@@ -89,7 +89,7 @@ fn outcome_of(
     requires entries { AreInRange (all_entries vectors.now) }
     requires some_limit { 1 ≤ limit }
     requires most_limit { limit ≤ MAX_ENTRY }
-    ensures { IfOk result (TellsList limit list.now table.now (all_entries vectors.now)) }
+    ensures { IfOk result (IsBlocksOutcome limit list.now table.now (all_entries vectors.now)) }
 {
     match sums(alloc, table, system, list, vectors, limit) {
         Ok(text) => Ok(Outcome::with_text(Status::Done, text)),

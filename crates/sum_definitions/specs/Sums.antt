@@ -56,7 +56,7 @@ taken_out s p q v = record {
 
 -- while the remainder is nonzero, a step subtracts the first listed vector inside it, with the greatest factor that
 -- leaves no entry negative
-pub record IsTurn (list : List (List ℕ)) (s next : State) : Type 0 where
+pub record IsSumStep (list : List (List ℕ)) (s next : State) : Type 0 where
   pub left : IsNonzero s.rest
   pub vector : List ℕ
   pub p : ℕ
@@ -71,24 +71,24 @@ IsWithinTimes limit x times = (column : ℕ) → times * slice_index x column �
 
 -- the given number of steps leads from x to the state, and at none of them an entry of x, times its factor, exceeds
 -- the limit
-abbrev pub LeadsTo : ℕ → List (List ℕ) → List ℕ → ℕ → State → Type 0
-LeadsTo limit list x zero s = s ≡ first_state x
-LeadsTo limit list x (suc turns) s = (before : State) × LeadsTo limit list x turns before × IsTurn list before s × IsWithinTimes limit x s.times
+abbrev pub ReachesState : ℕ → List (List ℕ) → List ℕ → ℕ → State → Type 0
+ReachesState limit list x zero s = s ≡ first_state x
+ReachesState limit list x (suc turns) s = (before : State) × ReachesState limit list x turns before × IsSumStep list before s × IsWithinTimes limit x s.times
 
 -- the steps lead to a state with the remainder 0
 pub record IsSum (limit : ℕ) (list : List (List ℕ)) (x : List ℕ) (times : ℕ) (terms : List Term) : Type 0 where
   pub turns : ℕ
   pub rest : List ℕ
-  pub led : LeadsTo limit list x turns (record { times = times; terms = terms; rest = rest })
+  pub led : ReachesState limit list x turns (record { times = times; terms = terms; rest = rest })
   pub nothing_left : (column : ℕ) → slice_index rest column ≡ 0
 
 -- the step with this number, counted from 0, is the first at which an entry exceeds the limit, and this is the first
 -- such column
-pub record IsLargeTurn (limit : ℕ) (list : List (List ℕ)) (x : List ℕ) (turn column : ℕ) : Type 0 where
+pub record IsLargeStep (limit : ℕ) (list : List (List ℕ)) (x : List ℕ) (turn column : ℕ) : Type 0 where
   pub before : State
   pub next : State
-  pub led : LeadsTo limit list x turn before
-  pub turns : IsTurn list before next
+  pub led : ReachesState limit list x turn before
+  pub turns : IsSumStep list before next
   pub large : limit < next.times * slice_index x column
   pub first : (earlier : ℕ) → earlier < column → next.times * slice_index x earlier ≤ limit
 

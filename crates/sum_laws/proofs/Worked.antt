@@ -5,7 +5,7 @@ use Rattle.cone_definitions.specs.Vectors.{IsInside, IsBefore}
 use Rattle.cone_definitions.specs.WorkedRow.{worked_row, worked_surfaces, y_surface, x_surface, one_each}
 use Rattle.cone_definitions.proofs.Worked.{worked_list, one_each_solution}
 use Rattle.sum_laws.proofs.Surfaces.{surfaces_are_rays_lem}
-use Rattle.sum_definitions.specs.Sums.{HasRays, State, first_state, IsLeastInside, IsLeastFraction, IsTurn}
+use Rattle.sum_definitions.specs.Sums.{HasRays, State, first_state, IsLeastInside, IsLeastFraction, IsSumStep}
 use Rattle.sum_definitions.specs.Adding.{add_fault}
 use Rattle.sum_laws.specs.Laws.{IsAnswer, sum, large}
 use Rattle.sum_laws.specs.WorkedSums.{term, torus, link, both, sphere_surfaces, WorkedSums, WorkedFaults}
@@ -50,7 +50,7 @@ one_over_two = record {
 abbrev middle : State
 middle = record { times = 2; terms = term 1 y_surface ∷ []; rest = x_surface }
 
-first_turn : IsTurn worked_surfaces (first_state one_each) middle
+first_turn : IsSumStep worked_surfaces (first_state one_each) middle
 first_turn = record { left = (0, λ z. absurd (let e : 1 ≡ 0 = z in omega arith)); vector = y_surface; p = 1; q = 2; least_inside = low_least; fraction = one_over_two; after = refl }
 
 not_low : slice_index y_surface 1 ≡ 0 → ⊥
@@ -66,7 +66,7 @@ one_over_one = record { lowest = (one-dvd 1, one-dvd 1, λ d a b. a); column = 0
 abbrev last : State
 last = record { times = 2; terms = term 1 y_surface ∷ term 1 x_surface ∷ []; rest = 0 ∷ 0 ∷ 0 ∷ [] }
 
-second_turn : IsTurn worked_surfaces middle last
+second_turn : IsSumStep worked_surfaces middle last
 second_turn = record {
   left = (0, λ z. absurd (let e : 2 ≡ 0 = z in omega arith));
   vector = x_surface;
@@ -146,7 +146,7 @@ torus_taken = record { times = 1; terms = term 2 torus ∷ []; rest = link }
 abbrev link_taken : State
 link_taken = record { times = 1; terms = term 2 torus ∷ term 1 link ∷ []; rest = 0 ∷ 0 ∷ 0 ∷ 0 ∷ 0 ∷ 0 ∷ 0 ∷ [] }
 
-torus_turn : IsTurn sphere_surfaces (first_state both) torus_taken
+torus_turn : IsSumStep sphere_surfaces (first_state both) torus_taken
 torus_turn = record {
   left = (0, λ z. absurd (let e : 3 ≡ 0 = z in omega arith));
   vector = torus;
@@ -164,7 +164,7 @@ torus_not_inside : (i : ℕ) → i < 1 → IsInside (slice_index_or sphere_surfa
 torus_not_inside zero l h = not_torus (h 4 refl)
 torus_not_inside (suc i) l h = absurd (omega arith)
 
-link_turn : IsTurn sphere_surfaces torus_taken link_taken
+link_turn : IsSumStep sphere_surfaces torus_taken link_taken
 link_turn = record {
   left = (0, λ z. absurd (let e : 1 ≡ 0 = z in omega arith));
   vector = link;

@@ -4,27 +4,27 @@ use Rattle.std.specs.List.{All, AllPairs, Contains}
 use Rattle.cone_definitions.specs.Vectors.{IsNonzero, IsSmaller, IsBefore, multiple}
 use Rattle.cone_definitions.specs.Rows.{Row, IsSolution}
 use Rattle.cone_definitions.specs.Surfaces.{Clash, IsAdmissible, IsSurfaceList}
-use Rattle.sum_definitions.specs.Sums.{Term, State, IsLeastInside, IsTurn, LeadsTo, IsSum, IsLargeTurn, HasRays}
+use Rattle.sum_definitions.specs.Sums.{Term, State, IsLeastInside, IsSumStep, ReachesState, IsSum, IsLargeStep, HasRays}
 use Rattle.sum_definitions.specs.Adding.{AddsUp, add_fault}
 
 -- while something is left, a listed ray lies inside it, and so there is a turn
 abbrev pub RayInsideRest : Type 0
 RayInsideRest = (columns : ℕ) (rows : List Row) (list : List (List ℕ)) (x : List ℕ) → HasRays columns rows list x →
-    (limit turns : ℕ) (s : State) → LeadsTo limit list x turns s → IsNonzero s.rest → (v : List ℕ) × IsLeastInside list s.rest v
+    (limit turns : ℕ) (s : State) → ReachesState limit list x turns s → IsNonzero s.rest → (v : List ℕ) × IsLeastInside list s.rest v
 
-abbrev pub TurnsGoOn : Type 0
-TurnsGoOn = (columns : ℕ) (rows : List Row) (list : List (List ℕ)) (x : List ℕ) → HasRays columns rows list x →
-    (limit turns : ℕ) (s : State) → LeadsTo limit list x turns s → IsNonzero s.rest → (next : State) × IsTurn list s next
+abbrev pub StepsExist : Type 0
+StepsExist = (columns : ℕ) (rows : List Row) (list : List (List ℕ)) (x : List ℕ) → HasRays columns rows list x →
+    (limit turns : ℕ) (s : State) → ReachesState limit list x turns s → IsNonzero s.rest → (next : State) × IsSumStep list s next
 
 -- each turn lessens the support of what is left
-abbrev pub TurnsLessen : Type 0
-TurnsLessen = (columns : ℕ) (rows : List Row) (list : List (List ℕ)) (x : List ℕ) → HasRays columns rows list x →
-    (limit turns : ℕ) (s next : State) → LeadsTo limit list x turns s → IsTurn list s next → IsSmaller next.rest s.rest
+abbrev pub StepsLessen : Type 0
+StepsLessen = (columns : ℕ) (rows : List Row) (list : List (List ℕ)) (x : List ℕ) → HasRays columns rows list x →
+    (limit turns : ℕ) (s next : State) → ReachesState limit list x turns s → IsSumStep list s next → IsSmaller next.rest s.rest
 
 -- so there are at most as many turns as columns
-abbrev pub TurnsAreFew : Type 0
-TurnsAreFew = (columns : ℕ) (rows : List Row) (list : List (List ℕ)) (x : List ℕ) → HasRays columns rows list x →
-    (limit turns : ℕ) (s : State) → LeadsTo limit list x turns s → turns ≤ columns
+abbrev pub StepsAtMostColumns : Type 0
+StepsAtMostColumns = (columns : ℕ) (rows : List Row) (list : List (List ℕ)) (x : List ℕ) → HasRays columns rows list x →
+    (limit turns : ℕ) (s : State) → ReachesState limit list x turns s → turns ≤ columns
 
 -- the solution, taken at least once, is the sum of the terms; each count is at least 1, and the vectors are listed and strictly ascend
 pub record IsSumOfRays (list : List (List ℕ)) (limit : ℕ) (x : List ℕ) (times : ℕ) (terms : List Term) : Type 0 where
@@ -49,7 +49,7 @@ pub data Answer : Type 0 where
 
 abbrev pub IsAnswer : ℕ → List (List ℕ) → List ℕ → Answer → Type 0
 IsAnswer limit list x (sum times terms) = IsSum limit list x times terms
-IsAnswer limit list x (large turn column) = IsLargeTurn limit list x turn column
+IsAnswer limit list x (large turn column) = IsLargeStep limit list x turn column
 
 -- there is exactly one answer
 abbrev pub SomeAnswer : Type 0

@@ -6,7 +6,7 @@ use Rattle.surface_definitions.specs.Coordinates.{tri_column, quad_column, oct_c
 use Rattle.surface_definitions.specs.Characteristic.{crossings}
 use Rattle.surface_definitions.specs.declared.Coords.{Coords}
 use Rattle.surface_definitions.specs.declared.Coords.TheVariants.{Standard, Quad, Octagon}
-use Rattle.surface_definitions.specs.Pieces.{arcs_round}
+use Rattle.surface_definitions.specs.Pieces.{arcs_around}
 use Rattle.surface_laws.specs.MatchingLaws.{HasTriangles}
 use Rattle.skeleton_class_laws.proofs.Cases.{low, high}
 
@@ -42,7 +42,7 @@ face_by (suc (suc (suc e))) = 0
 
 module _ (xs : List ℕ) (t : ℕ) where
   abbrev pub AtEdge : Coords → ℕ → Type 0
-  AtEdge coords e = sum_by (slice_index xs) (crossings coords t (low e) (high e)) ≡ arcs_round coords xs t (face_by e) (low e) + arcs_round coords xs t (face_by e) (high e)
+  AtEdge coords e = sum_by (slice_index xs) (crossings coords t (low e) (high e)) ≡ arcs_around coords xs t (face_by e) (low e) + arcs_around coords xs t (face_by e) (high e)
 
   in_standard : (e : ℕ) → e < 6 → AtEdge Standard e
   in_standard zero l = in_two (slice_index xs) (tri_column Standard t 0) (tri_column Standard t 1) (quad_column Standard t 1) (quad_column Standard t 2)

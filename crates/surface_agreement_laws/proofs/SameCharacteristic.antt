@@ -12,7 +12,7 @@ use Rattle.skeleton_definitions.specs.Skeleton.{Skeleton, IsSkeleton}
 use Rattle.surface_definitions.specs.Characteristic.{weight, points, arcs_in, arcs, euler}
 use Rattle.surface_definitions.specs.Coordinates.{tri_column, quad_column, oct_column, keeping, three, octagon_arcs}
 use Rattle.surface_definitions.specs.declared.Coords.TheVariants.{Standard, Octagon}
-use Rattle.surface_definitions.specs.Pieces.{arcs_round}
+use Rattle.surface_definitions.specs.Pieces.{arcs_around}
 use Rattle.surface_vector_definitions.specs.Properties.{characteristic}
 use Rattle.surface_laws.proofs.ColumnKinds.{among_three}
 use Rattle.surface_laws.proofs.Counting.{sum_by_same, sum_by-none, over_places, below_sum}
@@ -43,7 +43,7 @@ module _ (n : ℕ) (ys xs : List ℕ) (same : AreSame n ys xs) where
       let m = map-among (oct_column Octagon t) c (filter (λ j. not (j == keeping v f)) three) a in
       ap (slice_index xs) m.2 ∙ same.no_octagons t m.0 lt (among_three m.0 (filter-among (λ j. not (j == keeping v f)) m.0 three m.1).0))
 
-  same_arcs_round : (t f v : ℕ) → t < n → f < 4 → v < 4 → (v ≡ f → ⊥) → arcs_round Octagon xs t f v ≡ arcs_round Standard ys t f v
+  same_arcs_round : (t f v : ℕ) → t < n → f < 4 → v < 4 → (v ≡ f → ⊥) → arcs_around Octagon xs t f v ≡ arcs_around Standard ys t f v
   same_arcs_round t f v lt lf lv off =
       omega (
         arith,
@@ -86,7 +86,7 @@ module _ (n : ℕ) (ys xs : List ℕ) (same : AreSame n ys xs) where
       let m = filter-among (λ x. is_first_side x (glue rows x)) x (faces (length rows)) a in
       let l = faces-among x (length rows) m.0 in
       let lt : x.tet < n = let h = l.0 in omega arith in
-      sum_by_same (arcs_round Octagon xs x.tet x.face) (arcs_round Standard ys x.tet x.face) (others x.face) (λ v b. let o = other_is x.face v b in same_arcs_round x.tet x.face v lt l.1 o.0 o.1))
+      sum_by_same (arcs_around Octagon xs x.tet x.face) (arcs_around Standard ys x.tet x.face) (others x.face) (λ v b. let o = other_is x.face v b in same_arcs_round x.tet x.face v lt l.1 o.0 o.1))
 
 pub same_characteristic : (s : Skeleton) (ys xs : List ℕ) → IsSkeleton s → AreSame (length s.rows) ys xs → characteristic s Octagon xs ≡ characteristic s Standard ys
 same_characteristic s ys xs k same = λ i. euler (at_points i) (same_arcs (length s.rows) ys xs same s.rows refl i) (same_pieces (length s.rows) ys xs same i)

@@ -12,7 +12,7 @@ use Rattle.skeleton_definitions.specs.Skeleton.{Skeleton, IsSkeleton}
 use Rattle.surface_definitions.specs.Coordinates.{clash_list, tri_column}
 use Rattle.surface_definitions.specs.declared.Coords.TheVariants.{Standard, Quad}
 use Rattle.surface_definitions.specs.Equations.{matching_rows}
-use Rattle.surface_definitions.specs.Laws.{IsAccepted}
+use Rattle.surface_definitions.specs.Laws.{IsAcceptedVector}
 use Rattle.surface_definitions.specs.Lift.{projected}
 use Rattle.surface_definitions.specs.QuadEquations.{AreEquations}
 use Rattle.surface_definitions.specs.Verdict.{verdict, solution}
@@ -74,14 +74,14 @@ accepted : (verdict 2 14 (matching_rows Standard two_tetrahedra) (clash_list Sta
 unfolding computed
 accepted = (refl, refl)
 
-two_quads_accepted : IsAccepted 2 14 (matching_rows Standard two_tetrahedra) (clash_list Standard 2) two_quads
+two_quads_accepted : IsAcceptedVector 2 14 (matching_rows Standard two_tetrahedra) (clash_list Standard 2) two_quads
 two_quads_accepted = accepted_by 2 14 (matching_rows Standard two_tetrahedra) (clash_list Standard 2) two_quads accepted.0
 
 -- one quad, and the triangle that it meets
 abbrev one_quad : List ℕ
 one_quad = 0 ∷ 0 ∷ 0 ∷ 0 ∷ 1 ∷ 0 ∷ 0 ∷ 0 ∷ 0 ∷ 1 ∷ 0 ∷ 0 ∷ 0 ∷ 0 ∷ []
 
-one_quad_accepted : IsAccepted 2 14 (matching_rows Standard two_tetrahedra) (clash_list Standard 2) one_quad
+one_quad_accepted : IsAcceptedVector 2 14 (matching_rows Standard two_tetrahedra) (clash_list Standard 2) one_quad
 one_quad_accepted = accepted_by 2 14 (matching_rows Standard two_tetrahedra) (clash_list Standard 2) one_quad accepted.1
 
 -- all other columns are 0

@@ -6,7 +6,7 @@ use Rattle.std.proofs.lemmas.Bool.{ltb-true, and_parts}
 use Rattle.std.proofs.lemmas.List.Elements.{All-map, All-append, All-cons}
 use Rattle.std.proofs.lemmas.List.FromFn.{get_or-range_with_len, length-range_with_len}
 use Rattle.table_definitions.specs.Lists.{below, pairs_of}
-use Rattle.cone_definitions.specs.Surfaces.{PairsAreApart}
+use Rattle.cone_definitions.specs.Surfaces.{PairsAreOfTwoColumns}
 use Rattle.surface_definitions.specs.Coordinates.{columns, clash_test, clash_list}
 use Rattle.surface_definitions.specs.declared.Coords.{Coords}
 use Rattle.surface_coordinate_laws.specs.ClashPairs.{is_clash}
@@ -43,5 +43,5 @@ all_of_pairs P coords n h =
     (λ e le is. let parts : (nat_lt c e ≡ true) × (clash_test coords c e ≡ true) = and_parts (nat_lt c e) (clash_test coords c e) is in
     h c e (ltb-true c e parts.0) le parts.1)))))
 
-pub clashes_apart : (coords : Coords) (n : ℕ) → PairsAreApart (clash_list coords n)
+pub clashes_apart : (coords : Coords) (n : ℕ) → PairsAreOfTwoColumns (clash_list coords n)
 clashes_apart coords n = all_of_pairs (λ pair. pair.0 ≢ pair.1) coords n (λ c e less l test same. omega arith)

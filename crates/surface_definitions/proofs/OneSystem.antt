@@ -11,7 +11,7 @@ use Rattle.table_definitions.proofs.ClassLaws.{one_count}
 use Rattle.table_definitions.proofs.TableLaws.{Among}
 use Rattle.table_definitions.proofs.Listed.{among_contains, contains_among}
 use Rattle.table_definitions.proofs.DistinctLists.{AreApart, apart_from}
-use Rattle.skeleton_definitions.specs.Corners.{Corner, AreCorners, first_corner, inner_edges}
+use Rattle.skeleton_definitions.specs.Corners.{Corner, AreCorners, first_corner, internal_edges}
 use Rattle.cone_definitions.specs.Rows.{Row as EquationRow}
 use Rattle.surface_definitions.specs.Coordinates.{columns}
 use Rattle.surface_definitions.specs.declared.Coords.{Coords}
@@ -101,7 +101,7 @@ one_rows rows classes (c ∷ cs) (x ∷ xs) [] h k = absurd k
 one_rows rows classes (c ∷ cs) (x ∷ xs) (y ∷ ys) h k = λ i. one_row rows classes c x y h.0 k.0 i ∷ one_rows rows classes cs xs ys h.1 k.1 i
 
 one_quad_list : (rows : List Row) (one other : List EquationRow) → AreQuadEquations rows one → AreQuadEquations rows other → one ≡ other
-one_quad_list rows one other h k = one_rows rows k.classes (inner_edges rows k.classes k.count) one other moved k.each
+one_quad_list rows one other h k = one_rows rows k.classes (internal_edges rows k.classes k.count) one other moved k.each
   where
     classes : h.classes ≡ k.classes
     classes = one_classes (6 * length rows) (SameEdge rows) h.classes k.classes h.count k.count h.numbered k.numbered

@@ -6,7 +6,7 @@ use Rattle.table_definitions.specs.Lists.{below}
 use Rattle.table_definitions.specs.Permutation.{four, is_odd, others}
 use Rattle.table_definitions.specs.Table.{Gluing, Row, Face, glue, faces}
 use Rattle.surface_definitions.specs.declared.Coords.{Coords}
-use Rattle.surface_definitions.specs.Pieces.{Arc, arcs_round, pieces_of, piece_of, arc_across, piece_number, keeps_sides}
+use Rattle.surface_definitions.specs.Pieces.{Arc, arcs_around, discs_of, disc_of, arc_across, disc_number, keeps_sides}
 use Rattle.surface_definitions.specs.Crushing.{is_removed, passed, renumbered}
 use Rattle.skeleton_definitions.proofs.Evaluators.{classes_of}
 
@@ -14,7 +14,7 @@ use Rattle.skeleton_definitions.proofs.Evaluators.{classes_of}
 abbrev pub arcs_at : Coords → List ℕ → Face → Option Gluing → List (Arc × Gluing)
 arcs_at coords xs x None = []
 arcs_at coords xs x (Some g) =
-    flat_map (λ v. map (λ k. (record { tet = x.tet; face = x.face; vertex = v; place = k }, g)) (below (arcs_round coords xs x.tet x.face v))) (others x.face)
+    flat_map (λ v. map (λ k. (record { tet = x.tet; face = x.face; vertex = v; place = k }, g)) (below (arcs_around coords xs x.tet x.face v))) (others x.face)
 
 abbrev pub meeting_arcs : List Row → Coords → List ℕ → List (Arc × Gluing)
 meeting_arcs rows coords xs = flat_map (λ x. arcs_at coords xs x (glue rows x)) (faces (length rows))
@@ -22,13 +22,13 @@ meeting_arcs rows coords xs = flat_map (λ x. arcs_at coords xs x (glue rows x))
 -- a meeting as the numbers of the two pieces and a test of the arc
 abbrev pub meetings : List Row → Coords → List ℕ → (Arc → Gluing → Bool) → List (ℕ × ℕ × Bool)
 meetings rows coords xs stays =
-    map (λ (m : Arc × Gluing). (piece_number xs (piece_of coords xs m.0), piece_number xs (piece_of coords xs (arc_across m.1 m.0)), stays m.0 m.1)) (meeting_arcs rows coords xs)
+    map (λ (m : Arc × Gluing). (disc_number xs (disc_of coords xs m.0), disc_number xs (disc_of coords xs (arc_across m.1 m.0)), stays m.0 m.1)) (meeting_arcs rows coords xs)
 
 abbrev pub neighbours_in : List (ℕ × ℕ × Bool) → ℕ → List ℕ
 neighbours_in ms i = filter_map (λ (m : ℕ × ℕ × Bool). if m.0 == i then Some m.1 else None) ms
 
 abbrev pub component_classes : List Row → Coords → List ℕ → List ℕ
-component_classes rows coords xs = classes_of (neighbours_in ms) (length (pieces_of xs))
+component_classes rows coords xs = classes_of (neighbours_in ms) (length (discs_of xs))
   where
     ms : List (ℕ × ℕ × Bool)
     ms = meetings rows coords xs (λ a g. true)

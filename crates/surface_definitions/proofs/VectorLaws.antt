@@ -8,7 +8,7 @@ use Rattle.text_definitions.specs.Reading.{Reading, ◌>>=◌, exactly_at, numbe
 use Rattle.text_definitions.specs.Written.{limit}
 use Rattle.text_definitions.proofs.Readers.{bind_ok}
 use Rattle.cone_text_definitions.specs.VectorText.{vector_at}
-use Rattle.table_definitions.specs.Grammar.{AreWords, IsNumber}
+use Rattle.table_definitions.specs.Grammar.{AreWords, IsDecimalUpTo}
 use Rattle.surface_definitions.specs.Grammar.{IsVectorLine}
 use Rattle.surface_definitions.specs.Laws.{ReadsVector}
 use Rattle.table_definitions.proofs.ReadingLaws.{with_tokens, behind, TakesWord, TakesNumbers, numbers_read, exactly_read, FindsNumbers, numbers_found, exactly_found}
@@ -38,7 +38,7 @@ vector_read c xs d e =
       at_end = entries.at_end;
     }
 
-vector_with : (ts : List Token) (ws : List (List ℕ)) (xs : List ℕ) (c : Reading) → AreWords ts (codes "vec" ∷ ws) → AllZip (IsNumber limit) ws xs → ReadsVector (with_tokens ts c) xs
+vector_with : (ts : List Token) (ws : List (List ℕ)) (xs : List ℕ) (c : Reading) → AreWords ts (codes "vec" ∷ ws) → AllZip (IsDecimalUpTo limit) ws xs → ReadsVector (with_tokens ts c) xs
 unfolding vector_at
 vector_with [] ws xs c a z = absurd a
 vector_with (stray column ∷ ts) ws xs c a z = absurd a.0

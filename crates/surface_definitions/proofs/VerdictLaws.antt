@@ -7,7 +7,7 @@ use Rattle.cone_definitions.specs.Elimination.{HasPartsWithin}
 use Rattle.surface_definitions.specs.Verdict.{both_nonzero, Verdict, solution, row_fault, or_else, rows_verdict, clash_verdict, verdict}
 use Rattle.surface_definitions.specs.declared.VectorFault.{VectorFault}
 use Rattle.surface_definitions.specs.declared.VectorFault.TheVariants.{Length, Large, NotSolution}
-use Rattle.surface_definitions.specs.Laws.{IsAccepted}
+use Rattle.surface_definitions.specs.Laws.{IsAcceptedVector}
 
 -- nothing is wrong at a row exactly where it is 0 and no part is large
 fault_test : (max i : ℕ) (row : EquationRow) (xs : List ℕ) (l e : Bool) → (if l then Some (Large i) else (if e then None else Some (NotSolution i))) ≡ None → (l ≡ false) × (e ≡ true)
@@ -97,7 +97,7 @@ length_test : (b : Bool) (v : Verdict) (n : ℕ) → (if b then v else Err (Leng
 length_test true v n h = (refl, h)
 length_test false v n h = absurd cc
 
-pub accepted_by : (max n : ℕ) (rows : List EquationRow) (pairs : List (ℕ × ℕ)) (xs : List ℕ) → verdict max n rows pairs xs ≡ solution → IsAccepted max n rows pairs xs
+pub accepted_by : (max n : ℕ) (rows : List EquationRow) (pairs : List (ℕ × ℕ)) (xs : List ℕ) → verdict max n rows pairs xs ≡ solution → IsAcceptedVector max n rows pairs xs
 unfolding verdict
 accepted_by max n rows pairs xs h =
     let l : ((length xs == n) ≡ true) × (rows_verdict max 0 rows xs (clash_verdict (find (both_nonzero xs) pairs)) ≡ solution) =
@@ -110,7 +110,7 @@ accepted_by max n rows pairs xs h =
       within = r.1;
     }
 
-pub accepted-verdict : (max n : ℕ) (rows : List EquationRow) (pairs : List (ℕ × ℕ)) (xs : List ℕ) → IsAccepted max n rows pairs xs → verdict max n rows pairs xs ≡ solution
+pub accepted-verdict : (max n : ℕ) (rows : List EquationRow) (pairs : List (ℕ × ℕ)) (xs : List ℕ) → IsAcceptedVector max n rows pairs xs → verdict max n rows pairs xs ≡ solution
 unfolding verdict
 accepted-verdict max n rows pairs xs a =
     ap (λ (b : Bool). if b then rows_verdict max 0 rows xs (clash_verdict (find (both_nonzero xs) pairs)) else Err (Length (length xs))) (eq-eqb (length xs) n a.solves.width)

@@ -10,7 +10,7 @@ use Rattle.table_definitions.specs.Permutation.{others}
 use Rattle.table_definitions.specs.Classes.{least}
 use Rattle.table_definitions.specs.Places.{ends, is_boundary}
 use Rattle.skeleton_definitions.specs.Links.{is_first_side}
-use Rattle.surface_definitions.specs.Pieces.{arcs_round}
+use Rattle.surface_definitions.specs.Pieces.{arcs_around}
 
 -- the columns that meet the edge ab, as often as they do so: the octagon of its type twice
 abbrev pub octagon_crossings : Coords → ℕ → ℕ → List ℕ
@@ -36,7 +36,7 @@ points coords xs classes count = sum_by (λ c. weight coords xs (least classes c
 
 -- the arcs in a face
 abbrev pub arcs_in : Coords → List ℕ → Face → ℕ
-arcs_in coords xs x = sum_by (arcs_round coords xs x.tet x.face) (others x.face)
+arcs_in coords xs x = sum_by (arcs_around coords xs x.tet x.face) (others x.face)
 
 -- the arcs in all faces, two glued ones counted once
 abbrev pub arcs : List Row → Coords → List ℕ → ℕ

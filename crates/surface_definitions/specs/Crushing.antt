@@ -1,7 +1,7 @@
 -- Crushing along a surface in standard coordinates: tetrahedra with a quad are taken out, and faces are followed through them.
 use Rattle.std.specs.Prelude.{◌≡◌, ℕ, zero, suc, ◌<◌, Bool, not, List, length, map, ◌==◌, nat_lt, Option, Some, None, option_map, count_by, slice_index, All, if◌then◌else◌, IsTrue}
 use Rattle.std.specs.List.{list_any, position_or_len}
-use Rattle.table_definitions.specs.Lists.{below, in_place_of}
+use Rattle.table_definitions.specs.Lists.{below, substitute}
 use Rattle.table_definitions.specs.Permutation.{four, image, compose}
 use Rattle.table_definitions.specs.Table.{Gluing, Row, Face, glue}
 use Rattle.surface_definitions.specs.Coordinates.{quad_column, partner, three}
@@ -21,7 +21,7 @@ partner_in xs t v = partner (position_or_len (has_quad xs t) three) v
 
 -- v and w in each other's place
 abbrev pub exchange : ℕ → ℕ → List ℕ
-exchange v w = map (λ u. if u == v then w else in_place_of w v u) four
+exchange v w = map (λ u. if u == v then w else substitute w v u) four
 
 -- g reaches face v of a flattened tetrahedron, which the transposition of v and its partner identifies with the
 -- partner's face; the chain continues by the gluing of that face

@@ -22,14 +22,14 @@ abbrev pub VectorLinesAreRead : Type 0
 VectorLinesAreRead = (c : Reading) (xs : List ℕ) → ReadsVector c xs ↔ IsVectorLine c.current xs
 
 -- the verdict is `solution` exactly at the admissible solutions of which no part passes max
-pub record IsAccepted (max n : ℕ) (rows : List EquationRow) (pairs : List (ℕ × ℕ)) (xs : List ℕ) : Type 0 where
+pub record IsAcceptedVector (max n : ℕ) (rows : List EquationRow) (pairs : List (ℕ × ℕ)) (xs : List ℕ) : Type 0 where
   pub solves : IsSolution n rows xs
   pub admissible : IsAdmissible pairs xs
   pub within : All (λ row. HasPartsWithin max row xs) rows
 
 abbrev pub VerdictsAreRight : Type 0
 VerdictsAreRight =
-    (max n : ℕ) (rows : List EquationRow) (pairs : List (ℕ × ℕ)) (xs : List ℕ) → (verdict max n rows pairs xs ≡ solution) ↔ IsAccepted max n rows pairs xs
+    (max n : ℕ) (rows : List EquationRow) (pairs : List (ℕ × ℕ)) (xs : List ℕ) → (verdict max n rows pairs xs ≡ solution) ↔ IsAcceptedVector max n rows pairs xs
 
 -- Theorem: the row of an equation is 0 at a vector if and only if both sides have the same sum
 abbrev pub RowsMeanEquations : Type 0

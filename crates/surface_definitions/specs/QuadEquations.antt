@@ -8,7 +8,7 @@ use Rattle.surface_definitions.specs.declared.Coords.TheVariants.{Standard, Quad
 use Rattle.surface_definitions.specs.Equations.{Equation, row_of, matching_rows}
 use Rattle.table_definitions.specs.Classes.{IsNumbering, least}
 use Rattle.table_definitions.specs.Places.{SameEdge}
-use Rattle.skeleton_definitions.specs.Corners.{Corner, first_corner, AreCorners, inner_edges}
+use Rattle.skeleton_definitions.specs.Corners.{Corner, first_corner, AreCorners, internal_edges}
 use Rattle.cone_definitions.specs.Rows.{Row as EquationRow}
 
 -- the sum over corners of the quad [ac] less the quad [ad]
@@ -26,7 +26,7 @@ IsQuadRow rows classes c row =
 
 -- one row for each inner edge class, ascending, by the numbering of the edges
 abbrev pub AreQuadRows : List Row → List ℕ → ℕ → List EquationRow → Type 0
-AreQuadRows rows classes count quad_rows = AllZip (IsQuadRow rows classes) (inner_edges rows classes count) quad_rows
+AreQuadRows rows classes count quad_rows = AllZip (IsQuadRow rows classes) (internal_edges rows classes count) quad_rows
 
 -- so by the numbering of the edges of a table, which is one
 pub record AreQuadEquations (rows : List Row) (quad_rows : List EquationRow) : Type 0 where

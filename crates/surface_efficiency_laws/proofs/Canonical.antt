@@ -9,7 +9,7 @@ use Rattle.skeleton_definitions.specs.Links.{vertex_number}
 use Rattle.skeleton_definitions.specs.Skeleton.{Skeleton, IsSkeleton}
 use Rattle.surface_definitions.specs.Coordinates.{tri_column}
 use Rattle.surface_definitions.specs.declared.Coords.{Coords}
-use Rattle.surface_definitions.specs.Pieces.{pieces_of, piece_number, AreComponents, component_vector}
+use Rattle.surface_definitions.specs.Pieces.{discs_of, disc_number, AreComponents, component_vector}
 use Rattle.surface_laws.specs.PieceLaws.{IsSurface}
 use Rattle.surface_laws.proofs.ComponentCounts.{belongs, component_count}
 use Rattle.surface_laws.proofs.Counting.{sum_by-none}
@@ -24,16 +24,16 @@ use Rattle.surface_efficiency_laws.proofs.LevelComponents.{level_is_link}
 
 module _ (xs components : List ℕ) (i : ℕ) where
   -- where a component has something in a column, one of the column's pieces is of it
-  pub piece_there : length components ≡ length (pieces_of xs) → (col : ℕ) → slice_index (component_vector xs components i) col ≢ 0
-      → (j : ℕ) × (j < slice_index xs col) × (slice_index components (piece_number xs (piece_at col j)) ≡ i)
-  piece_there one_each col some = elim (all_or_one (λ j. slice_index components (piece_number xs (piece_at col j)) ≡ i → ⊥) (λ j. slice_index components (piece_number xs (piece_at col j)) ≡ i) decide (slice_index xs col)) [
+  pub piece_there : length components ≡ length (discs_of xs) → (col : ℕ) → slice_index (component_vector xs components i) col ≢ 0
+      → (j : ℕ) × (j < slice_index xs col) × (slice_index components (disc_number xs (piece_at col j)) ≡ i)
+  piece_there one_each col some = elim (all_or_one (λ j. slice_index components (disc_number xs (piece_at col j)) ≡ i → ⊥) (λ j. slice_index components (disc_number xs (piece_at col j)) ≡ i) decide (slice_index xs col)) [
     | inl none ↦ absurd (some (component_count xs components one_each i col ∙ sum_by-none (λ j. belongs xs components i (piece_at col j)) (below (slice_index xs col))
-        (λ j a. ap (λ b. cond b 1 0) (ne_eqb (slice_index components (piece_number xs (piece_at col j))) i (none j (below-among j (slice_index xs col) a))))))
+        (λ j a. ap (λ b. cond b 1 0) (ne_eqb (slice_index components (disc_number xs (piece_at col j))) i (none j (below-among j (slice_index xs col) a))))))
     | inr found ↦ found
   ]
     where
-      decide : (j : ℕ) → (slice_index components (piece_number xs (piece_at col j)) ≡ i → ⊥) ⊎ (slice_index components (piece_number xs (piece_at col j)) ≡ i)
-      decide j = elim (cases_eq (slice_index components (piece_number xs (piece_at col j))) i) [ inl e ↦ inr e | inr off ↦ inl off ]
+      decide : (j : ℕ) → (slice_index components (disc_number xs (piece_at col j)) ≡ i → ⊥) ⊎ (slice_index components (disc_number xs (piece_at col j)) ≡ i)
+      decide j = elim (cases_eq (slice_index components (disc_number xs (piece_at col j))) i) [ inl e ↦ inr e | inr off ↦ inl off ]
 
 module _ (s : Skeleton) (k : IsSkeleton s) (coords : Coords) (xs : List ℕ) (w : IsSurface s.rows coords xs) where
   abbrev n : ℕ
@@ -67,7 +67,7 @@ module _ (s : Skeleton) (k : IsSkeleton s) (coords : Coords) (xs : List ℕ) (w 
       in_range : m < 4 * n
       chosen : class_of m ≡ c
       place : j < triangles xs m
-      mine : slice_index components (piece_number xs (piece_at (tri_column coords (m / 4) (m % 4)) j)) ≡ i
+      mine : slice_index components (disc_number xs (piece_at (tri_column coords (m / 4) (m % 4)) j)) ≡ i
 
     is_deep : (c j : ℕ) → ((m : ℕ) → m < 4 * n → class_of m ≡ c → j < triangles xs m) → IsDeep s coords xs c j
     is_deep c j all t v h =

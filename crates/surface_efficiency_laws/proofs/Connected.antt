@@ -16,7 +16,7 @@ use Rattle.skeleton_definitions.specs.Skeleton.{Skeleton}
 use Rattle.surface_definitions.specs.Coordinates.{columns}
 use Rattle.surface_definitions.specs.declared.Coords.{Coords}
 use Rattle.surface_definitions.specs.Equations.{matching_rows}
-use Rattle.surface_definitions.specs.Pieces.{SurfacePiece, pieces_of, piece_number, AreComponents, component_vector}
+use Rattle.surface_definitions.specs.Pieces.{NormalDisc, discs_of, disc_number, AreComponents, component_vector}
 use Rattle.surface_laws.specs.MatchingLaws.{HasTriangles}
 use Rattle.surface_laws.specs.PieceLaws.{IsSurface, HasComponents, IsPieceOf}
 use Rattle.surface_laws.proofs.PieceNumbers.{piece_at, no_piece, number-piece, IsFound, piece_found, listed_piece}
@@ -41,10 +41,10 @@ module _ (s : Skeleton) (coords : Coords) (xs components : List ℕ) (count : �
   pub component_nonzero : (i : ℕ) → i < count → IsNonzero (component_vector xs components i)
   component_nonzero i l =
       let m = numbered.none_empty i l in
-      let p : SurfacePiece = slice_index_or (pieces_of xs) m.0 no_piece in
+      let p : NormalDisc = slice_index_or (discs_of xs) m.0 no_piece in
       let h : IsPieceOf xs p = listed_piece xs m.0 no_piece m.1 in
-      let at : slice_index components (piece_number xs p) ≡ i = ap (slice_index components) (number-piece xs m.0 no_piece m.1) ∙ m.2 in
-      let one : belongs xs components i (piece_at p.column p.number) ≡ 1 = ap (λ b. cond b 1 0) (eq-eqb (slice_index components (piece_number xs p)) i at) in
+      let at : slice_index components (disc_number xs p) ≡ i = ap (slice_index components) (number-piece xs m.0 no_piece m.1) ∙ m.2 in
+      let one : belongs xs components i (piece_at p.column p.number) ≡ 1 = ap (λ b. cond b 1 0) (eq-eqb (slice_index components (disc_number xs p)) i at) in
       let most : belongs xs components i (piece_at p.column p.number) ≤ in_column xs components i p.column = term_most (λ j. belongs xs components i (piece_at p.column j)) (slice_index xs p.column) p.number h.number in
       let entry : slice_index (component_vector xs components i) p.column ≡ in_column xs components i p.column = component_count xs components numbered.one_each i p.column in
       (p.column, λ z. absurd (omega arith))
@@ -70,7 +70,7 @@ module _ (s : Skeleton) (coords : Coords) (xs components : List ℕ) (count : �
         let c : ℕ = v.extreme.nonzero.0 in
         let some : slice_index xs c ≢ 0 = v.extreme.nonzero.1 in
         let f : IsFound xs (piece_at c 0) = piece_found xs (piece_at c 0) (record { column = nonzero_before xs (length xs) c refl some; number = omega arith }) in
-        let low : slice_index components (piece_number xs (piece_at c 0)) < count = numbered.in_range (piece_number xs (piece_at c 0)) f.in_range in
+        let low : slice_index components (disc_number xs (piece_at c 0)) < count = numbered.in_range (disc_number xs (piece_at c 0)) f.in_range in
         elim (cases_lt 1 count) [
           | inr most ↦ omega arith
           | inl more ↦ absurd (

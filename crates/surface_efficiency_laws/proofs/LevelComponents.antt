@@ -9,7 +9,7 @@ use Rattle.skeleton_definitions.specs.Links.{vertex_number}
 use Rattle.skeleton_definitions.specs.Skeleton.{Skeleton, IsSkeleton}
 use Rattle.surface_definitions.specs.Coordinates.{columns, columns_each, tri_column}
 use Rattle.surface_definitions.specs.declared.Coords.{Coords}
-use Rattle.surface_definitions.specs.Pieces.{SurfacePiece, piece_number, ArcsLead, SamePiece, AreComponents, component_vector}
+use Rattle.surface_definitions.specs.Pieces.{NormalDisc, disc_number, ArcsLead, SamePiece, AreComponents, component_vector}
 use Rattle.surface_laws.specs.PieceLaws.{IsSurface, IsPieceOf}
 use Rattle.surface_laws.proofs.ArcPieces.{in_width}
 use Rattle.surface_laws.proofs.ComponentCounts.{belongs, component_count, component_width}
@@ -25,15 +25,15 @@ module _ (s : Skeleton) (k : IsSkeleton s) (coords : Coords) (xs : List ℕ) (w 
   abbrev n : ℕ
   n = length s.rows
 
-  abbrev level : ℕ → ℕ → SurfacePiece
+  abbrev level : ℕ → ℕ → NormalDisc
   level t v = triangle_at coords j t v
 
   module _ (components : List ℕ) (count i : ℕ) (numbered : AreComponents s.rows coords xs components count) (t v : ℕ) (here : IsOfClass s c t v)
-      (mine : slice_index components (piece_number xs (level t v)) ≡ i) where
-    abbrev of_piece : SurfacePiece → ℕ
-    of_piece p = slice_index components (piece_number xs p)
+      (mine : slice_index components (disc_number xs (level t v)) ≡ i) where
+    abbrev of_piece : NormalDisc → ℕ
+    of_piece p = slice_index components (disc_number xs p)
 
-    found : (p : SurfacePiece) → IsPieceOf xs p → IsFound xs p
+    found : (p : NormalDisc) → IsPieceOf xs p → IsFound xs p
     found p h = piece_found xs p h
 
     -- each triangle of the level is in it, and nothing else
@@ -42,13 +42,13 @@ module _ (s : Skeleton) (k : IsSkeleton s) (coords : Coords) (xs : List ℕ) (w 
         let a : IsFound xs (level t v) = found (level t v) (level_there s k coords xs w c j deep t v here) in
         let b : IsFound xs (level u y) = found (level u y) (level_there s k coords xs w c j deep u y m) in
         let l = levels_led s k coords xs w c j deep u y t v m here in
-        (numbered.together (piece_number xs (level u y)) (piece_number xs (level t v)) b.in_range a.in_range).1 (l.0, subst₂ (λ p q. ArcsLead s.rows coords xs p l.0 q) (sym b.there) (sym a.there) l.1) ∙ mine
+        (numbered.together (disc_number xs (level u y)) (disc_number xs (level t v)) b.in_range a.in_range).1 (l.0, subst₂ (λ p q. ArcsLead s.rows coords xs p l.0 q) (sym b.there) (sym a.there) l.1) ∙ mine
 
-    in_level : (p : SurfacePiece) → IsPieceOf xs p → of_piece p ≡ i → IsLevel s coords c j p
+    in_level : (p : NormalDisc) → IsPieceOf xs p → of_piece p ≡ i → IsLevel s coords c j p
     in_level p h e =
         let a : IsFound xs (level t v) = found (level t v) (level_there s k coords xs w c j deep t v here) in
         let b : IsFound xs p = found p h in
-        let same : SamePiece s.rows coords xs (piece_number xs (level t v)) (piece_number xs p) = (numbered.together (piece_number xs (level t v)) (piece_number xs p) a.in_range b.in_range).0 (mine ∙ sym e) in
+        let same : SamePiece s.rows coords xs (disc_number xs (level t v)) (disc_number xs p) = (numbered.together (disc_number xs (level t v)) (disc_number xs p) a.in_range b.in_range).0 (mine ∙ sym e) in
         stays s k coords xs w c j deep (level t v) p same.0 (record { tet = t; vertex = v; of_class = here; is = refl }) (subst₂ (λ p q. ArcsLead s.rows coords xs p same.0 q) a.there b.there same.1)
 
     none_there : (col : ℕ) → ((q : ℕ) → q < slice_index xs col → IsLevel s coords c j (piece_at col q) → ⊥) → slice_index (component_vector xs components i) col ≡ 0
@@ -69,7 +69,7 @@ module _ (s : Skeleton) (k : IsSkeleton s) (coords : Coords) (xs : List ℕ) (w 
         by_place : (q : ℕ) → q < slice_index xs (tri_column coords u y) → belongs xs components i (piece_at (tri_column coords u y) q) ≡ cond (q == j) 1 0
         by_place q l = elim (cases_eq q j) [
           | inl e ↦ ap (λ b. cond b 1 0) (eq-eqb (of_piece (piece_at (tri_column coords u y) q)) i (ap (λ z. of_piece (piece_at (tri_column coords u y) z)) e ∙ level_in u y m)) ∙ sym (ap (λ b. cond b 1 0) (eq-eqb q j e))
-          | inr off ↦ ap (λ b. cond b 1 0) (ne_eqb (of_piece (piece_at (tri_column coords u y) q)) i (λ e. off (ap (λ (p : SurfacePiece). p.number)
+          | inr off ↦ ap (λ b. cond b 1 0) (ne_eqb (of_piece (piece_at (tri_column coords u y) q)) i (λ e. off (ap (λ (p : NormalDisc). p.number)
               (in_level (piece_at (tri_column coords u y) q) (record { column = in_width xs (tri_column coords u y) q l; number = l }) e).is))) ∙ sym (ap (λ b. cond b 1 0) (ne_eqb q j off))
         ]
 
@@ -90,7 +90,7 @@ module _ (s : Skeleton) (k : IsSkeleton s) (coords : Coords) (xs : List ℕ) (w 
         at_triangle u y lu ly = elim (cases_eq (slice_index s.vertices.classes (vertex_number u y)) c) [
           | inl e ↦ one_there u y (record { tet = lu; below_four = ly; chosen = e }) ∙ sym (link-one n s.vertices.classes c coords u y w.triangles lu ly e)
           | inr off ↦ none_there (tri_column coords u y)
-              (λ q l h. let o = one_triangle coords u y h.tet h.vertex w.triangles ly h.of_class.below_four (ap (λ (p : SurfacePiece). p.column) h.is) in
+              (λ q l h. let o = one_triangle coords u y h.tet h.vertex w.triangles ly h.of_class.below_four (ap (λ (p : NormalDisc). p.column) h.is) in
               off (ap₂ (λ a b. slice_index s.vertices.classes (vertex_number a b)) o.0 o.1 ∙ h.of_class.chosen))
               ∙ sym (link-none n s.vertices.classes c coords u y w.triangles lu ly off)
         ]
@@ -98,7 +98,7 @@ module _ (s : Skeleton) (k : IsSkeleton s) (coords : Coords) (xs : List ℕ) (w 
         at_other : (col : ℕ) → col < columns coords n → 4 ≤ col % columns_each coords → slice_index (component_vector xs components i) col ≡ slice_index (link_of s coords c) col
         at_other col l high =
             none_there col (λ q lq h.
-            let same : col % columns_each coords ≡ tri_column coords h.tet h.vertex % columns_each coords = ap (λ (p : SurfacePiece). p.column % columns_each coords) h.is in
+            let same : col % columns_each coords ≡ tri_column coords h.tet h.vertex % columns_each coords = ap (λ (p : NormalDisc). p.column % columns_each coords) h.is in
             let low : tri_column coords h.tet h.vertex % columns_each coords < 4 = low_triangle coords h.tet h.vertex w.triangles h.of_class.below_four in
             omega arith)
             ∙ sym (others-link n s.vertices.classes c coords col w.triangles l high)

@@ -12,7 +12,7 @@ use Rattle.skeleton_definitions.specs.Links.{vertex_number}
 use Rattle.skeleton_definitions.specs.Skeleton.{Skeleton, IsSkeleton}
 use Rattle.surface_definitions.specs.Coordinates.{columns, columns_each, tri_column, quad_column, keeping, octagon_arcs}
 use Rattle.surface_definitions.specs.declared.Coords.{Coords}
-use Rattle.surface_definitions.specs.Pieces.{SurfacePiece, Arc, Meets, piece_of, arcs_round, arc_across, ArcsLead}
+use Rattle.surface_definitions.specs.Pieces.{NormalDisc, Arc, Meets, disc_of, arcs_around, arc_across, ArcsLead}
 use Rattle.surface_laws.specs.PieceLaws.{IsSurface, IsPieceOf, first_nonzero, face_of_arc}
 use Rattle.surface_laws.proofs.ArcPieces.{arcs_are, triangle_piece, behind_piece, in_width}
 use Rattle.surface_laws.proofs.Glued.{IsGlued, glued_is}
@@ -33,11 +33,11 @@ abbrev pub IsDeep : Skeleton → Coords → List ℕ → ℕ → ℕ → Type 0
 IsDeep s coords xs c j = (t v : ℕ) → IsOfClass s c t v → j < slice_index xs (tri_column coords t v)
 
 -- the triangle at place j round a vertex
-abbrev pub triangle_at : Coords → ℕ → ℕ → ℕ → SurfacePiece
+abbrev pub triangle_at : Coords → ℕ → ℕ → ℕ → NormalDisc
 triangle_at coords j t v = piece_at (tri_column coords t v) j
 
 -- it is one round a vertex of class c
-pub record IsLevel (s : Skeleton) (coords : Coords) (c j : ℕ) (p : SurfacePiece) : Type 0 where
+pub record IsLevel (s : Skeleton) (coords : Coords) (c j : ℕ) (p : NormalDisc) : Type 0 where
   pub tet : ℕ
   pub vertex : ℕ
   pub of_class : IsOfClass s c tet vertex
@@ -47,7 +47,7 @@ module _ (s : Skeleton) (k : IsSkeleton s) (coords : Coords) (xs : List ℕ) (w 
   abbrev n : ℕ
   n = length s.rows
 
-  abbrev level : ℕ → ℕ → SurfacePiece
+  abbrev level : ℕ → ℕ → NormalDisc
   level t v = triangle_at coords j t v
 
   pub width : length xs ≡ columns coords n
@@ -70,66 +70,66 @@ module _ (s : Skeleton) (k : IsSkeleton s) (coords : Coords) (xs : List ℕ) (w 
       }
 
   -- an arc of a level is at place j, and so is the one that it meets
-  arc_of_level : (t f v : ℕ) → f < 4 → (v ≡ f → ⊥) → IsOfClass s c t v → piece_of coords xs (arc_at t f v j) ≡ level t v
+  arc_of_level : (t f v : ℕ) → f < 4 → (v ≡ f → ⊥) → IsOfClass s c t v → disc_of coords xs (arc_at t f v j) ≡ level t v
   arc_of_level t f v lf off m = triangle_piece coords n xs w.triangles w.admissible t f v m.tet lf m.below_four off j (deep t v m)
 
   record IsLevelArc (a : Arc) : Type 0 where
     of_class : IsOfClass s c a.tet a.vertex
     place : a.place ≡ j
 
-  level_arc : (a : Arc) (g : Gluing) → Meets s.rows coords xs a g → IsLevel s coords c j (piece_of coords xs a) → IsLevelArc a
+  level_arc : (a : Arc) (g : Gluing) → Meets s.rows coords xs a g → IsLevel s coords c j (disc_of coords xs a) → IsLevelArc a
   level_arc a g m h =
       let i : IsGlued s.rows (face_of_arc a) g = glued_is s.rows (face_of_arc a) g k.table m.glued in
       let q : ℕ = slice_index xs (tri_column coords a.tet a.vertex) in
       elim (cases_lt a.place q) [
         | inl low ↦ (let e : piece_at (tri_column coords a.tet a.vertex) a.place ≡ level h.tet h.vertex =
             sym (triangle_piece coords n xs w.triangles w.admissible a.tet a.face a.vertex m.in_range i.face m.is_vertex m.off_vertex a.place low) ∙ h.is in
-            let o = one_triangle coords a.tet a.vertex h.tet h.vertex w.triangles m.is_vertex h.of_class.below_four (ap (λ (p : SurfacePiece). p.column) e) in
-            record { of_class = subst₂ (IsOfClass s c) (sym o.0) (sym o.1) h.of_class; place = ap (λ (p : SurfacePiece). p.number) e })
+            let o = one_triangle coords a.tet a.vertex h.tet h.vertex w.triangles m.is_vertex h.of_class.below_four (ap (λ (p : NormalDisc). p.column) e) in
+            record { of_class = subst₂ (IsOfClass s c) (sym o.0) (sym o.1) h.of_class; place = ap (λ (p : NormalDisc). p.number) e })
         | inr high ↦ absurd (let again : q + (a.place - q) ≡ a.place = omega arith in
             let b : ℕ = first_nonzero xs (octagon_arcs coords a.tet a.face a.vertex) (quad_column coords a.tet (keeping a.vertex a.face)) in
             let e : b ≡ tri_column coords h.tet h.vertex =
-            ap (λ (p : SurfacePiece). p.column) (sym (behind_piece coords n xs w.triangles w.admissible a.tet a.face a.vertex m.in_range i.face m.is_vertex m.off_vertex (a.place - q))
-            ∙ ap (λ y. piece_of coords xs (arc_at a.tet a.face a.vertex y)) again ∙ h.is) in
+            ap (λ (p : NormalDisc). p.column) (sym (behind_piece coords n xs w.triangles w.admissible a.tet a.face a.vertex m.in_range i.face m.is_vertex m.off_vertex (a.place - q))
+            ∙ ap (λ y. disc_of coords xs (arc_at a.tet a.face a.vertex y)) again ∙ h.is) in
             let high : 4 ≤ b % columns_each coords = high_behind coords xs a.tet a.face a.vertex w.triangles i.face m.is_vertex m.off_vertex in
             let low : tri_column coords h.tet h.vertex % columns_each coords < 4 = low_triangle coords h.tet h.vertex w.triangles h.of_class.below_four in
             let same : b % columns_each coords ≡ tri_column coords h.tet h.vertex % columns_each coords = ap (λ y. y % columns_each coords) e in
             omega arith)
       ]
 
-  level_across : (a : Arc) (g : Gluing) → Meets s.rows coords xs a g → IsLevelArc a → piece_of coords xs (arc_across g a) ≡ level g.tet (image g.perm a.vertex)
+  level_across : (a : Arc) (g : Gluing) → Meets s.rows coords xs a g → IsLevelArc a → disc_of coords xs (arc_across g a) ≡ level g.tet (image g.perm a.vertex)
   level_across a g m h =
       let i : IsGlued s.rows (face_of_arc a) g = glued_is s.rows (face_of_arc a) g k.table m.glued in
-      ap (λ y. piece_of coords xs (arc_at g.tet (image g.perm a.face) (image g.perm a.vertex) y)) h.place
+      ap (λ y. disc_of coords xs (arc_at g.tet (image g.perm a.face) (image g.perm a.vertex) y)) h.place
       ∙ arc_of_level g.tet (image g.perm a.face) (image g.perm a.vertex) i.other_face (images_apart g.perm a.vertex a.face i.permutes m.is_vertex i.face m.off_vertex)
       (of_class_across a.tet a.face a.vertex g h.of_class m.off_vertex m.glued)
 
   -- so no chain of arcs leaves the level
-  pub stays : (p q : SurfacePiece) (arcs : List Arc) → IsLevel s coords c j p → ArcsLead s.rows coords xs p arcs q → IsLevel s coords c j q
+  pub stays : (p q : NormalDisc) (arcs : List Arc) → IsLevel s coords c j p → ArcsLead s.rows coords xs p arcs q → IsLevel s coords c j q
   stays p q [] h e = subst (IsLevel s coords c j) e h
   stays p q (a ∷ arcs) h (g, m, e, rest) =
       let l : IsLevelArc a = level_arc a g m (subst (IsLevel s coords c j) (sym e) h) in
-      stays (piece_of coords xs (arc_across g a)) q arcs
+      stays (disc_of coords xs (arc_across g a)) q arcs
       (record { tet = g.tet; vertex = image g.perm a.vertex; of_class = of_class_across a.tet a.face a.vertex g l.of_class m.off_vertex m.glued; is = level_across a g m l }) rest
 
   -- ---- chains of gluings carry the level's triangles to one another
 
   -- arcs lead from piece p to the level's triangle at a place
-  record LedTo (p : SurfacePiece) (q : Place) : Type 0 where
+  record LedTo (p : NormalDisc) (q : Place) : Type 0 where
     v : ℕ
     is : q.vertices ≡ v ∷ []
     of_class : IsOfClass s c q.tet v
     arcs : List Arc
     lead : ArcsLead s.rows coords xs p arcs (level q.tet v)
 
-  led_across : (p : SurfacePiece) (q : Place) (f : ℕ) (r : Place) → LedTo p q → across s.rows q f ≡ Some r → LedTo p r
+  led_across : (p : NormalDisc) (q : Place) (f : ℕ) (r : Place) → LedTo p q → across s.rows q f ≡ Some r → LedTo p r
   led_across p q f r l e =
       let x : IsCrossed s.rows q.tet l.v f r = crossed_is s.rows q.tet l.v f r (ap (λ (vs : List ℕ). across s.rows (record { tet = q.tet; vertices = vs }) f) (sym l.is) ∙ e) in
       let i : IsGlued s.rows (face_at q.tet f) x.g = glued_is s.rows (face_at q.tet f) x.g k.table x.glued in
       let m : IsOfClass s c q.tet l.v = l.of_class in
       let a : Arc = arc_at q.tet f l.v j in
       let whole = arcs_are coords n xs w.triangles w.admissible q.tet f l.v m.tet i.face m.below_four x.off xs (λ c z. z) in
-      let there : j < arcs_round coords xs q.tet f l.v = let d : j < slice_index xs (tri_column coords q.tet l.v) = deep q.tet l.v m in omega arith in
+      let there : j < arcs_around coords xs q.tet f l.v = let d : j < slice_index xs (tri_column coords q.tet l.v) = deep q.tet l.v m in omega arith in
       let meets : Meets s.rows coords xs a x.g = record { in_range = m.tet; is_vertex = m.below_four; off_vertex = x.off; there = there; glued = x.glued } in
       let step : ArcsLead s.rows coords xs (level q.tet l.v) (a ∷ []) (level x.g.tet (image x.g.perm l.v)) =
       (x.g, meets, arc_of_level q.tet f l.v i.face x.off m, level_across a x.g meets (record { of_class = m; place = refl })) in
@@ -142,7 +142,7 @@ module _ (s : Skeleton) (k : IsSkeleton s) (coords : Coords) (xs : List ℕ) (w 
       } in
       subst (LedTo p) x.is to
 
-  level_led : (p : SurfacePiece) (u y : ℕ) → LedTo p (one_vertex u y) → (arcs : List Arc) × ArcsLead s.rows coords xs p arcs (level u y)
+  level_led : (p : NormalDisc) (u y : ℕ) → LedTo p (one_vertex u y) → (arcs : List Arc) × ArcsLead s.rows coords xs p arcs (level u y)
   level_led p u y l =
       let at : l.v ≡ y = ap (λ (vs : List ℕ). slice_index vs 0) (sym l.is) in
       (l.arcs, subst (λ x. ArcsLead s.rows coords xs p l.arcs (level u x)) at l.lead)

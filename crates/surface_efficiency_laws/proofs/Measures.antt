@@ -11,7 +11,7 @@ use Rattle.skeleton_definitions.specs.Links.{is_first_side}
 use Rattle.skeleton_definitions.specs.Skeleton.{Skeleton}
 use Rattle.surface_definitions.specs.Coordinates.{arc_columns}
 use Rattle.surface_definitions.specs.declared.Coords.{Coords}
-use Rattle.surface_definitions.specs.Pieces.{arcs_round}
+use Rattle.surface_definitions.specs.Pieces.{arcs_around}
 use Rattle.surface_definitions.specs.Characteristic.{crossings, weight, points, arcs_in, arcs, euler}
 use Rattle.surface_laws.proofs.Counting.{over_places}
 use Rattle.surface_efficiency_laws.specs.Laws.{IsPositive}
@@ -30,7 +30,7 @@ module _ (s : Skeleton) (coords : Coords) where
   pub arcs_linear : IsLinear (λ xs. arcs s.rows coords xs)
   arcs_linear =
       sum_linear (λ (x : Face) xs. arcs_in coords xs x)
-      (λ x. sum_linear (λ v xs. arcs_round coords xs x.tet x.face v) (λ v. columns_linear (arc_columns coords x.tet x.face v)) (others x.face))
+      (λ x. sum_linear (λ v xs. arcs_around coords xs x.tet x.face v) (λ v. columns_linear (arc_columns coords x.tet x.face v)) (others x.face))
       (filter (λ x. is_first_side x (glue s.rows x)) (faces (length s.rows)))
 
   -- points and pieces of a vector of n columns

@@ -7,7 +7,7 @@ use Rattle.table_definitions.specs.Table.{Gluing, Row, Face, glue, other_side, w
 use Rattle.table_definitions.proofs.Permutations.{by_words}
 use Rattle.table_definitions.proofs.PermutationLaws.{image_below, image-of_inverse}
 use Rattle.table_definitions.proofs.Faces.{face_at}
-use Rattle.skeleton_definitions.specs.Corners.{Corner, corner_behind, step, steps, Reaches}
+use Rattle.skeleton_definitions.specs.Corners.{Corner, corner_across, step, steps, Reaches}
 use Rattle.surface_laws.proofs.CornerSteps.{IsStep, step_is}
 use Rattle.surface_laws.proofs.Glued.{IsGlued, glued_is}
 use Rattle.skeleton_class_laws.specs.Rounds.{corner_word}
@@ -31,8 +31,8 @@ turned_permutes w h = by_words (λ w. is_permutation (image w 1 ∷ image w 0 �
 pub turned_is : {rows : List Row} (k : Corner) → IsCorner rows k → IsCorner rows (turned_round k)
 turned_is k h = record { tet = h.tet; permutes = turned_permutes (corner_word k) h.permutes }
 
-pub step_by : (rows : List Row) (k : Corner) (g : Gluing) → glue rows (face_at k.tet k.c) ≡ Some g → step rows k ≡ Some (corner_behind k g)
-step_by rows k g h = ap (option_map (corner_behind k)) h
+pub step_by : (rows : List Row) (k : Corner) (g : Gluing) → glue rows (face_at k.tet k.c) ≡ Some g → step rows k ≡ Some (corner_across k g)
+step_by rows k g h = ap (option_map (corner_across k)) h
 
 vertices_apart : (w : List ℕ) → IsPermutationOfFour w → not (image w 0 == image w 1) && (not (image w 0 == image w 2) && not (image w 1 == image w 2)) ≡ true
 vertices_apart w h = by_words (λ w. not (image w 0 == image w 1) && (not (image w 0 == image w 2) && not (image w 1 == image w 2))) refl w h
@@ -67,8 +67,8 @@ module _ (rows : List Row) (table : IsTable rows) where
       let s : IsStep rows k l = step_is rows k l e in
       let g : IsGlued rows (face_at k.tet k.c) s.on.g = glued_is rows (face_at k.tet k.c) s.on.g table s.on.glued in
       let p : List ℕ = s.on.g.perm in
-      let there : step rows (turned_round (corner_behind k s.on.g)) ≡ Some (corner_behind (turned_round (corner_behind k s.on.g)) (way_back (face_at k.tet k.c) s.on.g)) =
-      step_by rows (turned_round (corner_behind k s.on.g)) (way_back (face_at k.tet k.c) s.on.g) g.back in
+      let there : step rows (turned_round (corner_across k s.on.g)) ≡ Some (corner_across (turned_round (corner_across k s.on.g)) (way_back (face_at k.tet k.c) s.on.g)) =
+      step_by rows (turned_round (corner_across k s.on.g)) (way_back (face_at k.tet k.c) s.on.g) g.back in
       let a : image (inverse p) (image p k.a) ≡ k.a = image-of_inverse p k.a g.permutes (image_below (corner_word k) 0 h.permutes (omega arith)) in
       let b : image (inverse p) (image p k.b) ≡ k.b = image-of_inverse p k.b g.permutes (image_below (corner_word k) 1 h.permutes (omega arith)) in
       let c : image (inverse p) (image p k.c) ≡ k.c = image-of_inverse p k.c g.permutes (image_below (corner_word k) 2 h.permutes (omega arith)) in

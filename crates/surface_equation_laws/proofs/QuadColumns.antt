@@ -12,7 +12,7 @@ use Rattle.table_definitions.specs.Classes.{IsNumbering}
 use Rattle.table_definitions.proofs.TableLaws.{Among}
 use Rattle.table_definitions.proofs.Listed.{filter-among, below-among}
 use Rattle.table_definitions.proofs.Bijections.{flips}
-use Rattle.skeleton_definitions.specs.Corners.{inner_edges}
+use Rattle.skeleton_definitions.specs.Corners.{internal_edges}
 use Rattle.cone_definitions.specs.Rows.{Row as EquationRow}
 use Rattle.surface_definitions.specs.Coordinates.{columns}
 use Rattle.surface_definitions.specs.declared.Coords.TheVariants.{Quad}
@@ -87,17 +87,17 @@ module _ (rows : List Row) (table : IsTable rows) (classes : List ℕ) (count : 
       subst (λ (w : EquationRow). magnitude (entry w c) ≤ met classes c r) (sym h.2) (magnitude_most (columns Quad (length rows)) (quad_equation h.0) c (met classes c r) left right)
 
   -- each edge is of one class
-  one_class : (x : ℕ) → sum_by (λ r. one_if (x == r)) (inner_edges rows classes count) ≤ 1
+  one_class : (x : ℕ) → sum_by (λ r. one_if (x == r)) (internal_edges rows classes count) ≤ 1
   one_class x =
-      let e : sum_by (λ r. one_if (x == r)) (inner_edges rows classes count) ≡ times_in (inner_edges rows classes count) x =
-      sum_by_same (λ r. one_if (x == r)) (λ r. one_if (r == x)) (inner_edges rows classes count) (λ r a. ap one_if (flips x r)) in
+      let e : sum_by (λ r. one_if (x == r)) (internal_edges rows classes count) ≡ times_in (internal_edges rows classes count) x =
+      sum_by_same (λ r. one_if (x == r)) (λ r. one_if (r == x)) (internal_edges rows classes count) (λ r a. ap one_if (flips x r)) in
       let l = passing_less (λ c. not (is_boundary_edge rows classes c)) x (below count) in
       let o = below_once count x in
       omega arith
 
-  pub quad_column_few : (quad_rows : List EquationRow) (c : ℕ) → AllZip (IsQuadRow rows classes) (inner_edges rows classes count) quad_rows → column_sum quad_rows c ≤ 4
+  pub quad_column_few : (quad_rows : List EquationRow) (c : ℕ) → AllZip (IsQuadRow rows classes) (internal_edges rows classes count) quad_rows → column_sum quad_rows c ≤ 4
   quad_column_few quad_rows c each =
-      let inner : List ℕ = inner_edges rows classes count in
+      let inner : List ℕ = internal_edges rows classes count in
       let a : column_sum quad_rows c ≤ sum_by (met classes c) inner =
       zip_few (IsQuadRow rows classes) (λ row. magnitude (entry row c)) (met classes c) inner quad_rows each
       (λ r row m h. row_few c r row (below-among r count (filter-among (λ d. not (is_boundary_edge rows classes d)) r (below count) m).0) h) in

@@ -11,7 +11,7 @@ use Rattle.table_definitions.specs.Table.{Row, IsTable}
 use Rattle.table_definitions.specs.Places.{is_boundary_edge}
 use Rattle.table_definitions.proofs.TableLaws.{Among}
 use Rattle.table_definitions.proofs.Listed.{filter-among, below-among, among_contains, map-among}
-use Rattle.skeleton_definitions.specs.Corners.{Corner, inner_edges}
+use Rattle.skeleton_definitions.specs.Corners.{Corner, internal_edges}
 use Rattle.cone_definitions.specs.Rows.{Row as EquationRow, positive_coefficient, negative_coefficient}
 use Rattle.surface_definitions.specs.Coordinates.{columns, quad_column}
 use Rattle.surface_definitions.specs.declared.Coords.TheVariants.{Quad}
@@ -97,8 +97,8 @@ module _ (rows : List Row) (quad_rows : List EquationRow) (table : IsTable rows)
 
   equation_of : (row : EquationRow) → Contains quad_rows row → IsEquationRow row
   equation_of row c =
-      let m : (r : ℕ) × Among r (inner_edges rows q.classes q.count) × IsQuadRow rows q.classes r row =
-      zip-among (IsQuadRow rows q.classes) row (inner_edges rows q.classes q.count) quad_rows q.each (among_contains row quad_rows c) in
+      let m : (r : ℕ) × Among r (internal_edges rows q.classes q.count) × IsQuadRow rows q.classes r row =
+      zip-among (IsQuadRow rows q.classes) row (internal_edges rows q.classes q.count) quad_rows q.each (among_contains row quad_rows c) in
       let low : m.0 < q.count = below-among m.0 q.count (filter-among (λ d. not (is_boundary_edge rows q.classes d)) m.0 (below q.count) m.1).0 in
       let corners : List Corner = m.2.0 in
       let good : (k : Corner) → Among k corners → IsCorner rows k = is_corner rows q.classes q.count table q.numbered m.0 low corners m.2.1 in

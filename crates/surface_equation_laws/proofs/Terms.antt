@@ -5,7 +5,7 @@ use Rattle.table_definitions.specs.Lists.{below, times_in}
 use Rattle.table_definitions.specs.Table.{Row, IsTable}
 use Rattle.table_definitions.proofs.TableLaws.{Among}
 use Rattle.table_definitions.proofs.Listed.{below-among, map-among, among_contains}
-use Rattle.skeleton_definitions.specs.Corners.{inner_edges}
+use Rattle.skeleton_definitions.specs.Corners.{internal_edges}
 use Rattle.cone_definitions.specs.Rows.{Row as EquationRow, positive_coefficient, negative_coefficient}
 use Rattle.surface_definitions.specs.Coordinates.{columns}
 use Rattle.surface_definitions.specs.declared.Coords.{Coords}
@@ -45,8 +45,8 @@ row_made Standard rows equations row e h =
     map-among (row_of (columns Standard (length rows))) row (matching_equations Standard rows) (among_contains row (matching_rows Standard rows) (moved e h)) in
     (m.0, m.2)
 row_made Quad rows equations row e h =
-    let m : (r : ℕ) × Among r (inner_edges rows e.classes e.count) × IsQuadRow rows e.classes r row =
-    zip-among (IsQuadRow rows e.classes) row (inner_edges rows e.classes e.count) equations e.each (among_contains row equations h) in
+    let m : (r : ℕ) × Among r (internal_edges rows e.classes e.count) × IsQuadRow rows e.classes r row =
+    zip-among (IsQuadRow rows e.classes) row (internal_edges rows e.classes e.count) equations e.each (among_contains row equations h) in
     (quad_equation m.2.0, m.2.2)
 row_made Octagon rows equations row e h =
     let m : (d : Equation) × Among d (matching_equations Octagon rows) × (row ≡ row_of (columns Octagon (length rows)) d) =

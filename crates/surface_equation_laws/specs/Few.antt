@@ -33,13 +33,13 @@ OwnEnumerations =
     → IsOfTable coords rows (table_enumeration coords order most rows equations)
 
 -- so with few tetrahedra the surface list is what it gives, and nothing passes the limit
-abbrev pub FewAreListed : Type 0
-FewAreListed =
+abbrev pub SmallTablesAreListed : Type 0
+SmallTablesAreListed =
     (coords : Coords) (order : Order) (rows : List Row) (equations : List EquationRow) → IsTable rows → AreEquations coords rows equations → length rows ≤ most_tetrahedra coords
     → (taken : List ℕ) (list : List (List ℕ)) → IsPermutation (range_with_len 0 (length equations)) taken → AreNamed order (table_enumeration coords order limit rows equations).system taken
     → IsSurfaceList (columns coords (length rows)) equations (clash_list coords (length rows)) list → IsListed (table_enumeration coords order limit rows equations) taken list
 
-abbrev pub FewAreNotPast : Type 0
-FewAreNotPast =
+abbrev pub SmallTablesStayWithin : Type 0
+SmallTablesStayWithin =
     (coords : Coords) (order : Order) (rows : List Row) (equations : List EquationRow) → IsTable rows → AreEquations coords rows equations → length rows ≤ most_tetrahedra coords
     → (taken : List ℕ) (kind : Named) → ¬ IsPastLimit (table_enumeration coords order limit rows equations) taken kind

@@ -10,5 +10,5 @@ abbrev pub entry_at : List EquationRow → ℕ → ℕ → ℤ
 entry_at rows r c = entry (slice_index_or rows r []) c
 
 -- in a column rows with different numbers have at most the sum of all rows
-abbrev pub SelectedRowsAreFewer : Type 0
-SelectedRowsAreFewer = (rows : List EquationRow) (numbers : List ℕ) (c : ℕ) → IsOnce numbers → sum_by (λ r. magnitude (entry_at rows r c)) numbers ≤ column_sum rows c
+abbrev pub SelectedColumnSumsAreSmaller : Type 0
+SelectedColumnSumsAreSmaller = (rows : List EquationRow) (numbers : List ℕ) (c : ℕ) → IsOnce numbers → sum_by (λ r. magnitude (entry_at rows r c)) numbers ≤ column_sum rows c

@@ -6,11 +6,11 @@ ghost use Rattle.surface_equation_laws.specs.EquationSums.{EquationTrianglesAreA
 ghost use Rattle.surface_equation_laws.specs.MatchingSums.{TrianglesAreAtMostOne, RowsAreAtMostSides, ColumnsAreAtMostWeights};
 ghost use Rattle.surface_equation_laws.specs.Products.{ProductsAreSmall, SupportsHaveNoClash};
 ghost use Rattle.surface_equation_laws.specs.QuadSums.{QuadColumnsAreAtMostFour, QuadRowsAreAtMostEdges, QuadRowsAreAtMostWalks};
-ghost use Rattle.surface_equation_laws.specs.Selected.{SelectedRowsAreFewer};
+ghost use Rattle.surface_equation_laws.specs.Selected.{SelectedColumnSumsAreSmaller};
 ghost use Rattle.surface_equation_laws.specs.Zeros.{PartsAreByEntries, TermsAreInColumns};
 ghost use Rattle.surface_equation_laws.specs.Bounds.{CapsAreBounds, EntriesAreSmall, TablesAreBounded, TablesAreWithin, NamedRowsAreWithin, TablesAreListed, TablesAreNotPast};
 ghost use Rattle.surface_equation_laws.specs.Caps.{TablesHaveCaps};
-ghost use Rattle.surface_equation_laws.specs.Few.{MostTetrahedra, OwnEnumerations, FewAreListed, FewAreNotPast};
+ghost use Rattle.surface_equation_laws.specs.Few.{MostTetrahedra, OwnEnumerations, SmallTablesAreListed, SmallTablesStayWithin};
 ghost use Rattle.surface_equation_laws.specs.OneForm.{TablesHaveOneForm, TablesAreBoundedInOneForm};
 
 /// Theorem: in a matching equation the triangle coefficients of each sign have sum at most 1, and all coefficients of
@@ -47,7 +47,7 @@ pub fn weight_products_are_small()
 
 /// Theorem: the sum of magnitudes that some of the rows have in a column is at most the sum that all rows have there.
 pub fn selected_rows_are_fewer()
-    ensures { SelectedRowsAreFewer }
+    ensures { SelectedColumnSumsAreSmaller }
 {}
 
 /// Theorem: the bounds of matching and quad equations, stated for the equations of a table in any coordinates.
@@ -89,6 +89,6 @@ pub fn tables_are_bounded()
 pub fn few_tetrahedra_are_bounded()
     ensures most { MostTetrahedra }
     ensures own { OwnEnumerations }
-    ensures listed { FewAreListed }
-    ensures none { FewAreNotPast }
+    ensures listed { SmallTablesAreListed }
+    ensures none { SmallTablesStayWithin }
 {}

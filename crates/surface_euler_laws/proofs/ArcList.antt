@@ -18,7 +18,7 @@ use Rattle.table_definitions.proofs.TableLaws.{Among, Among-map, Among-below, Am
 use Rattle.skeleton_definitions.specs.Links.{is_first_side}
 use Rattle.surface_definitions.specs.Characteristic.{arcs_in, arcs}
 use Rattle.surface_definitions.specs.declared.Coords.{Coords}
-use Rattle.surface_definitions.specs.Pieces.{Arc, arcs_round, arc_across, Meets}
+use Rattle.surface_definitions.specs.Pieces.{Arc, arcs_around, arc_across, Meets}
 use Rattle.surface_laws.specs.PieceLaws.{IsSurface, face_of_arc}
 use Rattle.surface_laws.proofs.Counting.{sum_by_same}
 use Rattle.surface_laws.proofs.Glued.{IsGlued, glued_is}
@@ -35,7 +35,7 @@ module _ (rows : List Row) (coords : Coords) (xs : List ℕ) (s : IsSurface rows
     pub face : a.face < 4
     pub is_vertex : a.vertex < 4
     pub off : a.vertex ≢ a.face
-    pub there : a.place < arcs_round coords xs a.tet a.face a.vertex
+    pub there : a.place < arcs_around coords xs a.tet a.face a.vertex
 
   pub meets_is : (a : Arc) (g : Gluing) → Meets rows coords xs a g → IsArc a
   meets_is a g m = record { in_range = m.in_range; face = (glued_is rows (face_of_arc a) g s.table m.glued).face; is_vertex = m.is_vertex; off = m.off_vertex; there = m.there }
@@ -77,7 +77,7 @@ module _ (rows : List Row) (coords : Coords) (xs : List ℕ) (s : IsSurface rows
       (across_by rows (pair t v u) f g e (or_from (v == f) ((u == f) || false) (ne_eqb v f nv) (or_from (u == f) false (ne_eqb u f nu) refl)))
 
   abbrev round : Face → ℕ → List Arc
-  round x v = map (arc_at x.tet x.face v) (below (arcs_round coords xs x.tet x.face v))
+  round x v = map (arc_at x.tet x.face v) (below (arcs_around coords xs x.tet x.face v))
 
   abbrev of_face : Face → List Arc
   of_face x = flat_map (round x) (others x.face)
@@ -93,7 +93,7 @@ module _ (rows : List Row) (coords : Coords) (xs : List ℕ) (s : IsSurface rows
   length-arc_list =
       length-flat_map of_face (filter is_first (faces (length rows)))
       ∙ sum_by_same (λ x. length (of_face x)) (arcs_in coords xs) (filter is_first (faces (length rows))) (λ x a. length-flat_map (round x) (others x.face)
-      ∙ sum_by_same (λ v. length (round x v)) (arcs_round coords xs x.tet x.face) (others x.face) (λ v b. length-map (below (arcs_round coords xs x.tet x.face v)) (arc_at x.tet x.face v) ∙ length-range_with_len 0 (arcs_round coords xs x.tet x.face v)))
+      ∙ sum_by_same (λ v. length (round x v)) (arcs_around coords xs x.tet x.face) (others x.face) (λ v b. length-map (below (arcs_around coords xs x.tet x.face v)) (arc_at x.tet x.face v) ∙ length-range_with_len 0 (arcs_around coords xs x.tet x.face v)))
 
   among_arcs : (a : Arc) → IsArc a → is_first (face_of_arc a) ≡ true → Among a arc_list
   unfolding arc_list
@@ -101,7 +101,7 @@ module _ (rows : List Row) (coords : Coords) (xs : List ℕ) (s : IsSurface rows
       Among-flat_map of_face (face_of_arc a) a (filter is_first (faces (length rows)))
       (Among-filter is_first (face_of_arc a) (faces (length rows)) (Among-faces (face_of_arc a) (length rows) h.in_range h.face) first)
       (Among-flat_map (round (face_of_arc a)) a.vertex a (others a.face) (Among-others a.face a.vertex h.is_vertex h.off)
-      (Among-map (arc_at a.tet a.face a.vertex) a.place (below (arcs_round coords xs a.tet a.face a.vertex)) (Among-below a.place (arcs_round coords xs a.tet a.face a.vertex) h.there)))
+      (Among-map (arc_at a.tet a.face a.vertex) a.place (below (arcs_around coords xs a.tet a.face a.vertex)) (Among-below a.place (arcs_around coords xs a.tet a.face a.vertex) h.there)))
 
   arcs_among : (a : Arc) → Among a arc_list → IsArc a
   unfolding arc_list
@@ -110,8 +110,8 @@ module _ (rows : List Row) (coords : Coords) (xs : List ℕ) (s : IsSurface rows
       let f = faces-among x.0 (length rows) (filter-among is_first x.0 (faces (length rows)) x.1).0 in
       let v = flat_map-among (round x.0) a (others (x.0).face) x.2 in
       let o = other_is (x.0).face v.0 v.1 in
-      let j = map-among (arc_at (x.0).tet (x.0).face v.0) a (below (arcs_round coords xs (x.0).tet (x.0).face v.0)) v.2 in
-      let l = below-among j.0 (arcs_round coords xs (x.0).tet (x.0).face v.0) j.1 in
+      let j = map-among (arc_at (x.0).tet (x.0).face v.0) a (below (arcs_around coords xs (x.0).tet (x.0).face v.0)) v.2 in
+      let l = below-among j.0 (arcs_around coords xs (x.0).tet (x.0).face v.0) j.1 in
       moved (arc_at (x.0).tet (x.0).face v.0 j.0) a j.2 (record { in_range = f.0; face = f.1; is_vertex = o.0; off = o.1; there = l })
     where
       moved : (b a : Arc) → a ≡ b → IsArc b → IsArc a

@@ -3,7 +3,7 @@ use Rattle.std.proofs.Common.{◌≡◌, ℕ, ◌<◌, Bool, List, length, Optio
 use Rattle.table_definitions.specs.Table.{Gluing, glue, way_back}
 use Rattle.skeleton_definitions.specs.Skeleton.{Skeleton, IsSkeleton, IsValidClass}
 use Rattle.surface_definitions.specs.declared.Coords.{Coords}
-use Rattle.surface_definitions.specs.Pieces.{piece_number, piece_of, Arc, arc_across}
+use Rattle.surface_definitions.specs.Pieces.{disc_number, disc_of, Arc, arc_across}
 use Rattle.surface_laws.specs.PieceLaws.{IsSurface, face_of_arc}
 use Rattle.surface_euler_laws.specs.Polygons.{IsSideOf}
 use Rattle.surface_euler_laws.proofs.Four.{Four, third, fourth}
@@ -16,7 +16,7 @@ module _ (s : Skeleton) (k : IsSkeleton s) (valid : (c : ℕ) → c < s.edges.co
   OnSurface b = IsArc s.rows coords xs surface b
 
   abbrev pn : Arc → ℕ
-  pn b = piece_number xs (piece_of coords xs b)
+  pn b = disc_number xs (disc_of coords xs b)
 
   abbrev glued : Arc → Option Gluing
   glued b = glue s.rows (face_of_arc b)
@@ -42,11 +42,11 @@ module _ (s : Skeleton) (k : IsSkeleton s) (valid : (c : ℕ) → c < s.edges.co
   arc a = arc_of s.rows coords xs surface a
 
   pub piece_on : ℕ → ℕ
-  piece_on a = piece_number xs (piece_of coords xs (arc_of s.rows coords xs surface a))
+  piece_on a = disc_number xs (disc_of coords xs (arc_of s.rows coords xs surface a))
 
   behind_if : Arc → Option Gluing → ℕ
-  behind_if b None = piece_number xs (piece_of coords xs b)
-  behind_if b (Some g) = piece_number xs (piece_of coords xs (arc_across g b))
+  behind_if b None = disc_number xs (disc_of coords xs b)
+  behind_if b (Some g) = disc_number xs (disc_of coords xs (arc_across g b))
 
   pub piece_behind : ℕ → ℕ
   piece_behind a = behind_if (arc_of s.rows coords xs surface a) (glue s.rows (face_of_arc (arc_of s.rows coords xs surface a)))
@@ -69,7 +69,7 @@ module _ (s : Skeleton) (k : IsSkeleton s) (valid : (c : ℕ) → c < s.edges.co
 
   pub one_is : (a : ℕ) (b : Arc) → arc a ≡ b → piece_on a ≡ pn b
   unfolding piece_on
-  one_is a b e = ap (λ (z : Arc). piece_number xs (piece_of coords xs z)) e
+  one_is a b e = ap (λ (z : Arc). disc_number xs (disc_of coords xs z)) e
 
   pub other_is : (a : ℕ) (b : Arc) (g : Gluing) → arc a ≡ b → glued b ≡ Some g → piece_behind a ≡ pn (arc_across g b)
   unfolding piece_behind behind_if
@@ -78,7 +78,7 @@ module _ (s : Skeleton) (k : IsSkeleton s) (valid : (c : ℕ) → c < s.edges.co
   pub other_back : (a : ℕ) (b : Arc) (g : Gluing) → OnSurface b → glued b ≡ Some g → arc a ≡ arc_across g b → piece_behind a ≡ pn b
   other_back a b g x f e =
       other_is a (arc_across g b) (way_back (face_of_arc b) g) e (glued_back s.rows coords xs surface b g x f)
-      ∙ ap (λ (z : Arc). piece_number xs (piece_of coords xs z)) (across_back s.rows coords xs surface b g x f)
+      ∙ ap (λ (z : Arc). disc_number xs (disc_of coords xs z)) (across_back s.rows coords xs surface b g x f)
 
   pub agrees_number : (h : ℕ → Bool) (b : Arc) (x : OnSurface b) (m : Number b) → h (left_point m.a) ≡ h (right_point m.a) → Agrees h b
   unfolding left_point right_point

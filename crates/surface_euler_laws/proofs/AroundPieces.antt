@@ -5,7 +5,7 @@ use Rattle.table_definitions.specs.Table.{Gluing, glue, way_back}
 use Rattle.skeleton_definitions.specs.Skeleton.{Skeleton, IsSkeleton, IsValidClass}
 use Rattle.surface_definitions.specs.Coordinates.{columns_each}
 use Rattle.surface_definitions.specs.declared.Coords.{Coords}
-use Rattle.surface_definitions.specs.Pieces.{SurfacePiece, piece_number, piece_of, Arc, arc_across, ArcsLead}
+use Rattle.surface_definitions.specs.Pieces.{NormalDisc, disc_number, disc_of, Arc, arc_across, ArcsLead}
 use Rattle.surface_laws.specs.PieceLaws.{IsSurface, face_of_arc}
 use Rattle.surface_laws.proofs.ArcPieces.{arc_in}
 use Rattle.surface_laws.proofs.MeetingArcs.{arc_at}
@@ -21,11 +21,11 @@ module _ (s : Skeleton) (k : IsSkeleton s) (valid : (c : ℕ) → c < s.edges.co
   abbrev OnSurface : Arc → Type 0
   OnSurface b = IsArc s.rows coords xs surface b
 
-  abbrev of : Arc → SurfacePiece
-  of b = piece_of coords xs b
+  abbrev of : Arc → NormalDisc
+  of b = disc_of coords xs b
 
   abbrev pn : Arc → ℕ
-  pn b = piece_number xs (piece_of coords xs b)
+  pn b = disc_number xs (disc_of coords xs b)
 
   abbrev glued : Arc → Option Gluing
   glued b = glue s.rows (face_of_arc b)
@@ -66,16 +66,16 @@ module _ (s : Skeleton) (k : IsSkeleton s) (valid : (c : ℕ) → c < s.edges.co
   piece_colour : (h : ℕ → Bool) → ((b : Arc) → OnSurface b → Agrees h b) → (b b' : Arc) → OnSurface b → OnSurface b' → of b ≡ of b'
       → (u w u' w' : ℕ) → Four b.vertex b.face u w → Four b'.vertex b'.face u' w' → h (end_at b u) ≡ h (end_at b' u')
   piece_colour h all b b' x x' e u w u' w' four four' =
-      let tet : b'.tet ≡ b.tet = sym (tet_of b' x') ∙ ap (λ (p : SurfacePiece). p.column / columns_each coords) (sym e) ∙ tet_of b x in
+      let tet : b'.tet ≡ b.tet = sym (tet_of b' x') ∙ ap (λ (p : NormalDisc). p.column / columns_each coords) (sym e) ∙ tet_of b x in
       let moved : b' ≡ arc_at b.tet b'.face b'.vertex b'.place = λ i. arc_at (tet i) b'.face b'.vertex b'.place in
       let y : OnSurface (arc_at b.tet b'.face b'.vertex b'.place) = subst OnSurface moved x' in
       one_colour_each s k valid coords xs surface b.tet x.in_range h
       (λ v f u w j four l. all (arc_at b.tet f v j) (record { in_range = x.in_range; face = four.lu; is_vertex = four.lv; off = four.vu; there = l }) u w four)
-      b.vertex b.face u w b.place b'.vertex b'.face u' w' b'.place four four' x.there y.there (e ∙ ap (piece_of coords xs) moved)
+      b.vertex b.face u w b.place b'.vertex b'.face u' w' b'.place four four' x.there y.there (e ∙ ap (disc_of coords xs) moved)
       ∙ ap (λ z. h (point s k valid coords xs surface z b'.vertex u' b'.place)) (sym tet)
 
   -- and so along chains of arcs
-  pub arcs_colour : (h : ℕ → Bool) → ((b : Arc) → OnSurface b → Agrees h b) → (p q : SurfacePiece) (arcs : List Arc) → ArcsLead s.rows coords xs p arcs q
+  pub arcs_colour : (h : ℕ → Bool) → ((b : Arc) → OnSurface b → Agrees h b) → (p q : NormalDisc) (arcs : List Arc) → ArcsLead s.rows coords xs p arcs q
       → (b b' : Arc) → OnSurface b → OnSurface b' → of b ≡ p → of b' ≡ q → (u w u' w' : ℕ) → Four b.vertex b.face u w → Four b'.vertex b'.face u' w' → h (end_at b u) ≡ h (end_at b' u')
   arcs_colour h all p q [] e b b' x x' d d' u w u' w' four four' = piece_colour h all b b' x x' (d ∙ e ∙ sym d') u w u' w' four four'
   arcs_colour h all p q (a ∷ arcs) (g, m, e, more) b b' x x' d d' u w u' w' four four' =
@@ -102,7 +102,7 @@ module _ (s : Skeleton) (k : IsSkeleton s) (valid : (c : ℕ) → c < s.edges.co
           (λ v' f' u' w' j' four' l' same off.
           let b' : Arc = arc_at b.tet f' v' j' in
           let y' : OnSurface (arc_at b.tet f' v' j') = record { in_range = y.in_range; face = four'.lu; is_vertex = four'.lv; off = four'.vu; there = l' } in
-          let e' : pn (arc_at b.tet f' v' j') ≡ p = ap (piece_number xs) same ∙ e in
+          let e' : pn (arc_at b.tet f' v' j') ≡ p = ap (disc_number xs) same ∙ e in
           let m = number s k valid coords xs surface (arc_at b.tet f' v' j') y' in
           agrees_number s k valid coords xs surface h (arc_at b.tet f' v' j') y' m (others m.a m.inside (subst (IsSideOf (piece_on s k valid coords xs surface) (piece_behind s k valid coords xs surface) m.a) e' (side_of s k valid coords xs surface (arc_at b.tet f' v' j') y' m))
           (λ q. let z : arc_at b.tet f' v' j' ≡ b = alone (arc_at b.tet f' v' j') y' e' m q in

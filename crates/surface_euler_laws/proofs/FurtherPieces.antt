@@ -4,7 +4,7 @@ use Rattle.std.specs.Prelude.{slice_index}
 use Rattle.skeleton_definitions.specs.Skeleton.{Skeleton, IsSkeleton, IsValidClass}
 use Rattle.surface_definitions.specs.Coordinates.{tri_column, keeping}
 use Rattle.surface_definitions.specs.declared.Coords.{Coords}
-use Rattle.surface_definitions.specs.Pieces.{arcs_round, type_in, keeps_by_zero}
+use Rattle.surface_definitions.specs.Pieces.{arcs_around, type_in, keeps_by_zero}
 use Rattle.surface_laws.specs.PieceLaws.{IsSurface}
 use Rattle.surface_laws.proofs.ArcPieces.{from_end, from_end_below, from_end_twice}
 use Rattle.surface_euler_laws.proofs.Four.{Four, first_two, middle_two, last_two, opposite, other_type, type_below, one_of_types}
@@ -55,7 +55,7 @@ module _ (s : Skeleton) (k : IsSkeleton s) (valid : (c : ℕ) → c < s.edges.co
       first_swap : (v f u w : ℕ) → Four v f u w → Four v w f u
       first_swap v f u w a = middle_two v f w u (last_two v f u w a)
 
-  pub further : (v f u w j : ℕ) → Four v f u w → tri v ≤ j → j < arcs_round coords xs t f v → IsFurther v f j
+  pub further : (v f u w j : ℕ) → Four v f u w → tri v ≤ j → j < arcs_around coords xs t f v → IsFurther v f j
   further v f u w j four low l =
       let all = arcs_are s k valid coords xs surface t lt h v f u w four in
       let jj : ℕ = j - tri v in

@@ -11,7 +11,7 @@ use Rattle.table_definitions.specs.Places.{edge_number, IsJoined}
 use Rattle.skeleton_definitions.specs.Skeleton.{Skeleton, IsSkeleton, IsValidClass}
 use Rattle.surface_definitions.specs.Characteristic.{points, weight}
 use Rattle.surface_definitions.specs.declared.Coords.{Coords}
-use Rattle.surface_definitions.specs.Pieces.{SurfacePiece, pieces_of, piece_number}
+use Rattle.surface_definitions.specs.Pieces.{NormalDisc, discs_of, disc_number}
 use Rattle.surface_laws.specs.PieceLaws.{IsSurface, IsPieceOf}
 use Rattle.surface_laws.proofs.PieceNumbers.{piece_at, no_piece, number-piece, listed_piece}
 use Rattle.surface_quad_laws.proofs.InnerEdges.{start_below, start_class}
@@ -70,7 +70,7 @@ module _ (s : Skeleton) (k : IsSkeleton s) (valid : (c : ℕ) → c < s.edges.co
 
   -- the number s k valid of the point at place j of the edge from v to u, counted from v
   pub point : ℕ → ℕ → ℕ → ℕ → ℕ
-  point t v u j = piece_number weights (piece_at (class s k valid t v u) (place_if (runs s k valid t v u) (wide t v u) j))
+  point t v u j = disc_number weights (piece_at (class s k valid t v u) (place_if (runs s k valid t v u) (wide t v u) j))
 
   -- counted from the other end
   pub point_back : (t v u j : ℕ) → IsEdge s k valid t v u → j < wide t v u → point t v u j ≡ point t u v (wide t v u - 1 - j)
@@ -79,8 +79,8 @@ module _ (s : Skeleton) (k : IsSkeleton s) (valid : (c : ℕ) → c < s.edges.co
       let m : ℕ = slice_index weights (class s k valid t v u) in
       let c : class s k valid t u v ≡ class s k valid t v u = back_class s k valid t v u e in
       let r : runs s k valid t u v ≡ not (runs s k valid t v u) = back_run s k valid t v u e in
-      sym ((λ i. piece_number weights (piece_at (c i) (place_if (r i) (slice_index weights (c i)) (m - 1 - j))))
-      ∙ ap (λ x. piece_number weights (piece_at (class s k valid t v u) x)) (place_back (not (runs s k valid t v u)) m j l ∙ ap (λ b. place_if b m j) (twice (runs s k valid t v u))))
+      sym ((λ i. disc_number weights (piece_at (c i) (place_if (r i) (slice_index weights (c i)) (m - 1 - j))))
+      ∙ ap (λ x. disc_number weights (piece_at (class s k valid t v u) x)) (place_back (not (runs s k valid t v u)) m j l ∙ ap (λ b. place_if b m j) (twice (runs s k valid t v u))))
     where
       twice : (b : Bool) → not (not b) ≡ b
       twice true = refl
@@ -89,7 +89,7 @@ module _ (s : Skeleton) (k : IsSkeleton s) (valid : (c : ℕ) → c < s.edges.co
   -- across gluings
   pub point_across : (t v u t' v' u' j : ℕ) → IsEdge s k valid t v u → IsEdge s k valid t' v' u' → IsJoined s.rows (pair t v u) (pair t' v' u') → point t v u j ≡ point t' v' u' j
   unfolding point wide
-  point_across t v u t' v' u' j e e' h = λ i. piece_number weights (piece_at (one_class s k valid t v u t' v' u' e e' h i) (place_if (one_run s k valid t v u t' v' u' e e' h i) (slice_index weights (one_class s k valid t v u t' v' u' e e' h i)) j))
+  point_across t v u t' v' u' j e e' h = λ i. disc_number weights (piece_at (one_class s k valid t v u t' v' u' e e' h i) (place_if (one_run s k valid t v u t' v' u' e e' h i) (slice_index weights (one_class s k valid t v u t' v' u' e e' h i)) j))
 
   -- each point is there
   pub record IsPoint (x : ℕ) : Type 0 where
@@ -101,16 +101,16 @@ module _ (s : Skeleton) (k : IsSkeleton s) (valid : (c : ℕ) → c < s.edges.co
     pub inside : j < wide t v u
     pub is : point t v u j ≡ x
 
-  pub is_point : (x : ℕ) → x < length (pieces_of weights) → IsPoint x
+  pub is_point : (x : ℕ) → x < length (discs_of weights) → IsPoint x
   unfolding point wide class
   is_point x l =
-      let p : SurfacePiece = slice_index_or (pieces_of weights) x no_piece in
-      let h : IsPieceOf weights (slice_index_or (pieces_of weights) x no_piece) = listed_piece weights x no_piece l in
-      let c : ℕ = (slice_index_or (pieces_of weights) x no_piece).column in
-      let lc : (slice_index_or (pieces_of weights) x no_piece).column < s.edges.count = let hc = h.column in let e = weights_length in omega arith in
+      let p : NormalDisc = slice_index_or (discs_of weights) x no_piece in
+      let h : IsPieceOf weights (slice_index_or (discs_of weights) x no_piece) = listed_piece weights x no_piece l in
+      let c : ℕ = (slice_index_or (discs_of weights) x no_piece).column in
+      let lc : (slice_index_or (discs_of weights) x no_piece).column < s.edges.count = let hc = h.column in let e = weights_length in omega arith in
       let i : ℕ = least s.edges.classes c in
-      let li : least s.edges.classes (slice_index_or (pieces_of weights) x no_piece).column < 6 * n = start_below s.rows k.table s.edges.classes s.edges.count k.edges c lc in
-      let le : least s.edges.classes (slice_index_or (pieces_of weights) x no_piece).column % 6 < 6 = omega arith in
+      let li : least s.edges.classes (slice_index_or (discs_of weights) x no_piece).column < 6 * n = start_below s.rows k.table s.edges.classes s.edges.count k.edges c lc in
+      let le : least s.edges.classes (slice_index_or (discs_of weights) x no_piece).column % 6 < 6 = omega arith in
       let ends_are = are_ends (i % 6) le in
       let at : 6 * (i / 6) + edge_number (low (i % 6)) (high (i % 6)) ≡ i = let q = edge_number-ends (i % 6) le in omega arith in
       let same : slice_index s.edges.classes (6 * (i / 6) + edge_number (low (i % 6)) (high (i % 6))) ≡ c = ap (slice_index s.edges.classes) at ∙ start_class s.rows k.table s.edges.classes s.edges.count k.edges c lc in
@@ -124,6 +124,6 @@ module _ (s : Skeleton) (k : IsSkeleton s) (valid : (c : ℕ) → c < s.edges.co
         j = place_if b m p.number;
         edge = record { lt = omega arith; lv = ends_are.lower; lu = ends_are.higher; ne = ends_are.apart };
         inside = subst (λ z. place_if b m p.number < slice_index weights z) (sym same) (place_below b m p.number lj);
-        is = (λ y. piece_number weights (piece_at (same y) (place_if b (slice_index weights (same y)) (place_if b m p.number))))
-            ∙ ap (λ z. piece_number weights (piece_at c z)) (place_twice b m p.number lj) ∙ number-piece weights x no_piece l;
+        is = (λ y. disc_number weights (piece_at (same y) (place_if b (slice_index weights (same y)) (place_if b m p.number))))
+            ∙ ap (λ z. disc_number weights (piece_at c z)) (place_twice b m p.number lj) ∙ number-piece weights x no_piece l;
       }

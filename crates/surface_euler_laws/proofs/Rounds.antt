@@ -5,7 +5,7 @@ use Rattle.std.proofs.lemmas.Bool.{cases_lt, cases_eq}
 use Rattle.skeleton_definitions.specs.Skeleton.{Skeleton, IsSkeleton, IsValidClass}
 use Rattle.surface_definitions.specs.Coordinates.{columns_each, tri_column, quad_column, keeping, octagon_arcs}
 use Rattle.surface_definitions.specs.declared.Coords.{Coords}
-use Rattle.surface_definitions.specs.Pieces.{SurfacePiece, arcs_round, type_in, keeps_by_zero}
+use Rattle.surface_definitions.specs.Pieces.{NormalDisc, arcs_around, type_in, keeps_by_zero}
 use Rattle.surface_laws.specs.PieceLaws.{IsSurface, first_nonzero}
 use Rattle.surface_laws.proofs.ArcPieces.{from_end, from_end_twice}
 use Rattle.surface_laws.proofs.PieceNumbers.{piece_at}
@@ -40,20 +40,20 @@ module _ (s : Skeleton) (k : IsSkeleton s) (valid : (c : ℕ) → c < s.edges.co
       ∙ sym (arc_is s k valid coords xs surface t lt h (col_at v f) x.o x.i x.lo x.type_is x.li v f u w four refl)
       ∙ ap (piece s k valid coords xs surface t lt h f v) x.at_is
 
-  in_range : (v f u w j : ℕ) → Four v f u w → (x : IsFurther s k valid coords xs surface t lt h v f j) → (v' f' u' w' : ℕ) → Four v' f' u' w' → behind_type coords xs t (keeping v' f') ≡ col_at v f → place x v' < arcs_round coords xs t f' v'
+  in_range : (v f u w j : ℕ) → Four v f u w → (x : IsFurther s k valid coords xs surface t lt h v f j) → (v' f' u' w' : ℕ) → Four v' f' u' w' → behind_type coords xs t (keeping v' f') ≡ col_at v f → place x v' < arcs_around coords xs t f' v'
   in_range v f u w j four x v' f' u' w' other e = arc_there s k valid coords xs surface t lt h (col_at v f) x.o x.i x.lo x.type_is x.li v' f' u' w' other e
 
   -- the other sides of the piece of an arc have ends of one colour
   abbrev pub OthersAgree : ℕ → ℕ → ℕ → Type 0
   OthersAgree v f j =
-      (v' f' u' w' j' : ℕ) → Four v' f' u' w' → j' < arcs_round coords xs t f' v' → piece s k valid coords xs surface t lt h f' v' j' ≡ piece s k valid coords xs surface t lt h f v j → (v' ≢ v) ⊎ (f' ≢ f)
+      (v' f' u' w' j' : ℕ) → Four v' f' u' w' → j' < arcs_around coords xs t f' v' → piece s k valid coords xs surface t lt h f' v' j' ≡ piece s k valid coords xs surface t lt h f v j → (v' ≢ v) ⊎ (f' ≢ f)
       → colour s k valid coords xs surface t lt h v' u' j' ≡ colour s k valid coords xs surface t lt h v' w' j'
 
   abbrev c : ℕ → ℕ → ℕ → Bool
   c v u j = colour s k valid coords xs surface t lt h v u j
 
   -- so the arc has
-  pub lead_round : (v f u w j : ℕ) → Four v f u w → j < arcs_round coords xs t f v → OthersAgree v f j → c v u j ≡ c v w j
+  pub lead_round : (v f u w j : ℕ) → Four v f u w → j < arcs_around coords xs t f v → OthersAgree v f j → c v u j ≡ c v w j
   lead_round v f u w j four l others = elim (cases_lt j (tri v)) [
     | inl low ↦ (let one = triangle u f w (middle_two v f u w four) (λ q. four.uf (sym q)) low in
         let two = triangle w f u (middle_two v f w u (last_two v f u w four)) (λ q. four.uw (sym q)) low in
@@ -94,7 +94,7 @@ module _ (s : Skeleton) (k : IsSkeleton s) (valid : (c : ℕ) → c < s.edges.co
               sym (beside u w f b (λ q. four.uf (sym q)) (g (keeping v u) (type_below v u w f b) (λ q. other_type v u w f b (q ∙ e))) ∙ way w f u a e)
 
   -- where each arc of the tetrahedron has ends of one colour, the arcs of a piece have one
-  module _ (all : (v f u w j : ℕ) → Four v f u w → j < arcs_round coords xs t f v → c v u j ≡ c v w j) where
+  module _ (all : (v f u w j : ℕ) → Four v f u w → j < arcs_around coords xs t f v → c v u j ≡ c v w j) where
     record HasPartner (o v : ℕ) : Type 0 where
       p : ℕ
       a : ℕ
@@ -109,15 +109,15 @@ module _ (s : Skeleton) (k : IsSkeleton s) (valid : (c : ℕ) → c < s.edges.co
       | inr (inr e) ↦ record { p = w; a = f; b = u; round = middle_two v f w u (last_two v f u w four); is = e }
     ]
 
-    pub one_colour_each : (v f u w j v' f' u' w' j' : ℕ) → Four v f u w → Four v' f' u' w' → j < arcs_round coords xs t f v → j' < arcs_round coords xs t f' v'
+    pub one_colour_each : (v f u w j v' f' u' w' j' : ℕ) → Four v f u w → Four v' f' u' w' → j < arcs_around coords xs t f v → j' < arcs_around coords xs t f' v'
         → piece s k valid coords xs surface t lt h f v j ≡ piece s k valid coords xs surface t lt h f' v' j' → c v u j ≡ c v' u' j'
     one_colour_each v f u w j v' f' u' w' j' four four' l l' same = by_cases (cases_lt j (tri v)) (cases_lt j' (tri v'))
       where
-        column : {p q : SurfacePiece} → p ≡ q → p.column ≡ q.column
-        column e = ap (λ (r : SurfacePiece). r.column) e
+        column : {p q : NormalDisc} → p ≡ q → p.column ≡ q.column
+        column e = ap (λ (r : NormalDisc). r.column) e
 
-        number : {p q : SurfacePiece} → p ≡ q → p.number ≡ q.number
-        number e = ap (λ (r : SurfacePiece). r.number) e
+        number : {p q : NormalDisc} → p ≡ q → p.number ≡ q.number
+        number e = ap (λ (r : NormalDisc). r.number) e
 
         -- round one triangle
         round_one : (z y : ℕ) → z ≡ v → y ≡ j → Four z f' u' w' → j < tri v → c v u j ≡ c z u' y

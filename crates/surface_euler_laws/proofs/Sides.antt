@@ -5,7 +5,7 @@ use Rattle.std.proofs.lemmas.Bool.{cases_eq}
 use Rattle.skeleton_definitions.specs.Skeleton.{Skeleton, IsSkeleton, IsValidClass}
 use Rattle.surface_definitions.specs.Coordinates.{tri_column, quad_column, keeping}
 use Rattle.surface_definitions.specs.declared.Coords.{Coords}
-use Rattle.surface_definitions.specs.Pieces.{SurfacePiece, arcs_round, type_in, keeps_by_zero, piece_of}
+use Rattle.surface_definitions.specs.Pieces.{NormalDisc, arcs_around, type_in, keeps_by_zero, disc_of}
 use Rattle.surface_laws.specs.PieceLaws.{IsSurface, first_nonzero}
 use Rattle.surface_laws.proofs.ArcPieces.{from_end, from_end_below, from_end_twice, triangle_piece, behind_piece}
 use Rattle.surface_laws.proofs.MeetingArcs.{arc_at}
@@ -28,10 +28,10 @@ module _ (s : Skeleton) (k : IsSkeleton s) (valid : (c : ℕ) → c < s.edges.co
   abbrev pub behind : ℕ → ℕ
   behind i = behind_type coords xs t i
 
-  abbrev pub piece : ℕ → ℕ → ℕ → SurfacePiece
-  piece f v j = piece_of coords xs (arc_at t f v j)
+  abbrev pub piece : ℕ → ℕ → ℕ → NormalDisc
+  piece f v j = disc_of coords xs (arc_at t f v j)
 
-  pub arcs_are : (v f u w : ℕ) → Four v f u w → arcs_round coords xs t f v ≡ tris v + slice_index xs (behind (keeping v f))
+  pub arcs_are : (v f u w : ℕ) → Four v f u w → arcs_around coords xs t f v ≡ tris v + slice_index xs (behind (keeping v f))
   arcs_are v f u w four = arcs_by_type s.rows coords xs surface t f v lt four.lu four.lv four.vu
 
   pub low_piece : (v f u w j : ℕ) → Four v f u w → j < tris v → piece f v j ≡ piece_at (tri_column coords t v) j
@@ -62,7 +62,7 @@ module _ (s : Skeleton) (k : IsSkeleton s) (valid : (c : ℕ) → c < s.edges.co
     abbrev pub Kind : Type 0
     Kind = HasArc o ⊎ ((j : ℕ) → j < 3 → j ≢ o → HasArc j)
 
-    pub arc_there : (v f u w : ℕ) → Four v f u w → HasArc (keeping v f) → at v < arcs_round coords xs t f v
+    pub arc_there : (v f u w : ℕ) → Four v f u w → HasArc (keeping v f) → at v < arcs_around coords xs t f v
     arc_there v f u w four e =
         let l = from_end_below (slice_index xs col) (keeps_by_zero o v) i li in
         let m = arcs_are v f u w four in

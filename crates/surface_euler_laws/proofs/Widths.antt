@@ -13,7 +13,7 @@ use Rattle.table_definitions.proofs.TableLaws.{Among}
 use Rattle.surface_definitions.specs.Coordinates.{tri_column, quad_column, keeping}
 use Rattle.surface_definitions.specs.Characteristic.{weight}
 use Rattle.surface_definitions.specs.declared.Coords.{Coords}
-use Rattle.surface_definitions.specs.Pieces.{arcs_round}
+use Rattle.surface_definitions.specs.Pieces.{arcs_around}
 use Rattle.surface_laws.specs.PieceLaws.{IsSurface, first_nonzero}
 use Rattle.surface_laws.proofs.ArcPieces.{arcs_are}
 use Rattle.surface_laws.proofs.Glued.{IsGlued, glued_is}
@@ -44,14 +44,14 @@ four_by (suc (suc (suc (suc (suc (suc e)))))) l = absurd (omega arith)
 
 module _ (rows : List Row) (coords : Coords) (xs : List ℕ) (s : IsSurface rows coords xs) where
   -- the arcs round v in face f
-  pub arcs_by_type : (t f v : ℕ) → t < length rows → f < 4 → v < 4 → v ≢ f → arcs_round coords xs t f v ≡ slice_index xs (tri_column coords t v) + slice_index xs (behind_type coords xs t (keeping v f))
+  pub arcs_by_type : (t f v : ℕ) → t < length rows → f < 4 → v < 4 → v ≢ f → arcs_around coords xs t f v ≡ slice_index xs (tri_column coords t v) + slice_index xs (behind_type coords xs t (keeping v f))
   arcs_by_type t f v lt lf lv off =
       arcs_are coords (length rows) xs s.triangles s.admissible t f v lt lf lv off xs (λ c z. z)
       ∙ ap (λ os. slice_index xs (tri_column coords t v) + slice_index xs (first_nonzero xs os (quad_column coords t (keeping v f)))) (octagons_are coords t f v)
 
   -- the arcs of face f at the edge from v to u
   abbrev pub width : ℕ → ℕ → ℕ → ℕ → ℕ
-  width t f v u = arcs_round coords xs t f v + arcs_round coords xs t f u
+  width t f v u = arcs_around coords xs t f v + arcs_around coords xs t f u
 
   pub width_by_type : (t v u f w : ℕ) → t < length rows → Four v u f w → width t f v u ≡ slice_index xs (tri_column coords t v) + slice_index xs (tri_column coords t u)
       + (slice_index xs (behind_type coords xs t (keeping v f)) + slice_index xs (behind_type coords xs t (keeping u f)))

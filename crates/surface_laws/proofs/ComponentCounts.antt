@@ -10,22 +10,22 @@ use Rattle.table_definitions.specs.Lists.{below}
 use Rattle.table_definitions.specs.Table.{Row}
 use Rattle.table_definitions.proofs.TableLaws.{Among}
 use Rattle.surface_definitions.specs.declared.Coords.{Coords}
-use Rattle.surface_definitions.specs.Pieces.{SurfacePiece, pieces_of, piece_number, is_counted, component_vector, AreComponents}
+use Rattle.surface_definitions.specs.Pieces.{NormalDisc, discs_of, disc_number, is_counted, component_vector, AreComponents}
 use Rattle.surface_laws.proofs.Counting.{sum_by_same, sum_by-none, sum_by-map, sum_by-flat_map, sum_swap, one_term, over_places}
 use Rattle.table_definitions.proofs.Listed.{below-among}
 use Rattle.surface_laws.proofs.PieceNumbers.{piece_at, no_piece, of_column, number-piece, IsFound, piece_found}
 
 -- 1 for a piece of the component, and else 0
-abbrev pub belongs : List ℕ → List ℕ → ℕ → SurfacePiece → ℕ
-belongs xs components i p = cond (slice_index components (piece_number xs p) == i) 1 0
+abbrev pub belongs : List ℕ → List ℕ → ℕ → NormalDisc → ℕ
+belongs xs components i p = cond (slice_index components (disc_number xs p) == i) 1 0
 
 -- the number of the column's pieces in the component
 abbrev pub in_column : List ℕ → List ℕ → ℕ → ℕ → ℕ
 in_column xs components i c = sum_by (λ j. belongs xs components i (piece_at c j)) (below (slice_index xs c))
 
-module _ (xs components : List ℕ) (one_each : length components ≡ length (pieces_of xs)) (i : ℕ) where
-  of_both : ℕ → SurfacePiece → ℕ
-  of_both c p = cond ((p.column == c) && (slice_index components (piece_number xs p) == i)) 1 0
+module _ (xs components : List ℕ) (one_each : length components ≡ length (discs_of xs)) (i : ℕ) where
+  of_both : ℕ → NormalDisc → ℕ
+  of_both c p = cond ((p.column == c) && (slice_index components (disc_number xs p) == i)) 1 0
 
   at_column : (c : ℕ) → c < length xs → slice_index (component_vector xs components i) c ≡ count_by (is_counted xs components i c) (below (length components))
   at_column c l =
@@ -34,14 +34,14 @@ module _ (xs components : List ℕ) (one_each : length components ≡ length (pi
       get_or-map (λ c. count_by (is_counted xs components i c) (below (length components))) (below (length xs)) c 0 0 inside
       ∙ ap (λ k. count_by (is_counted xs components i k) (below (length components))) at
 
-  over_pieces : (c : ℕ) → count_by (is_counted xs components i c) (below (length components)) ≡ sum_by (of_both c) (pieces_of xs)
+  over_pieces : (c : ℕ) → count_by (is_counted xs components i c) (below (length components)) ≡ sum_by (of_both c) (discs_of xs)
   unfolding of_both
   over_pieces c =
       ap (λ n. count_by (is_counted xs components i c) (below n)) one_each
-      ∙ over_places (of_both c) (λ k. cond (is_counted xs components i c k) 1 0) no_piece (pieces_of xs)
-      (λ k l. ap (λ m. cond (((slice_index_or (pieces_of xs) k no_piece).column == c) && (slice_index components m == i)) 1 0) (sym (number-piece xs k no_piece l)))
+      ∙ over_places (of_both c) (λ k. cond (is_counted xs components i c k) 1 0) no_piece (discs_of xs)
+      (λ k l. ap (λ m. cond (((slice_index_or (discs_of xs) k no_piece).column == c) && (slice_index components m == i)) 1 0) (sym (number-piece xs k no_piece l)))
 
-  by_columns : (c : ℕ) → sum_by (of_both c) (pieces_of xs) ≡ sum_by (λ d. sum_by (λ j. of_both c (piece_at d j)) (below (slice_index xs d))) (below (length xs))
+  by_columns : (c : ℕ) → sum_by (of_both c) (discs_of xs) ≡ sum_by (λ d. sum_by (λ j. of_both c (piece_at d j)) (below (slice_index xs d))) (below (length xs))
   by_columns c =
       sum_by-flat_map (of_both c) (of_column xs) (below (length xs))
       ∙ sum_by_same (λ d. sum_by (of_both c) (of_column xs d)) (λ d. sum_by (λ j. of_both c (piece_at d j)) (below (slice_index xs d))) (below (length xs))
@@ -51,13 +51,13 @@ module _ (xs components : List ℕ) (one_each : length components ≡ length (pi
   unfolding of_both
   elsewhere c d apart =
       sum_by-none (λ j. of_both c (piece_at d j)) (below (slice_index xs d))
-      (λ j m. ap (λ b. cond (b && (slice_index components (piece_number xs (piece_at d j)) == i)) 1 0) (ne_eqb d c apart))
+      (λ j m. ap (λ b. cond (b && (slice_index components (disc_number xs (piece_at d j)) == i)) 1 0) (ne_eqb d c apart))
 
   here : (c : ℕ) → sum_by (λ j. of_both c (piece_at c j)) (below (slice_index xs c)) ≡ in_column xs components i c
   unfolding of_both
   here c =
       sum_by_same (λ j. of_both c (piece_at c j)) (λ j. belongs xs components i (piece_at c j)) (below (slice_index xs c))
-      (λ j m. ap (λ b. cond (b && (slice_index components (piece_number xs (piece_at c j)) == i)) 1 0) (eq-eqb c c refl))
+      (λ j m. ap (λ b. cond (b && (slice_index components (disc_number xs (piece_at c j)) == i)) 1 0) (eq-eqb c c refl))
 
   pub component_entry : (c : ℕ) → c < length xs → slice_index (component_vector xs components i) c ≡ in_column xs components i c
   component_entry c l =
@@ -100,8 +100,8 @@ components_add_up rows coords xs components count h c = elim (cases_lt c (length
     in_one : (c j : ℕ) → c < length xs → j < slice_index xs c → sum_by (λ i. belongs xs components i (piece_at c j)) (below count) ≡ 1
     in_one c j l m =
         let f : IsFound xs (piece_at c j) = piece_found xs (piece_at c j) (record { column = l; number = m }) in
-        let k : ℕ = slice_index components (piece_number xs (piece_at c j)) in
-        let lk : k < count = h.in_range (piece_number xs (piece_at c j)) f.in_range in
+        let k : ℕ = slice_index components (disc_number xs (piece_at c j)) in
+        let lk : k < count = h.in_range (disc_number xs (piece_at c j)) f.in_range in
         one_term (λ i. cond (k == i) 1 0) k count (λ i apart. ap (λ b. cond b 1 0) (ne_eqb k i (λ e. apart (sym e)))) lk ∙ ap (λ b. cond b 1 0) (eq-eqb k k refl)
 
 -- one component is the whole

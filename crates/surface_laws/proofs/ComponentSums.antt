@@ -10,7 +10,7 @@ use Rattle.skeleton_definitions.specs.Links.{is_first_side}
 use Rattle.skeleton_definitions.specs.Skeleton.{Skeleton}
 use Rattle.surface_definitions.specs.Coordinates.{arc_columns}
 use Rattle.surface_definitions.specs.declared.Coords.{Coords}
-use Rattle.surface_definitions.specs.Pieces.{arcs_round, AreComponents, component_vector}
+use Rattle.surface_definitions.specs.Pieces.{arcs_around, AreComponents, component_vector}
 use Rattle.surface_definitions.specs.Characteristic.{crossings, weight, points, arcs_in, arcs}
 use Rattle.surface_laws.specs.CharacteristicLaws.{ComponentSumsAre}
 use Rattle.surface_laws.proofs.Counting.{sum_by_same, sum_swap, over_places}
@@ -37,7 +37,7 @@ module _ (part : ℕ → List ℕ) (count : ℕ) (xs : List ℕ) (adds : (c : �
   parts_arcs : (coords : Coords) (rows : List Row) → AddsUp (λ ys. arcs rows coords ys)
   parts_arcs coords rows =
       over_many (λ (z : Face) ys. arcs_in coords ys z) (filter (λ z. is_first_side z (glue rows z)) (faces (length rows)))
-      (λ z. over_many (λ v ys. arcs_round coords ys z.tet z.face v) (others z.face) (λ v. over_columns (arc_columns coords z.tet z.face v)))
+      (λ z. over_many (λ v ys. arcs_around coords ys z.tet z.face v) (others z.face) (λ v. over_columns (arc_columns coords z.tet z.face v)))
 
   sum_is : (ys : List ℕ) → length ys ≡ length xs → sum ys ≡ sum_by (slice_index ys) (below (length xs))
   sum_is ys w = sym (ap (λ n. sum_by (slice_index ys) (below n)) (sym w) ∙ over_places (λ (k : ℕ). k) (slice_index ys) 0 ys (λ i l. refl))

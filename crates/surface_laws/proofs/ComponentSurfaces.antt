@@ -9,7 +9,7 @@ use Rattle.table_definitions.proofs.TableLaws.{Among}
 use Rattle.surface_definitions.specs.Coordinates.{clash_list}
 use Rattle.surface_definitions.specs.declared.Coords.{Coords}
 use Rattle.surface_definitions.specs.Equations.{glued_pairs}
-use Rattle.surface_definitions.specs.Pieces.{SurfacePiece, pieces_of, piece_number, Arc, arcs_round, arc_across, piece_of, Meets, ArcsLead, AreComponents, component_vector}
+use Rattle.surface_definitions.specs.Pieces.{NormalDisc, discs_of, disc_number, Arc, arcs_around, arc_across, disc_of, Meets, ArcsLead, AreComponents, component_vector}
 use Rattle.surface_laws.specs.PieceLaws.{IsSurface, face_of_arc, MeetsBack, IsPieceOf}
 use Rattle.surface_laws.proofs.Glued.{IsGlued, glued_is}
 use Rattle.table_definitions.proofs.PermutationLaws.{image_below, images_apart}
@@ -24,7 +24,7 @@ use Rattle.table_definitions.proofs.Listed.{among_contains, below-among}
 
 module _ (rows : List Row) (coords : Coords) (xs : List ℕ) (s : IsSurface rows coords xs) where
   -- the piece of an arc
-  pub piece_there : (a : Arc) (g : Gluing) → Meets rows coords xs a g → IsPieceOf xs (piece_of coords xs a)
+  pub piece_there : (a : Arc) (g : Gluing) → Meets rows coords xs a g → IsPieceOf xs (disc_of coords xs a)
   piece_there a g m =
       let i : IsGlued rows (face_of_arc a) g = glued_is rows (face_of_arc a) g s.table m.glued in
       arc_piece coords (length rows) xs s.triangles s.admissible a.tet a.face a.vertex m.in_range i.face m.is_vertex m.off_vertex a.place m.there
@@ -32,39 +32,39 @@ module _ (rows : List Row) (coords : Coords) (xs : List ℕ) (s : IsSurface rows
   module _ (components : List ℕ) (count : ℕ) (h : AreComponents rows coords xs components count) where
     -- meeting arcs are of one component
     pub one_component : (a : Arc) (g : Gluing) → Meets rows coords xs a g
-        → slice_index components (piece_number xs (piece_of coords xs a)) ≡ slice_index components (piece_number xs (piece_of coords xs (arc_across g a)))
+        → slice_index components (disc_number xs (disc_of coords xs a)) ≡ slice_index components (disc_number xs (disc_of coords xs (arc_across g a)))
     one_component a g m =
         let b : MeetsBack rows coords xs a g = meets_back rows coords xs s a g m in
-        let p : SurfacePiece = piece_of coords xs a in
-        let q : SurfacePiece = piece_of coords xs (arc_across g a) in
+        let p : NormalDisc = disc_of coords xs a in
+        let q : NormalDisc = disc_of coords xs (arc_across g a) in
         let fp : IsFound xs p = piece_found xs p (piece_there a g m) in
         let fq : IsFound xs q = piece_found xs q (piece_there (arc_across g a) (way_back (face_of_arc a) g) b.meets) in
-        let leads : ArcsLead rows coords xs (slice_index_or (pieces_of xs) (piece_number xs p) no_piece) (a ∷ []) (slice_index_or (pieces_of xs) (piece_number xs q) no_piece) = (g, m, sym fp.there, sym fq.there) in
-        (h.together (piece_number xs p) (piece_number xs q) fp.in_range fq.in_range).1 (a ∷ [], leads)
+        let leads : ArcsLead rows coords xs (slice_index_or (discs_of xs) (disc_number xs p) no_piece) (a ∷ []) (slice_index_or (discs_of xs) (disc_number xs q) no_piece) = (g, m, sym fp.there, sym fq.there) in
+        (h.together (disc_number xs p) (disc_number xs q) fp.in_range fq.in_range).1 (a ∷ [], leads)
 
     module _ (i : ℕ) where
       abbrev ys : List ℕ
       ys = component_vector xs components i
 
       -- as many of the component's arcs on both sides of a gluing
-      component_matched : (x : Face) (g : Gluing) (v : ℕ) → glue rows x ≡ Some g → v < 4 → (v ≡ x.face → ⊥) → arcs_round coords ys x.tet x.face v ≡ arcs_round coords ys g.tet (image g.perm x.face) (image g.perm v)
+      component_matched : (x : Face) (g : Gluing) (v : ℕ) → glue rows x ≡ Some g → v < 4 → (v ≡ x.face → ⊥) → arcs_around coords ys x.tet x.face v ≡ arcs_around coords ys g.tet (image g.perm x.face) (image g.perm v)
       component_matched x g v e lv off =
           let into : IsGlued rows x g = glued_is rows x g s.table e in
           let w : ℕ = image g.perm v in
           let f : ℕ = image g.perm x.face in
-          let n : ℕ = arcs_round coords xs x.tet x.face v in
-          let same : n ≡ arcs_round coords xs g.tet f w = as_many rows coords xs s x g v e lv off in
+          let n : ℕ = arcs_around coords xs x.tet x.face v in
+          let same : n ≡ arcs_around coords xs g.tet f w = as_many rows coords xs s x g v e lv off in
           let lw : w < 4 = image_below g.perm v into.permutes lv in
           let off_too : w ≡ f → ⊥ = images_apart g.perm v x.face into.permutes lv into.face off in
-          let one : arcs_round coords ys x.tet x.face v ≡ sum_by (λ k. belongs xs components i (piece_of coords xs (arc_at x.tet x.face v k))) (below n) =
+          let one : arcs_around coords ys x.tet x.face v ≡ sum_by (λ k. belongs xs components i (disc_of coords xs (arc_at x.tet x.face v k))) (below n) =
           component_arcs coords (length rows) xs s.triangles s.admissible x.tet x.face v into.tet into.face lv off components h.one_each i in
-          let other : arcs_round coords ys g.tet f w ≡ sum_by (λ k. belongs xs components i (piece_of coords xs (arc_at g.tet f w k))) (below (arcs_round coords xs g.tet f w)) =
+          let other : arcs_around coords ys g.tet f w ≡ sum_by (λ k. belongs xs components i (disc_of coords xs (arc_at g.tet f w k))) (below (arcs_around coords xs g.tet f w)) =
           component_arcs coords (length rows) xs s.triangles s.admissible g.tet f w into.other_tet into.other_face lw off_too components h.one_each i in
-          let meeting : (k : ℕ) → Among k (below n) → belongs xs components i (piece_of coords xs (arc_at x.tet x.face v k)) ≡ belongs xs components i (piece_of coords xs (arc_at g.tet f w k)) =
+          let meeting : (k : ℕ) → Among k (below n) → belongs xs components i (disc_of coords xs (arc_at x.tet x.face v k)) ≡ belongs xs components i (disc_of coords xs (arc_at g.tet f w k)) =
           λ k a. ap (λ c. cond (c == i) 1 0) (one_component (arc_at x.tet x.face v k) g (record { in_range = into.tet; is_vertex = lv; off_vertex = off; there = below-among k n a; glued = e })) in
           one
-          ∙ sum_by_same (λ k. belongs xs components i (piece_of coords xs (arc_at x.tet x.face v k))) (λ k. belongs xs components i (piece_of coords xs (arc_at g.tet f w k))) (below n) meeting
-          ∙ ap (λ m. sum_by (λ k. belongs xs components i (piece_of coords xs (arc_at g.tet f w k))) (below m)) same ∙ sym other
+          ∙ sum_by_same (λ k. belongs xs components i (disc_of coords xs (arc_at x.tet x.face v k))) (λ k. belongs xs components i (disc_of coords xs (arc_at g.tet f w k))) (below n) meeting
+          ∙ ap (λ m. sum_by (λ k. belongs xs components i (disc_of coords xs (arc_at g.tet f w k))) (below m)) same ∙ sym other
 
       pub component_surface : IsSurface rows coords ys
       component_surface = record {

@@ -6,14 +6,14 @@ use Rattle.table_definitions.specs.Table.{Row, IsTable}
 use Rattle.surface_definitions.specs.Coordinates.{columns, clash_list}
 use Rattle.surface_definitions.specs.declared.Coords.{Coords}
 use Rattle.surface_definitions.specs.declared.Coords.TheVariants.{Standard, Quad, Octagon}
-use Rattle.surface_definitions.specs.Laws.{IsAccepted}
+use Rattle.surface_definitions.specs.Laws.{IsAcceptedVector}
 use Rattle.surface_definitions.specs.QuadEquations.{AreEquations}
 use Rattle.surface_definitions.proofs.VerdictLaws.{accepted_by}
 use Rattle.surface_vector_definitions.specs.Answers.{IsFit}
 use Rattle.surface_laws.specs.PieceLaws.{IsSurface}
 
 pub fit_accepted : (coords : Coords) (rows : List Row) (equations : List EquationRow) (xs : List ℕ) → IsFit coords rows equations xs
-    → IsAccepted limit (columns coords (length rows)) equations (clash_list coords (length rows)) xs
+    → IsAcceptedVector limit (columns coords (length rows)) equations (clash_list coords (length rows)) xs
 fit_accepted coords rows equations xs e = accepted_by limit (columns coords (length rows)) equations (clash_list coords (length rows)) xs e
 
 pub surface_is : (coords : Coords) (rows : List Row) (equations : List EquationRow) (xs : List ℕ) → coords ≢ Quad → IsTable rows → AreEquations coords rows equations

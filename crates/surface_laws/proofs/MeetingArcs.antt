@@ -4,7 +4,7 @@ use Rattle.table_definitions.specs.Permutation.{image}
 use Rattle.table_definitions.specs.Table.{Gluing, Row, Face, glue}
 use Rattle.table_definitions.proofs.PermutationLaws.{image_below, image-of_inverse, images_apart}
 use Rattle.surface_definitions.specs.declared.Coords.{Coords}
-use Rattle.surface_definitions.specs.Pieces.{Arc, arcs_round, Meets}
+use Rattle.surface_definitions.specs.Pieces.{Arc, arcs_around, Meets}
 use Rattle.surface_laws.specs.PieceLaws.{IsSurface, face_of_arc, MeetsBack}
 use Rattle.surface_laws.proofs.Glued.{IsGlued, glued_is}
 use Rattle.surface_laws.proofs.Solved.{solved}
@@ -14,7 +14,7 @@ arc_at t f v k = record { tet = t; face = f; vertex = v; place = k }
 
 module _ (rows : List Row) (coords : Coords) (xs : List ℕ) (s : IsSurface rows coords xs) where
   -- as many arcs on both sides of a gluing
-  pub as_many : (x : Face) (g : Gluing) (v : ℕ) → glue rows x ≡ Some g → v < 4 → (v ≡ x.face → ⊥) → arcs_round coords xs x.tet x.face v ≡ arcs_round coords xs g.tet (image g.perm x.face) (image g.perm v)
+  pub as_many : (x : Face) (g : Gluing) (v : ℕ) → glue rows x ≡ Some g → v < 4 → (v ≡ x.face → ⊥) → arcs_around coords xs x.tet x.face v ≡ arcs_around coords xs g.tet (image g.perm x.face) (image g.perm v)
   as_many x g v e lv off = solved rows coords xs s.table s.triangles s.solves x g v e lv off
 
   pub meets_back : (a : Arc) (g : Gluing) → Meets rows coords xs a g → MeetsBack rows coords xs a g

@@ -7,7 +7,7 @@ use Rattle.std.proofs.lemmas.List.Sums.{sum_by_more_le}
 use Rattle.std.proofs.lemmas.List.Concat.{length-flat_map, get_or-flat_map}
 use Rattle.std.proofs.lemmas.List.FromFn.{length-range_with_len, get_or-range_with_len}
 use Rattle.table_definitions.specs.Lists.{below}
-use Rattle.surface_definitions.specs.Pieces.{SurfacePiece, pieces_of, piece_number}
+use Rattle.surface_definitions.specs.Pieces.{NormalDisc, discs_of, disc_number}
 use Rattle.surface_laws.specs.PieceLaws.{ArePieceNumbers}
 use Rattle.surface_laws.proofs.Counting.{sum_by_same, over_places}
 use Rattle.surface_laws.proofs.PieceNumbers.{piece_at, of_column, number-piece}
@@ -30,24 +30,24 @@ module _ (xs : List ℕ) where
       ap (λ n. sum_by (slice_index xs) (below n)) (sym many)
       ∙ over_places (λ (k : ℕ). k) (slice_index xs) 0 (take c xs) (λ i m. sym (get_or-take c xs i 0 (omega arith)))
 
-  length-pieces : length (pieces_of xs) ≡ sum xs
+  length-pieces : length (discs_of xs) ≡ sum xs
   length-pieces = length-columns (below (length xs)) ∙ over_places (λ (k : ℕ). k) (slice_index xs) 0 xs (λ i l. refl)
 
-  piece_there : (c j : ℕ) (d : SurfacePiece) → c < length xs → j < slice_index xs c → slice_index_or (pieces_of xs) (sum (take c xs) + j) d ≡ piece_at c j
+  piece_there : (c j : ℕ) (d : NormalDisc) → c < length xs → j < slice_index xs c → slice_index_or (discs_of xs) (sum (take c xs) + j) d ≡ piece_at c j
   piece_there c j d l m =
       let ks : List ℕ = below (length xs) in
       let inside : c < length ks = omega (arith, length-range_with_len 0 (length xs)) in
       let at : get_or ks c 0 ≡ c = get_or-range_with_len 0 (length xs) c 0 l ∙ omega arith in
       let column : of_column xs (get_or ks c 0) ≡ of_column xs c = ap (of_column xs) at in
-      let long : length (of_column xs (get_or ks c 0)) ≡ slice_index xs c = ap (λ (ps : List SurfacePiece). length ps) column ∙ length-column c in
+      let long : length (of_column xs (get_or ks c 0)) ≡ slice_index xs c = ap (λ (ps : List NormalDisc). length ps) column ∙ length-column c in
       let before : length (flat_map (of_column xs) (take c ks)) ≡ sum (take c xs) =
       ap (λ ns. length (flat_map (of_column xs) ns)) (take_range 0 (length xs) c (omega arith)) ∙ length-columns (below c) ∙ sum_before c (omega arith) in
       let inside_too : j < length (below (slice_index xs c)) = omega (arith, length-range_with_len 0 (slice_index xs c)) in
-      ap (λ k. slice_index_or (pieces_of xs) (k + j) d) (sym before) ∙ get_or-flat_map (of_column xs) ks c j 0 d inside (omega arith)
+      ap (λ k. slice_index_or (discs_of xs) (k + j) d) (sym before) ∙ get_or-flat_map (of_column xs) ks c j 0 d inside (omega arith)
       ∙ ap (λ ps. get_or ps j d) column ∙ get_or-map (λ j. piece_at c j) (below (slice_index xs c)) j 0 d inside_too
       ∙ ap (λ k. piece_at c k) (get_or-range_with_len 0 (slice_index xs c) j 0 m ∙ omega arith)
 
-  number_there : (c j : ℕ) → c < length xs → j < slice_index xs c → sum (take c xs) + j < length (pieces_of xs)
+  number_there : (c j : ℕ) → c < length xs → j < slice_index xs c → sum (take c xs) + j < length (discs_of xs)
   number_there c j l m =
       let whole : sum (take c xs) + slice_index xs c ≤ sum xs = sum_by_more_le (λ (k : ℕ). k) xs c 0 l in
       omega (arith, length-pieces)
@@ -56,5 +56,5 @@ module _ (xs : List ℕ) where
   piece_numbers = record {
     count = length-pieces;
     there = piece_there;
-    number = λ c j l m. ap (piece_number xs) (sym (piece_there c j (piece_at c j) l m)) ∙ number-piece xs (sum (take c xs) + j) (piece_at c j) (number_there c j l m);
+    number = λ c j l m. ap (disc_number xs) (sym (piece_there c j (piece_at c j) l m)) ∙ number-piece xs (sum (take c xs) + j) (piece_at c j) (number_there c j l m);
   }

@@ -11,7 +11,7 @@ use Rattle.table_definitions.specs.Table.{Gluing, Row, way_back}
 use Rattle.table_definitions.proofs.Permutations.{is_odd-inverse}
 use Rattle.skeleton_definitions.proofs.Signs.{says, says_behind}
 use Rattle.surface_definitions.specs.declared.Coords.{Coords}
-use Rattle.surface_definitions.specs.Pieces.{SurfacePiece, Arc, arc_across, piece_of, pieces_of, piece_number, Meets, ArcsLead, SamePiece, AreComponents, HasSigns, looks_positive, keeps_sides}
+use Rattle.surface_definitions.specs.Pieces.{NormalDisc, Arc, arc_across, disc_of, discs_of, disc_number, Meets, ArcsLead, SamePiece, AreComponents, HasSigns, looks_positive, keeps_sides}
 use Rattle.surface_laws.specs.PieceLaws.{IsSurface, face_of_arc, MeetsBack, IsFreePiece, turned_if}
 use Rattle.surface_laws.proofs.MeetingArcs.{meets_back}
 use Rattle.surface_laws.proofs.PieceNumbers.{no_piece, IsFound, piece_found, number-piece}
@@ -30,8 +30,8 @@ pub record SignedStep (rows : List Row) (coords : Coords) (xs : List ℕ) (stays
   pub arc : Arc
   pub gluing : Gluing
   pub meets : Meets rows coords xs arc gluing
-  pub one : piece_number xs (piece_of coords xs arc) ≡ k / 2
-  pub other : 2 * piece_number xs (piece_of coords xs (arc_across gluing arc)) + turned_if (stays arc gluing) (k % 2) ≡ l
+  pub one : disc_number xs (disc_of coords xs arc) ≡ k / 2
+  pub other : 2 * disc_number xs (disc_of coords xs (arc_across gluing arc)) + turned_if (stays arc gluing) (k % 2) ≡ l
 
 module _ (rows : List Row) (coords : Coords) (xs : List ℕ) (s : IsSurface rows coords xs) where
   -- whether sides are kept is the same from either side of a gluing
@@ -51,16 +51,16 @@ module _ (rows : List Row) (coords : Coords) (xs : List ℕ) (s : IsSurface rows
       (λ i. if odd i then sides_back a g m i else not (sides_back a g m i))
 
   -- the piece of an arc that meets another is one of the vector's
-  pub arc_found : (a : Arc) (g : Gluing) → Meets rows coords xs a g → IsFound xs (piece_of coords xs a)
-  arc_found a g m = piece_found xs (piece_of coords xs a) (piece_there rows coords xs s a g m)
+  pub arc_found : (a : Arc) (g : Gluing) → Meets rows coords xs a g → IsFound xs (disc_of coords xs a)
+  arc_found a g m = piece_found xs (disc_of coords xs a) (piece_there rows coords xs s a g m)
 
   module _ (stays : Arc → Gluing → Bool) (stays_back : (a : Arc) (g : Gluing) → Meets rows coords xs a g → stays (arc_across g a) (way_back (face_of_arc a) g) ≡ stays a g)
       (signed : ℕ → List ℕ) (step_of : (k l : ℕ) → Contains (signed k) l → SignedStep rows coords xs stays k l) (of_step : (k l : ℕ) → SignedStep rows coords xs stays k l → Contains (signed k) l) where
     abbrev n : ℕ
-    n = length (pieces_of xs)
+    n = length (discs_of xs)
 
     abbrev piece : Arc → ℕ
-    piece a = piece_number xs (piece_of coords xs a)
+    piece a = disc_number xs (disc_of coords xs a)
 
     parts : (q k l : ℕ) → k < 2 → 2 * q + k ≡ l → (l / 2 ≡ q) × (l % 2 ≡ k)
     parts q k l h e = (omega arith, omega arith)
@@ -108,14 +108,14 @@ module _ (rows : List Row) (coords : Coords) (xs : List ℕ) (s : IsSurface rows
           (numbered.together p q lp lq).1 (q ∷ [], (step, refl))
 
       -- along a chain of arcs the class of a piece with a sign is that of the last piece with some sign
-      class_along : (arcs : List Arc) (p q : SurfacePiece) (k : ℕ) → k < 2 → ArcsLead rows coords xs p arcs q
-          → (class_of (2 * piece_number xs p + k) ≡ class_of (2 * piece_number xs q + 0)) ⊎ (class_of (2 * piece_number xs p + k) ≡ class_of (2 * piece_number xs q + 1))
-      class_along [] p q zero l e = inl (ap (λ (u : SurfacePiece). class_of (2 * piece_number xs u + 0)) e)
-      class_along [] p q (suc zero) l e = inr (ap (λ (u : SurfacePiece). class_of (2 * piece_number xs u + 1)) e)
+      class_along : (arcs : List Arc) (p q : NormalDisc) (k : ℕ) → k < 2 → ArcsLead rows coords xs p arcs q
+          → (class_of (2 * disc_number xs p + k) ≡ class_of (2 * disc_number xs q + 0)) ⊎ (class_of (2 * disc_number xs p + k) ≡ class_of (2 * disc_number xs q + 1))
+      class_along [] p q zero l e = inl (ap (λ (u : NormalDisc). class_of (2 * disc_number xs u + 0)) e)
+      class_along [] p q (suc zero) l e = inr (ap (λ (u : NormalDisc). class_of (2 * disc_number xs u + 1)) e)
       class_along [] p q (suc (suc k)) l e = absurd (omega arith)
       class_along (a ∷ arcs) p q k l (g, m, e, h) =
-          let next : SurfacePiece = piece_of coords xs (arc_across g a) in
-          let here : class_of (2 * piece_number xs p + k) ≡ class_of (2 * piece_number xs next + turned_if (stays a g) k) = ap (λ (u : SurfacePiece). class_of (2 * piece_number xs u + k)) (sym e) ∙ class_across a g m k l in
+          let next : NormalDisc = disc_of coords xs (arc_across g a) in
+          let here : class_of (2 * disc_number xs p + k) ≡ class_of (2 * disc_number xs next + turned_if (stays a g) k) = ap (λ (u : NormalDisc). class_of (2 * disc_number xs u + k)) (sym e) ∙ class_across a g m k l in
           elim (class_along arcs next q (turned_if (stays a g) k) (turned_low (stays a g) k l) h) [ inl f ↦ inl (here ∙ f) | inr f ↦ inr (here ∙ f) ]
 
       module _ (components : List ℕ) (count : ℕ) (are : AreComponents rows coords xs components count) (i : ℕ) where
@@ -160,9 +160,9 @@ module _ (rows : List Row) (coords : Coords) (xs : List ℕ) (s : IsSurface rows
             from_start : (p : ℕ) → p < n → slice_index components p ≡ i → (class_of (2 * start.0 + 0) ≡ class_of (2 * p + 0)) ⊎ (class_of (2 * start.0 + 0) ≡ class_of (2 * p + 1))
             from_start p lp e =
                 let joined : SamePiece rows coords xs start.0 p = (are.together start.0 p start.1 lp).0 (start.2 ∙ sym e) in
-                let f : piece_number xs (slice_index_or (pieces_of xs) start.0 no_piece) ≡ start.0 = number-piece xs start.0 no_piece start.1 in
-                let h : piece_number xs (slice_index_or (pieces_of xs) p no_piece) ≡ p = number-piece xs p no_piece lp in
-                elim (class_along joined.0 (slice_index_or (pieces_of xs) start.0 no_piece) (slice_index_or (pieces_of xs) p no_piece) 0 (omega arith) joined.1) [
+                let f : disc_number xs (slice_index_or (discs_of xs) start.0 no_piece) ≡ start.0 = number-piece xs start.0 no_piece start.1 in
+                let h : disc_number xs (slice_index_or (discs_of xs) p no_piece) ≡ p = number-piece xs p no_piece lp in
+                elim (class_along joined.0 (slice_index_or (discs_of xs) start.0 no_piece) (slice_index_or (discs_of xs) p no_piece) 0 (omega arith) joined.1) [
                   | inl c ↦ inl (ap (λ u. class_of (2 * u + 0)) (sym f) ∙ c ∙ ap (λ u. class_of (2 * u + 0)) h)
                   | inr c ↦ inr (ap (λ u. class_of (2 * u + 0)) (sym f) ∙ c ∙ ap (λ u. class_of (2 * u + 1)) h)
                 ]

@@ -7,7 +7,7 @@ use Rattle.table_definitions.specs.Lists.{below}
 use Rattle.table_definitions.specs.Table.{Gluing, Row, way_back}
 use Rattle.table_definitions.proofs.TableLaws.{Among, Among-below}
 use Rattle.surface_definitions.specs.declared.Coords.{Coords}
-use Rattle.surface_definitions.specs.Pieces.{Arc, arc_across, piece_of, pieces_of, piece_number, Meets, AreComponents, HasSigns}
+use Rattle.surface_definitions.specs.Pieces.{Arc, arc_across, disc_of, discs_of, disc_number, Meets, AreComponents, HasSigns}
 use Rattle.surface_definitions.proofs.SurfaceEvaluators.{meeting_arcs}
 use Rattle.surface_laws.specs.PieceLaws.{IsSurface, face_of_arc, IsFreePiece, turned_if}
 use Rattle.surface_laws.proofs.SignedSteps.{SignedStep, steps_below, steps_back, free_by_signs, signs_by_free}
@@ -20,10 +20,10 @@ use Rattle.table_definitions.proofs.Listed.{contains_among, among_contains, Amon
 module _ (rows : List Row) (coords : Coords) (xs : List ℕ) (s : IsSurface rows coords xs) (stays : Arc → Gluing → Bool)
     (stays_back : (a : Arc) (g : Gluing) → Meets rows coords xs a g → stays (arc_across g a) (way_back (face_of_arc a) g) ≡ stays a g) where
   abbrev n : ℕ
-  n = length (pieces_of xs)
+  n = length (discs_of xs)
 
   abbrev piece : Arc → ℕ
-  piece a = piece_number xs (piece_of coords xs a)
+  piece a = disc_number xs (disc_of coords xs a)
 
   -- from a piece with a sign across an arc
   abbrev signed_from : ℕ → Arc × Gluing → Option ℕ

@@ -12,7 +12,7 @@ use Rattle.table_definitions.specs.Table.{Row, Face, glue, faces}
 use Rattle.skeleton_definitions.specs.Links.{is_first_side}
 use Rattle.surface_definitions.specs.Coordinates.{arc_columns}
 use Rattle.surface_definitions.specs.declared.Coords.{Coords}
-use Rattle.surface_definitions.specs.Pieces.{arcs_round}
+use Rattle.surface_definitions.specs.Pieces.{arcs_around}
 use Rattle.surface_definitions.specs.Characteristic.{crossings, weight, points, arcs_in, arcs, euler}
 use Rattle.surface_vector_definitions.specs.Properties.{AreProperties}
 use Rattle.surface_vector_definitions.specs.declared.Properties.{Properties}
@@ -51,7 +51,7 @@ module _ (coords : Coords) (x y : List ℕ) (widths : length x ≡ length y) whe
 
   arcs_in-sum_of : (z : Face) → arcs_in coords (sum_of x y) z ≡ arcs_in coords x z + arcs_in coords y z
   arcs_in-sum_of z =
-      sum_by_plus (arcs_round coords x z.tet z.face) (arcs_round coords y z.tet z.face) (arcs_round coords (sum_of x y) z.tet z.face) (λ v. over_columns (arc_columns coords z.tet z.face v)) (others z.face)
+      sum_by_plus (arcs_around coords x z.tet z.face) (arcs_around coords y z.tet z.face) (arcs_around coords (sum_of x y) z.tet z.face) (λ v. over_columns (arc_columns coords z.tet z.face v)) (others z.face)
 
   arcs-sum_of : (rows : List Row) → arcs rows coords (sum_of x y) ≡ arcs rows coords x + arcs rows coords y
   arcs-sum_of rows = sum_by_plus (arcs_in coords x) (arcs_in coords y) (arcs_in coords (sum_of x y)) arcs_in-sum_of (filter (λ z. is_first_side z (glue rows z)) (faces (length rows)))

@@ -8,7 +8,7 @@ use Rattle.table_definitions.specs.Table.{Gluing, Row, Face, way_back, IsTable}
 use Rattle.surface_definitions.specs.Coordinates.{columns, clash_list}
 use Rattle.surface_definitions.specs.declared.Coords.{Coords}
 use Rattle.surface_definitions.specs.Equations.{matching_rows}
-use Rattle.surface_definitions.specs.Pieces.{SurfacePiece, pieces_of, piece_number, Arc, arc_across, piece_of, Meets, SamePiece, AreComponents, component_vector}
+use Rattle.surface_definitions.specs.Pieces.{NormalDisc, discs_of, disc_number, Arc, arc_across, disc_of, Meets, SamePiece, AreComponents, component_vector}
 use Rattle.surface_vector_definitions.specs.Components.{Component, IsPiecesAnswer}
 use Rattle.surface_vector_definitions.specs.declared.ManyPieces.{ManyPieces}
 use Rattle.table_walk_laws.specs.Joined.{IsJoined, IsSymmetric, HasNeighboursBelow}
@@ -55,20 +55,20 @@ ComponentsAreSurfaces =
 
 -- pieces are numbered column by column: a column's pieces stand behind those of the columns before it
 pub record ArePieceNumbers (xs : List ℕ) : Type 0 where
-  pub count : length (pieces_of xs) ≡ sum xs
-  pub there : (c j : ℕ) (d : SurfacePiece) → c < length xs → j < slice_index xs c → slice_index_or (pieces_of xs) (sum (take c xs) + j) d ≡ record { column = c; number = j }
-  pub number : (c j : ℕ) → c < length xs → j < slice_index xs c → piece_number xs (record { column = c; number = j }) ≡ sum (take c xs) + j
+  pub count : length (discs_of xs) ≡ sum xs
+  pub there : (c j : ℕ) (d : NormalDisc) → c < length xs → j < slice_index xs c → slice_index_or (discs_of xs) (sum (take c xs) + j) d ≡ record { column = c; number = j }
+  pub number : (c j : ℕ) → c < length xs → j < slice_index xs c → disc_number xs (record { column = c; number = j }) ≡ sum (take c xs) + j
 
 abbrev pub PiecesAreNumbered : Type 0
 PiecesAreNumbered = (xs : List ℕ) → ArePieceNumbers xs
 
 -- the piece of an arc is one of the vector's
-pub record IsPieceOf (xs : List ℕ) (p : SurfacePiece) : Type 0 where
+pub record IsPieceOf (xs : List ℕ) (p : NormalDisc) : Type 0 where
   pub column : p.column < length xs
   pub number : p.number < slice_index xs p.column
 
 abbrev pub ArcsArePieces : Type 0
-ArcsArePieces = (rows : List Row) (coords : Coords) (xs : List ℕ) (a : Arc) (g : Gluing) → IsSurface rows coords xs → Meets rows coords xs a g → IsPieceOf xs (piece_of coords xs a)
+ArcsArePieces = (rows : List Row) (coords : Coords) (xs : List ℕ) (a : Arc) (g : Gluing) → IsSurface rows coords xs → Meets rows coords xs a g → IsPieceOf xs (disc_of coords xs a)
 
 -- to be in one component is an equivalence
 pub record ChainsOfArcs (rows : List Row) (coords : Coords) (xs : List ℕ) : Type 0 where
@@ -84,8 +84,8 @@ pub record PiecesMeet (rows : List Row) (coords : Coords) (xs : List ℕ) (i j :
   pub arc : Arc
   pub gluing : Gluing
   pub meets : Meets rows coords xs arc gluing
-  pub one : piece_number xs (piece_of coords xs arc) ≡ i
-  pub other : piece_number xs (piece_of coords xs (arc_across gluing arc)) ≡ j
+  pub one : disc_number xs (disc_of coords xs arc) ≡ i
+  pub other : disc_number xs (disc_of coords xs (arc_across gluing arc)) ≡ j
 
 -- the neighbours of each piece are those that it meets
 abbrev pub AreMeetingPieces : List Row → Coords → List ℕ → (ℕ → List ℕ) → Type 0
@@ -93,9 +93,9 @@ AreMeetingPieces rows coords xs neighbours = (i j : ℕ) → Contains (neighbour
 
 -- so they are numbers of pieces, each is a neighbour of its neighbours, and they join what is one component
 pub record JoinComponents (rows : List Row) (coords : Coords) (xs : List ℕ) (neighbours : ℕ → List ℕ) : Type 0 where
-  pub below : HasNeighboursBelow (length (pieces_of xs)) neighbours
+  pub below : HasNeighboursBelow (length (discs_of xs)) neighbours
   pub symmetric : IsSymmetric neighbours
-  pub joined : (i j : ℕ) → i < length (pieces_of xs) → j < length (pieces_of xs) → IsJoined neighbours i j ↔ SamePiece rows coords xs i j
+  pub joined : (i j : ℕ) → i < length (discs_of xs) → j < length (discs_of xs) → IsJoined neighbours i j ↔ SamePiece rows coords xs i j
 
 abbrev pub MeetingPiecesJoin : Type 0
 MeetingPiecesJoin =

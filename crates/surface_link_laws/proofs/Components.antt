@@ -10,7 +10,7 @@ use Rattle.table_definitions.proofs.PermutationLaws.{image_below}
 use Rattle.table_definitions.proofs.Faces.{face_at}
 use Rattle.skeleton_definitions.specs.Links.{vertex_number}
 use Rattle.skeleton_definitions.specs.Skeleton.{Skeleton, IsSkeleton}
-use Rattle.surface_definitions.specs.Pieces.{SurfacePiece, Arc, pieces_of, piece_number, ArcsLead, SamePiece, AreComponents, component_vector}
+use Rattle.surface_definitions.specs.Pieces.{NormalDisc, Arc, discs_of, disc_number, ArcsLead, SamePiece, AreComponents, component_vector}
 use Rattle.surface_definitions.specs.declared.Coords.{Coords}
 use Rattle.surface_laws.specs.MatchingLaws.{HasTriangles}
 use Rattle.surface_laws.proofs.ComponentCounts.{one_is_whole}
@@ -29,14 +29,14 @@ module _ (s : Skeleton) (k : IsSkeleton s) (c : ℕ) (coords : Coords) (h : HasT
   xs = link_of s coords c
 
   -- arcs lead from piece p to the triangle at a place
-  record LedTo (p : SurfacePiece) (q : Place) : Type 0 where
+  record LedTo (p : NormalDisc) (q : Place) : Type 0 where
     v : ℕ
     is : q.vertices ≡ v ∷ []
     is_member : IsMember s k c coords h q.tet v
     arcs : List Arc
     lead : ArcsLead s.rows coords (link_of s coords c) p arcs (triangle coords q.tet v)
 
-  led_across : (p : SurfacePiece) (q : Place) (f : ℕ) (r : Place) → LedTo p q → across s.rows q f ≡ Some r → LedTo p r
+  led_across : (p : NormalDisc) (q : Place) (f : ℕ) (r : Place) → LedTo p q → across s.rows q f ≡ Some r → LedTo p r
   led_across p q f r l e =
       let w : IsCrossed s.rows q.tet l.v f r = crossed_is s.rows q.tet l.v f r (ap (λ (vs : List ℕ). across s.rows (record { tet = q.tet; vertices = vs }) f) (sym l.is) ∙ e) in
       let i : IsGlued s.rows (face_at q.tet f) w.g = glued_is s.rows (face_at q.tet f) w.g k.table w.glued in
@@ -58,7 +58,7 @@ module _ (s : Skeleton) (k : IsSkeleton s) (c : ℕ) (coords : Coords) (h : HasT
       } in
       subst (LedTo p) w.is to
 
-  triangle_led : (p : SurfacePiece) (u w : ℕ) → LedTo p (one_vertex u w) → (arcs : List Arc) × ArcsLead s.rows coords (link_of s coords c) p arcs (triangle coords u w)
+  triangle_led : (p : NormalDisc) (u w : ℕ) → LedTo p (one_vertex u w) → (arcs : List Arc) × ArcsLead s.rows coords (link_of s coords c) p arcs (triangle coords u w)
   triangle_led p u w l =
       let at : l.v ≡ w = ap (λ (vs : List ℕ). slice_index vs 0) (sym l.is) in
       (l.arcs, subst (λ x. ArcsLead s.rows coords xs p l.arcs (triangle coords u x)) at l.lead)
@@ -74,22 +74,22 @@ module _ (s : Skeleton) (k : IsSkeleton s) (c : ℕ) (coords : Coords) (h : HasT
       let end : LedTo (triangle coords t v) (one_vertex u w) = kept_along s.rows (LedTo (triangle coords t v)) (led_across (triangle coords t v)) joined.0 (one_vertex t v) (one_vertex u w) start joined.1 in
       triangle_led (triangle coords t v) u w end
 
-  all_led : (i j : ℕ) → i < length (pieces_of (link_of s coords c)) → j < length (pieces_of (link_of s coords c)) → SamePiece s.rows coords (link_of s coords c) i j
+  all_led : (i j : ℕ) → i < length (discs_of (link_of s coords c)) → j < length (discs_of (link_of s coords c)) → SamePiece s.rows coords (link_of s coords c) i j
   all_led i j li lj =
-      let p : IsTriangle s k c coords h (slice_index_or (pieces_of xs) i no_piece) = piece_is s k c coords h i li in
-      let q : IsTriangle s k c coords h (slice_index_or (pieces_of xs) j no_piece) = piece_is s k c coords h j lj in
+      let p : IsTriangle s k c coords h (slice_index_or (discs_of xs) i no_piece) = piece_is s k c coords h i li in
+      let q : IsTriangle s k c coords h (slice_index_or (discs_of xs) j no_piece) = piece_is s k c coords h j lj in
       let l = triangles_led p.tet p.vertex q.tet q.vertex p.is_member q.is_member in
       (l.0, subst₂ (λ x y. ArcsLead s.rows coords xs x l.0 y) (sym p.is) (sym q.is) l.1)
 
   module _ (lc : c < s.vertices.count) (components : List ℕ) (count : ℕ) (numbered : AreComponents s.rows coords (link_of s coords c) components count) where
     -- there is a triangle
-    some_piece : (i : ℕ) × (i < length (pieces_of (link_of s coords c)))
+    some_piece : (i : ℕ) × (i < length (discs_of (link_of s coords c)))
     some_piece =
         let i = (k.vertices).none_empty c lc in
         let li : i.0 < 4 * n = i.1 in
         let m : IsMember s k c coords h (i.0 / 4) (i.0 % 4) = record { tet = omega arith; below_four = omega arith; chosen = ap (slice_index s.vertices.classes) (number-vertex i.0) ∙ i.2 } in
         let f : IsFound xs (triangle coords (i.0 / 4) (i.0 % 4)) = piece_found xs (triangle coords (i.0 / 4) (i.0 % 4)) (triangle_there s k c coords h (i.0 / 4) (i.0 % 4) m) in
-        (piece_number xs (triangle coords (i.0 / 4) (i.0 % 4)), f.in_range)
+        (disc_number xs (triangle coords (i.0 / 4) (i.0 % 4)), f.in_range)
 
     pub one_component : count ≡ 1
     one_component =
@@ -106,7 +106,7 @@ module _ (s : Skeleton) (k : IsSkeleton s) (c : ℕ) (coords : Coords) (h : HasT
           | inr most ↦ omega arith
         ]
 
-    pub in_first : (i : ℕ) → i < length (pieces_of (link_of s coords c)) → slice_index components i ≡ 0
+    pub in_first : (i : ℕ) → i < length (discs_of (link_of s coords c)) → slice_index components i ≡ 0
     in_first i l = let low : slice_index components i < count = numbered.in_range i l in let one : count ≡ 1 = one_component in omega arith
 
     -- so it is the whole

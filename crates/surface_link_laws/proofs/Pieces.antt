@@ -12,7 +12,7 @@ use Rattle.table_definitions.proofs.TableLaws.{Among}
 use Rattle.skeleton_definitions.specs.Links.{vertex_number}
 use Rattle.skeleton_definitions.specs.Skeleton.{Skeleton, IsSkeleton}
 use Rattle.surface_definitions.specs.Coordinates.{columns, tri_column}
-use Rattle.surface_definitions.specs.Pieces.{SurfacePiece, Arc, pieces_of, piece_of, arcs_round, arc_across, is_triangle_arc, triangles_round, looks_positive, keeps_by_zero, type_in, further_column, further_piece, Meets, keeps_sides}
+use Rattle.surface_definitions.specs.Pieces.{NormalDisc, Arc, discs_of, disc_of, arcs_around, arc_across, is_triangle_arc, triangles_around, looks_positive, keeps_by_zero, type_in, further_column, further_piece, Meets, keeps_sides}
 use Rattle.surface_definitions.specs.declared.Coords.{Coords}
 use Rattle.surface_laws.specs.MatchingLaws.{HasTriangles}
 use Rattle.surface_laws.specs.PieceLaws.{IsSurface, IsPieceOf, MeetsBack, face_of_arc}
@@ -26,7 +26,7 @@ use Rattle.surface_quad_laws.proofs.VertexLinks.{member, length-link, triangle-l
 use Rattle.surface_link_laws.proofs.Triangles.{arcs_round-link}
 
 -- the triangle at vertex v of tetrahedron t
-abbrev pub triangle : Coords → ℕ → ℕ → SurfacePiece
+abbrev pub triangle : Coords → ℕ → ℕ → NormalDisc
 triangle coords t v = record { column = tri_column coords t v; number = 0 }
 
 bit_if : Bool → ℕ
@@ -77,7 +77,7 @@ module _ (s : Skeleton) (k : IsSkeleton s) (c : ℕ) (coords : Coords) (h : HasT
   }
 
   -- each piece is one of them
-  pub record IsTriangle (p : SurfacePiece) : Type 0 where
+  pub record IsTriangle (p : NormalDisc) : Type 0 where
     pub tet : ℕ
     pub vertex : ℕ
     pub is_member : IsMember tet vertex
@@ -90,10 +90,10 @@ module _ (s : Skeleton) (k : IsSkeleton s) (c : ℕ) (coords : Coords) (h : HasT
       record { tet = t; vertex = v; is_member = record { tet = lt; below_four = lv; chosen = m.0 }; is = ap (piece_at (tri_column coords t v)) m.1 })
       (λ i l high j lj. absurd (let z : slice_index (link_of s coords c) i ≡ 0 = others-link n s.vertices.classes c coords i h l high in omega arith))
 
-  pub piece_is : (i : ℕ) → i < length (pieces_of (link_of s coords c)) → IsTriangle (slice_index_or (pieces_of (link_of s coords c)) i no_piece)
+  pub piece_is : (i : ℕ) → i < length (discs_of (link_of s coords c)) → IsTriangle (slice_index_or (discs_of (link_of s coords c)) i no_piece)
   piece_is i l =
-      let p : SurfacePiece = slice_index_or (pieces_of xs) i no_piece in
-      let a : Among (slice_index_or (pieces_of xs) i no_piece) (pieces_of xs) = among_contains p (pieces_of xs) (Contains-get_or (pieces_of xs) i no_piece l) in
+      let p : NormalDisc = slice_index_or (discs_of xs) i no_piece in
+      let a : Among (slice_index_or (discs_of xs) i no_piece) (discs_of xs) = among_contains p (discs_of xs) (Contains-get_or (discs_of xs) i no_piece l) in
       let m = flat_map-among (of_column xs) p (below (length xs)) a in
       let j = map-among (piece_at m.0) p (below (slice_index xs m.0)) m.2 in
       let lc : m.0 < columns coords n = subst (λ w. m.0 < w) (length-link n s.vertices.classes c coords) (below-among m.0 (length xs) m.1) in
@@ -118,11 +118,11 @@ module _ (s : Skeleton) (k : IsSkeleton s) (c : ℕ) (coords : Coords) (h : HasT
   of_triangle a i =
       let o : slice_index (link_of s coords c) (tri_column coords a.tet a.vertex) ≡ 1 = one_there a.tet a.vertex i.is_member in
       let z : a.place ≡ 0 = i.first in
-      lt-ltb a.place (triangles_round coords (link_of s coords c) a) (omega arith)
+      lt-ltb a.place (triangles_around coords (link_of s coords c) a) (omega arith)
 
-  pub piece_of_arc : (a : Arc) → IsLinkArc a → piece_of coords (link_of s coords c) a ≡ triangle coords a.tet a.vertex
+  pub piece_of_arc : (a : Arc) → IsLinkArc a → disc_of coords (link_of s coords c) a ≡ triangle coords a.tet a.vertex
   piece_of_arc a i =
-      ap (λ (b : Bool). if b then piece_at (tri_column coords a.tet a.vertex) a.place else further_piece xs (further_column coords xs a) (a.place - triangles_round coords xs a) (keeps_by_zero (type_in coords (further_column coords xs a)) a.vertex)) (of_triangle a i)
+      ap (λ (b : Bool). if b then piece_at (tri_column coords a.tet a.vertex) a.place else further_piece xs (further_column coords xs a) (a.place - triangles_around coords xs a) (keeps_by_zero (type_in coords (further_column coords xs a)) a.vertex)) (of_triangle a i)
       ∙ ap (piece_at (tri_column coords a.tet a.vertex)) i.first
 
   positive : (a : Arc) → IsLinkArc a → looks_positive coords (link_of s coords c) a ≡ true
@@ -134,7 +134,7 @@ module _ (s : Skeleton) (k : IsSkeleton s) (c : ℕ) (coords : Coords) (h : HasT
       let other : looks_positive coords xs (arc_across g a) ≡ true = positive (arc_across g a) (across_is_arc a g m) in
       ap (λ (b : Bool). if b then looks_positive coords xs (arc_across g a) else not (looks_positive coords xs (arc_across g a))) one ∙ other
 
-  pub piece_across : (a : Arc) (g : Gluing) → Meets s.rows coords (link_of s coords c) a g → piece_of coords (link_of s coords c) (arc_across g a) ≡ triangle coords g.tet (image g.perm a.vertex)
+  pub piece_across : (a : Arc) (g : Gluing) → Meets s.rows coords (link_of s coords c) a g → disc_of coords (link_of s coords c) (arc_across g a) ≡ triangle coords g.tet (image g.perm a.vertex)
   piece_across a g m = piece_of_arc (arc_across g a) (across_is_arc a g m)
 
   -- at each side of a triangle there is an arc
@@ -146,7 +146,7 @@ module _ (s : Skeleton) (k : IsSkeleton s) (c : ℕ) (coords : Coords) (h : HasT
     in_range = m.tet;
     is_vertex = m.below_four;
     off_vertex = off;
-    there = (let one : arcs_round coords (link_of s coords c) t f v ≡ 1 = arcs_round-link n s.vertices.classes c coords h t f v m.tet lf m.below_four off
+    there = (let one : arcs_around coords (link_of s coords c) t f v ≡ 1 = arcs_round-link n s.vertices.classes c coords h t f v m.tet lf m.below_four off
         ∙ ap (λ (b : Bool). if b then 1 else 0) (eq-eqb (class_of (vertex_number t v)) c m.chosen) in omega arith);
     glued = e;
   }

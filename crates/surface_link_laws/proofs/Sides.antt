@@ -13,7 +13,7 @@ use Rattle.skeleton_definitions.specs.Links.{vertex_number, AreLinkSigns, IsOrie
 use Rattle.skeleton_definitions.specs.Orientation.{sign_of}
 use Rattle.skeleton_definitions.specs.Skeleton.{Skeleton, IsSkeleton}
 use Rattle.surface_definitions.specs.Coordinates.{columns_each, tri_column}
-use Rattle.surface_definitions.specs.Pieces.{SurfacePiece, Arc, pieces_of, piece_number, piece_of, arc_across, Meets, AreComponents, IsTwoSided, IsOrientableComponent, keeps_sides}
+use Rattle.surface_definitions.specs.Pieces.{NormalDisc, Arc, discs_of, disc_number, disc_of, arc_across, Meets, AreComponents, IsTwoSided, IsOrientableComponent, keeps_sides}
 use Rattle.surface_definitions.specs.declared.Coords.{Coords}
 use Rattle.surface_definitions.specs.declared.Coords.TheVariants.{Standard, Quad, Octagon}
 use Rattle.surface_laws.specs.MatchingLaws.{HasTriangles}
@@ -56,16 +56,16 @@ module _ (s : Skeleton) (k : IsSkeleton s) (c : ℕ) (coords : Coords) (h : HasT
 
   -- the number of the triangle at a member
   abbrev number : ℕ → ℕ → ℕ
-  number t v = piece_number (link_of s coords c) (triangle coords t v)
+  number t v = disc_number (link_of s coords c) (triangle coords t v)
 
   number_found : (t v : ℕ) → IsMember s k c coords h t v → IsFound (link_of s coords c) (triangle coords t v)
   number_found t v m = piece_found xs (triangle coords t v) (triangle_there s k c coords h t v m)
 
-  arc_number : (a : Arc) (g : Gluing) → Meets s.rows coords (link_of s coords c) a g → piece_number (link_of s coords c) (piece_of coords (link_of s coords c) a) ≡ number a.tet a.vertex
-  arc_number a g m = ap (piece_number xs) (piece_of_arc s k c coords h a (arc_is s k c coords h a g m))
+  arc_number : (a : Arc) (g : Gluing) → Meets s.rows coords (link_of s coords c) a g → disc_number (link_of s coords c) (disc_of coords (link_of s coords c) a) ≡ number a.tet a.vertex
+  arc_number a g m = ap (disc_number xs) (piece_of_arc s k c coords h a (arc_is s k c coords h a g m))
 
-  across_number : (a : Arc) (g : Gluing) → Meets s.rows coords (link_of s coords c) a g → piece_number (link_of s coords c) (piece_of coords (link_of s coords c) (arc_across g a)) ≡ number g.tet (image g.perm a.vertex)
-  across_number a g m = ap (piece_number xs) (piece_across s k c coords h a g m)
+  across_number : (a : Arc) (g : Gluing) → Meets s.rows coords (link_of s coords c) a g → disc_number (link_of s coords c) (disc_of coords (link_of s coords c) (arc_across g a)) ≡ number g.tet (image g.perm a.vertex)
+  across_number a g m = ap (disc_number xs) (piece_across s k c coords h a g m)
 
   module _ (lc : c < s.vertices.count) (components : List ℕ) (count : ℕ) (numbered : AreComponents s.rows coords (link_of s coords c) components count) where
     -- signs of the members, by the signs of the pieces
@@ -98,29 +98,29 @@ module _ (s : Skeleton) (k : IsSkeleton s) (c : ℕ) (coords : Coords) (h : HasT
             let a : Arc = arc_in s k c coords h t f v in
             let meets : Meets s.rows coords xs a g = arc_there s k c coords h t f v g lf off m e in
             let here = arc_number a g meets in
-            let first : slice_index components (piece_number xs (piece_of coords xs a)) ≡ 0 =
+            let first : slice_index components (disc_number xs (disc_of coords xs a)) ≡ 0 =
             ap (slice_index components) here ∙ in_first s k c coords h lc components count numbered (number t v) (number_found t v m).in_range in
             sign-at o.0 g.tet (image g.perm v) i.other_tet (image_below g.perm v i.permutes lv) ∙ ap o.0 (sym (across_number a g meets)) ∙ o.1 a g meets first
-            ∙ stays_by (keeps_sides coords xs a g) (is_odd g.perm) (o.0 (piece_number xs (piece_of coords xs a))) (sides_kept s k c coords h a g meets)
+            ∙ stays_by (keeps_sides coords xs a g) (is_odd g.perm) (o.0 (disc_number xs (disc_of coords xs a))) (sides_kept s k c coords h a g meets)
             ∙ ap (λ (b : Bool). if is_odd g.perm then b else not b) (ap o.0 here ∙ sym (sign-at o.0 t v i.tet lv))
 
     -- signs of the pieces, by the signs of the members
     sign_by : List Bool → ℕ → Bool
-    sign_by signs j = sign_of signs (vertex_in coords (slice_index_or (pieces_of (link_of s coords c)) j no_piece).column)
+    sign_by signs j = sign_of signs (vertex_in coords (slice_index_or (discs_of (link_of s coords c)) j no_piece).column)
 
     sign-piece : (signs : List Bool) (t v : ℕ) → IsMember s k c coords h t v → sign_by signs (number t v) ≡ sign_of signs (vertex_number t v)
     unfolding sign_by
     sign-piece signs t v m =
-        ap (λ (p : SurfacePiece). sign_of signs (vertex_in coords p.column)) (number_found t v m).there
+        ap (λ (p : NormalDisc). sign_of signs (vertex_in coords p.column)) (number_found t v m).there
         ∙ ap (sign_of signs) (vertex-triangle coords h t v m.below_four)
 
     from_link : IsOrientableLink s.rows s.vertices.classes c → IsOrientableComponent s.rows coords (link_of s coords c) components 0
     from_link o = (sign_by o.0, agree)
       where
-        agree : (a : Arc) (g : Gluing) → Meets s.rows coords (link_of s coords c) a g → slice_index components (piece_number (link_of s coords c) (piece_of coords (link_of s coords c) a)) ≡ 0
-            → sign_by o.0 (piece_number (link_of s coords c) (piece_of coords (link_of s coords c) (arc_across g a)))
+        agree : (a : Arc) (g : Gluing) → Meets s.rows coords (link_of s coords c) a g → slice_index components (disc_number (link_of s coords c) (disc_of coords (link_of s coords c) a)) ≡ 0
+            → sign_by o.0 (disc_number (link_of s coords c) (disc_of coords (link_of s coords c) (arc_across g a)))
             ≡ (if (if is_odd g.perm then keeps_sides coords (link_of s coords c) a g else not (keeps_sides coords (link_of s coords c) a g))
-            then sign_by o.0 (piece_number (link_of s coords c) (piece_of coords (link_of s coords c) a)) else not (sign_by o.0 (piece_number (link_of s coords c) (piece_of coords (link_of s coords c) a))))
+            then sign_by o.0 (disc_number (link_of s coords c) (disc_of coords (link_of s coords c) a)) else not (sign_by o.0 (disc_number (link_of s coords c) (disc_of coords (link_of s coords c) a))))
         agree a g meets first =
             let i : IsGlued s.rows (face_of_arc a) g = glued_is s.rows (face_of_arc a) g k.table meets.glued in
             let m : IsMember s k c coords h a.tet a.vertex = (arc_is s k c coords h a g meets).is_member in
@@ -132,7 +132,7 @@ module _ (s : Skeleton) (k : IsSkeleton s) (c : ℕ) (coords : Coords) (h : HasT
             ap (sign_by o.0) (across_number a g meets) ∙ sign-piece o.0 g.tet (image g.perm a.vertex) there
             ∙ o.2 a.tet a.vertex a.face g m.below_four i.face meets.off_vertex m.chosen meets.glued
             ∙ ap (λ (b : Bool). if is_odd g.perm then b else not b) (sym (sign-piece o.0 a.tet a.vertex m) ∙ ap (sign_by o.0) (sym (arc_number a g meets)))
-            ∙ sym (stays_by (keeps_sides coords xs a g) (is_odd g.perm) (sign_by o.0 (piece_number xs (piece_of coords xs a))) (sides_kept s k c coords h a g meets))
+            ∙ sym (stays_by (keeps_sides coords xs a g) (is_odd g.perm) (sign_by o.0 (disc_number xs (disc_of coords xs a))) (sides_kept s k c coords h a g meets))
 
     pub orientable_alike : IsOrientableComponent s.rows coords (link_of s coords c) components 0 ↔ IsOrientableLink s.rows s.vertices.classes c
     orientable_alike = (to_link, from_link)

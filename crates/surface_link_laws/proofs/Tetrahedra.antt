@@ -6,7 +6,7 @@ use Rattle.table_definitions.specs.Table.{Gluing, Row}
 use Rattle.surface_definitions.specs.Coordinates.{columns_each, tri_column, quad_column, oct_column, keeping, three, octagon_arcs}
 use Rattle.surface_definitions.specs.declared.Coords.{Coords}
 use Rattle.surface_definitions.specs.declared.Coords.TheVariants.{Standard, Quad, Octagon}
-use Rattle.surface_definitions.specs.Pieces.{SurfacePiece, Arc, pieces_of, piece_number, piece_of, further_column, further_piece, triangles_round, is_triangle_arc, keeps_by_zero, type_in, Meets}
+use Rattle.surface_definitions.specs.Pieces.{NormalDisc, Arc, discs_of, disc_number, disc_of, further_column, further_piece, triangles_around, is_triangle_arc, keeps_by_zero, type_in, Meets}
 use Rattle.surface_laws.specs.MatchingLaws.{HasTriangles}
 use Rattle.surface_laws.specs.PieceLaws.{IsSurface, IsPieceOf, face_of_arc}
 use Rattle.surface_laws.proofs.ArcPieces.{arc_piece}
@@ -57,20 +57,20 @@ module _ (coords : Coords) (xs : List ℕ) (triangles : HasTriangles coords) (a 
       (quad_column coords a.tet (keeping a.vertex a.face)) (quad_tet coords a.tet (keeping a.vertex a.face) triangles (keeping_below a.vertex a.face is_vertex is_face off))
       (octagons_tet coords a.tet a.face a.vertex)
 
-  piece_tet : IsIn coords a.tet (piece_of coords xs a).column
+  piece_tet : IsIn coords a.tet (disc_of coords xs a).column
   piece_tet = go (is_triangle_arc coords xs a)
     where
-      go : (b : Bool) → IsIn coords a.tet (if b then record { column = tri_column coords a.tet a.vertex; number = a.place } else further_piece xs (further_column coords xs a) (a.place - triangles_round coords xs a) (keeps_by_zero (type_in coords (further_column coords xs a)) a.vertex)).column
+      go : (b : Bool) → IsIn coords a.tet (if b then record { column = tri_column coords a.tet a.vertex; number = a.place } else further_piece xs (further_column coords xs a) (a.place - triangles_around coords xs a) (keeps_by_zero (type_in coords (further_column coords xs a)) a.vertex)).column
       go true = tri_tet coords a.tet a.vertex triangles is_vertex
       go false = further_tet
 
 -- the tetrahedron of the piece of this number
 abbrev pub tet_of : Coords → List ℕ → ℕ → ℕ
-tet_of coords xs i = (slice_index_or (pieces_of xs) i no_piece).column / columns_each coords
+tet_of coords xs i = (slice_index_or (discs_of xs) i no_piece).column / columns_each coords
 
-pub arc_tet : (rows : List Row) (coords : Coords) (xs : List ℕ) → IsSurface rows coords xs → (a : Arc) (g : Gluing) → Meets rows coords xs a g → tet_of coords xs (piece_number xs (piece_of coords xs a)) ≡ a.tet
+pub arc_tet : (rows : List Row) (coords : Coords) (xs : List ℕ) → IsSurface rows coords xs → (a : Arc) (g : Gluing) → Meets rows coords xs a g → tet_of coords xs (disc_number xs (disc_of coords xs a)) ≡ a.tet
 arc_tet rows coords xs s a g m =
     let i : IsGlued rows (face_of_arc a) g = glued_is rows (face_of_arc a) g s.table m.glued in
-    let piece : IsPieceOf xs (piece_of coords xs a) = arc_piece coords (length rows) xs s.triangles s.admissible a.tet a.face a.vertex m.in_range i.face m.is_vertex m.off_vertex a.place m.there in
-    let found : IsFound xs (piece_of coords xs a) = piece_found xs (piece_of coords xs a) piece in
-    ap (λ (p : SurfacePiece). p.column / columns_each coords) found.there ∙ piece_tet coords xs s.triangles a m.is_vertex i.face m.off_vertex
+    let piece : IsPieceOf xs (disc_of coords xs a) = arc_piece coords (length rows) xs s.triangles s.admissible a.tet a.face a.vertex m.in_range i.face m.is_vertex m.off_vertex a.place m.there in
+    let found : IsFound xs (disc_of coords xs a) = piece_found xs (disc_of coords xs a) piece in
+    ap (λ (p : NormalDisc). p.column / columns_each coords) found.there ∙ piece_tet coords xs s.triangles a m.is_vertex i.face m.off_vertex

@@ -7,7 +7,7 @@ use Rattle.table_definitions.proofs.Listed.{below-among}
 use Rattle.skeleton_definitions.specs.Links.{vertex_number}
 use Rattle.surface_definitions.specs.Coordinates.{columns_each}
 use Rattle.surface_definitions.specs.Characteristic.{arcs_in}
-use Rattle.surface_definitions.specs.Pieces.{arcs_round}
+use Rattle.surface_definitions.specs.Pieces.{arcs_around}
 use Rattle.surface_definitions.specs.declared.Coords.{Coords}
 use Rattle.surface_definitions.specs.declared.Coords.TheVariants.{Standard, Quad, Octagon}
 use Rattle.surface_laws.specs.MatchingLaws.{HasTriangles}
@@ -26,12 +26,12 @@ module _ (n : ℕ) (classes : List ℕ) (c : ℕ) where
     pub link_bare : IsBare coords n (vertex_link coords n classes c)
     link_bare i l high = others-link n classes c coords i h l high
 
-    pub arcs_round-link : (t f v : ℕ) → t < n → f < 4 → v < 4 → (v ≡ f → ⊥) → arcs_round coords link t f v ≡ member classes c (vertex_number t v)
+    pub arcs_round-link : (t f v : ℕ) → t < n → f < 4 → v < 4 → (v ≡ f → ⊥) → arcs_around coords link t f v ≡ member classes c (vertex_number t v)
     arcs_round-link t f v lt lf lv off = arcs_alone coords n link h link_bare t f v lt lf lv off ∙ triangle-link n classes c coords t v h lt lv
 
     -- the arcs in a face are those of the triangles at its vertices
     pub arcs_in-link : (t f : ℕ) → t < n → f < 4 → arcs_in coords (vertex_link coords n classes c) (record { tet = t; face = f }) ≡ sum_by (λ v. member classes c (vertex_number t v)) (others f)
-    arcs_in-link t f lt lf = sum_by_same (arcs_round coords link t f) (λ v. member classes c (vertex_number t v)) (others f)
+    arcs_in-link t f lt lf = sum_by_same (arcs_around coords link t f) (λ v. member classes c (vertex_number t v)) (others f)
         (λ v a. let o = other_is f v a in arcs_round-link t f v lt lf o.0 o.1)
 
   -- the pieces in a tetrahedron

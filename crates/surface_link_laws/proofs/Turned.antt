@@ -5,7 +5,7 @@ use Rattle.plain_facts.proofs.Truths.{same_truth}
 use Rattle.table_definitions.specs.Permutation.{is_odd}
 use Rattle.table_definitions.specs.Table.{Gluing, Row}
 use Rattle.skeleton_definitions.specs.Orientation.{sign_of, AreSigns}
-use Rattle.surface_definitions.specs.Pieces.{Arc, arc_across, piece_of, piece_number, Meets, keeps_sides, HasSigns}
+use Rattle.surface_definitions.specs.Pieces.{Arc, arc_across, disc_of, disc_number, Meets, keeps_sides, HasSigns}
 use Rattle.surface_definitions.specs.declared.Coords.{Coords}
 use Rattle.surface_laws.specs.PieceLaws.{IsSurface, face_of_arc, MeetsBack}
 use Rattle.surface_laws.proofs.MeetingArcs.{meets_back}
@@ -43,7 +43,7 @@ twice false false = refl
 
 module _ (rows : List Row) (coords : Coords) (xs components : List ℕ) (component : ℕ) (s : IsSurface rows coords xs) (signs : List Bool) (agree : AreSigns rows signs) where
   -- the sign of the tetrahedron of a piece stays and changes as across the gluing
-  sign_over : (a : Arc) (g : Gluing) → Meets rows coords xs a g → sign_of signs (tet_of coords xs (piece_number xs (piece_of coords xs (arc_across g a)))) ≡ if_so (is_odd g.perm) (sign_of signs (tet_of coords xs (piece_number xs (piece_of coords xs a))))
+  sign_over : (a : Arc) (g : Gluing) → Meets rows coords xs a g → sign_of signs (tet_of coords xs (disc_number xs (disc_of coords xs (arc_across g a)))) ≡ if_so (is_odd g.perm) (sign_of signs (tet_of coords xs (disc_number xs (disc_of coords xs a))))
   sign_over a g m =
       let back : MeetsBack rows coords xs a g = meets_back rows coords xs s a g m in
       ap (sign_of signs) (arc_tet rows coords xs s (arc_across g a) (way_back (face_of_arc a) g) back.meets)
@@ -55,14 +55,14 @@ module _ (rows : List Row) (coords : Coords) (xs components : List ℕ) (compone
     λ i. if_so (sign_of signs (tet_of coords xs i)) (h.0 i),
     λ a g m c.
         (λ k. if_so (sign_over a g m k) (h.1 a g m c k))
-        ∙ both_turned (stays a g) (is_odd g.perm) (h.0 (piece_number xs (piece_of coords xs a))) (sign_of signs (tet_of coords xs (piece_number xs (piece_of coords xs a)))),
+        ∙ both_turned (stays a g) (is_odd g.perm) (h.0 (disc_number xs (disc_of coords xs a))) (sign_of signs (tet_of coords xs (disc_number xs (disc_of coords xs a)))),
   )
 
   turned_back : (stays : Arc → Gluing → Bool) → HasSigns rows coords xs components component (λ a g. if is_odd g.perm then stays a g else not (stays a g)) → HasSigns rows coords xs components component stays
   turned_back stays h =
       let again = turned_signs (λ a g. if_so (is_odd g.perm) (stays a g)) h in (
         again.0,
-        λ a g m c. again.1 a g m c ∙ ap (λ b. if_so b (again.0 (piece_number xs (piece_of coords xs a)))) (twice (is_odd g.perm) (stays a g)),
+        λ a g m c. again.1 a g m c ∙ ap (λ b. if_so b (again.0 (disc_number xs (disc_of coords xs a)))) (twice (is_odd g.perm) (stays a g)),
       )
 
 pub sides_tell_orientation_lem : SidesTellOrientation

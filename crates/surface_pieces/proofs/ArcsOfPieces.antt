@@ -6,7 +6,7 @@ use Rattle.cone_definitions.specs.Surfaces.{IsAdmissible}
 use Rattle.surface_definitions.specs.Coordinates.{columns_each, tri_column, quad_column, keeping, octagon_arcs, clash_list}
 use Rattle.surface_definitions.specs.declared.Coords.{Coords}
 use Rattle.surface_definitions.specs.declared.Coords.TheVariants.{Standard, Quad, Octagon}
-use Rattle.surface_definitions.specs.Pieces.{SurfacePiece, Arc, arcs_round, type_in, keeps_by_zero, piece_of}
+use Rattle.surface_definitions.specs.Pieces.{NormalDisc, Arc, arcs_around, type_in, keeps_by_zero, disc_of}
 use Rattle.surface_laws.specs.MatchingLaws.{HasTriangles}
 use Rattle.surface_laws.proofs.MeetingArcs.{arc_at}
 use Rattle.surface_laws.proofs.ColumnKinds.{high_behind, low_triangle}
@@ -34,23 +34,23 @@ module _ (coords : Coords) (n : ℕ) (xs : List ℕ) (triangles : HasTriangles c
   abbrev by_zero : Bool
   by_zero = keeps_by_zero (type_in coords behind) v
 
-  all_arcs : arcs_round coords xs t f v ≡ slice_index xs tri + slice_index xs behind
+  all_arcs : arcs_around coords xs t f v ≡ slice_index xs tri + slice_index xs behind
   all_arcs = arcs_are coords n xs triangles admissible t f v lt lf lv off xs (λ c z. z)
 
-  column_is : (p q : SurfacePiece) → p ≡ q → p.column ≡ q.column
-  column_is p q e = ap (λ (r : SurfacePiece). r.column) e
+  column_is : (p q : NormalDisc) → p ≡ q → p.column ≡ q.column
+  column_is p q e = ap (λ (r : NormalDisc). r.column) e
 
-  number_is : (p q : SurfacePiece) → p ≡ q → p.number ≡ q.number
-  number_is p q e = ap (λ (r : SurfacePiece). r.number) e
+  number_is : (p q : NormalDisc) → p ≡ q → p.number ≡ q.number
+  number_is p q e = ap (λ (r : NormalDisc). r.number) e
 
-  module _ (p : SurfacePiece) (here : t ≡ p.column / columns_each coords) (some : p.number < slice_index xs p.column) where
+  module _ (p : NormalDisc) (here : t ≡ p.column / columns_each coords) (some : p.number < slice_index xs p.column) where
     -- another arc of the piece has the same place
-    same_arc : (k : ℕ) → ((i : ℕ) → i < arcs_round coords xs t f v → piece_of coords xs (arc_at t f v i) ≡ p → i ≡ k) → (b : Arc) → IsArcOf coords xs p f v b → b ≡ arc_at t f v k
+    same_arc : (k : ℕ) → ((i : ℕ) → i < arcs_around coords xs t f v → disc_of coords xs (arc_at t f v i) ≡ p → i ≡ k) → (b : Arc) → IsArcOf coords xs p f v b → b ≡ arc_at t f v k
     same_arc k one b is =
         let tet : b.tet ≡ t = is.tet ∙ sym here in
         let whole : b ≡ arc_at t f v b.place = λ i. arc_at (tet i) (is.face i) (is.vertex i) b.place in
-        let there : b.place < arcs_round coords xs t f v = subst (λ (a : Arc). b.place < arcs_round coords xs a.tet a.face a.vertex) whole is.there in
-        whole ∙ ap (arc_at t f v) (one b.place there (sym (ap (piece_of coords xs) whole) ∙ is.piece))
+        let there : b.place < arcs_around coords xs t f v = subst (λ (a : Arc). b.place < arcs_around coords xs a.tet a.face a.vertex) whole is.there in
+        whole ∙ ap (arc_at t f v) (one b.place there (sym (ap (disc_of coords xs) whole) ∙ is.piece))
 
     pub triangle_arc : p.column ≡ tri → IsOnlyArcOf coords xs p f v (arc_at t f v p.number)
     triangle_arc e =
@@ -67,7 +67,7 @@ module _ (coords : Coords) (n : ℕ) (xs : List ℕ) (triangles : HasTriangles c
             | inl less ↦ number_is (piece_at tri i) p (sym (triangle_piece coords n xs triangles admissible t f v lt lf lv off i less) ∙ d)
             | inr more ↦ (let j : ℕ = i - slice_index xs tri in
                 let again : slice_index xs tri + j ≡ i = omega arith in
-                absurd (apart (sym e ∙ sym (column_is (piece_at behind (from_end (slice_index xs behind) by_zero j)) p (sym (behind_piece coords n xs triangles admissible t f v lt lf lv off j) ∙ ap (λ k. piece_of coords xs (arc_at t f v k)) again ∙ d)))))
+                absurd (apart (sym e ∙ sym (column_is (piece_at behind (from_end (slice_index xs behind) by_zero j)) p (sym (behind_piece coords n xs triangles admissible t f v lt lf lv off j) ∙ ap (λ k. disc_of coords xs (arc_at t f v k)) again ∙ d)))))
           ]),
         )
 
@@ -88,7 +88,7 @@ module _ (coords : Coords) (n : ℕ) (xs : List ℕ) (triangles : HasTriangles c
             | inr more ↦ (let j : ℕ = i - slice_index xs tri in
                 let again : slice_index xs tri + j ≡ i = omega arith in
                 let lj : j < slice_index xs behind = omega (arith, all_arcs) in
-                let number : from_end (slice_index xs behind) by_zero j ≡ p.number = number_is (piece_at behind (from_end (slice_index xs behind) by_zero j)) p (sym (behind_piece coords n xs triangles admissible t f v lt lf lv off j) ∙ ap (λ k. piece_of coords xs (arc_at t f v k)) again ∙ d) in
+                let number : from_end (slice_index xs behind) by_zero j ≡ p.number = number_is (piece_at behind (from_end (slice_index xs behind) by_zero j)) p (sym (behind_piece coords n xs triangles admissible t f v lt lf lv off j) ∙ ap (λ k. disc_of coords xs (arc_at t f v k)) again ∙ d) in
                 let back : j ≡ from_end (slice_index xs behind) by_zero p.number = sym (from_end_twice (slice_index xs behind) by_zero j lj) ∙ ap (from_end (slice_index xs behind) by_zero) number in
                 omega arith)
           ]),

@@ -10,7 +10,7 @@ use Rattle.table_definitions.specs.Lists.{below}
 use Rattle.table_definitions.specs.Table.{Row}
 use Rattle.table_definitions.proofs.TableLaws.{Among}
 use Rattle.surface_definitions.specs.declared.Coords.{Coords}
-use Rattle.surface_definitions.specs.Pieces.{piece_of, pieces_of, piece_number, AreComponents}
+use Rattle.surface_definitions.specs.Pieces.{disc_of, discs_of, disc_number, AreComponents}
 use Rattle.surface_vector_definitions.specs.Components.{Component, IsComponent, AreListedComponents}
 use Rattle.surface_laws.specs.PieceLaws.{IsSurface, AreMeetingPieces, JoinComponents}
 use Rattle.surface_laws.proofs.ComponentSurfaces.{piece_there}
@@ -25,7 +25,7 @@ use Rattle.surface_pieces.specs.ComponentLists.{component_at, all_components, no
 
 module _ (rows : List Row) (coords : Coords) (xs : List ℕ) (s : IsSurface rows coords xs) (table : List (List (Option ℕ))) (are : AreRows Pieces rows coords xs table) where
   abbrev n : ℕ
-  n = length (pieces_of xs)
+  n = length (discs_of xs)
 
   abbrev no_neighbours : List ℕ
   no_neighbours = []
@@ -43,15 +43,15 @@ module _ (rows : List Row) (coords : Coords) (xs : List ℕ) (s : IsSurface rows
   meeting i j = (
     (λ c. elim (cases_lt i n) [
       | inr past ↦ absurd (none_past i j past c)
-      | inl low ↦ (let d : LeadsTo Pieces rows coords xs (slice_index_or (pieces_of xs) i no_piece) i j = (are.each i low j).0 c in
-          record { arc = d.arc; gluing = d.gluing; meets = d.meets; one = ap (piece_number xs) d.one ∙ number-piece xs i no_piece low; other = d.other })
+      | inl low ↦ (let d : LeadsTo Pieces rows coords xs (slice_index_or (discs_of xs) i no_piece) i j = (are.each i low j).0 c in
+          record { arc = d.arc; gluing = d.gluing; meets = d.meets; one = ap (disc_number xs) d.one ∙ number-piece xs i no_piece low; other = d.other })
     ]),
-    (λ p. (let f : IsFound xs (piece_of coords xs p.arc) = piece_found xs (piece_of coords xs p.arc) (piece_there rows coords xs s p.arc p.gluing p.meets) in
+    (λ p. (let f : IsFound xs (disc_of coords xs p.arc) = piece_found xs (disc_of coords xs p.arc) (piece_there rows coords xs s p.arc p.gluing p.meets) in
         (are.each i (subst (λ k. k < n) p.one f.in_range) j).1 (record {
           arc = p.arc;
           gluing = p.gluing;
           meets = p.meets;
-          one = sym f.there ∙ ap (λ k. slice_index_or (pieces_of xs) k no_piece) p.one;
+          one = sym f.there ∙ ap (λ k. slice_index_or (discs_of xs) k no_piece) p.one;
           other = p.other;
         }))),
   )

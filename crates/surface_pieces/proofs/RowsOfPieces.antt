@@ -9,7 +9,7 @@ use Rattle.table_definitions.proofs.Listed.{among_contains}
 use Rattle.table_walk_laws.specs.Joined.{present}
 use Rattle.table_walk_laws.proofs.Rows.{present_contains}
 use Rattle.surface_definitions.specs.declared.Coords.{Coords}
-use Rattle.surface_definitions.specs.Pieces.{SurfacePiece, Arc, arc_across, piece_of, pieces_of, piece_number}
+use Rattle.surface_definitions.specs.Pieces.{NormalDisc, Arc, arc_across, disc_of, discs_of, disc_number}
 use Rattle.surface_laws.specs.PieceLaws.{IsSurface, IsPieceOf, turned_if}
 use Rattle.surface_laws.proofs.PieceNumbers.{no_piece, listed_piece}
 use Rattle.surface_pieces.specs.Across.{Across}
@@ -29,7 +29,7 @@ present_place (None ∷ row) l h = let p = present_place row l h in (suc p.0, (l
 present_place (Some m ∷ row) l (inl e) = (0, omega arith, ap Some (sym e))
 present_place (Some m ∷ row) l (inr h) = let p = present_place row l h in (suc p.0, (let k = p.1 in omega arith), p.2)
 
-module _ (rows : List Row) (coords : Coords) (xs : List ℕ) (p : SurfacePiece) where
+module _ (rows : List Row) (coords : Coords) (xs : List ℕ) (p : NormalDisc) where
   -- what is said of one slot
   abbrev pub IsSlot : ℕ → Option Across → Type 0
   IsSlot slot o = IfSome o (IsJoinedAt rows coords xs p slot) × IfNone o (HasNoMeeting rows coords xs p (slot / 4) (slot % 4))
@@ -61,12 +61,12 @@ module _ (rows : List Row) (coords : Coords) (xs : List ℕ) (p : SurfacePiece) 
   module _ (kind : SearchKind) (k : ℕ) where
     -- the number for what is across an arc
     abbrev number_by : Arc → Gluing → ℕ
-    number_by a g = number_across kind coords xs a g k (piece_number xs (piece_of coords xs (arc_across g a)))
+    number_by a g = number_across kind coords xs a g k (disc_number xs (disc_of coords xs (arc_across g a)))
 
     across_is : (slot : ℕ) (j : Across) (i : IsJoinedAt rows coords xs p slot j) → number_by i.arc i.gluing ≡ read_across kind k j
     across_is slot j i = by_kind kind i
       where
-        by_kind : (kind : SearchKind) (i : IsJoinedAt rows coords xs p slot j) → number_across kind coords xs i.arc i.gluing k (piece_number xs (piece_of coords xs (arc_across i.gluing i.arc))) ≡ read_across kind k j
+        by_kind : (kind : SearchKind) (i : IsJoinedAt rows coords xs p slot j) → number_across kind coords xs i.arc i.gluing k (disc_number xs (disc_of coords xs (arc_across i.gluing i.arc))) ≡ read_across kind k j
         by_kind Pieces i = sym i.piece
         by_kind (Signed Sides) i = λ t. 2 * sym i.piece t + turned_if (sym i.sides t) (k % 2)
         by_kind (Signed Orientation) i = λ t. 2 * sym i.piece t + turned_if (sym i.orientation t) (k % 2)
@@ -110,8 +110,8 @@ pub rows_read : (rows : List Row) (coords : Coords) (xs : List ℕ) → IsSurfac
     → AreJoined rows coords xs joined → AreReadRows kind joined listed → AreRows kind rows coords xs listed
 rows_read rows coords xs s kind joined listed j r = record {
   size = r.size ∙ ap (numbers kind) j.size;
-  each = λ i l. row_read rows coords xs (slice_index_or (pieces_of xs) (piece_in kind i) no_piece) kind i s (slice_index_or joined (piece_in kind i) []) (slice_index_or listed i [])
-      (j.each (piece_in kind i) (piece_low kind i (length (pieces_of xs)) l)) (r.each i (subst (λ n. i < numbers kind n) (sym j.size) l));
+  each = λ i l. row_read rows coords xs (slice_index_or (discs_of xs) (piece_in kind i) no_piece) kind i s (slice_index_or joined (piece_in kind i) []) (slice_index_or listed i [])
+      (j.each (piece_in kind i) (piece_low kind i (length (discs_of xs)) l)) (r.each i (subst (λ n. i < numbers kind n) (sym j.size) l));
 }
 
 -- one row more
@@ -123,8 +123,8 @@ rows_push {A} P listed more r n size each last e i l = subst (λ (ls : List (Lis
 ])
 
 -- an item of the list of all pieces
-pub item_is : (xs : List ℕ) (listed : List SurfacePiece) (i : ℕ) (p : SurfacePiece) → listed ≡ pieces_of xs → i < length listed → p ≡ slice_index_or listed i p → p ≡ slice_index_or (pieces_of xs) i no_piece
-item_is xs listed i p e l is = is ∙ get_or_default listed i p no_piece l ∙ ap (λ (ps : List SurfacePiece). slice_index_or ps i no_piece) e
+pub item_is : (xs : List ℕ) (listed : List NormalDisc) (i : ℕ) (p : NormalDisc) → listed ≡ discs_of xs → i < length listed → p ≡ slice_index_or listed i p → p ≡ slice_index_or (discs_of xs) i no_piece
+item_is xs listed i p e l is = is ∙ get_or_default listed i p no_piece l ∙ ap (λ (ps : List NormalDisc). slice_index_or ps i no_piece) e
 
-pub item_piece : (xs : List ℕ) (listed : List SurfacePiece) (i : ℕ) (p : SurfacePiece) → listed ≡ pieces_of xs → i < length listed → p ≡ slice_index_or listed i p → IsPieceOf xs p
-item_piece xs listed i p e l is = subst (IsPieceOf xs) (sym (item_is xs listed i p e l is)) (listed_piece xs i no_piece (subst (λ (ps : List SurfacePiece). i < length ps) e l))
+pub item_piece : (xs : List ℕ) (listed : List NormalDisc) (i : ℕ) (p : NormalDisc) → listed ≡ discs_of xs → i < length listed → p ≡ slice_index_or listed i p → IsPieceOf xs p
+item_piece xs listed i p e l is = subst (IsPieceOf xs) (sym (item_is xs listed i p e l is)) (listed_piece xs i no_piece (subst (λ (ps : List NormalDisc). i < length ps) e l))

@@ -7,7 +7,7 @@ use Rattle.table_walk_laws.specs.Joined.{IsJoined, IsSymmetric, HasNeighboursBel
 use Rattle.table_definitions.specs.Classes.{IsNumbering}
 use Rattle.table_definitions.specs.Table.{Gluing, Row, way_back}
 use Rattle.surface_definitions.specs.declared.Coords.{Coords}
-use Rattle.surface_definitions.specs.Pieces.{Arc, arc_across, piece_of, pieces_of, piece_number, Meets, AreComponents, HasSigns}
+use Rattle.surface_definitions.specs.Pieces.{Arc, arc_across, disc_of, discs_of, disc_number, Meets, AreComponents, HasSigns}
 use Rattle.surface_laws.specs.PieceLaws.{IsSurface, face_of_arc}
 use Rattle.surface_laws.proofs.PieceNumbers.{no_piece, number-piece}
 use Rattle.surface_laws.proofs.SignedSteps.{SignedStep, arc_found, sides_back, orientation_back, steps_below, steps_back, free_by_signs, signs_by_free}
@@ -24,7 +24,7 @@ module _ (rows : List Row) (coords : Coords) (xs : List ℕ) (s : IsSurface rows
 
   module _ (signs : SignKind) (table : List (List (Option ℕ))) (are_rows : AreRows (Signed signs) rows coords xs table) where
     abbrev n : ℕ
-    n = length (pieces_of xs)
+    n = length (discs_of xs)
 
     abbrev signed : ℕ → List ℕ
     signed = neighbours_of table
@@ -33,7 +33,7 @@ module _ (rows : List Row) (coords : Coords) (xs : List ℕ) (s : IsSurface rows
     stays = stays_at signs coords xs
 
     abbrev piece : Arc → ℕ
-    piece a = piece_number xs (piece_of coords xs a)
+    piece a = disc_number xs (disc_of coords xs a)
 
     none_past : (k l : ℕ) → 2 * n ≤ k → Contains (signed k) l → ⊥
     none_past k l past c =
@@ -49,12 +49,12 @@ module _ (rows : List Row) (coords : Coords) (xs : List ℕ) (s : IsSurface rows
     step_of : (k l : ℕ) → Contains (signed k) l → SignedStep rows coords xs stays k l
     step_of k l c = elim (cases_lt k (2 * n)) [
       | inr past ↦ absurd (none_past k l past c)
-      | inl low ↦ (let d : LeadsTo (Signed signs) rows coords xs (slice_index_or (pieces_of xs) (k / 2) no_piece) k l = (are_rows.each k low l).0 c in
+      | inl low ↦ (let d : LeadsTo (Signed signs) rows coords xs (slice_index_or (discs_of xs) (k / 2) no_piece) k l = (are_rows.each k low l).0 c in
           record {
             arc = d.arc;
             gluing = d.gluing;
             meets = d.meets;
-            one = ap (piece_number xs) d.one ∙ number-piece xs (k / 2) no_piece (omega arith);
+            one = ap (disc_number xs) d.one ∙ number-piece xs (k / 2) no_piece (omega arith);
             other = d.other;
           })
     ]
@@ -68,7 +68,7 @@ module _ (rows : List Row) (coords : Coords) (xs : List ℕ) (s : IsSurface rows
           arc = p.arc;
           gluing = p.gluing;
           meets = p.meets;
-          one = sym ((arc_found rows coords xs s p.arc p.gluing p.meets).there) ∙ ap (λ i. slice_index_or (pieces_of xs) i no_piece) p.one;
+          one = sym ((arc_found rows coords xs s p.arc p.gluing p.meets).there) ∙ ap (λ i. slice_index_or (discs_of xs) i no_piece) p.one;
           other = p.other;
         })
 

@@ -9,7 +9,7 @@ use Rattle.std.proofs.lemmas.List.FromFn.{length-range_with_len, get_or-range_wi
 use Rattle.surface_vector_definitions.specs.Entries.{all_entries}
 use Rattle.table_definitions.specs.Lists.{below}
 use Rattle.table_definitions.proofs.ListFacts.{sum_below_next}
-use Rattle.surface_definitions.specs.Pieces.{SurfacePiece, pieces_of, is_counted, component_vector}
+use Rattle.surface_definitions.specs.Pieces.{NormalDisc, discs_of, is_counted, component_vector}
 use Rattle.surface_laws.proofs.PieceNumbers.{no_piece}
 use Rattle.surface_pieces.specs.Vectors.{AreVectors}
 use Rattle.plain_facts.proofs.Truths.{one_if}
@@ -27,8 +27,8 @@ pub record AreTallies (xs components : List ℕ) (count n : ℕ) (vectors : List
   pub each : (i : ℕ) → i < count → IsTally xs components n i (slice_index_or (all_entries vectors) i [])
 
 module _ (xs components : List ℕ) where
-  abbrev piece : ℕ → SurfacePiece
-  piece n = slice_index_or (pieces_of xs) n no_piece
+  abbrev piece : ℕ → NormalDisc
+  piece n = slice_index_or (discs_of xs) n no_piece
 
   tally_next : (n i c : ℕ) → tally xs components (n + 1) i c ≡ tally xs components n i c + one_if (((piece n).column == c) && (slice_index components n == i))
   tally_next n i c = sum_below_next (λ k. cond (is_counted xs components i c k) 1 0) n

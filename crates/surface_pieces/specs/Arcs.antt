@@ -2,20 +2,20 @@
 use Rattle.std.specs.Prelude.{◌≡◌, ℕ, ◌/◌, ◌<◌, List}
 use Rattle.surface_definitions.specs.Coordinates.{columns_each}
 use Rattle.surface_definitions.specs.declared.Coords.{Coords}
-use Rattle.surface_definitions.specs.Pieces.{SurfacePiece, Arc, arcs_round, piece_of}
+use Rattle.surface_definitions.specs.Pieces.{NormalDisc, Arc, arcs_around, disc_of}
 
 -- an arc of the piece p round vertex v of face f
-pub record IsArcOf (coords : Coords) (xs : List ℕ) (p : SurfacePiece) (f v : ℕ) (a : Arc) : Type 0 where
+pub record IsArcOf (coords : Coords) (xs : List ℕ) (p : NormalDisc) (f v : ℕ) (a : Arc) : Type 0 where
   pub tet : a.tet ≡ p.column / columns_each coords
   pub face : a.face ≡ f
   pub vertex : a.vertex ≡ v
-  pub there : a.place < arcs_round coords xs a.tet a.face a.vertex
-  pub piece : piece_of coords xs a ≡ p
+  pub there : a.place < arcs_around coords xs a.tet a.face a.vertex
+  pub piece : disc_of coords xs a ≡ p
 
 -- it is the only one
-abbrev pub IsOnlyArcOf : Coords → List ℕ → SurfacePiece → ℕ → ℕ → Arc → Type 0
+abbrev pub IsOnlyArcOf : Coords → List ℕ → NormalDisc → ℕ → ℕ → Arc → Type 0
 IsOnlyArcOf coords xs p f v a = IsArcOf coords xs p f v a × ((b : Arc) → IsArcOf coords xs p f v b → b ≡ a)
 
 -- there is none
-abbrev pub HasNoArc : Coords → List ℕ → SurfacePiece → ℕ → ℕ → Type 0
+abbrev pub HasNoArc : Coords → List ℕ → NormalDisc → ℕ → ℕ → Type 0
 HasNoArc coords xs p f v = (b : Arc) → IsArcOf coords xs p f v b → ⊥

@@ -6,7 +6,7 @@ use Rattle.table_definitions.specs.Permutation.{is_odd}
 use Rattle.table_definitions.specs.Table.{Gluing, Row}
 use Rattle.table_walk_laws.specs.Joined.{IsJoined, neighbours_of}
 use Rattle.surface_definitions.specs.declared.Coords.{Coords}
-use Rattle.surface_definitions.specs.Pieces.{SurfacePiece, Arc, arc_across, piece_of, pieces_of, piece_number, Meets, keeps_sides, HasSigns}
+use Rattle.surface_definitions.specs.Pieces.{NormalDisc, Arc, arc_across, disc_of, discs_of, disc_number, Meets, keeps_sides, HasSigns}
 use Rattle.surface_laws.specs.PieceLaws.{IsFreePiece, turned_if}
 use Rattle.surface_pieces.specs.declared.joined.SignKind.{SignKind}
 use Rattle.surface_pieces.specs.declared.joined.SignKind.TheVariants.{Sides, Orientation}
@@ -34,22 +34,22 @@ number_across Pieces coords xs a g k i = i
 number_across (Signed signs) coords xs a g k i = 2 * i + turned_if (stays_at signs coords xs a g) (k % 2)
 
 -- an arc of piece p, which has number k, meets one of a piece for which there is number l
-pub record LeadsTo (kind : SearchKind) (rows : List Row) (coords : Coords) (xs : List ℕ) (p : SurfacePiece) (k l : ℕ) : Type 0 where
+pub record LeadsTo (kind : SearchKind) (rows : List Row) (coords : Coords) (xs : List ℕ) (p : NormalDisc) (k l : ℕ) : Type 0 where
   pub arc : Arc
   pub gluing : Gluing
   pub meets : Meets rows coords xs arc gluing
-  pub one : piece_of coords xs arc ≡ p
-  pub other : number_across kind coords xs arc gluing k (piece_number xs (piece_of coords xs (arc_across gluing arc))) ≡ l
+  pub one : disc_of coords xs arc ≡ p
+  pub other : number_across kind coords xs arc gluing k (disc_number xs (disc_of coords xs (arc_across gluing arc))) ≡ l
 
 -- a row lists what number k of piece p is joined to
-abbrev pub IsRow : SearchKind → List Row → Coords → List ℕ → SurfacePiece → ℕ → List (Option ℕ) → Type 0
+abbrev pub IsRow : SearchKind → List Row → Coords → List ℕ → NormalDisc → ℕ → List (Option ℕ) → Type 0
 IsRow kind rows coords xs p k row = (l : ℕ) → Contains (filter_map (λ o. o) row) l ↔ LeadsTo kind rows coords xs p k l
 
 -- rows of all numbers
 pub record AreRows (kind : SearchKind) (rows : List Row) (coords : Coords) (xs : List ℕ) (listed : List (List (Option ℕ))) : Type 0 where
-  pub size : length listed ≡ numbers kind (length (pieces_of xs))
-  pub each : (i : ℕ) → i < numbers kind (length (pieces_of xs))
-      → IsRow kind rows coords xs (slice_index_or (pieces_of xs) (piece_in kind i) (record { column = 0; number = 0 })) i (slice_index_or listed i [])
+  pub size : length listed ≡ numbers kind (length (discs_of xs))
+  pub each : (i : ℕ) → i < numbers kind (length (discs_of xs))
+      → IsRow kind rows coords xs (slice_index_or (discs_of xs) (piece_in kind i) (record { column = 0; number = 0 })) i (slice_index_or listed i [])
 
 -- the classes of the numbers that are joined
 pub record HasClasses (kind : SearchKind) (rows : List Row) (coords : Coords) (xs classes : List ℕ) (count : ℕ) : Type 0 where

@@ -32,7 +32,7 @@ impl<'a> Surface<'a> {
     /// The number of triangles around the vertex of `arc`.
     fn triangles(&self, arc: SurfaceArc) -> u32
         requires { arc.tet < length self.now.table.now }
-        ensures { result ≡ pieces.triangles_round self.now.coords.system self.now.entries.now arc }
+        ensures { result ≡ pieces.triangles_around self.now.coords.system self.now.entries.now arc }
     {
         self.entries[triangle_column(self.coords, arc.tet, arc.vertex) as usize]
     }
@@ -58,7 +58,7 @@ impl<'a> Surface<'a> {
     /// The normal disc that has `arc` on its boundary.
     pub fn piece_of(&self, arc: SurfaceArc) -> Piece
         requires { arc.tet < length self.now.table.now }
-        ensures { result ≡ pieces.piece_of self.now.coords.system self.now.entries.now arc }
+        ensures { result ≡ pieces.disc_of self.now.coords.system self.now.entries.now arc }
     {
         let triangles = self.triangles(arc);
         if arc.place < triangles {

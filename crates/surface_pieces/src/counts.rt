@@ -17,7 +17,7 @@ pub struct Piece {
 impl Model for Piece {
     ghost use Rattle.surface_definitions.specs.Pieces as pieces;
 
-    ghost Value = { pieces.SurfacePiece };
+    ghost Value = { pieces.NormalDisc };
 
     ghost view = { λ p. record { column = p.column; number = p.number } };
 

@@ -35,7 +35,7 @@ pub fn starts_of(alloc: Global, surface: &Surface) -> Result<Vec<u32>, AllocErro
 
 /// All discs of `surface`, by column and number.
 pub fn all_pieces(alloc: Global, surface: &Surface) -> Result<Vec<Piece>, AllocError>
-    ensures { IfOk result (λ listed. listed.items ≡ pieces.pieces_of surface.now.entries.now) }
+    ensures { IfOk result (λ listed. listed.items ≡ pieces.discs_of surface.now.entries.now) }
 {
     let mut listed = Vec::new(alloc);
     for column in 0..surface.entries.len() as u32 {
@@ -48,7 +48,7 @@ impl<'a> NumberedPieces<'a> {
     /// The index of `piece` among all discs.
     pub fn number_of(&self, piece: Piece) -> u32
         requires { IsPieceOf self.now.surface.entries.now piece }
-        ensures { result ≡ pieces.piece_number self.now.surface.entries.now piece }
+        ensures { result ≡ pieces.disc_number self.now.surface.entries.now piece }
     {
         self.starts[piece.column as usize] + piece.number
     }

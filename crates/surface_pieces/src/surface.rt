@@ -3,7 +3,7 @@
 ghost use Rattle.std.specs.Prelude.{◌≡◌, ◌≤◌, length, sum};
 ghost use Rattle.table_definitions.specs.Table.{max_tets};
 ghost use Rattle.surface_definitions.specs.Coordinates.{columns};
-ghost use Rattle.surface_definitions.specs.Pieces.{pieces_of};
+ghost use Rattle.surface_definitions.specs.Pieces.{discs_of};
 ghost use Rattle.surface_vector_definitions.specs.Components.{most_pieces};
 ghost use Rattle.surface_laws.specs.PieceLaws.{IsSurface};
 ghost use Rattle.surface_pieces.specs.Starts.{AreStarts};
@@ -31,7 +31,7 @@ pub struct NumberedPieces<'a> {
     pub surface: Surface<'a>,
     pub listed: &'a [Piece],
     pub starts: &'a [u32],
-    pub ghost all: { listed.now ≡ pieces_of surface.entries.now },
+    pub ghost all: { listed.now ≡ discs_of surface.entries.now },
     pub ghost counted: { AreStarts surface.entries.now starts.now },
 }
 

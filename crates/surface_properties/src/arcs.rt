@@ -44,7 +44,7 @@ impl<'a> DiscVector<'a> {
         requires in_range { face.tet < length self.now.table.now }
         requires one_of_three { number < 3 }
         ensures a_face { face.face < 4 }
-        ensures value { result ≡ capped (pieces.arcs_round self.now.coords.system self.now.entries.now face.tet face.face (slice_index (others face.face) number)) }
+        ensures value { result ≡ capped (pieces.arcs_around self.now.coords.system self.now.entries.now face.tet face.face (slice_index (others face.face) number)) }
     {
         let columns = arc_columns(self.coords, face.tet, face.face, corner(face, number));
         sum_at(self.entries, columns.as_slice())

@@ -12,7 +12,7 @@ use Rattle.table_definitions.specs.Classes.{IsNumbering, least}
 use Rattle.table_definitions.specs.Places.{SameEdge, is_boundary_edge}
 use Rattle.table_definitions.proofs.TableLaws.{Among}
 use Rattle.table_definitions.proofs.Listed.{contains_among, among_contains, all_mapped, filter-among, below-among}
-use Rattle.skeleton_definitions.specs.Corners.{Corner, first_corner, AreCorners, inner_edges, left_through}
+use Rattle.skeleton_definitions.specs.Corners.{Corner, first_corner, AreCorners, internal_edges, left_through}
 use Rattle.surface_definitions.specs.Coordinates.{columns, tri_column, quad_column, keeping}
 use Rattle.surface_definitions.specs.declared.Coords.TheVariants.{Standard, Quad}
 use Rattle.surface_definitions.specs.Equations.{Holds, matching, matching_rows, row_of}
@@ -116,6 +116,6 @@ module _ (rows : List Row) (ys : List ℕ) (table : IsTable rows) (solution : Is
   quads_solve quad_rows are = record {
     width = length-projected ys n;
     zero = All-from_recursion (λ (row : EquationRow). IsZeroAt row (projected n ys)) quad_rows
-        (each_zero are.classes are.count are.numbered (inner_edges rows are.classes are.count) quad_rows
+        (each_zero are.classes are.count are.numbered (internal_edges rows are.classes are.count) quad_rows
         (λ c a. let m = filter-among (λ c. not (is_boundary_edge rows are.classes c)) c (below are.count) a in (below-among c are.count m.0, not-true (is_boundary_edge rows are.classes c) m.1)) are.each);
   }

@@ -8,7 +8,7 @@ use Rattle.table_definitions.specs.Places.{ends}
 use Rattle.table_definitions.proofs.PermutationLaws.{image_below, image-of_inverse, images_apart}
 use Rattle.surface_laws.proofs.CornerSteps.{LeadsOn}
 use Rattle.skeleton_class_laws.proofs.Rounds.{next, before, first_step, steps_more, where_led}
-use Rattle.skeleton_definitions.specs.Corners.{Corner, corner_behind, corner_of, first_corner, step, steps, Reaches, left_through}
+use Rattle.skeleton_definitions.specs.Corners.{Corner, corner_across, corner_of, first_corner, step, steps, Reaches, left_through}
 
 -- a corner of one of n tetrahedra: the edge ab, and the faces c and d that meet in it
 pub record HasFourVertices (n : ℕ) (k : Corner) : Type 0 where
@@ -36,14 +36,14 @@ has_four_in_tet n t (suc (suc (suc (suc (suc (suc e)))))) l m = absurd (omega ar
 pub first_has_four : (n i : ℕ) → i < 6 * n → HasFourVertices n (first_corner i)
 first_has_four n i l = has_four_in_tet n (i / 6) (i % 6) (omega arith) (omega arith)
 
-pub next_is : (rows : List Row) (k : Corner) (w : LeadsOn rows k) → next rows k ≡ corner_behind k w.g
-next_is rows k w = ap (where_led corner_behind k) w.glued
+pub next_is : (rows : List Row) (k : Corner) (w : LeadsOn rows k) → next rows k ≡ corner_across k w.g
+next_is rows k w = ap (where_led corner_across k) w.glued
 
 pub next_steps : (rows : List Row) (k : Corner) → LeadsOn rows k → step rows k ≡ Some (next rows k)
-next_steps rows k w = ap (option_map (corner_behind k)) w.glued ∙ ap Some (sym (next_is rows k w))
+next_steps rows k w = ap (option_map (corner_across k)) w.glued ∙ ap Some (sym (next_is rows k w))
 
 module _ (rows : List Row) (table : IsTable rows) where
-  pub behind_in : (k : Corner) (g : Gluing) → HasFourVertices (length rows) k → glue rows (left_through k) ≡ Some g → HasFourVertices (length rows) (corner_behind k g)
+  pub behind_in : (k : Corner) (g : Gluing) → HasFourVertices (length rows) k → glue rows (left_through k) ≡ Some g → HasFourVertices (length rows) (corner_across k g)
   behind_in k g four e =
       let p : IsPermutationOfFour g.perm = table.permutes (left_through k) g e in
       record {
@@ -65,7 +65,7 @@ module _ (rows : List Row) (table : IsTable rows) where
   before_next k four w =
       let g : Gluing = w.g in
       let p : IsPermutationOfFour g.perm = table.permutes (left_through k) g w.glued in
-      ap (before rows) (next_is rows k w) ∙ ap (where_led corner_behind (corner_behind k g)) (table.leads_back (left_through k) g w.glued)
+      ap (before rows) (next_is rows k w) ∙ ap (where_led corner_across (corner_across k g)) (table.leads_back (left_through k) g w.glued)
       ∙ (λ i. record {
         tet = k.tet;
         a = image-of_inverse g.perm k.a p four.a i;

@@ -11,7 +11,7 @@ use Rattle.table_definitions.proofs.ChainLaws.{Steps, steps_across, kept_along}
 use Rattle.table_definitions.proofs.ListFacts.{list_all-below}
 use Rattle.table_definitions.proofs.Listed.{contains_among, among_contains, map-among}
 use Rattle.table_definitions.proofs.TableLaws.{Among, Among-map, glued_face}
-use Rattle.skeleton_definitions.specs.Corners.{Corner, AreCorners, Reaches, left_through, came_through, corner_behind}
+use Rattle.skeleton_definitions.specs.Corners.{Corner, AreCorners, Reaches, left_through, came_through, corner_across}
 use Rattle.surface_definitions.specs.Coordinates.{quad_column, keeping}
 use Rattle.surface_definitions.specs.declared.Coords.TheVariants.{Quad}
 use Rattle.surface_laws.proofs.Counting.{sum_by_same, sum_by-map}
@@ -121,10 +121,10 @@ module _ (rows : List Row) (table : IsTable rows) (xs : List ℕ) where
         let lands : carried w.gluing (pair k.tet k.a k.b) ≡ q = ap (carried w.gluing) h.2 ∙ sym w.lands in
         elim (cases_eq f k.d) [
           | inl d ↦ (let back : glue rows (came_through k) ≡ Some w.gluing = ap (λ g. glue rows (record { tet = k.tet; face = g })) (sym d) ∙ glued in
-              (before rows k, before_listed k h.1, ap (λ o. let l : Corner = where_led corner_behind k o in pair l.tet l.a l.b) back ∙ lands))
+              (before rows k, before_listed k h.1, ap (λ o. let l : Corner = where_led corner_across k o in pair l.tet l.a l.b) back ∙ lands))
           | inr far ↦ (let third : f ≡ k.c = third_is k.a k.b k.c k.d f x.a x.b x.c x.d lf x.ab x.ac x.ad x.bc x.bd x.cd af bf far in
               let ahead : glue rows (left_through k) ≡ Some w.gluing = ap (λ g. glue rows (record { tet = k.tet; face = g })) (sym third) ∙ glued in
-              (next rows k, closed_under k h.1, ap (λ o. let l : Corner = where_led corner_behind k o in pair l.tet l.a l.b) ahead ∙ lands))
+              (next rows k, closed_under k h.1, ap (λ o. let l : Corner = where_led corner_across k o in pair l.tet l.a l.b) ahead ∙ lands))
         ]
 
     place_there : (q : Place) → IsJoined rows (pair first.tet first.a first.b) q → (k : Corner) × Among k ks × (pair k.tet k.a k.b ≡ q)

@@ -17,7 +17,7 @@ use Rattle.table_definitions.proofs.ChainLaws.{joined_sym, joined_trans, joined_
 use Rattle.table_definitions.proofs.Listed.{contains_among, among_contains, map-among, all_mapped, all_at, Among-filter, below-among}
 use Rattle.table_definitions.proofs.TableLaws.{Among, Among-below, Among-map, four-among}
 use Rattle.table_definitions.proofs.Faces.{face_at}
-use Rattle.skeleton_definitions.specs.Corners.{Corner, first_corner, AreCorners, inner_edges, left_through}
+use Rattle.skeleton_definitions.specs.Corners.{Corner, first_corner, AreCorners, internal_edges, left_through}
 use Rattle.skeleton_definitions.specs.Links.{SameDirected}
 use Rattle.skeleton_definitions.specs.Skeleton.{Skeleton}
 use Rattle.surface_definitions.specs.Coordinates.{columns, quad_column, keeping}
@@ -251,9 +251,9 @@ module _ (s : Skeleton) (c : ℕ) (z : IsVertexClass s c) (directions : List ℕ
       → ((m : Corner) → IsFlag s c z m → glue s.rows (left_through m) ≡ None → end m ≡ end k → ⊥) → HasCycle xs k
   cycle_of quad_rows are xs solution k h inner_end =
       let e : ℕ = slice_index are.classes (edge_at k.tet k.a k.b) in
-      let listed : Among e (inner_edges s.rows are.classes are.count) =
+      let listed : Among e (internal_edges s.rows are.classes are.count) =
       Among-filter (λ d. not (is_boundary_edge s.rows are.classes d)) e (below are.count) (Among-below e are.count (low_e k h inner_end are.classes are.count are.numbered)) (ap not (inner k h inner_end are.classes are.count are.numbered)) in
-      let row = zip_at (IsQuadRow s.rows are.classes) (inner_edges s.rows are.classes are.count) quad_rows e are.each listed in
+      let row = zip_at (IsQuadRow s.rows are.classes) (internal_edges s.rows are.classes are.count) quad_rows e are.each listed in
       let zero : IsZeroAt row.0 xs = all_at (λ (r : EquationRow). IsZeroAt r xs) quad_rows row.0 (recursion_from_All (λ (r : EquationRow). IsZeroAt r xs) quad_rows solution.zero) row.1 in
       let is = row.2 in
       has_cycle k h inner_end are.classes are.count are.numbered is.0 is.1 xs (subst (λ (r : EquationRow). IsZeroAt r xs) is.2 zero)

@@ -4,7 +4,7 @@ use Rattle.std.specs.Prelude.{slice_index}
 use Rattle.table_definitions.specs.Permutation.{IsPermutationOfFour}
 use Rattle.table_definitions.specs.Table.{Gluing, Row, glue}
 use Rattle.table_definitions.proofs.PermutationLaws.{image_below, images_apart, image-of_inverse}
-use Rattle.skeleton_definitions.specs.Corners.{Corner, left_through, corner_behind}
+use Rattle.skeleton_definitions.specs.Corners.{Corner, left_through, corner_across}
 use Rattle.skeleton_definitions.specs.Links.{vertex_number}
 use Rattle.skeleton_definitions.specs.Skeleton.{Skeleton, IsSkeleton}
 use Rattle.surface_laws.proofs.Vertices.{class_across}
@@ -36,7 +36,7 @@ opposite k = record { tet = k.tet; a = k.b; b = k.a; c = k.c; d = k.d }
 
 -- the same end of the same side, in the triangle that is glued there
 abbrev pub mate_behind : Corner → Gluing → Corner
-mate_behind k g = flip (corner_behind k g)
+mate_behind k g = flip (corner_across k g)
 
 abbrev pub mate : List Row → Corner → Corner
 mate rows k = where_led mate_behind k (glue rows (left_through k))
@@ -53,14 +53,14 @@ pub mate-opposite : (rows : List Row) (k : Corner) → mate rows (opposite k) �
 mate-opposite rows k = either_way mate_behind opposite k (glue rows (left_through k)) (λ g. refl)
 
 pub next-opposite : (rows : List Row) (k : Corner) → next rows (opposite k) ≡ opposite (next rows k)
-next-opposite rows k = either_way corner_behind opposite k (glue rows (left_through k)) (λ g. refl)
+next-opposite rows k = either_way corner_across opposite k (glue rows (left_through k)) (λ g. refl)
 
 -- where the side is glued, the flag on its other side is that of the next corner, and of the one before
 pub mate-next : (rows : List Row) (k : Corner) → LeadsOn rows k → mate rows k ≡ flip (next rows k)
-mate-next rows k w = ap (where_led mate_behind k) w.glued ∙ ap (λ o. flip (where_led corner_behind k o)) (sym w.glued)
+mate-next rows k w = ap (where_led mate_behind k) w.glued ∙ ap (λ o. flip (where_led corner_across k o)) (sym w.glued)
 
 pub mate-before : (rows : List Row) (k : Corner) → LeadsOn rows (flip k) → mate rows (flip k) ≡ before rows k
-mate-before rows k w = ap (where_led mate_behind (flip k)) w.glued ∙ ap (where_led corner_behind k) (sym w.glued)
+mate-before rows k w = ap (where_led mate_behind (flip k)) w.glued ∙ ap (where_led corner_across k) (sym w.glued)
 
 module _ (s : Skeleton) (c : ℕ) (z : IsVertexClass s c) where
   abbrev n : ℕ

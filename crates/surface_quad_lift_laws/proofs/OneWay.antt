@@ -4,7 +4,7 @@ use Rattle.std.specs.Prelude.{◌==◌, IsTrue, option_and_then}
 use Rattle.std.proofs.lemmas.Bool.{cases_lt, eq-eqb, and_from}
 use Rattle.table_definitions.specs.Permutation.{image}
 use Rattle.table_definitions.specs.Table.{Row, Face, other_side, same_face, IsTable}
-use Rattle.skeleton_definitions.specs.Corners.{Corner, corner_behind, step, steps, Reaches, left_through}
+use Rattle.skeleton_definitions.specs.Corners.{Corner, corner_across, step, steps, Reaches, left_through}
 use Rattle.surface_laws.proofs.CornerSteps.{IsStep, step_is}
 use Rattle.skeleton_class_laws.proofs.Rounds.{before, next, first_step, where_led}
 use Rattle.surface_quad_laws.proofs.Rounds.{HasFourVertices, next_is, before_next, behind_in, kept_by_steps}
@@ -44,7 +44,7 @@ module _ (rows : List Row) (table : IsTable rows) where
       let w : IsStep rows k m = step_is rows k m e in
       let v : IsStep rows y (flip k) = step_is rows y (flip k) f in
       let onto : next rows y ≡ flip k = next_is rows y v.on ∙ v.is in
-      sym (before_next rows table y four v.on) ∙ ap (before rows) onto ∙ ap (where_led corner_behind (flip k)) w.on.glued ∙ ap flip w.is
+      sym (before_next rows table y four v.on) ∙ ap (before rows) onto ∙ ap (where_led corner_across (flip k)) w.on.glued ∙ ap flip w.is
 
   pub no_flip : (n : ℕ) (k : Corner) → HasFourVertices (length rows) k → steps rows n k ≡ Some (flip k) → ⊥
   no_flip zero k four e = let same : k ≡ flip k = cc in four.cd (ap (λ (l : Corner). l.c) same)
@@ -52,7 +52,7 @@ module _ (rows : List Row) (table : IsTable rows) where
       let f = first_step rows zero (flip k) (step rows k) e in
       let same : f.0 ≡ flip k = (let w = f.2 in cc) in
       let w : IsStep rows k f.0 = step_is rows k f.0 f.1 in
-      let is : corner_behind k w.on.g ≡ flip k = w.is ∙ same in
+      let is : corner_across k w.on.g ≡ flip k = w.is ∙ same in
       let x : Face = left_through k in
       not_itself (same_face (other_side x w.on.g) x) (table.apart x w.on.g w.on.glued)
       (and_from (w.on.g.tet == k.tet) (image w.on.g.perm k.c == k.c) (eq-eqb w.on.g.tet k.tet (ap (λ (l : Corner). l.tet) is)) (eq-eqb (image w.on.g.perm k.c) k.c (ap (λ (l : Corner). l.d) is)))

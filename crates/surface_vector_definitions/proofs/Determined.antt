@@ -8,7 +8,7 @@ use Rattle.table_definitions.specs.Lists.{below}
 use Rattle.table_definitions.specs.Table.{Row}
 use Rattle.table_definitions.proofs.ClassLaws.{numberings_agree}
 use Rattle.surface_definitions.specs.declared.Coords.{Coords}
-use Rattle.surface_definitions.specs.Pieces.{pieces_of, SamePiece}
+use Rattle.surface_definitions.specs.Pieces.{discs_of, SamePiece}
 use Rattle.surface_vector_definitions.specs.Components.{Component, IsComponent, AreListedComponents, IsPiecesAnswer}
 use Rattle.surface_vector_definitions.specs.declared.ManyPieces.{ManyPieces}
 
@@ -57,7 +57,7 @@ one_list R one (i ∷ is) (c ∷ cs) (d ∷ ds) a b = ap (λ x. x ∷ cs) (one i
 
 one_listing : (rows : List Row) (coords : Coords) (xs : List ℕ) (cs ds : List Component) → AreListedComponents rows coords xs cs → AreListedComponents rows coords xs ds → cs ≡ ds
 one_listing rows coords xs cs ds f g =
-    let n : ℕ = length (pieces_of xs) in
+    let n : ℕ = length (discs_of xs) in
     let counts : f.count ≡ g.count = counts_agree n (SamePiece rows coords xs) f.classes g.classes f.count g.count f.numbered g.numbered in
     let classes : f.classes ≡ g.classes = numberings_same n (SamePiece rows coords xs) f.classes g.classes f.count g.count f.numbered g.numbered in
     let again : AllZip (IsComponent rows coords xs f.classes) (below f.count) ds =

@@ -7,7 +7,7 @@ use Rattle.plain_facts.proofs.Numbers.{last_or_before}
 use Rattle.table_definitions.specs.Table.{Row, IsTable}
 use Rattle.table_definitions.specs.Places.{IsConnected, IsLeastUnreached}
 use Rattle.signature_definitions.specs.Spelling.{IsSignature}
-use Rattle.signature_definitions.specs.Census.{table_in, IsCensus, IsPlaced}
+use Rattle.signature_definitions.specs.Census.{table_in, IsCensus, IsClassed}
 use Rattle.signature_definitions.proofs.CensusLaws.{census_goes_on}
 use Rattle.signature_laws.proofs.Uniqueness.{tells_tables}
 use Rattle.table_commands.specs.declared.groups.NotConnected.{NotConnected}
@@ -46,13 +46,13 @@ module _ (tables : List (List Row)) (a : List Row) where
   still_connected : (n : ℕ) → n ≤ length tables → AreConnected tables n → AreConnected more n
   still_connected n within h k less = subst IsConnected (sym (earlier k (omega arith))) (h k less)
 
-  few_placed : (before : List (List ℕ)) (text : List ℕ) (class : ℕ) (now : List (List ℕ)) → IsPlaced before text class now → length now ≤ length before + 1
+  few_placed : (before : List (List ℕ)) (text : List ℕ) (class : ℕ) (now : List (List ℕ)) → IsClassed before text class now → length now ≤ length before + 1
   few_placed before text class now (inl k) = omega (arith, ap length k.kept)
   few_placed before text class now (inr f) = omega (arith, ap length f.appended, length-append before (text ∷ []))
 
   -- a connected table
   pub class_added : (before : Groups) (class : ℕ) (census : List (List ℕ)) (classes : Vec ℕ Global) → before.found ≡ None → classes.items ≡ before.classes.items ++ class ∷ []
-      → (text : List ℕ) × IsSignature a text × IsPlaced before.census text class census → IsConnected a → IsTable a → AreGrouped tables before
+      → (text : List ℕ) × IsSignature a text × IsClassed before.census text class census → IsConnected a → IsTable a → AreGrouped tables before
       → AreGrouped more (record { census = census; classes = classes; found = before.found })
   class_added before class census classes none pushed added connected table g = record {
     are_tables = each_more IsTable g.are_tables table;

@@ -1,7 +1,7 @@
 //! The command `same`: the least isomorphism from one table to another.
 ghost use Rattle.std.specs.Prelude.{◌≡◌, ◌≤◌, ◌++◌, length, IfOk, OnOk};
 ghost use Rattle.text_definitions.specs.Text.{max_text};
-ghost use Rattle.table_definitions.specs.Relabelling.{stand_in};
+ghost use Rattle.table_definitions.specs.Relabelling.{relabelled_place};
 ghost use Rattle.text_document_definitions.specs.Documents.{two_tables_document};
 ghost use Rattle.outcome_definitions.specs.Outcomes.{IsReadOutcome};
 ghost use Rattle.outcome_definitions.specs.Information.{classes_text};
@@ -44,7 +44,7 @@ fn append_images(
     by: &Relabelling,
 ) -> Result<(), NoMemory>
     requires { tets ≡ length by.now.images }
-    ensures { OnOk result (text.new.items ≡ text.old.items ++ classes_text (λ tet. canonical.image_line tet (stand_in by.now tet)) (length by.now.images)) }
+    ensures { OnOk result (text.new.items ≡ text.old.items ++ classes_text (λ tet. canonical.image_line tet (relabelled_place by.now tet)) (length by.now.images)) }
 {
     for tet in 0..tets {
         append_image(alloc, text, tet, by.image(tet), by.perm(tet))?;

@@ -12,7 +12,7 @@ use Rattle.std.proofs.lemmas.Bool.{cases_eq, cases_lt, eqb-true, eq-eqb}
 use Rattle.table_definitions.specs.Lists.{below}
 use Rattle.table_definitions.specs.Permutation.{IsPermutationOfFour, image, preimage, inverse, compose}
 use Rattle.table_definitions.specs.Table.{Gluing, Row, Face, glue, other_side, way_back, same_face, IsTable}
-use Rattle.table_definitions.specs.Relabelling.{Relabelling, IsRelabelling, Carries, stand_in, face_under, gluing_under}
+use Rattle.table_definitions.specs.Relabelling.{Relabelling, IsRelabelling, Carries, relabelled_place, face_under, gluing_under}
 use Rattle.table_definitions.proofs.Permutations.{image_below, preimage_below, image-preimage, preimage-image, image-inverse, inverse_permutes, inverse-inverse, inverse-of-compose, inverse-compose, compose_permutes, compose-compose, compose-identity, identity-compose, image-compose}
 use Rattle.table_definitions.proofs.Bijections.{below_contains, IsDistinct-from_before, get_or-any, flips}
 use Rattle.table_definitions.proofs.TableLaws.{glued_tet, glued_face}
@@ -101,8 +101,8 @@ carried_and_back s r p hs hr hp =
 pub record StandsFor (rows new : List Row) (by : Relabelling) (y : Face) (x : Face) : Type 0 where
   pub tet : x.tet < length rows
   pub face : x.face < 4
-  pub is : face_under (stand_in by x.tet) x ≡ y
-  pub glued : glue new y ≡ option_map (λ g. gluing_under (stand_in by x.tet) (stand_in by g.tet) g) (glue rows x)
+  pub is : face_under (relabelled_place by x.tet) x ≡ y
+  pub glued : glue new y ≡ option_map (λ g. gluing_under (relabelled_place by x.tet) (relabelled_place by g.tet) g) (glue rows x)
 
 pub stands_for : (rows new : List Row) (by : Relabelling) → IsRelabelling (length rows) by → Carries by rows new → (y : Face) → y.tet < length rows → y.face < 4 → (x : Face) × StandsFor rows new by y x
 stands_for rows new by h c y lt lf = from (comes_from (length rows) by h y.tet lt)
@@ -114,7 +114,7 @@ stands_for rows new by h c y lt lf = from (comes_from (length rows) by h y.tet l
         let lf' : f < 4 = preimage_below (slice_index_or by.perms t []) hs y.face lf in
         let x : Face = record { tet = t; face = f } in
         let mk : ℕ → ℕ → Face = λ a b. record { tet = a; face = b } in
-        let same : face_under (stand_in by t) x ≡ y = ap (λ a. mk a (image (slice_index_or by.perms t []) f)) e ∙ ap (λ b. mk y.tet b) (image-preimage (slice_index_or by.perms t []) hs y.face lf) in
+        let same : face_under (relabelled_place by t) x ≡ y = ap (λ a. mk a (image (slice_index_or by.perms t []) f)) e ∙ ap (λ b. mk y.tet b) (image-preimage (slice_index_or by.perms t []) hs y.face lf) in
         (x, record { tet = m; face = lf'; is = same; glued = ap (glue new) (sym same) ∙ c.glued x m lf' })
 
 -- what a glued face of the new table stands for
@@ -123,9 +123,9 @@ pub record GluedFor (rows : List Row) (by : Relabelling) (y : Face) (g' : Gluing
   pub g : Gluing
   pub tet : x.tet < length rows
   pub face : x.face < 4
-  pub is : face_under (stand_in by x.tet) x ≡ y
+  pub is : face_under (relabelled_place by x.tet) x ≡ y
   pub glued : glue rows x ≡ Some g
-  pub carried : gluing_under (stand_in by x.tet) (stand_in by g.tet) g ≡ g'
+  pub carried : gluing_under (relabelled_place by x.tet) (relabelled_place by g.tet) g ≡ g'
 
 glued_for : (rows new : List Row) (by : Relabelling) → IsRelabelling (length rows) by → Carries by rows new → (y : Face) (g' : Gluing) → y.tet < length rows → y.face < 4 → glue new y ≡ Some g' → GluedFor rows by y g'
 glued_for rows new by h c y g' lt lf e = from (stands_for rows new by h c y lt lf)
@@ -134,9 +134,9 @@ glued_for rows new by h c y g' lt lf e = from (stands_for rows new by h c y lt l
     from (x, st) = at (glue rows x) refl
       where
         at : (o : Option Gluing) → glue rows x ≡ o → GluedFor rows by y g'
-        at None k = let z : None ≡ Some g' = sym (st.glued ∙ ap (option_map (λ (g : Gluing). gluing_under (stand_in by x.tet) (stand_in by g.tet) g)) k) ∙ e in cc
+        at None k = let z : None ≡ Some g' = sym (st.glued ∙ ap (option_map (λ (g : Gluing). gluing_under (relabelled_place by x.tet) (relabelled_place by g.tet) g)) k) ∙ e in cc
         at (Some g) k =
-            let z : Some (gluing_under (stand_in by x.tet) (stand_in by g.tet) g) ≡ Some g' = sym (st.glued ∙ ap (option_map (λ (g : Gluing). gluing_under (stand_in by x.tet) (stand_in by g.tet) g)) k) ∙ e in
+            let z : Some (gluing_under (relabelled_place by x.tet) (relabelled_place by g.tet) g) ≡ Some g' = sym (st.glued ∙ ap (option_map (λ (g : Gluing). gluing_under (relabelled_place by x.tet) (relabelled_place by g.tet) g)) k) ∙ e in
             record { x = x; g = g; tet = st.tet; face = st.face; is = st.is; glued = k; carried = cc }
 
 -- what a table asks of a glued face
@@ -157,12 +157,12 @@ pub same_to : (a b c d : ℕ) → a ≡ b → c ≡ d → (a == b) && (c == d) �
 same_to a b c d e f = rw (eq-eqb a b e, eq-eqb c d f) refl
 
 good_carried : (rows new : List Row) (by : Relabelling) → IsTable rows → IsRelabelling (length rows) by → Carries by rows new → (x : Face) (g : Gluing) → x.tet < length rows → x.face < 4 → glue rows x ≡ Some g
-    → IsGood (length rows) new (face_under (stand_in by x.tet) x) (gluing_under (stand_in by x.tet) (stand_in by g.tet) g)
+    → IsGood (length rows) new (face_under (relabelled_place by x.tet) x) (gluing_under (relabelled_place by x.tet) (relabelled_place by g.tet) g)
 good_carried rows new by table h c x g lt lf e = record {
   permutes = compose_permutes r (compose p (inverse s)) hr (compose_permutes p (inverse s) hp (inverse_permutes s hs));
   in_range = image_in_range (length rows) by h g.tet gt;
   apart = not_from _ never;
-  leads_back = ap (glue new) over ∙ c.glued x' gt xf ∙ ap (option_map (λ (k : Gluing). gluing_under (stand_in by g.tet) (stand_in by k.tet) k)) (table.leads_back x g e) ∙ ap (λ q. Some (mkg (slice_index by.images x.tet) q)) (carried_back s r p hs hr hp);
+  leads_back = ap (glue new) over ∙ c.glued x' gt xf ∙ ap (option_map (λ (k : Gluing). gluing_under (relabelled_place by g.tet) (relabelled_place by k.tet) k)) (table.leads_back x g e) ∙ ap (λ q. Some (mkg (slice_index by.images x.tet) q)) (carried_back s r p hs hr hp);
 }
   where
     mk : ℕ → ℕ → Face
@@ -201,10 +201,10 @@ good_carried rows new by table h c x g lt lf e = record {
     goes : image (compose r (compose p (inverse s))) (image s x.face) ≡ image r (image p x.face)
     goes = carried_image s r p x.face hs hr hp lf
 
-    over : other_side (face_under (stand_in by x.tet) x) (gluing_under (stand_in by x.tet) (stand_in by g.tet) g) ≡ face_under (stand_in by g.tet) (other_side x g)
+    over : other_side (face_under (relabelled_place by x.tet) x) (gluing_under (relabelled_place by x.tet) (relabelled_place by g.tet) g) ≡ face_under (relabelled_place by g.tet) (other_side x g)
     over = ap (mk (slice_index by.images g.tet)) goes
 
-    never : same_face (other_side (face_under (stand_in by x.tet) x) (gluing_under (stand_in by x.tet) (stand_in by g.tet) g)) (face_under (stand_in by x.tet) x) ≡ true → ⊥
+    never : same_face (other_side (face_under (relabelled_place by x.tet) x) (gluing_under (relabelled_place by x.tet) (relabelled_place by g.tet) g)) (face_under (relabelled_place by x.tet) x) ≡ true → ⊥
     never t =
         let q = same_from (slice_index by.images g.tet) (slice_index by.images x.tet) (image (compose r (compose p (inverse s))) (image s x.face)) (image s x.face) t in
         let tets : g.tet ≡ x.tet = images_apart (length rows) by h g.tet x.tet gt lt q.0 in
@@ -231,6 +231,6 @@ carried_is_table rows new by table h c = record {
         let lf : y.face < 4 = glued_face new y g' c.four_faces e in
         let q : GluedFor rows by y g' = glued_for rows new by h c y g' lt lf e in
         let first = good_carried rows new by table h c q.x q.g q.tet q.face q.glued in
-        let y0 : Face = face_under (stand_in by q.x.tet) q.x in
+        let y0 : Face = face_under (relabelled_place by q.x.tet) q.x in
         let second : IsGood (length rows) new y0 g' = subst (λ (k : Gluing). IsGood (length rows) new y0 k) q.carried first in
         subst (λ (z : Face). IsGood (length rows) new z g') q.is second

@@ -12,7 +12,7 @@ use Rattle.table_definitions.specs.Permutation.{is_permutation, digits_of, words
 use Rattle.table_definitions.specs.Table.{Gluing}
 use Rattle.text_definitions.specs.Text.{decimal_value, is_decimal, digits_value}
 use Rattle.table_definitions.specs.TableText.{permutation_of, gluing_parts, gluing_of}
-use Rattle.table_definitions.specs.Grammar.{IsNumber, IsGluingWord}
+use Rattle.table_definitions.specs.Grammar.{IsDecimalUpTo, IsGluingWord}
 use Rattle.table_definitions.proofs.Permutations.{by_words, permutation_of-digits}
 use Rattle.table_definitions.proofs.ListFacts.{same_list-true}
 
@@ -105,7 +105,7 @@ after_is t ds all =
     ap (λ k. drop (k + 1) (t ++ (58 ∷ ds))) (colon_behind t ds all) ∙ ap (λ k. drop k (t ++ (58 ∷ ds))) lengths
     ∙ ap (λ (xs : List ℕ). drop (length (t ++ 58 ∷ [])) xs) (sym (append_assoc t (58 ∷ []) ds)) ∙ drop-append_seam (t ++ 58 ∷ []) ds
 
-gluing_with : (t : List ℕ) (g : Gluing) → IsNumber (2 ^ 32 - 1) t g.tet → IsPermutationOfFour g.perm → gluing_of (t ++ (58 ∷ digits_of g.perm)) ≡ Some g
+gluing_with : (t : List ℕ) (g : Gluing) → IsDecimalUpTo (2 ^ 32 - 1) t g.tet → IsPermutationOfFour g.perm → gluing_of (t ++ (58 ∷ digits_of g.perm)) ≡ Some g
 gluing_with t g n h =
     let all : list_all is_ascii_digit t ≡ true = decimal_digits t g.tet n.value in
     let tets : decimal_value (before_first is_colon (t ++ (58 ∷ digits_of g.perm))) ≡ Some g.tet = ap decimal_value (before_is t (digits_of g.perm) all) ∙ n.value in

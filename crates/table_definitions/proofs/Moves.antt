@@ -9,7 +9,7 @@ use Rattle.std.proofs.lemmas.List.Elements.{All-from_get_or}
 use Rattle.table_definitions.specs.Lists.{below}
 use Rattle.table_definitions.specs.Permutation.{IsPermutationOfFour, image}
 use Rattle.table_definitions.specs.Table.{Gluing, Row, Face, glue, IsTable}
-use Rattle.table_definitions.specs.Relabelling.{Relabelling, IsRelabelling, Carries, stand_in, face_under}
+use Rattle.table_definitions.specs.Relabelling.{Relabelling, IsRelabelling, Carries, relabelled_place, face_under}
 use Rattle.table_definitions.proofs.Permutations.{image_below, preimage-image}
 use Rattle.table_definitions.specs.Moved.{moved, moved_face, moved_row}
 use Rattle.table_definitions.proofs.Carried.{image_in_range, perm_permutes, permutation_below, permutation_apart}
@@ -42,7 +42,7 @@ carries_from rows new by olds h same each back = record {
   glued = λ x lt lf. glued_at x lt lf;
 }
   where
-    glued_at : (x : Face) → x.tet < length rows → x.face < 4 → glue new (face_under (stand_in by x.tet) x) ≡ moved by x.tet (glue rows x)
+    glued_at : (x : Face) → x.tet < length rows → x.face < 4 → glue new (face_under (relabelled_place by x.tet) x) ≡ moved by x.tet (glue rows x)
     glued_at x lt lf =
         let s : List ℕ = slice_index_or by.perms x.tet [] in
         let hs : IsPermutationOfFour s = perm_permutes (length rows) by h x.tet lt in

@@ -7,7 +7,7 @@ use Rattle.std.proofs.Math.Seq.{get_or-append_seam}
 use Rattle.std.proofs.lemmas.List.Elements.{filter-append}
 use Rattle.std.proofs.lemmas.List.Sums.{length-filter, sum_by-append, sum_by-cons, position_or_len_is}
 use Rattle.std.proofs.lemmas.Bool.{eqb-true, eq-eqb, lt-ltb, le-ltb, cases_lt, ne_eqb}
-use Rattle.table_definitions.specs.Lists.{below, has, closed_up}
+use Rattle.table_definitions.specs.Lists.{below, has, rank_without}
 use Rattle.table_definitions.specs.Replaceable.{gone_before}
 use Rattle.table_definitions.proofs.Bijections.{below-push}
 use Rattle.plain_facts.proofs.Truths.{one_if}
@@ -175,7 +175,7 @@ stays_and_once gone (suc t) once =
 pub stays_and_gone : (gone : List ℕ) (t : ℕ) → Ascends gone → rank (stays gone) t + gone_before gone t ≡ t
 stays_and_gone gone t up = stays_and_once gone t (λ u. times_one gone u up)
 
-pub closed_up-rank : (gone : List ℕ) (t : ℕ) → Ascends gone → closed_up gone t ≡ rank (stays gone) t
+pub closed_up-rank : (gone : List ℕ) (t : ℕ) → Ascends gone → rank_without gone t ≡ rank (stays gone) t
 closed_up-rank gone t up = omega (arith, stays_and_gone gone t up)
 
 -- so many stay of the numbers below n, where all that are taken out are below n

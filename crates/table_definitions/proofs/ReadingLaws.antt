@@ -8,7 +8,7 @@ use Rattle.text_definitions.specs.declared.LexKind.TheVariants.{NumberTooWide, B
 use Rattle.text_definitions.specs.declared.LexFault.{LexFault}
 use Rattle.text_definitions.specs.Reading.{same_word, Reading, ◌>>=◌, column_at, word_at, number_at, number_up_to, exactly_at, numbers_from, word_fault}
 use Rattle.text_definitions.proofs.Readers.{bind_ok}
-use Rattle.table_definitions.specs.Grammar.{IsWord, AreWords, IsNumber}
+use Rattle.table_definitions.specs.Grammar.{IsWord, AreWords, IsDecimalUpTo}
 
 -- words that pass the test are equal, and equal words pass
 same_word-true : (xs ys : List ℕ) → same_word xs ys ≡ true → xs ≡ ys
@@ -54,11 +54,11 @@ word_taken (word column v ∷ ts) c w d e =
     record { column = column; rest = ts; tokens = ap (λ (u : List ℕ). word column u ∷ ts) parts.0; left = sym parts.1 }
 
 -- a number that was read
-pub number_taken : (max : ℕ) (w : List ℕ) (o : Option ℕ) (c : Reading) (n : ℕ) (d : Reading) → decimal_value w ≡ o → number_up_to max o c ≡ Ok (n, d) → IsNumber max w n × (d ≡ c)
+pub number_taken : (max : ℕ) (w : List ℕ) (o : Option ℕ) (c : Reading) (n : ℕ) (d : Reading) → decimal_value w ≡ o → number_up_to max o c ≡ Ok (n, d) → IsDecimalUpTo max w n × (d ≡ c)
 number_taken max w None c n d v e = absurd cc
 number_taken max w (Some m) c n d v e = by_test (nat_lt max m) refl e
   where
-    by_test : (b : Bool) → nat_lt max m ≡ b → if◌then◌else◌ {A = Result (ℕ × Reading) LexFault} b (Err (word_fault c NumberTooWide)) (Ok (m, c)) ≡ Ok (n, d) → IsNumber max w n × (d ≡ c)
+    by_test : (b : Bool) → nat_lt max m ≡ b → if◌then◌else◌ {A = Result (ℕ × Reading) LexFault} b (Err (word_fault c NumberTooWide)) (Ok (m, c)) ≡ Ok (n, d) → IsDecimalUpTo max w n × (d ≡ c)
     by_test true t e = absurd cc
     by_test false t e =
         let parts : (m ≡ n) × (c ≡ d) = ok_parts (m, c) (n, d) e in
@@ -68,14 +68,14 @@ number_taken max w (Some m) c n d v e = by_test (nat_lt max m) refl e
 pub record TakesNumber (max : ℕ) (ts : List Token) (c : Reading) (n : ℕ) (d : Reading) : Type 0 where
   pub w : List ℕ
   pub word : TakesWord ts c w d
-  pub number : IsNumber max w n
+  pub number : IsDecimalUpTo max w n
 
 pub number_read : (max : ℕ) (ts : List Token) (c : Reading) (n : ℕ) (d : Reading) → number_at max (with_tokens ts c) ≡ Ok (n, d) → TakesNumber max ts c n d
 unfolding number_at word_at
 number_read max ts c n d e =
     let first : (x : List ℕ × Reading) × (word_at (with_tokens ts c) ≡ Ok x) × (number_up_to max (decimal_value x.0) x.1 ≡ Ok (n, d)) =
     bind_ok (word_at (with_tokens ts c)) (λ (x : List ℕ × Reading). number_up_to max (decimal_value x.0) x.1) (n, d) e in
-    let taken : IsNumber max (first.0).0 n × (d ≡ (first.0).1) = number_taken max (first.0).0 (decimal_value (first.0).0) (first.0).1 n d refl first.2 in
+    let taken : IsDecimalUpTo max (first.0).0 n × (d ≡ (first.0).1) = number_taken max (first.0).0 (decimal_value (first.0).0) (first.0).1 n d refl first.2 in
     let w : TakesWord ts c (first.0).0 (first.0).1 = word_taken ts c (first.0).0 (first.0).1 first.1 in
     record {
       w = (first.0).0;
@@ -87,7 +87,7 @@ number_read max ts c n d e =
 pub record TakesNumbers (max : ℕ) (ts : List Token) (c : Reading) (xs : List ℕ) (d : Reading) : Type 0 where
   pub ws : List (List ℕ)
   pub are_words : AreWords ts ws
-  pub numbers : AllZip (IsNumber max) ws xs
+  pub numbers : AllZip (IsDecimalUpTo max) ws xs
   pub later : d.later ≡ c.later
   pub at_end : d.current.tokens ≡ []
 
@@ -113,7 +113,7 @@ numbers_read max [] c xs d e =
     record {
       ws = [];
       are_words = tt;
-      numbers = subst (λ (ys : List ℕ). AllZip (IsNumber max) [] ys) parts.0 tt;
+      numbers = subst (λ (ys : List ℕ). AllZip (IsDecimalUpTo max) [] ys) parts.0 tt;
       later = ap (λ (r : Reading). r.later) (sym parts.1);
       at_end = ap (λ (r : Reading). r.current.tokens) (sym parts.1);
     }
@@ -146,7 +146,7 @@ exactly_read wanted ts c d e =
     record { column = w.column; rest = w.rest; tokens = w.tokens ∙ ap (λ (u : List ℕ). word w.column u ∷ w.rest) taken.0; left = sym taken.1 ∙ w.left }
 
 -- What is in the grammar is read.
-pub number_found : (max : ℕ) (w : List ℕ) (n : ℕ) (c : Reading) → IsNumber max w n → number_up_to max (decimal_value w) c ≡ Ok (n, c)
+pub number_found : (max : ℕ) (w : List ℕ) (n : ℕ) (c : Reading) → IsDecimalUpTo max w n → number_up_to max (decimal_value w) c ≡ Ok (n, c)
 number_found max w n c h = ap (λ (o : Option ℕ). number_up_to max o c) h.value ∙ in_range
   where
     in_range : number_up_to max (Some n) c ≡ Ok (n, c)
@@ -159,12 +159,12 @@ pub record FindsNumbers (max : ℕ) (ts : List Token) (c : Reading) (xs : List �
   pub later : left.later ≡ c.later
   pub at_end : left.current.tokens ≡ []
 
-pub one_number : (max : ℕ) (column : ℕ) (w : List ℕ) (n : ℕ) (ts : List Token) (c : Reading) → IsNumber max w n
+pub one_number : (max : ℕ) (column : ℕ) (w : List ℕ) (n : ℕ) (ts : List Token) (c : Reading) → IsDecimalUpTo max w n
     → number_at max (with_tokens (word column w ∷ ts) c) ≡ Ok (n, with_tokens ts (behind column c))
 unfolding number_at word_at
 one_number max column w n ts c h = number_found max w n (with_tokens ts (behind column c)) h
 
-numbers_more : (max : ℕ) (column : ℕ) (w : List ℕ) (n : ℕ) (ts : List Token) (xs : List ℕ) (c : Reading) → IsNumber max w n
+numbers_more : (max : ℕ) (column : ℕ) (w : List ℕ) (n : ℕ) (ts : List Token) (xs : List ℕ) (c : Reading) → IsDecimalUpTo max w n
     → FindsNumbers max ts (behind column c) xs → FindsNumbers max (word column w ∷ ts) c (n ∷ xs)
 unfolding numbers_from
 numbers_more max column w n ts xs c h more = record {
@@ -176,7 +176,7 @@ numbers_more max column w n ts xs c h more = record {
   at_end = more.at_end;
 }
 
-pub numbers_found : (max : ℕ) (ts : List Token) (ws : List (List ℕ)) (xs : List ℕ) (c : Reading) → AreWords ts ws → AllZip (IsNumber max) ws xs → FindsNumbers max ts c xs
+pub numbers_found : (max : ℕ) (ts : List Token) (ws : List (List ℕ)) (xs : List ℕ) (c : Reading) → AreWords ts ws → AllZip (IsDecimalUpTo max) ws xs → FindsNumbers max ts c xs
 unfolding numbers_from
 numbers_found max [] [] [] c a z = record { left = with_tokens [] c; read = refl; later = refl; at_end = refl }
 numbers_found max [] [] (x ∷ xs) c a z = absurd z
@@ -184,7 +184,7 @@ numbers_found max [] (w ∷ ws) xs c a z = absurd a
 numbers_found max (t ∷ ts) [] xs c a z = absurd a
 numbers_found max (word column v ∷ ts) (w ∷ ws) [] c a z = absurd z
 numbers_found max (word column v ∷ ts) (w ∷ ws) (x ∷ xs) c a z =
-    numbers_more max column v x ts xs c (subst (λ (u : List ℕ). IsNumber max u x) (sym a.0) z.0) (numbers_found max ts ws xs (behind column c) a.1 z.1)
+    numbers_more max column v x ts xs c (subst (λ (u : List ℕ). IsDecimalUpTo max u x) (sym a.0) z.0) (numbers_found max ts ws xs (behind column c) a.1 z.1)
 numbers_found max (stray column ∷ ts) (w ∷ ws) xs c a z = absurd a.0
 
 pub exactly_found : (column : ℕ) (v wanted : List ℕ) (ts : List Token) (c : Reading) → v ≡ wanted → exactly_at wanted (with_tokens (word column v ∷ ts) c) ≡ Ok (with_tokens ts (behind column c))

@@ -7,7 +7,7 @@ use Rattle.std.proofs.lemmas.List.Sums.{AllPass-from_list_all}
 use Rattle.table_definitions.specs.Lists.{same_list}
 use Rattle.table_definitions.specs.Permutation.{is_permutation}
 use Rattle.table_definitions.specs.Table.{Gluing, Row, Face, glue, faces, table_fault, IsTable}
-use Rattle.table_definitions.specs.Relabelling.{Relabelling, Carries, stand_in, face_under, gluing_under}
+use Rattle.table_definitions.specs.Relabelling.{Relabelling, Carries, relabelled_place, face_under, gluing_under}
 use Rattle.table_definitions.proofs.TableLaws.{Among, Among-faces, IsTable-no_fault, glued_tet, glued_face}
 use Rattle.table_definitions.proofs.ListFacts.{same_list-true}
 
@@ -48,13 +48,13 @@ fours_from rows e k d h = eqb-true (length (slice_index_or rows k d)) 4 (AllPass
 -- whether a face of the old table is glued in the new one as it was
 abbrev pub is_carried : Relabelling → List Row → List Row → Face → Bool
 is_carried by old new x =
-    same_glue (glue new (face_under (stand_in by x.tet) x)) (option_map (λ g. gluing_under (stand_in by x.tet) (stand_in by g.tet) g) (glue old x))
+    same_glue (glue new (face_under (relabelled_place by x.tet) x)) (option_map (λ g. gluing_under (relabelled_place by x.tet) (relabelled_place by g.tet) g) (glue old x))
 
 pub Carries-passed : (by : Relabelling) (old new : List Row) → length new ≡ length old → has_fours new ≡ true → list_all (is_carried by old new) (faces (length old)) ≡ true → Carries by old new
 Carries-passed by old new l f e = record {
   same_length = l;
   four_faces = fours_from new f;
-  glued = λ x ht hf. same_glue-true (glue new (face_under (stand_in by x.tet) x)) (option_map (λ g. gluing_under (stand_in by x.tet) (stand_in by g.tet) g) (glue old x)) (each_face (is_carried by old new) (length old) e x ht hf);
+  glued = λ x ht hf. same_glue-true (glue new (face_under (relabelled_place by x.tet) x)) (option_map (λ g. gluing_under (relabelled_place by x.tet) (relabelled_place by g.tet) g) (glue old x)) (each_face (is_carried by old new) (length old) e x ht hf);
 }
 
 -- rows whose faces are glued by permutations, tested face by face

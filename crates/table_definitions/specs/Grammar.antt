@@ -15,18 +15,18 @@ abbrev pub AreWords : List Token → List (List ℕ) → Type 0
 AreWords tokens ws = AllZip IsWord tokens ws
 
 -- a decimal up to max
-pub record IsNumber (max : ℕ) (w : List ℕ) (n : ℕ) : Type 0 where
+pub record IsDecimalUpTo (max : ℕ) (w : List ℕ) (n : ℕ) : Type 0 where
   pub value : decimal_value w ≡ Some n
   pub up_to : n ≤ max
 
 -- a signed decimal up to max in magnitude
 abbrev pub IsSigned : ℕ → List ℕ → ℤ → Type 0
-IsSigned max w z = (v : List ℕ) × (n : ℕ) × IsNumber max v n × (((w ≡ v) × (z ≡ pos n)) ⊎ ((w ≡ codes "-" ++ v) × (z ≡ neg_ℤ (pos n))))
+IsSigned max w z = (v : List ℕ) × (n : ℕ) × IsDecimalUpTo max v n × (((w ≡ v) × (z ≡ pos n)) ⊎ ((w ≡ codes "-" ++ v) × (z ≡ neg_ℤ (pos n))))
 
 -- a decimal, a colon and the four digits of a permutation
 pub record IsGluingWord (w : List ℕ) (g : Gluing) : Type 0 where
   pub tet : List ℕ
-  pub number : IsNumber (2 ^ 32 - 1) tet g.tet
+  pub number : IsDecimalUpTo (2 ^ 32 - 1) tet g.tet
   pub permutes : IsPermutationOfFour g.perm
   pub spelled : w ≡ tet ++ codes ":" ++ digits_of g.perm
 

@@ -39,9 +39,9 @@ abbrev pub pairs_of : {A B : Type 0} → List A → List B → List (A × B)
 pairs_of {A} {B} xs ys = flat_map (λ (x : A). map (λ (y : B). (x, y)) ys) xs
 
 -- b if the number is a, and otherwise the number itself
-abbrev pub in_place_of : ℕ → ℕ → ℕ → ℕ
-in_place_of a b l = if l == a then b else l
+abbrev pub substitute : ℕ → ℕ → ℕ → ℕ
+substitute a b l = if l == a then b else l
 
 -- the new number of a retained thing after those with these numbers are removed
-abbrev pub closed_up : List ℕ → ℕ → ℕ
-closed_up gone t = t - count_by (λ u. nat_lt u t) gone
+abbrev pub rank_without : List ℕ → ℕ → ℕ
+rank_without gone t = t - count_by (λ u. nat_lt u t) gone

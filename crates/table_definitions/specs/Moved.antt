@@ -3,11 +3,11 @@ use Rattle.std.specs.Prelude.{ℕ, List, [], ◌∷◌, Option, option_map}
 use Rattle.std.specs.List.{slice_index_or}
 use Rattle.table_definitions.specs.Permutation.{preimage}
 use Rattle.table_definitions.specs.Table.{Gluing, Row, glue}
-use Rattle.table_definitions.specs.Relabelling.{Relabelling, stand_in, gluing_under}
+use Rattle.table_definitions.specs.Relabelling.{Relabelling, relabelled_place, gluing_under}
 
 -- the gluing that corresponds to a gluing of tetrahedron t
 abbrev pub moved : Relabelling → ℕ → Option Gluing → Option Gluing
-moved by t o = option_map (λ g. gluing_under (stand_in by t) (stand_in by g.tet) g) o
+moved by t o = option_map (λ g. gluing_under (relabelled_place by t) (relabelled_place by g.tet) g) o
 
 -- the gluing of face k of the tetrahedron that t becomes
 unfoldable pub moved_face : List Row → Relabelling → ℕ → ℕ → Option Gluing

@@ -17,8 +17,8 @@ pub record IsRelabelling (n : ℕ) (by : Relabelling) : Type 0 where
   pub permutes : All IsPermutationOfFour by.perms
 
 -- the image of tetrahedron t in the new table
-abbrev pub stand_in : Relabelling → ℕ → Gluing
-stand_in by t = record { tet = slice_index by.images t; perm = slice_index_or by.perms t [] }
+abbrev pub relabelled_place : Relabelling → ℕ → Gluing
+relabelled_place by t = record { tet = slice_index by.images t; perm = slice_index_or by.perms t [] }
 
 -- the image of the face x, if s is the image of its tetrahedron
 abbrev pub face_under : Gluing → Face → Face
@@ -33,8 +33,8 @@ pub record Carries (by : Relabelling) (old new : List Row) : Type 0 where
   pub same_length : length new ≡ length old
   pub four_faces : All (λ (row : Row). length row ≡ 4) new
   pub glued : (x : Face) → x.tet < length old → x.face < 4
-      → glue new (face_under (stand_in by x.tet) x) ≡ option_map (λ g. gluing_under (stand_in by x.tet) (stand_in by g.tet) g) (glue old x)
+      → glue new (face_under (relabelled_place by x.tet) x) ≡ option_map (λ g. gluing_under (relabelled_place by x.tet) (relabelled_place by g.tet) g) (glue old x)
 
 -- some relabelling carries the one table to the other
-abbrev pub IsRelabelled : List Row → List Row → Type 0
-IsRelabelled old new = (by : Relabelling) × IsRelabelling (length old) by × Carries by old new
+abbrev pub AreIsomorphic : List Row → List Row → Type 0
+AreIsomorphic old new = (by : Relabelling) × IsRelabelling (length old) by × Carries by old new

@@ -1,7 +1,7 @@
 -- Rows of a table removed, and new rows inserted at given numbers.
 use Rattle.std.specs.Prelude.{ℕ, ◌+◌, ◌-◌, not, List, [], length, map, filter, ◌==◌, Option, Some, None, option_and_then, slice_index, if◌then◌else◌}
 use Rattle.std.specs.List.{flat_map, position_or_len, slice_index_or}
-use Rattle.table_definitions.specs.Lists.{below, has, first_some, closed_up}
+use Rattle.table_definitions.specs.Lists.{below, has, first_some, rank_without}
 use Rattle.table_definitions.specs.Permutation.{four}
 use Rattle.table_definitions.specs.Table.{Gluing, Row, Face, glue, other_side, way_back, same_face}
 
@@ -22,7 +22,7 @@ abbrev pub free_numbers : List Row → Replacement → List ℕ
 free_numbers rows r = filter (λ u. not (has (map (λ (x : ℕ × Row). x.0) r.fresh) u)) (below (replaced_length rows r))
 
 abbrev pub number_of_kept : List Row → Replacement → ℕ → ℕ
-number_of_kept rows r t = slice_index (free_numbers rows r) (closed_up r.removed t)
+number_of_kept rows r t = slice_index (free_numbers rows r) (rank_without r.removed t)
 
 -- the inverse at face y of the new gluing g of face x, if that reaches y
 abbrev pub leads_to : Face → Face → Gluing → Option Gluing

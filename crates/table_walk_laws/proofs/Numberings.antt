@@ -7,7 +7,7 @@ use Rattle.std.proofs.lemmas.List.{get_or-map, length-map, get_or_past, length-r
 use Rattle.std.proofs.lemmas.List.Elements.{Contains-append_right, All-contains}
 use Rattle.std.proofs.lemmas.List.FromFn.{length-range_with_len, get_or-range_with_len}
 use Rattle.table_walk_laws.specs.Joined.{IsJoined, IsSymmetric, HasNeighboursBelow}
-use Rattle.table_walk_laws.specs.Search.{IsClosed, IsSearch, IsTurn, AreMembers, IsComponent, work_left}
+use Rattle.table_walk_laws.specs.Search.{IsClosed, IsSearch, IsSearchStep, AreMembers, IsComponent, work_left}
 use Rattle.table_walk_laws.specs.Classes.{AreNumbered, AreClassesUpTo}
 use Rattle.table_walk_laws.proofs.SearchLemmas.{search_begins, turn_starts_in_front, turn_marks, turn_passes, turn_ends, turn_below, has_few_turns}
 use Rattle.table_walk_laws.proofs.Members.{members_start, members_grow, members_are_component}
@@ -26,18 +26,18 @@ module _ (n : ℕ) (neighbours : ℕ → List ℕ) (symmetric : IsSymmetric neig
     marked : List Bool
     pending : List ℕ
     members : List ℕ
-    turn : IsTurn neighbours first x (neighbours x) marked pending
+    turn : IsSearchStep neighbours first x (neighbours x) marked pending
     are : AreMembers before marked members
     size : length marked ≡ n
     same_work : work_left marked pending ≡ work
 
   turn_done : (before first : List Bool) (x : ℕ) (rest done : List ℕ) (marked : List Bool) (pending members : List ℕ) → x < n → neighbours x ≡ done ++ rest
-      → IsTurn neighbours first x done marked pending → AreMembers before marked members → length marked ≡ n → IsTurned before first x (work_left marked pending)
+      → IsSearchStep neighbours first x done marked pending → AreMembers before marked members → length marked ≡ n → IsTurned before first x (work_left marked pending)
   turn_done before first x [] done marked pending members lx e t m size = record {
     marked = marked;
     pending = pending;
     members = members;
-    turn = subst (λ d. IsTurn neighbours first x d marked pending) (sym (e ∙ append-nil done)) t;
+    turn = subst (λ d. IsSearchStep neighbours first x d marked pending) (sym (e ∙ append-nil done)) t;
     are = m;
     size = size;
     same_work = refl;
@@ -52,7 +52,7 @@ module _ (n : ℕ) (neighbours : ℕ → List ℕ) (symmetric : IsSymmetric neig
       ly = let l : y < n = below_n x y lx near in omega arith
 
       by_mark : (b : Bool) → slice_index_or marked y false ≡ b
-          → ((marks : List Bool) (waiting held : List ℕ) → IsTurn neighbours first x (done ++ y ∷ []) marks waiting → AreMembers before marks held → length marks ≡ n → IsTurned before first x (work_left marks waiting))
+          → ((marks : List Bool) (waiting held : List ℕ) → IsSearchStep neighbours first x (done ++ y ∷ []) marks waiting → AreMembers before marks held → length marks ≡ n → IsTurned before first x (work_left marks waiting))
           → IsTurned before first x (work_left marked pending)
       by_mark true f rest_done = rest_done marked pending members (turn_passes neighbours first x done marked pending y t f) m size
       by_mark false f rest_done =
@@ -72,7 +72,7 @@ module _ (n : ℕ) (neighbours : ℕ → List ℕ) (symmetric : IsSymmetric neig
   search_done before first fuel marked [] members l s m size = record { marked = marked; members = members; search = s; are = m; size = size }
   search_done before first zero marked (x ∷ pending) members l s m size = absurd (omega arith)
   search_done before first (suc fuel) marked (x ∷ pending) members l s m size =
-      let t : IsTurn neighbours first x [] marked pending = turn_starts_in_front neighbours first x marked (x ∷ pending) pending s refl in
+      let t : IsSearchStep neighbours first x [] marked pending = turn_starts_in_front neighbours first x marked (x ∷ pending) pending s refl in
       let lx : x < n = let b : x < length marked = turn_below neighbours first x [] marked pending t in omega arith in
       let d : IsTurned before first x (work_left marked pending) = turn_done before first x (neighbours x) [] marked pending members lx refl t m size in
       let less : work_left d.marked d.pending ≤ fuel = let w = d.same_work in omega arith in

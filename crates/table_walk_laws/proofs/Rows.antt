@@ -5,7 +5,7 @@ use Rattle.std.proofs.lemmas.List.{take_more, append-nil, take_all}
 use Rattle.std.proofs.lemmas.List.Elements.{filter_map-append}
 use Rattle.plain_facts.proofs.Members.{contains_at}
 use Rattle.table_walk_laws.specs.Joined.{present}
-use Rattle.table_walk_laws.specs.Search.{IsMarked, IsTurn}
+use Rattle.table_walk_laws.specs.Search.{IsMarked, IsSearchStep}
 use Rattle.table_walk_laws.proofs.SearchLemmas.{turn_marks, turn_passes}
 use Rattle.table_walk_laws.proofs.Places.{place_of}
 
@@ -33,21 +33,21 @@ present_contains (Some x ∷ row) (suc i) y e = let p = place_of (present row) y
 
 -- the entry at i, in a turn at x, whose row this is
 module _ (neighbours : ℕ → List ℕ) (first : List Bool) (x : ℕ) (row : List (Option ℕ)) (same : neighbours x ≡ present row) (i : ℕ) (l : i < length row)
-    (marked : List Bool) (pending : List ℕ) (t : IsTurn neighbours first x (present (take i row)) marked pending) (marked' : List Bool) (pending' : List ℕ) where
-  one_more : (done : List ℕ) → present (take (i + 1) row) ≡ done → IsTurn neighbours first x done marked' pending' → IsTurn neighbours first x (present (take (i + 1) row)) marked' pending'
-  one_more done e u = subst (λ d. IsTurn neighbours first x d marked' pending') (sym e) u
+    (marked : List Bool) (pending : List ℕ) (t : IsSearchStep neighbours first x (present (take i row)) marked pending) (marked' : List Bool) (pending' : List ℕ) where
+  one_more : (done : List ℕ) → present (take (i + 1) row) ≡ done → IsSearchStep neighbours first x done marked' pending' → IsSearchStep neighbours first x (present (take (i + 1) row)) marked' pending'
+  one_more done e u = subst (λ d. IsSearchStep neighbours first x d marked' pending') (sym e) u
 
   pub entry_marks : (y : ℕ) → slice_index_or row i None ≡ Some y → y < length marked → slice_index_or marked y false ≡ false → marked' ≡ set marked y true → pending' ≡ pending ++ y ∷ [] →
-      IsTurn neighbours first x (present (take (i + 1) row)) marked' pending'
+      IsSearchStep neighbours first x (present (take (i + 1) row)) marked' pending'
   entry_marks y e below new em ep = one_more (present (take i row) ++ y ∷ []) (present_some row i y l e)
-      (subst₂ (IsTurn neighbours first x (present (take i row) ++ y ∷ [])) (sym em) (sym ep)
+      (subst₂ (IsSearchStep neighbours first x (present (take i row) ++ y ∷ [])) (sym em) (sym ep)
       (turn_marks neighbours first x (present (take i row)) marked pending y t (subst (λ xs. Contains xs y) (sym same) (present_contains row i y e)) below new))
 
   pub entry_passes : (y : ℕ) → slice_index_or row i None ≡ Some y → IsMarked marked y → marked' ≡ marked → pending' ≡ pending →
-      IsTurn neighbours first x (present (take (i + 1) row)) marked' pending'
+      IsSearchStep neighbours first x (present (take (i + 1) row)) marked' pending'
   entry_passes y e m em ep = one_more (present (take i row) ++ y ∷ []) (present_some row i y l e)
-      (subst₂ (IsTurn neighbours first x (present (take i row) ++ y ∷ [])) (sym em) (sym ep) (turn_passes neighbours first x (present (take i row)) marked pending y t m))
+      (subst₂ (IsSearchStep neighbours first x (present (take i row) ++ y ∷ [])) (sym em) (sym ep) (turn_passes neighbours first x (present (take i row)) marked pending y t m))
 
-  pub entry_skips : slice_index_or row i None ≡ None → marked' ≡ marked → pending' ≡ pending → IsTurn neighbours first x (present (take (i + 1) row)) marked' pending'
+  pub entry_skips : slice_index_or row i None ≡ None → marked' ≡ marked → pending' ≡ pending → IsSearchStep neighbours first x (present (take (i + 1) row)) marked' pending'
   entry_skips e em ep = one_more (present (take i row)) (present_none row i l e)
-      (subst₂ (IsTurn neighbours first x (present (take i row))) (sym em) (sym ep) t)
+      (subst₂ (IsSearchStep neighbours first x (present (take i row))) (sym em) (sym ep) t)

@@ -9,7 +9,7 @@ use Rattle.std.proofs.lemmas.List.Elements.{All-contains, All-nil, All-push, All
 use Rattle.std.proofs.lemmas.List.Quantifiers.{all_pairs_push}
 use Rattle.plain_facts.proofs.Members.{contains_at, contains_one}
 use Rattle.table_walk_laws.specs.Joined.{LeadsBy, IsJoined, IsSymmetric}
-use Rattle.table_walk_laws.specs.Search.{IsMarked, IsClosed, IsSearch, IsTurn}
+use Rattle.table_walk_laws.specs.Search.{IsMarked, IsClosed, IsSearch, IsSearchStep}
 use Rattle.table_walk_laws.specs.Laws.{HasFewTurns, MarksJoined}
 use Rattle.table_walk_laws.proofs.Places.{place_of}
 use Rattle.table_walk_laws.proofs.Joins.{joined_more, joins_like_equals}
@@ -146,19 +146,19 @@ module _ (neighbours : ℕ → List ℕ) where
     }
 
   pub turn_starts : (first : List Bool) (x : ℕ) (marked : List Bool) (before pending : List ℕ) →
-      IsSearch neighbours first marked before → before ≡ pending ++ x ∷ [] → IsTurn neighbours first x [] marked pending
+      IsSearch neighbours first marked before → before ≡ pending ++ x ∷ [] → IsSearchStep neighbours first x [] marked pending
   turn_starts first x marked before pending s e = record {
     search = search_takes first marked pending x (subst (IsSearch neighbours first marked) e s);
     done_marked = All-nil (IsMarked marked);
   }
 
   pub turn_starts_in_front : (first : List Bool) (x : ℕ) (marked : List Bool) (before pending : List ℕ) →
-      IsSearch neighbours first marked before → before ≡ x ∷ pending → IsTurn neighbours first x [] marked pending
+      IsSearch neighbours first marked before → before ≡ x ∷ pending → IsSearchStep neighbours first x [] marked pending
   turn_starts_in_front first x marked before pending s e = record { search = subst (IsSearch neighbours first marked) e s; done_marked = All-nil (IsMarked marked) }
 
   pub turn_marks : (first : List Bool) (x : ℕ) (done : List ℕ) (marked : List Bool) (pending : List ℕ) (y : ℕ) →
-      IsTurn neighbours first x done marked pending → Contains (neighbours x) y → y < length marked → slice_index_or marked y false ≡ false →
-      IsTurn neighbours first x (done ++ y ∷ []) (set marked y true) (pending ++ y ∷ [])
+      IsSearchStep neighbours first x done marked pending → Contains (neighbours x) y → y < length marked → slice_index_or marked y false ≡ false →
+      IsSearchStep neighbours first x (done ++ y ∷ []) (set marked y true) (pending ++ y ∷ [])
   turn_marks first x done marked pending y t near l new = record {
     search = search_marks first marked (x ∷ pending) x y t.search (contains_at (x ∷ pending) 0 x (omega arith) refl) near l new;
     done_marked = All-push (IsMarked (set marked y true)) done y
@@ -166,15 +166,15 @@ module _ (neighbours : ℕ → List ℕ) where
   }
 
   pub turn_passes : (first : List Bool) (x : ℕ) (done : List ℕ) (marked : List Bool) (pending : List ℕ) (y : ℕ) →
-      IsTurn neighbours first x done marked pending → IsMarked marked y → IsTurn neighbours first x (done ++ y ∷ []) marked pending
+      IsSearchStep neighbours first x done marked pending → IsMarked marked y → IsSearchStep neighbours first x (done ++ y ∷ []) marked pending
   turn_passes first x done marked pending y t m = record { search = t.search; done_marked = All-push (IsMarked marked) done y t.done_marked m }
 
   pub turn_ends : (first : List Bool) (x : ℕ) (done : List ℕ) (marked : List Bool) (pending : List ℕ) →
-      IsTurn neighbours first x done marked pending → neighbours x ≡ done → IsSearch neighbours first marked pending
+      IsSearchStep neighbours first x done marked pending → neighbours x ≡ done → IsSearch neighbours first marked pending
   turn_ends first x done marked pending t e = search_leaves first marked pending x t.search (All-same (IsMarked marked) (neighbours x) done e t.done_marked)
 
   -- the number whose turn it is has a mark, so it is within the marks
-  pub turn_below : (first : List Bool) (x : ℕ) (done : List ℕ) (marked : List Bool) (pending : List ℕ) → IsTurn neighbours first x done marked pending → x < length marked
+  pub turn_below : (first : List Bool) (x : ℕ) (done : List ℕ) (marked : List Bool) (pending : List ℕ) → IsSearchStep neighbours first x done marked pending → x < length marked
   turn_below first x done marked pending t = marked_below marked x (t.search.pending_marked x (contains_at (x ∷ pending) 0 x (omega arith) refl))
 
   -- where nothing is pending, the marks are closed

@@ -3,7 +3,7 @@ use Rattle.std.specs.Prelude.{◌≡◌, ◌≢◌, ℕ, suc, ◌<◌, ◌≤◌
 use Rattle.std.specs.List.{slice_index_or}
 use Rattle.table_walk_laws.specs.Walks.{after, Reaches, IsInjectiveBelow, IsUndoneBy, IsSource, GoesOn, IsOrbit, last_of}
 use Rattle.table_walk_laws.specs.Joined.{IsJoined, IsLinked, IsSymmetric}
-use Rattle.table_walk_laws.specs.Search.{IsMarked, IsClosed, IsJoinedToSome, IsSearch, IsTurn, AreMembers, IsComponent, work_left}
+use Rattle.table_walk_laws.specs.Search.{IsMarked, IsClosed, IsJoinedToSome, IsSearch, IsSearchStep, AreMembers, IsComponent, work_left}
 use Rattle.table_walk_laws.specs.Classes.{AreNumbered, AreClassesUpTo}
 use Rattle.table_definitions.specs.Classes.{IsNumbering}
 
@@ -140,28 +140,28 @@ NoneIsClosed = (neighbours : ℕ → List ℕ) (n : ℕ) → IsClosed neighbours
 -- a turn begins: it takes the last pending number
 abbrev pub TurnStarts : Type 0
 TurnStarts = (neighbours : ℕ → List ℕ) (first : List Bool) (x : ℕ) (marked : List Bool) (before pending : List ℕ) →
-    IsSearch neighbours first marked before → before ≡ pending ++ x ∷ [] → IsTurn neighbours first x [] marked pending
+    IsSearch neighbours first marked before → before ≡ pending ++ x ∷ [] → IsSearchStep neighbours first x [] marked pending
 
 -- or the first
 abbrev pub TurnStartsInFront : Type 0
 TurnStartsInFront = (neighbours : ℕ → List ℕ) (first : List Bool) (x : ℕ) (marked : List Bool) (before pending : List ℕ) →
-    IsSearch neighbours first marked before → before ≡ x ∷ pending → IsTurn neighbours first x [] marked pending
+    IsSearch neighbours first marked before → before ≡ x ∷ pending → IsSearchStep neighbours first x [] marked pending
 
 -- it marks a neighbour, which becomes pending
 abbrev pub TurnMarks : Type 0
 TurnMarks = (neighbours : ℕ → List ℕ) (first : List Bool) (x : ℕ) (done : List ℕ) (marked : List Bool) (pending : List ℕ) (y : ℕ) →
-    IsTurn neighbours first x done marked pending → Contains (neighbours x) y → y < length marked → slice_index_or marked y false ≡ false →
-    IsTurn neighbours first x (done ++ y ∷ []) (slice_set marked y true) (pending ++ y ∷ [])
+    IsSearchStep neighbours first x done marked pending → Contains (neighbours x) y → y < length marked → slice_index_or marked y false ≡ false →
+    IsSearchStep neighbours first x (done ++ y ∷ []) (slice_set marked y true) (pending ++ y ∷ [])
 
 -- or passes one that is marked
 abbrev pub TurnPasses : Type 0
 TurnPasses = (neighbours : ℕ → List ℕ) (first : List Bool) (x : ℕ) (done : List ℕ) (marked : List Bool) (pending : List ℕ) (y : ℕ) →
-    IsTurn neighbours first x done marked pending → IsMarked marked y → IsTurn neighbours first x (done ++ y ∷ []) marked pending
+    IsSearchStep neighbours first x done marked pending → IsMarked marked y → IsSearchStep neighbours first x (done ++ y ∷ []) marked pending
 
 -- and it ends when all neighbours are done
 abbrev pub TurnEnds : Type 0
 TurnEnds = (neighbours : ℕ → List ℕ) (first : List Bool) (x : ℕ) (done : List ℕ) (marked : List Bool) (pending : List ℕ) →
-    IsTurn neighbours first x done marked pending → neighbours x ≡ done → IsSearch neighbours first marked pending
+    IsSearchStep neighbours first x done marked pending → neighbours x ≡ done → IsSearch neighbours first marked pending
 
 -- where nothing is pending, a search has marked exactly what its first marks are joined to, and its marks are closed
 pub record MarksJoined (neighbours : ℕ → List ℕ) (first marked : List Bool) : Type 0 where

@@ -23,7 +23,7 @@ pub record IsSearch (neighbours : ℕ → List ℕ) (first marked : List Bool) (
   pub distinct : AllPairs (λ x y. x ≢ y) pending
 
 -- a turn: the neighbours of x are being marked, and those that are done are. Until the turn ends x counts as pending
-pub record IsTurn (neighbours : ℕ → List ℕ) (first : List Bool) (x : ℕ) (done : List ℕ) (marked : List Bool) (pending : List ℕ) : Type 0 where
+pub record IsSearchStep (neighbours : ℕ → List ℕ) (first : List Bool) (x : ℕ) (done : List ℕ) (marked : List Bool) (pending : List ℕ) : Type 0 where
   pub search : IsSearch neighbours first marked (x ∷ pending)
   pub done_marked : All (IsMarked marked) done
 

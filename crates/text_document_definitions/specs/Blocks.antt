@@ -6,7 +6,7 @@ use Rattle.text_definitions.specs.Written.{limit, spaced}
 use Rattle.text_definitions.specs.declared.LexFault.{LexFault}
 use Rattle.text_definitions.specs.Reading.{Reading, ◌>>=◌, start_of, begun, need_line_at, end_line_at, exactly_at, number_at, numbers_at}
 use Rattle.table_definitions.specs.Table.{Row}
-use Rattle.table_definitions.specs.Grammar.{AreWords, IsNumber}
+use Rattle.table_definitions.specs.Grammar.{AreWords, IsDecimalUpTo}
 use Rattle.cone_text_definitions.specs.VectorText.{vector_at, vector_text}
 use Rattle.surface_definitions.specs.Grammar.{IsVectorLine}
 use Rattle.sum_definitions.specs.Sums.{Term}
@@ -85,16 +85,16 @@ pub record IsTermLine (line : Line) (term : Term) : Type 0 where
   pub k : List ℕ
   pub ws : List (List ℕ)
   pub are_words : AreWords line.tokens (codes "term" ∷ k ∷ ws)
-  pub count : IsNumber limit k term.count
-  pub entries : AllZip (IsNumber limit) ws term.vector
+  pub count : IsDecimalUpTo limit k term.count
+  pub entries : AllZip (IsDecimalUpTo limit) ws term.vector
 
 -- a line `times S T`
 pub record IsTimesLine (line : Line) (times many : ℕ) : Type 0 where
   pub s : List ℕ
   pub t : List ℕ
   pub are_words : AreWords line.tokens (codes "times" ∷ s ∷ t ∷ [])
-  pub number : IsNumber limit s times
-  pub counted : IsNumber most_terms t many
+  pub number : IsDecimalUpTo limit s times
+  pub counted : IsDecimalUpTo most_terms t many
 
 -- a vector line, a line `times S T`, and T lines of a term each
 abbrev pub AreBlockLines : List Line → Block → Type 0

@@ -3,7 +3,7 @@ use Rattle.std.specs.Prelude.{◌≡◌, ℕ, zero, suc, ℤ, List, [], ◌∷�
 use Rattle.std.specs.List.{AllZip}
 use Rattle.text_definitions.specs.Text.{Line}
 use Rattle.cone_text_definitions.specs.ConeText.{Cone}
-use Rattle.table_definitions.specs.Grammar.{AreWords, IsNumber, IsSigned}
+use Rattle.table_definitions.specs.Grammar.{AreWords, IsDecimalUpTo, IsSigned}
 
 -- a line of `columns` signed decimals
 pub record IsCoefficientLine (columns : ℕ) (line : Line) (row : List ℤ) : Type 0 where
@@ -21,4 +21,4 @@ AreConeRows (suc columns) lines rows = AllZip (IsCoefficientLine (suc columns)) 
 abbrev pub AreConeLines : List Line → Cone → Type 0
 AreConeLines [] cone = ⊥
 AreConeLines (line ∷ lines) cone =
-    (c : List ℕ) × (r : List ℕ) × AreWords line.tokens (codes "cone" ∷ c ∷ r ∷ []) × IsNumber 10000 c cone.columns × IsNumber 10000 r (length cone.rows) × AreConeRows cone.columns lines cone.rows
+    (c : List ℕ) × (r : List ℕ) × AreWords line.tokens (codes "cone" ∷ c ∷ r ∷ []) × IsDecimalUpTo 10000 c cone.columns × IsDecimalUpTo 10000 r (length cone.rows) × AreConeRows cone.columns lines cone.rows

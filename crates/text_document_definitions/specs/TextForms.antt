@@ -3,7 +3,7 @@ use Rattle.std.specs.Prelude.{◌≡◌, ℕ, zero, suc, List, [], ◌∷◌, �
 use Rattle.std.specs.List.{AllByRecursion}
 use Rattle.text_definitions.specs.Text.{Line}
 use Rattle.table_definitions.specs.Table.{Row, max_tets}
-use Rattle.table_definitions.specs.Grammar.{AreWords, IsNumber, IsRowLine}
+use Rattle.table_definitions.specs.Grammar.{AreWords, IsDecimalUpTo, IsRowLine}
 use Rattle.surface_definitions.specs.Grammar.{IsVectorLine}
 use Rattle.move_definitions.specs.Moves.{Move}
 use Rattle.move_definitions.specs.MoveText.{Step}
@@ -16,7 +16,7 @@ IsRowText line = (row : Row) × IsRowLine line row
 -- a line `tri N`, with N at most what a table may have, and N lines of entries
 abbrev pub AreTriText : List Line → Type 0
 AreTriText [] = ⊥
-AreTriText (line ∷ lines) = (n : List ℕ) × AreWords line.tokens (codes "tri" ∷ n ∷ []) × IsNumber max_tets n (length lines) × AllByRecursion IsRowText lines
+AreTriText (line ∷ lines) = (n : List ℕ) × AreWords line.tokens (codes "tri" ∷ n ∷ []) × IsDecimalUpTo max_tets n (length lines) × AllByRecursion IsRowText lines
 
 -- one line `sig TEXT`, whatever the text
 abbrev pub AreSigText : List Line → Type 0

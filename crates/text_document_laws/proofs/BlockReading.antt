@@ -5,7 +5,7 @@ use Rattle.std.specs.List.{AllZip}
 use Rattle.text_definitions.specs.Text.{Line}
 use Rattle.text_definitions.specs.Written.{limit}
 use Rattle.text_definitions.specs.Reading.{Reading, numbers_at}
-use Rattle.table_definitions.specs.Grammar.{AreWords, IsNumber}
+use Rattle.table_definitions.specs.Grammar.{AreWords, IsDecimalUpTo}
 use Rattle.surface_definitions.specs.Grammar.{IsVectorLine}
 use Rattle.cone_text_definitions.specs.VectorText.{vector_at}
 use Rattle.sum_definitions.specs.Sums.{Term}
@@ -48,7 +48,7 @@ below_times =
     (λ y ls rest (l, more, ws, split, a, (o1, p1, (s, v, o2, p2, number, (n, u, o3, p3, counted, (none, (terms, same, (lines, t, z, many))))))).
     (let are : AreWords l.tokens (codes "times" ∷ v ∷ u ∷ []) =
     subst (AreWords l.tokens) (p1 ∙ ap (λ (vs : List (List ℕ)). codes "times" ∷ vs) (p2 ∙ ap (λ (vs : List (List ℕ)). v ∷ vs) (p3 ∙ ap (λ (vs : List (List ℕ)). u ∷ vs) none))) a in
-    let line : IsTimesLine l s (length terms) = record { s = v; t = u; are_words = are; number = number; counted = subst (IsNumber most_terms u) (sym many) counted } in
+    let line : IsTimesLine l s (length terms) = record { s = v; t = u; are_words = are; number = number; counted = subst (IsDecimalUpTo most_terms u) (sym many) counted } in
     subst (λ (q : ℕ × List Term). AreTimes q ls rest) same (l, lines, split ∙ ap (λ (ks : List Line). l ∷ ks) t, line, z)))
     (λ y ls rest (l, lines, split, h, z). (
       l,
@@ -72,7 +72,7 @@ pub record BlockFound (c : Reading) (block : Block) (rest : List Line) : Type 0 
   pub later : left.later ≡ rest
 
 abbrev IsVector : OnLine (List ℕ)
-IsVector xs ws ls rest = (others : List (List ℕ)) × (ws ≡ codes "vec" ∷ others) × (AllZip (IsNumber limit) others xs × (ls ≡ rest))
+IsVector xs ws ls rest = (others : List (List ℕ)) × (ws ≡ codes "vec" ∷ others) × (AllZip (IsDecimalUpTo limit) others xs × (ls ≡ rest))
 
 on_vector : ReadsOn vector_at IsVector
 unfolding vector_at

@@ -6,7 +6,7 @@ use Rattle.std.proofs.lemmas.List.{length-replicate}
 use Rattle.text_definitions.specs.Text.{Line}
 use Rattle.text_definitions.specs.Reading.{Reading, ◌>>=◌, need_line_at, signed_at}
 use Rattle.text_definitions.proofs.Readers.{bind_ok}
-use Rattle.table_definitions.specs.Grammar.{AreWords, IsNumber, IsSigned}
+use Rattle.table_definitions.specs.Grammar.{AreWords, IsDecimalUpTo, IsSigned}
 use Rattle.cone_text_definitions.specs.ConeText.{Cone, cone_row_at, cone_rows_at, rows_of_cone_at, cone_at, coefficients_at}
 use Rattle.text_document_definitions.specs.ConeGrammar.{IsCoefficientLine, AreConeRows, AreConeLines}
 use Rattle.text_document_laws.proofs.Chains.{Reader, made}
@@ -77,7 +77,7 @@ below_cone_rows (suc columns) n = below_rows n (suc columns)
 
 -- a cone, its first line the current one
 abbrev IsCone : OnLine Cone
-IsCone cone ws ls rest = (v : List ℕ) × (w : List ℕ) × (lines : List Line) × (ws ≡ codes "cone" ∷ v ∷ w ∷ []) × IsNumber 10000 v cone.columns × IsNumber 10000 w (length cone.rows) × (ls ≡ lines ++ rest) × AreConeRows cone.columns lines cone.rows
+IsCone cone ws ls rest = (v : List ℕ) × (w : List ℕ) × (lines : List Line) × (ws ≡ codes "cone" ∷ v ∷ w ∷ []) × IsDecimalUpTo 10000 v cone.columns × IsDecimalUpTo 10000 w (length cone.rows) × (ls ≡ lines ++ rest) × AreConeRows cone.columns lines cone.rows
 
 on_cone : ReadsOn cone_at IsCone
 unfolding cone_at
@@ -85,7 +85,7 @@ on_cone =
     on_as cone_at _ IsCone
     (λ cone ws ls rest (o1, p1, (columns, v, o2, p2, number, (n, w, o3, p3, counted, (none, (rows, same, (lines, split, are, many)))))).
     subst (λ (k : Cone). IsCone k ws ls rest) same
-    (v, w, lines, p1 ∙ ap (λ (vs : List (List ℕ)). codes "cone" ∷ vs) (p2 ∙ ap (λ (vs : List (List ℕ)). v ∷ vs) (p3 ∙ ap (λ (vs : List (List ℕ)). w ∷ vs) none)), number, subst (IsNumber 10000 w) (sym many) counted, split, are))
+    (v, w, lines, p1 ∙ ap (λ (vs : List (List ℕ)). codes "cone" ∷ vs) (p2 ∙ ap (λ (vs : List (List ℕ)). v ∷ vs) (p3 ∙ ap (λ (vs : List (List ℕ)). w ∷ vs) none)), number, subst (IsDecimalUpTo 10000 w) (sym many) counted, split, are))
     (λ cone ws ls rest (v, w, lines, p, number, counted, split, are). (v ∷ w ∷ [], p, (cone.columns, v, w ∷ [], refl, number, (length cone.rows, w, [], refl, counted, (refl, (cone.rows, refl, (lines, split, are, refl)))))))
     (on_named (codes "cone") _ _ (on_number 10000 _ _ (λ columns. on_number 10000 _ _ (λ n. on_end (made (cone_of columns) (rows_of_cone_at columns n)) _ (below_made (cone_of columns) (rows_of_cone_at columns n) (AreRows columns n) (below_cone_rows columns n))))))
 

@@ -7,7 +7,7 @@ use Rattle.text_definitions.specs.declared.LexFault.{LexFault}
 use Rattle.text_definitions.specs.Reading.{Reading, ◌>>=◌, begun, need_line_at, end_line_at, number_at, numbers_at, signed_at, exactly_at}
 use Rattle.text_definitions.proofs.Readers.{bind_ok}
 use Rattle.plain_facts.proofs.Options.{ok_value}
-use Rattle.table_definitions.specs.Grammar.{AreWords, IsNumber, IsSigned}
+use Rattle.table_definitions.specs.Grammar.{AreWords, IsDecimalUpTo, IsSigned}
 use Rattle.table_definitions.proofs.ReadingLaws.{with_tokens, behind, TakesWord, TakesNumber, TakesNumbers, FindsNumbers, number_read, numbers_read, exactly_read, one_number, exactly_found, numbers_found}
 use Rattle.table_definitions.proofs.LineLaws.{line_begun, line_found, line_ended, end_found, first_word, no_words}
 use Rattle.text_document_laws.proofs.SignedLaws.{TakesSigned, signed_read, signed_found}
@@ -85,7 +85,7 @@ module _ {A B : Type 0} (read : Reader B) (Is : List ℕ → B → Type 0) (word
     at_end = λ c x d e. (let f = bind_ok (read c) behind_word (x, d) e in (one f.0.0).at_end f.0.1 x d f.2);
   }
 
-pub reads_number : (max : ℕ) → ReadsWord (number_at max) (IsNumber max)
+pub reads_number : (max : ℕ) → ReadsWord (number_at max) (IsDecimalUpTo max)
 reads_number max = record {
   sound = λ c n d e. (let t : TakesNumber max c.current.tokens c n d = number_read max c.current.tokens c n d e in (t.w, t.word, t.number));
   complete = λ column v n ts c h. one_number max column v n ts c h;
@@ -97,10 +97,10 @@ reads_signed max = record {
   complete = λ column v z ts c h. signed_found max column v z ts c h;
 }
 
-pub on_number : {A : Type 0} (max : ℕ) (r : ℕ → Reader A) (R : ℕ → OnLine A) → ((n : ℕ) → ReadsOn (r n) (R n)) → ReadsOn (λ c. number_at max c >>= λ (n : ℕ × Reading). r n.0 n.1) (λ x ws ls rest. (n : ℕ) × (v : List ℕ) × (others : List (List ℕ)) × (ws ≡ v ∷ others) × IsNumber max v n × R n x others ls rest)
-on_number max r R one = on_word (number_at max) (IsNumber max) (reads_number max) r R one
+pub on_number : {A : Type 0} (max : ℕ) (r : ℕ → Reader A) (R : ℕ → OnLine A) → ((n : ℕ) → ReadsOn (r n) (R n)) → ReadsOn (λ c. number_at max c >>= λ (n : ℕ × Reading). r n.0 n.1) (λ x ws ls rest. (n : ℕ) × (v : List ℕ) × (others : List (List ℕ)) × (ws ≡ v ∷ others) × IsDecimalUpTo max v n × R n x others ls rest)
+on_number max r R one = on_word (number_at max) (IsDecimalUpTo max) (reads_number max) r R one
 
-pub on_numbers : ReadsOn (numbers_at limit) (λ xs ws ls rest. AllZip (IsNumber limit) ws xs × (ls ≡ rest))
+pub on_numbers : ReadsOn (numbers_at limit) (λ xs ws ls rest. AllZip (IsDecimalUpTo limit) ws xs × (ls ≡ rest))
 on_numbers = record {
   sound = λ c xs d e. (let t : TakesNumbers limit c.current.tokens c xs d = numbers_read limit c.current.tokens c xs d e in (t.ws, t.are_words, (t.numbers, sym t.later)));
   complete = λ c xs ws rest a h. (let f : FindsNumbers limit c.current.tokens c xs = numbers_found limit c.current.tokens ws xs c a h.0 in (f.left, f.read, f.later ∙ h.1));

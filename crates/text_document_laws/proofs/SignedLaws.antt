@@ -8,15 +8,15 @@ use Rattle.text_definitions.specs.Text.{Token, word, decimal_value, digits_value
 use Rattle.text_definitions.specs.declared.LexFault.{LexFault}
 use Rattle.text_definitions.specs.Reading.{Reading, ◌>>=◌, word_at, number_up_to, signed_at, magnitude, is_negative, with_sign}
 use Rattle.text_definitions.proofs.Readers.{bind_ok}
-use Rattle.table_definitions.specs.Grammar.{IsNumber, IsSigned}
+use Rattle.table_definitions.specs.Grammar.{IsDecimalUpTo, IsSigned}
 use Rattle.table_definitions.proofs.ReadingLaws.{ok_parts, with_tokens, behind, TakesWord, word_taken, number_taken, number_found}
 
 -- a word and its magnitude
-signed_with : (max : ℕ) (w : List ℕ) (n : ℕ) → IsNumber max (magnitude w) n → IsSigned max w (with_sign (is_negative w) n)
+signed_with : (max : ℕ) (w : List ℕ) (n : ℕ) → IsDecimalUpTo max (magnitude w) n → IsSigned max w (with_sign (is_negative w) n)
 signed_with max [] n h = ([], n, h, inl (refl, refl))
 signed_with max (b ∷ w) n h = by_test (b == 45) refl h
   where
-    by_test : (t : Bool) → (b == 45) ≡ t → IsNumber max (if t then w else b ∷ w) n → IsSigned max (b ∷ w) (with_sign t n)
+    by_test : (t : Bool) → (b == 45) ≡ t → IsDecimalUpTo max (if t then w else b ∷ w) n → IsSigned max (b ∷ w) (with_sign t n)
     by_test true e h = (w, n, h, inr (ap (λ (x : ℕ). x ∷ w) (eqb-true b 45 e), refl))
     by_test false e h = (b ∷ w, n, h, inl (refl, refl))
 
@@ -50,7 +50,7 @@ signed_read max ts c z d e =
     bind_ok (word_at (with_tokens ts c)) (λ (x : List ℕ × Reading). number_up_to max (decimal_value (magnitude x.0)) x.1 >>= λ (n : ℕ × Reading). Ok (with_sign (is_negative x.0) n.0, n.1)) (z, d) e in
     let second : (n : ℕ × Reading) × (number_up_to max (decimal_value (magnitude (first.0).0)) (first.0).1 ≡ Ok n) × (◌≡◌ {A = Result (ℤ × Reading) LexFault} (Ok (with_sign (is_negative (first.0).0) n.0, n.1)) (Ok (z, d))) =
     bind_ok (number_up_to max (decimal_value (magnitude (first.0).0)) (first.0).1) (λ (n : ℕ × Reading). Ok (with_sign (is_negative (first.0).0) n.0, n.1)) (z, d) first.2 in
-    let taken : IsNumber max (magnitude (first.0).0) (second.0).0 × ((second.0).1 ≡ (first.0).1) =
+    let taken : IsDecimalUpTo max (magnitude (first.0).0) (second.0).0 × ((second.0).1 ≡ (first.0).1) =
     number_taken max (magnitude (first.0).0) (decimal_value (magnitude (first.0).0)) (first.0).1 (second.0).0 (second.0).1 refl second.1 in
     let parts : (with_sign (is_negative (first.0).0) (second.0).0 ≡ z) × ((second.0).1 ≡ d) = ok_parts (with_sign (is_negative (first.0).0) (second.0).0, (second.0).1) (z, d) second.2 in
     let w : TakesWord ts c (first.0).0 (first.0).1 = word_taken ts c (first.0).0 (first.0).1 first.1 in
@@ -64,7 +64,7 @@ signed_read max ts c z d e =
 abbrev given_signed : ℕ → List ℕ → Reading → Result (ℤ × Reading) LexFault
 given_signed max w c = number_up_to max (decimal_value (magnitude w)) c >>= λ (n : ℕ × Reading). Ok (with_sign (is_negative w) n.0, n.1)
 
-given_with : (max : ℕ) (w v : List ℕ) (n : ℕ) (b : Bool) (c : Reading) → magnitude w ≡ v → is_negative w ≡ b → IsNumber max v n → given_signed max w c ≡ Ok (with_sign b n, c)
+given_with : (max : ℕ) (w v : List ℕ) (n : ℕ) (b : Bool) (c : Reading) → magnitude w ≡ v → is_negative w ≡ b → IsDecimalUpTo max v n → given_signed max w c ≡ Ok (with_sign b n, c)
 given_with max w v n b c m s h =
     ap (λ (u : List ℕ). number_up_to max (decimal_value u) c >>= λ (n : ℕ × Reading). Ok (with_sign (is_negative w) n.0, n.1)) m
     ∙ ap (λ (r : Result (ℕ × Reading) LexFault). r >>= λ (n : ℕ × Reading). Ok (with_sign (is_negative w) n.0, n.1)) (number_found max v n c h)

@@ -7,7 +7,7 @@ use Rattle.text_definitions.specs.Text.{Token, word, Line}
 use Rattle.text_definitions.specs.Reading.{Reading, ◌>>=◌, begun, number_at, need_line_at, end_line_at}
 use Rattle.text_definitions.proofs.Readers.{bind_ok}
 use Rattle.table_definitions.specs.Table.{max_tets, Row}
-use Rattle.table_definitions.specs.Grammar.{AreWords, IsNumber, IsEntry, IsRowLine, AreTriLines}
+use Rattle.table_definitions.specs.Grammar.{AreWords, IsDecimalUpTo, IsEntry, IsRowLine, AreTriLines}
 use Rattle.table_definitions.proofs.ReadingLaws.{ok_parts, with_tokens, behind, TakesNumber, number_read, one_number}
 use Rattle.table_definitions.proofs.LineLaws.{BeginsLine, line_begun, line_found, line_ended, end_found, FirstWord, first_word, no_words}
 use Rattle.text_document_definitions.specs.TextForms.{IsRowText, AreTriText, AreTableText}
@@ -94,7 +94,7 @@ record TriTaken (c d : Reading) : Type 0 where
   n : List ℕ
   tokens : c.current.tokens ≡ word column n ∷ []
   lines : List Line
-  number : IsNumber max_tets n (length lines)
+  number : IsDecimalUpTo max_tets n (length lines)
   split : c.later ≡ lines ++ d.later
   forms : AllByRecursion IsRowText lines
 
@@ -107,7 +107,7 @@ tri_joined c b e d n t l r =
       n = t.w;
       tokens = t.word.tokens ∙ ap (λ (ts : List Token). word t.word.column t.w ∷ ts) rest;
       lines = r.lines;
-      number = subst (λ (m : ℕ). IsNumber max_tets t.w m) (sym r.many) t.number;
+      number = subst (λ (m : ℕ). IsDecimalUpTo max_tets t.w m) (sym r.many) t.number;
       split = sym later ∙ r.split;
       forms = r.forms;
     }
@@ -122,7 +122,7 @@ tri_taken c u d e =
 abbrev Given : (Reading → Read) → Reading → List Line → Type 0
 Given read c rest = (d : Reading) × (read c ≡ Ok (tt, d)) × (d.later ≡ rest)
 
-tri_given : (c : Reading) (n : List ℕ) (lines rest : List Line) → AreWords c.current.tokens (n ∷ []) → IsNumber max_tets n (length lines) → AllByRecursion IsRowText lines → c.later ≡ lines ++ rest → Given tri_text c rest
+tri_given : (c : Reading) (n : List ℕ) (lines rest : List Line) → AreWords c.current.tokens (n ∷ []) → IsDecimalUpTo max_tets n (length lines) → AllByRecursion IsRowText lines → c.later ≡ lines ++ rest → Given tri_text c rest
 tri_given c n lines rest a number forms split =
     let f : FirstWord c.current.tokens n [] = first_word c.current.tokens n [] a in
     let b : Reading = with_tokens f.rest (behind f.column c) in
@@ -265,7 +265,7 @@ tri_has_text : (lines : List Line) (rows : List Row) → AreTriLines lines rows 
 tri_has_text [] rows h = h
 tri_has_text (l ∷ lines) rows (n, a, value, z, table) =
     let m : AllByRecursion IsRowText lines × (length rows ≡ length lines) = rows_have_text lines rows z in
-    (n, a, subst (λ (k : ℕ). IsNumber max_tets n k) m.1 (record { value = value; up_to = table.few }), m.0)
+    (n, a, subst (λ (k : ℕ). IsDecimalUpTo max_tets n k) m.1 (record { value = value; up_to = table.few }), m.0)
 
 pub tables_have_text : HaveForm AreTableLines AreTableText
 tables_have_text lines rows (inl h) = inl (tri_has_text lines rows h)

@@ -2,14 +2,14 @@
 use Rattle.std.proofs.Common.{◌≡◌, ℕ, ◌+◌, ◌-◌, ◌≤◌, List, [], ◌++◌, length, take, drop, refl, sym, ap, ◌∙◌, subst, append_assoc, arith, Option, Some, None}
 use Rattle.std.proofs.lemmas.List.{length-take-le, take-append-le, take-take, take_all, take_at}
 use Rattle.std.proofs.Math.Seq.{take-append-add, take-add}
-use Rattle.text_io.specs.Causes.{Takes, Grows}
+use Rattle.text_io.specs.Causes.{TakesBytes, Grows}
 
 -- nothing is taken
-pub takes_none : (a : Option (List ℕ)) → Takes a a []
+pub takes_none : (a : Option (List ℕ)) → TakesBytes a a []
 takes_none None = tt
 takes_none (Some x) = refl
 
-takes_more : (a b c : Option (List ℕ)) (xs ys : List ℕ) → Takes a b xs → Takes b c ys → Takes a c (xs ++ ys)
+takes_more : (a b c : Option (List ℕ)) (xs ys : List ℕ) → TakesBytes a b xs → TakesBytes b c ys → TakesBytes a c (xs ++ ys)
 takes_more None None None xs ys h k = tt
 takes_more None None (Some z) xs ys h k = k
 takes_more None (Some y) c xs ys h k = absurd h
@@ -38,9 +38,9 @@ filled d buf p q len count v in_d in_buf in_v =
 
 -- a read into the buffer behind its front
 pub read_more : (a b c : Option (List ℕ)) (d buf p q : List ℕ) (len count v : ℕ) → len ≤ length d → count ≤ length buf → len + count ≤ v →
-    Takes a b (take len d) → Takes b c (take count buf) → Takes a c (take (len + count) (take v ((take len d ++ (buf ++ p)) ++ q)))
+    TakesBytes a b (take len d) → TakesBytes b c (take count buf) → TakesBytes a c (take (len + count) (take v ((take len d ++ (buf ++ p)) ++ q)))
 read_more a b c d buf p q len count v in_d in_buf in_v h k =
-    subst (Takes a c) (sym (filled d buf p q len count v in_d in_buf in_v)) (takes_more a b c (take len d) (take count buf) h k)
+    subst (TakesBytes a c) (sym (filled d buf p q len count v in_d in_buf in_v)) (takes_more a b c (take len d) (take count buf) h k)
 
 -- what stands in front of the room that was made for a read
 pub front_kept : (front whole fill : List ℕ) (len more : ℕ) → length front ≡ len → whole ≡ take (len + more) front ++ fill → take len whole ≡ front

@@ -1,6 +1,6 @@
 //! The trait of sources of bytes.
 ghost use Rattle.std.specs.Prelude.{◌≡◌, ◌↔◌, ◌<◌, ◌≤◌, ℕ, List, [], Option, length, take, IfOk, OnOk, OnErr, IfSome};
-ghost use Rattle.text_io.specs.Causes.{Takes, Rose};
+ghost use Rattle.text_io.specs.Causes.{TakesBytes, Rose};
 
 use crate::Failed;
 
@@ -18,7 +18,7 @@ pub trait Source {
         requires { 0 < length buf.old }
 
         ensures count { IfOk result (λ n. n ≤ length buf.new) }
-        ensures taken { IfOk result (λ n. Takes (left self.old) (left self.new) (take n buf.new)) }
+        ensures taken { IfOk result (λ n. TakesBytes (left self.old) (left self.new) (take n buf.new)) }
         ensures end { IfOk result (λ n. IfSome (left self.old) (λ bytes. (n ≡ 0) ↔ (bytes ≡ []))) }
 
         // Fails only if `faults` grew.

@@ -1,6 +1,6 @@
 //! Reads all bytes of a source, and writes all bytes of a list.
 ghost use Rattle.std.specs.Prelude.{◌≡◌, ◌↔◌, ◌+◌, ◌-◌, ◌^◌, ◌<◌, ◌≤◌, ℕ, List, [], length, take, IfOk, IfSome, OnOk, OnErr, IsOk, IsErr, IsErrOf, Err};
-ghost use Rattle.text_io.specs.Causes.{Takes, Grows, IsEnded};
+ghost use Rattle.text_io.specs.Causes.{TakesBytes, Grows, IsEnded};
 
 use crate::{Failed, Sink, Source};
 use std::alloc::{AllocError, Global};
@@ -58,13 +58,13 @@ fn read_length(len: usize, room: usize) -> usize
 pub fn read_all<S: Source>(alloc: Global, source: &mut S, limit: u64) -> Result<Vec<u8>, ReadEnd>
     requires { limit < 2 ^ 63 }
 
-    ensures all { IfOk result (λ bytes. Takes (S.left source.old) (S.left source.new) bytes.items) }
+    ensures all { IfOk result (λ bytes. TakesBytes (S.left source.old) (S.left source.new) bytes.items) }
     ensures end { OnOk result (IsEnded (S.left source.new)) }
     ensures within { IfOk result (λ bytes. length bytes.items ≤ limit) }
 
     // At most `limit` + 1 bytes are read; they are more than `limit` if and only if the error is `TooLong`.
     ensures too_long { IsErrOf result ReadEnd.TooLong → IfSome (S.left source.old) (λ bytes. limit < length bytes) }
-    ensures taken { (taken : List ℕ) × Takes (S.left source.old) (S.left source.new) taken
+    ensures taken { (taken : List ℕ) × TakesBytes (S.left source.old) (S.left source.new) taken
         × (length taken ≤ limit + 1) × (IsErrOf result ReadEnd.TooLong ↔ (limit < length taken)) }
 
     // Fails with `Failed` if and only if the count of `source` grew.

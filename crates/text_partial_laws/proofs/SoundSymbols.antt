@@ -5,7 +5,7 @@ use Rattle.std.proofs.lemmas.List.{append_assoc, append-nil}
 use Rattle.text_definitions.specs.declared.Place.{Place}
 use Rattle.text_definitions.specs.Text.{Line}
 use Rattle.table_definitions.specs.Table.{Row, max_tets}
-use Rattle.table_definitions.specs.Grammar.{IsNumber}
+use Rattle.table_definitions.specs.Grammar.{IsDecimalUpTo}
 use Rattle.table_definitions.proofs.Tables.{sphere}
 use Rattle.signature_definitions.specs.Spelling.{Spells}
 use Rattle.signature_definitions.proofs.RelationExamples.{sphere_spelled}
@@ -25,7 +25,7 @@ abbrev pub GoesOn : List Symbol → Type 0
 GoesOn ss = (lines : List Line) × (more : List Symbol) × (plain (lines_front lines) ≡ ss ++ more) × SomeTable lines
 
 -- rows behind a line `tri N`
-with_rows : (w : List ℕ) (n : ℕ) (rows : List Row) (ss : List Symbol) → IsNumber max_tets w n → IsPartialTable n rows → ShowRows rows ss → GoesOn (shown (codes "tri") ∷ shown w ∷ line_end ∷ ss)
+with_rows : (w : List ℕ) (n : ℕ) (rows : List Row) (ss : List Symbol) → IsDecimalUpTo max_tets w n → IsPartialTable n rows → ShowRows rows ss → GoesOn (shown (codes "tri") ∷ shown w ∷ line_end ∷ ss)
 with_rows w n rows ss number p shows =
     let c = completes rows n p in
     let s : ShowsFirst (completed rows n) ss = rows_first rows (completed rows n) ss (begins n rows p) (written_table n rows p) shows in
@@ -49,7 +49,7 @@ none_given n few = record {
   one_each = λ x z g h e f same. absurd cc;
 }
 
-naught : IsNumber max_tets (codes "0") 0
+naught : IsDecimalUpTo max_tets (codes "0") 0
 naught = record { value = refl; up_to = omega arith }
 
 -- a line `sig TEXT`

@@ -7,7 +7,7 @@ use Rattle.std.proofs.lemmas.List.Elements.{All-from_get_or}
 use Rattle.text_definitions.specs.declared.Place.{Place}
 use Rattle.text_definitions.specs.Text.{Token, word, stray, Line}
 use Rattle.table_definitions.specs.Table.{Row, Face, glue, max_tets, IsTable}
-use Rattle.table_definitions.specs.Grammar.{AreWords, IsNumber, IsEntry, IsRowLine}
+use Rattle.table_definitions.specs.Grammar.{AreWords, IsDecimalUpTo, IsEntry, IsRowLine}
 use Rattle.text_document_definitions.specs.Symbols.{Symbol, shown, line_end, input_end, Placed, line_symbols, symbols_of, plain}
 use Rattle.text_document_laws.specs.FaultLaws.{SomeTable}
 use Rattle.text_partial_laws.specs.Partial.{is_given, Completes}
@@ -156,7 +156,7 @@ pub shown_is_sound : (end : Place) (ss : List Symbol) (lines : List Line) (symbo
 shown_is_sound end ss [] symbol more e (rows, inl h) = absurd h
 shown_is_sound end ss [] symbol more e (rows, inr h) = absurd h
 shown_is_sound end ss (l ∷ lines) symbol more e (rows, inl (w, a, value, z, table)) =
-    let number : IsNumber max_tets w (length rows) = record { value = value; up_to = table.few } in
+    let number : IsDecimalUpTo max_tets w (length rows) = record { value = value; up_to = table.few } in
     by_symbols (shown (codes "tri")) (shown w) (plain (symbols_of end lines)) tri_word (tri_number w (length rows) number) symbol more
     (λ next split. (let g : Given rows next = rows_given end lines rows z next symbol more split in
     tri_rows w (length rows) g.given next number (partial_of_table (length rows) g.given rows (completed_by g.given rows g.begin table)) g.shows))

@@ -2,7 +2,7 @@
 use Rattle.std.specs.Prelude.{◌≡◌, ℕ, List, [], ◌∷◌, ◌++◌, length, map, ◌⊎◌, codes}
 use Rattle.std.specs.List.{AllZip}
 use Rattle.table_definitions.specs.Table.{max_tets, Row}
-use Rattle.table_definitions.specs.Grammar.{IsNumber, IsEntry}
+use Rattle.table_definitions.specs.Grammar.{IsDecimalUpTo, IsEntry}
 use Rattle.signature_definitions.specs.Spelling.{Spells}
 use Rattle.text_definitions.specs.declared.Place.{Place}
 use Rattle.text_definitions.specs.Text.{Line}
@@ -20,8 +20,8 @@ ShowRows (row ∷ rows) ss =
 pub data IsSound : List Symbol → Type 0 where
   nothing : IsSound []
   tri_word : IsSound (shown (codes "tri") ∷ [])
-  tri_number : (w : List ℕ) (n : ℕ) → IsNumber max_tets w n → IsSound (shown (codes "tri") ∷ shown w ∷ [])
-  tri_rows : (w : List ℕ) (n : ℕ) (rows : List Row) (ss : List Symbol) → IsNumber max_tets w n → IsPartialTable n rows → ShowRows rows ss → IsSound (shown (codes "tri") ∷ shown w ∷ line_end ∷ ss)
+  tri_number : (w : List ℕ) (n : ℕ) → IsDecimalUpTo max_tets w n → IsSound (shown (codes "tri") ∷ shown w ∷ [])
+  tri_rows : (w : List ℕ) (n : ℕ) (rows : List Row) (ss : List Symbol) → IsDecimalUpTo max_tets w n → IsPartialTable n rows → ShowRows rows ss → IsSound (shown (codes "tri") ∷ shown w ∷ line_end ∷ ss)
   sig_word : IsSound (shown (codes "sig") ∷ [])
   sig_text : (text : List ℕ) (rows : List Row) → Spells text rows → IsSound (shown (codes "sig") ∷ shown text ∷ [])
   sig_line : (text : List ℕ) (rows : List Row) → Spells text rows → IsSound (shown (codes "sig") ∷ shown text ∷ line_end ∷ [])

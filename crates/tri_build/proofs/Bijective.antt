@@ -5,13 +5,13 @@ use Rattle.std.proofs.lemmas.List.FromFn.{get_or-map-range_with_len, length-map-
 use Rattle.table_definitions.specs.Lists.{below}
 use Rattle.table_definitions.specs.Permutation.{identity}
 use Rattle.table_definitions.specs.Table.{Gluing}
-use Rattle.table_definitions.specs.Relabelling.{Relabelling, IsRelabelling, stand_in}
+use Rattle.table_definitions.specs.Relabelling.{Relabelling, IsRelabelling, relabelled_place}
 use Rattle.certificate_definitions.specs.CarriedBack.{staying}
 use Rattle.table_definitions.proofs.Bijections.{below-push}
 use Rattle.table_definitions.proofs.Carried.{length-images}
 
 -- what stands for each tetrahedron makes a relabelling
-pub made_of : (n : ℕ) (f : ℕ → Gluing) (by : Relabelling) → IsRelabelling n by → ((t : ℕ) → t < n → stand_in by t ≡ f t) → record { images = map (λ t. (f t).tet) (below n); perms = map (λ t. (f t).perm) (below n) } ≡ by
+pub made_of : (n : ℕ) (f : ℕ → Gluing) (by : Relabelling) → IsRelabelling n by → ((t : ℕ) → t < n → relabelled_place by t ≡ f t) → record { images = map (λ t. (f t).tet) (below n); perms = map (λ t. (f t).perm) (below n) } ≡ by
 made_of n f by h same =
     let long = length-images n by h in
     let wide = h.perms in
@@ -27,7 +27,7 @@ one_more f so more t x s m e =
     m ∙ ap (λ xs. xs ++ x ∷ []) s ∙ ap (λ y. map f (below t) ++ y ∷ []) e ∙ sym (map-range_with_len_more f 0 t t (omega arith))
 
 -- so images and permutations that are those of a relabelling make one
-pub are_of : (n : ℕ) (f : ℕ → Gluing) (by : Relabelling) (images : List ℕ) (perms : List (List ℕ)) → IsRelabelling n by → ((t : ℕ) → t < n → stand_in by t ≡ f t)
+pub are_of : (n : ℕ) (f : ℕ → Gluing) (by : Relabelling) (images : List ℕ) (perms : List (List ℕ)) → IsRelabelling n by → ((t : ℕ) → t < n → relabelled_place by t ≡ f t)
     → images ≡ map (λ t. (f t).tet) (below n) → perms ≡ map (λ t. (f t).perm) (below n) → record { images = images; perms = perms } ≡ by
 are_of n f by images perms h same i p = (λ k. record { images = i k; perms = p k }) ∙ made_of n f by h same
 

@@ -5,11 +5,11 @@ use Rattle.std.proofs.lemmas.List.Elements.{All-from_get_or}
 use Rattle.table_definitions.specs.Lists.{below}
 use Rattle.table_definitions.specs.Permutation.{IsPermutationOfFour}
 use Rattle.table_definitions.specs.Table.{Gluing, Row}
-use Rattle.table_definitions.specs.Relabelling.{Relabelling, IsRelabelling, Carries, stand_in}
+use Rattle.table_definitions.specs.Relabelling.{Relabelling, IsRelabelling, Carries, relabelled_place}
 use Rattle.table_definitions.proofs.Carried.{length-images, perm_permutes}
 use Rattle.move_definitions.specs.Moves.{Move, Facet, facet, kept, new_facet, inverse_move, move_fault, play_fault, old_facets, Plays}
 use Rattle.move_definitions.specs.declared.MoveFault.{MoveFault}
-use Rattle.certificate_definitions.specs.CarriedMoves.{move_under, by_labels, is_taken}
+use Rattle.certificate_definitions.specs.CarriedMoves.{move_under, by_labels, is_removed_by}
 use Rattle.certificate_definitions.specs.CarriedBack.{IsCarriedBack, move_back}
 use Rattle.move_laws.proofs.ListedFacets.{same_some}
 use Rattle.move_laws.proofs.Legal.{no_fault}
@@ -24,26 +24,26 @@ use Rattle.certificate_laws.proofs.BackLabels.{IsSteppedOn, carried_inverse, bac
 use Rattle.certificate_laws.proofs.StepBack.{IsLedBack, led_back_by}
 use Rattle.certificate_laws.proofs.CarriedWays.{stepped}
 use Rattle.certificate_laws.proofs.OneWay.{correspond_once}
-use Rattle.tri_build.specs.Steps.{PlayedMove, IsBefore, GoesBack}
-use Rattle.tri_build.specs.Standing.{Back, IsBack, number_without, put_in, stands_by, stands_at, CanStandBy, StandsFor}
+use Rattle.tri_build.specs.Steps.{PlayedMove, CarriesToNow, GoesBack}
+use Rattle.tri_build.specs.Standing.{Back, IsBack, number_without, put_in, stands_by, stands_at, CanStandBy, IsImageRelabelling}
 use Rattle.tri_build.proofs.Bijective.{are_of}
 use Rattle.tri_build.proofs.Found.{find_at, none_has, found_tet}
 use Rattle.tri_build.proofs.Correspondence.{back_corresponds, labels_are}
 
-abbrev stepped_on : (old : List Row) (step : PlayedMove) (now : List Row) (on : Relabelling) → (b : IsBefore old step now on) → IsSteppedOn old step.played b.new now on
+abbrev stepped_on : (old : List Row) (step : PlayedMove) (now : List Row) (on : Relabelling) → (b : CarriesToNow old step now on) → IsSteppedOn old step.played b.new now on
 stepped_on old step now on b = stepped old step.played b.new now on b.is_step.plays b.relabels b.carries
 
 -- the move back can be played
 
-pub back_is : (old : List Row) (step : PlayedMove) (now : List Row) (on : Relabelling) → IsBefore old step now on → move_under on (inverse_move step.tets step.played) ≡ move_back old step.played on
+pub back_is : (old : List Row) (step : PlayedMove) (now : List Row) (on : Relabelling) → CarriesToNow old step now on → move_under on (inverse_move step.tets step.played) ≡ move_back old step.played on
 back_is old step now on b = ap (λ n. move_under on (inverse_move n step.played)) b.is_step.tets
 
-pub back_plays : (old : List Row) (step : PlayedMove) (now : List Row) (on : Relabelling) → IsBefore old step now on → (end : List Row) × Plays now (move_under on (inverse_move step.tets step.played)) end
+pub back_plays : (old : List Row) (step : PlayedMove) (now : List Row) (on : Relabelling) → CarriesToNow old step now on → (end : List Row) × Plays now (move_under on (inverse_move step.tets step.played)) end
 back_plays old step now on b =
     let l : IsLedBack old step.played b.new now on = led_back_by old step.played b.new now on (stepped_on old step now on b) in
     (l.end, subst (λ (m : Move). Plays now m l.end) (sym (back_is old step now on b)) l.leads)
 
-pub inverse_in : (old : List Row) (step : PlayedMove) (now : List Row) (on : Relabelling) → IsBefore old step now on → (inverse_move step.tets step.played).tet < length on.images
+pub inverse_in : (old : List Row) (step : PlayedMove) (now : List Row) (on : Relabelling) → CarriesToNow old step now on → (inverse_move step.tets step.played).tet < length on.images
 inverse_in old step now on b =
     let k = carried_inverse old step.played b.new now on (stepped_on old step now on b) in
     let inside : (inverse_move (length old) step.played).tet < length b.new = k.fine.in_range in
@@ -57,9 +57,9 @@ pub record IsLed (old : List Row) (step : PlayedMove) (now : List Row) (on : Rel
   pub plays : Plays now (move_back old step.played on) end
   pub carried : IsCarriedBack old step.played now (move_back old step.played on) on by
   pub carries : Carries by old end
-  pub stands : StandsFor step back on by
+  pub stands : IsImageRelabelling step back on by
 
-pub led : (old : List Row) (step : PlayedMove) (now : List Row) (on : Relabelling) (back : Back) → IsBefore old step now on → IsBack step now on back → IsLed old step now on back
+pub led : (old : List Row) (step : PlayedMove) (now : List Row) (on : Relabelling) (back : Back) → CarriesToNow old step now on → IsBack step now on back → IsLed old step now on back
 led old step now on back b k = record {
   end = l.end;
   by = l.by;
@@ -108,13 +108,13 @@ led old step now on back b k = record {
     are : AreOldFacets old m step.facets
     are = are_old old m step.facets (legal_from old m p.table p.moved.core p.moved.legal) facets
 
-    stays : (t : ℕ) → find_at t step.facets ≡ None → is_taken old m t ≡ false
+    stays : (t : ℕ) → find_at t step.facets ≡ None → is_removed_by old m t ≡ false
     stays t e = none_has (old_facets old m) t (ap (find_at t) (sym facets) ∙ e)
 
-    stands : (t : ℕ) → t < length old → (o : Option Facet) → find_at t step.facets ≡ o → stand_in l.by t ≡ stands_by step back on t o
+    stands : (t : ℕ) → t < length old → (o : Option Facet) → find_at t step.facets ≡ o → relabelled_place l.by t ≡ stands_by step back on t o
     stands t lt None e = l.carried.kept t lt (stays t e) ∙ (λ i. record {
-      tet = number_without (sym taken_is i) (stand_in on (number_without (sym facets i) t)).tet;
-      perm = (stand_in on (number_without (sym facets i) t)).perm;
+      tet = number_without (sym taken_is i) (relabelled_place on (number_without (sym facets i) t)).tet;
+      perm = (relabelled_place on (number_without (sym facets i) t)).perm;
     })
     stands t lt (Some f) e =
         let o = old_found old m step.facets t f are (sym e) in
@@ -122,7 +122,7 @@ led old step now on back b k = record {
         let small : o.0 < 5 = (let below = is.labelled.missing_below in omega (arith, is.missing_is)) in
         let r = l.carried.replaced o.0 is.old_label small in
         let same : r.0 ≡ f = same_some (facet old m o.0) r.0 f r.1 is.found in
-        ap (stand_in l.by) (sym (ap (λ (g : Facet). g.tet) same ∙ found_tet step.facets t f e))
+        ap (relabelled_place l.by) (sym (ap (λ (g : Facet). g.tet) same ∙ found_tet step.facets t f e))
         ∙ r.2
         ∙ ap (λ (g : Facet). by_labels (slice_index l.carried.labels) g (new_facet now (move_back old m on) (slice_index l.carried.labels o.0))) same
         ∙ ap (λ (ls : List ℕ). by_labels (slice_index ls) f (new_facet now (move_back old m on) (slice_index ls o.0))) labels
@@ -145,7 +145,7 @@ led old step now on back b k = record {
 
 -- the relabelling that is filled in is that one
 
-pub filled_in : (step : PlayedMove) (back : Back) (on by : Relabelling) (t : ℕ) (images : List ℕ) (perms : List (List ℕ)) → StandsFor step back on by → t ≡ step.tets
+pub filled_in : (step : PlayedMove) (back : Back) (on by : Relabelling) (t : ℕ) (images : List ℕ) (perms : List (List ℕ)) → IsImageRelabelling step back on by → t ≡ step.tets
     → images ≡ map (λ u. (stands_at step back on u).tet) (below t) → perms ≡ map (λ u. (stands_at step back on u).perm) (below t) → record { images = images; perms = perms } ≡ by
 filled_in step back on by t images perms s e i p =
     are_of step.tets (stands_at step back on) by images perms s.relabels s.stands
@@ -153,23 +153,23 @@ filled_in step back on by t images perms s e i p =
 
 -- so a step goes back
 
-pub played_is : (old : List Row) (step : PlayedMove) (now : List Row) (on : Relabelling) (back : Back) (m : Move) → IsBefore old step now on → IsBack step now on back → m ≡ back.played → m ≡ move_back old step.played on
+pub played_is : (old : List Row) (step : PlayedMove) (now : List Row) (on : Relabelling) (back : Back) (m : Move) → CarriesToNow old step now on → IsBack step now on back → m ≡ back.played → m ≡ move_back old step.played on
 played_is old step now on back m b k e = e ∙ k.played ∙ back_is old step now on b
 
-pub pattern_back : (old : List Row) (step : PlayedMove) (now : List Row) (on : Relabelling) (back : Back) (m : Move) (facets : List Facet) → IsBefore old step now on → IsBack step now on back → m ≡ back.played → facets ≡ back.facets
+pub pattern_back : (old : List Row) (step : PlayedMove) (now : List Row) (on : Relabelling) (back : Back) (m : Move) (facets : List Facet) → CarriesToNow old step now on → IsBack step now on back → m ≡ back.played → facets ≡ back.facets
     → IsPattern now m facets
 pattern_back old step now on back m facets b k e f =
     let l : IsLed old step now on back = led old step now on back b k in
     (f ∙ k.facets ∙ ap (old_facets now) (sym e), ap (move_fault now) (played_is old step now on back m b k e) ∙ l.plays.moved.legal)
 
-pub not_refused : (old : List Row) (step : PlayedMove) (now : List Row) (on : Relabelling) (back : Back) (m : Move) (fault : MoveFault) → IsBefore old step now on → IsBack step now on back → m ≡ back.played → play_fault now m ≡ Some fault → ⊥
+pub not_refused : (old : List Row) (step : PlayedMove) (now : List Row) (on : Relabelling) (back : Back) (m : Move) (fault : MoveFault) → CarriesToNow old step now on → IsBack step now on back → m ≡ back.played → play_fault now m ≡ Some fault → ⊥
 not_refused old step now on back m fault b k e f =
     let l : IsLed old step now on back = led old step now on back b k in
     let none : None ≡ Some fault = sym (ap (play_fault now) (played_is old step now on back m b k e) ∙ l.plays.accepted) ∙ f in
     cc
 
-pub gone_back : (old : List Row) (step : PlayedMove) (now : List Row) (on : Relabelling) (back : Back) (m : Move) (before after : List Move) (end : List Row) (by : Relabelling) → IsBefore old step now on → IsBack step now on back
-    → m ≡ back.played → after ≡ before ++ m ∷ [] → Plays now m end → ((other : Relabelling) → StandsFor step back on other → by ≡ other) → GoesBack old step now on before after end by
+pub gone_back : (old : List Row) (step : PlayedMove) (now : List Row) (on : Relabelling) (back : Back) (m : Move) (before after : List Move) (end : List Row) (by : Relabelling) → CarriesToNow old step now on → IsBack step now on back
+    → m ≡ back.played → after ≡ before ++ m ∷ [] → Plays now m end → ((other : Relabelling) → IsImageRelabelling step back on other → by ≡ other) → GoesBack old step now on before after end by
 gone_back old step now on back m before after end by b k e moves plays one =
     let l : IsLed old step now on back = led old step now on back b k in
     let is : m ≡ move_back old step.played on = played_is old step now on back m b k e in

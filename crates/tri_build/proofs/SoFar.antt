@@ -12,7 +12,7 @@ use Rattle.certificate_definitions.specs.SoFar.{Stage, Makes, MakesSoFar}
 use Rattle.certificate_laws.proofs.Loops.{makings_go_on_lem, makings_are_done_lem}
 use Rattle.certificate_laws.proofs.Made.{made_are_certified_lem}
 use Rattle.certificate_laws.proofs.OneWay.{carried_long}
-use Rattle.tri_build.specs.Steps.{PlayedMove, IsStep, AreSteps, moves_of}
+use Rattle.tri_build.specs.Steps.{PlayedMove, IsPlayedStep, AreSteps, moves_of}
 
 abbrev pub stage : ℕ → List Row → Stage
 stage state table = record { state = state; table = table }
@@ -22,13 +22,13 @@ abbrev pub IsMadeSoFar : ℕ → List Row → ℕ → List PlayedMove → ℕ �
 IsMadeSoFar seed first most steps state table = MakesSoFar (stage seed first) (moves_of steps) (stage state table) × AreSteps first steps table × (length steps ≤ most)
 
 pub step_made : (seed : ℕ) (first : List Row) (most : ℕ) (steps more : List PlayedMove) (state next : ℕ) (table new : List Row) (step : PlayedMove) → IsMadeSoFar seed first most steps state table → next ≡ next_state state
-    → drawn next (candidates table) ≡ Some step.played → IsStep table step new → more ≡ steps ++ step ∷ [] → length steps < most → IsMadeSoFar seed first most more next new
+    → drawn next (candidates table) ≡ Some step.played → IsPlayedStep table step new → more ≡ steps ++ step ∷ [] → length steps < most → IsMadeSoFar seed first most more next new
 step_made seed first most steps more state next table new step (so_far, steps_are, few) n d is e less =
     let made : Makes (stage state table) step.played (stage next new) = record { state = n; draws = subst (λ x. drawn x (candidates table) ≡ Some step.played) n d; plays = is.plays } in
     let moves : moves_of steps ++ step.played ∷ [] ≡ moves_of more = sym (map-append (λ (s : PlayedMove). s.played) steps (step ∷ [])) ∙ ap moves_of (sym e) in
     let long : length more ≡ length steps + 1 = ap (λ (ss : List PlayedMove). length ss) e ∙ length-append steps (step ∷ []) in (
       subst (λ (ms : List Move). MakesSoFar (stage seed first) ms (stage next new)) moves (makings_go_on_lem (stage seed first) (moves_of steps) (stage state table) step.played (stage next new) so_far made),
-      subst (λ (ss : List PlayedMove). AreSteps first ss new) (sym e) (FoldsTo-push IsStep first steps table step new steps_are is),
+      subst (λ (ss : List PlayedMove). AreSteps first ss new) (sym e) (FoldsTo-push IsPlayedStep first steps table step new steps_are is),
       omega arith,
     )
 

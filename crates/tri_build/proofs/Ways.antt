@@ -6,16 +6,16 @@ use Rattle.table_definitions.specs.Relabelling.{Relabelling, IsRelabelling, Carr
 use Rattle.move_definitions.specs.Moves.{Move}
 use Rattle.certificate_definitions.specs.CarriedBack.{staying, AreCarriedBack}
 use Rattle.certificate_laws.proofs.CarriedWays.{staying_relabels, staying_carries}
-use Rattle.tri_build.specs.Steps.{PlayedMove, IsStep, AreSteps, moves_of, IsBefore, GoesBack}
+use Rattle.tri_build.specs.Steps.{PlayedMove, IsPlayedStep, AreSteps, moves_of, CarriesToNow, GoesBack}
 
 -- the last step, and those before it
 pub record AreThen (first : List Row) (steps : List PlayedMove) (step : PlayedMove) (last : List Row) : Type 0 where
   pub table : List Row
   pub before : AreSteps first steps table
-  pub then : IsStep table step last
+  pub then : IsPlayedStep table step last
 
 pub parted : (first : List Row) (steps : List PlayedMove) (step : PlayedMove) (last : List Row) → AreSteps first (steps ++ step ∷ []) last → AreThen first steps step last
-parted first [] step last (next, h, e) = record { table = first; before = refl; then = subst (λ (t : List Row). IsStep first step t) e h }
+parted first [] step last (next, h, e) = record { table = first; before = refl; then = subst (λ (t : List Row). IsPlayedStep first step t) e h }
 parted first (s ∷ ss) step last (next, h, rest) =
     let later : AreThen next ss step last = parted next ss step last rest in
     record { table = later.table; before = (next, h, later.before); then = later.then }
@@ -44,7 +44,7 @@ begun first all last table steps = record {
 -- the last step that is left
 pub record IsNext (first : List Row) (all : List PlayedMove) (last : List Row) (left : List PlayedMove) (step : PlayedMove) (now : List Row) (on : Relabelling) (back : List Move) : Type 0 where
   pub old : List Row
-  pub before : IsBefore old step now on
+  pub before : CarriesToNow old step now on
   pub on_way : (after : List Move) (end : List Row) (by : Relabelling) → GoesBack old step now on back after end by → IsOnWay first all last left end by after
 
 pub next_is : (first : List Row) (all : List PlayedMove) (last : List Row) (left : List PlayedMove) (step : PlayedMove) (now : List Row) (on : Relabelling) (back : List Move) → IsOnWay first all last (left ++ step ∷ []) now on back

@@ -1,9 +1,9 @@
 -- What stands for the tetrahedra of a table before a step, once the move back is played.
 use Rattle.std.specs.Prelude.{◌≡◌, ℕ, ◌+◌, ◌-◌, ◌<◌, List, filter, map, length, not, ◌==◌, nat_lt, Option, Some, None, find, slice_index, All, if◌then◌else◌}
-use Rattle.table_definitions.specs.Lists.{below, closed_up}
+use Rattle.table_definitions.specs.Lists.{below, rank_without}
 use Rattle.table_definitions.specs.Permutation.{IsPermutationOfFour}
 use Rattle.table_definitions.specs.Table.{Gluing, Row}
-use Rattle.table_definitions.specs.Relabelling.{Relabelling, IsRelabelling, stand_in}
+use Rattle.table_definitions.specs.Relabelling.{Relabelling, IsRelabelling, relabelled_place}
 use Rattle.move_definitions.specs.Moves.{Move, Facet, old_facets, kept, inverse_move}
 use Rattle.certificate_definitions.specs.CarriedMoves.{move_under, label_under, by_labels}
 use Rattle.tri_build.specs.Steps.{PlayedMove}
@@ -32,7 +32,7 @@ pub record IsBack (step : PlayedMove) (now : List Row) (on : Relabelling) (back 
 
 -- the number of a tetrahedron once facets are taken out
 abbrev pub number_without : List Facet → ℕ → ℕ
-number_without facets t = closed_up (map (λ (f : Facet). f.tet) facets) t
+number_without facets t = rank_without (map (λ (f : Facet). f.tet) facets) t
 
 -- the facet that is put in for a label behind so many tetrahedra
 abbrev pub put_in : ℕ → ℕ → Facet
@@ -41,7 +41,7 @@ put_in kept j = record { tet = kept + j; missing = j; labels = filter (λ l. not
 -- what stands for a tetrahedron that the step kept, and for one that it took out
 abbrev pub retained_stands : PlayedMove → Back → Relabelling → ℕ → Gluing
 retained_stands step back on t =
-    record { tet = number_without back.facets (stand_in on (number_without step.facets t)).tet; perm = (stand_in on (number_without step.facets t)).perm }
+    record { tet = number_without back.facets (relabelled_place on (number_without step.facets t)).tet; perm = (relabelled_place on (number_without step.facets t)).perm }
 
 abbrev pub facet_stands : Back → Facet → Gluing
 facet_stands back f = by_labels (slice_index back.labels) f (put_in back.kept (slice_index back.labels f.missing))
@@ -67,7 +67,7 @@ abbrev pub CanStandAt : PlayedMove → Back → Relabelling → ℕ → Type 0
 CanStandAt step back on t = CanStandBy step back on t (find (λ (f : Facet). f.tet == t) step.facets)
 
 -- the relabelling by which each tetrahedron goes to what stands for it
-pub record StandsFor (step : PlayedMove) (back : Back) (on : Relabelling) (by : Relabelling) : Type 0 where
+pub record IsImageRelabelling (step : PlayedMove) (back : Back) (on : Relabelling) (by : Relabelling) : Type 0 where
   pub relabels : IsRelabelling step.tets by
   pub can : (t : ℕ) → t < step.tets → CanStandAt step back on t
-  pub stands : (t : ℕ) → t < step.tets → stand_in by t ≡ stands_at step back on t
+  pub stands : (t : ℕ) → t < step.tets → relabelled_place by t ≡ stands_at step back on t

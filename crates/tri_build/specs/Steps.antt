@@ -13,26 +13,26 @@ pub record PlayedMove : Type 0 where
   pub facets : List Facet
 
 -- the step led from the one table to the other
-pub record IsStep (old : List Row) (step : PlayedMove) (new : List Row) : Type 0 where
+pub record IsPlayedStep (old : List Row) (step : PlayedMove) (new : List Row) : Type 0 where
   pub plays : Plays old step.played new
   pub tets : step.tets ≡ length old
   pub facets : step.facets ≡ old_facets old step.played
 
 abbrev pub AreSteps : List Row → List PlayedMove → List Row → Type 0
-AreSteps first steps last = FoldsTo IsStep first steps last
+AreSteps first steps last = FoldsTo IsPlayedStep first steps last
 
 abbrev pub moves_of : List PlayedMove → List Move
 moves_of steps = map (λ (s : PlayedMove). s.played) steps
 
 -- the step was made on a table, and a relabelling carries the table to which it led to this one
-pub record IsBefore (old : List Row) (step : PlayedMove) (now : List Row) (on : Relabelling) : Type 0 where
+pub record CarriesToNow (old : List Row) (step : PlayedMove) (now : List Row) (on : Relabelling) : Type 0 where
   pub new : List Row
-  pub is_step : IsStep old step new
+  pub is_step : IsPlayedStep old step new
   pub relabels : IsRelabelling (length new) on
   pub carries : Carries on new now
 
 abbrev pub CanGoBack : PlayedMove → List Row → Relabelling → Type 0
-CanGoBack step now on = (old : List Row) × IsBefore old step now on
+CanGoBack step now on = (old : List Row) × CarriesToNow old step now on
 
 -- the step is carried back: its move back is played, and stands behind the moves before
 pub record GoesBack (old : List Row) (step : PlayedMove) (now : List Row) (on : Relabelling) (before after : List Move) (end : List Row) (by : Relabelling) : Type 0 where

@@ -4,7 +4,7 @@ ghost use Rattle.std.specs.Prelude.{◌≡◌, [], None, IfOk, IfSome, IfNone};
 ghost use Rattle.move_definitions.specs.Moves as moves;
 ghost use Rattle.move_definitions.specs.Moves.{play_fault};
 ghost use Rattle.move_definitions.specs.Certificates as certificates;
-ghost use Rattle.tri_build.specs.Steps.{IsStep};
+ghost use Rattle.tri_build.specs.Steps.{IsPlayedStep};
 
 use crate::candidates::candidates;
 use crate::generator::draw;
@@ -49,7 +49,7 @@ impl PlayedMove {
 fn play_step(table: &mut Table, m: Move) -> PlayedMove
     requires { play_fault table.old m ≡ None }
     ensures played { result.played ≡ m }
-    ensures is_step { IsStep table.old result table.new }
+    ensures is_step { IsPlayedStep table.old result table.new }
 {
     let tets = table.len();
     match legal(table, m) {
@@ -73,7 +73,7 @@ pub fn draw_step(
     state: u64,
 ) -> Result<Option<PlayedMove>, NoMemory>
     ensures drawn { IfOk result (λ r. IfSome r (λ s. certificates.drawn state (certificates.candidates table.old) ≡ Some s.played)) }
-    ensures is_step { IfOk result (λ r. IfSome r (λ s. IsStep table.old s table.new)) }
+    ensures is_step { IfOk result (λ r. IfSome r (λ s. IsPlayedStep table.old s table.new)) }
     ensures none { IfOk result (λ r. IfNone r (certificates.candidates table.old ≡ [])) }
     ensures left { IfOk result (λ r. IfNone r (table.new ≡ table.old)) }
 {

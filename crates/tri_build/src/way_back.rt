@@ -6,8 +6,8 @@ ghost use Rattle.table_definitions.specs.Permutation.{identity};
 ghost use Rattle.table_definitions.specs.Relabelling as labels;
 ghost use Rattle.certificate_definitions.specs.CarriedBack as ways;
 ghost use Rattle.certificate_definitions.specs.CarriedBack.{AreCarriedBack};
-ghost use Rattle.tri_build.specs.Steps.{AreSteps, moves_of, IsBefore, CanGoBack, GoesBack};
-ghost use Rattle.tri_build.specs.Standing.{IsBack, StandsFor};
+ghost use Rattle.tri_build.specs.Steps.{AreSteps, moves_of, CarriesToNow, CanGoBack, GoesBack};
+ghost use Rattle.tri_build.specs.Standing.{IsBack, IsImageRelabelling};
 
 use crate::carrying::move_under;
 use crate::labels::labels_back;
@@ -26,8 +26,8 @@ fn carry_back(
     back: &Back,
     on: &Relabelling,
 ) -> Result<Relabelling, NoMemory>
-    requires { (by : labels.Relabelling) × StandsFor step.now back.now on.now by }
-    ensures { IfOk result (λ r. (by : labels.Relabelling) → StandsFor step.now back.now on.now by → r ≡ by) }
+    requires { (by : labels.Relabelling) × IsImageRelabelling step.now back.now on.now by }
+    ensures { IfOk result (λ r. (by : labels.Relabelling) → IsImageRelabelling step.now back.now on.now by → r ≡ by) }
 {
     let mut images = Vec::new(alloc);
     let mut perms = Vec::new(alloc);
@@ -69,7 +69,7 @@ impl WayBack {
     /// Plays the inverse move of `step`.
     fn go_back(&mut self, alloc: Global, step: &PlayedMove) -> Result<(), NoMemory>
         requires { CanGoBack step.now self.old.now self.old.on }
-        ensures { OnOk result ((old : List Row) → IsBefore old step.now self.old.now self.old.on → GoesBack old step.now self.old.now self.old.on self.old.moves.items self.new.moves.items self.new.now self.new.on) }
+        ensures { OnOk result ((old : List Row) → CarriesToNow old step.now self.old.now self.old.on → GoesBack old step.now self.old.now self.old.on self.old.moves.items self.new.moves.items self.new.now self.new.on) }
     {
         let back = back_of(step, &self.now, &self.on);
         let by = carry_back(alloc, step, &back, &self.on)?;

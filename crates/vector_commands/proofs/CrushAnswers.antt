@@ -10,10 +10,10 @@ use Rattle.surface_vector_definitions.specs.Answers.{verdict_in}
 use Rattle.surface_vector_definitions.specs.declared.Refusal.TheVariants.{Unfit}
 use Rattle.outcome_definitions.specs.Outcomes.{Outcome}
 use Rattle.outcome_definitions.specs.Vectors.{IsCrushAnswer, refusal_outcome}
-use Rattle.vector_commands.specs.Crushed.{TellsCrushed}
+use Rattle.vector_commands.specs.Crushed.{IsCrushOutcome}
 
 module _ (rows : List Row) (equations : List EquationRow) (xs : List ℕ) (o : Outcome) (of_table : AreEquations Standard rows equations) where
-  pub crushed_told : verdict_in Standard rows equations xs ≡ solution → TellsCrushed rows xs o → IsCrushAnswer (rows, xs) o
+  pub crushed_told : verdict_in Standard rows equations xs ≡ solution → IsCrushOutcome rows xs o → IsCrushAnswer (rows, xs) o
   crushed_told fit told = record {
     equations = equations;
     of_table = of_table;

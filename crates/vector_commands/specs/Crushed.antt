@@ -7,5 +7,5 @@ use Rattle.outcome_definitions.specs.declared.Status.TheVariants.{Done}
 use Rattle.outcome_definitions.specs.Outcomes.{Outcome}
 
 -- the table crushed along a vector is told
-abbrev pub TellsCrushed : List Row → List ℕ → Outcome → Type 0
-TellsCrushed rows xs o = (new : List Row) × IsCrushed rows xs new × (o ≡ record { status = Done; text = table_text new })
+abbrev pub IsCrushOutcome : List Row → List ℕ → Outcome → Type 0
+IsCrushOutcome rows xs o = (new : List Row) × IsCrushed rows xs new × (o ≡ record { status = Done; text = table_text new })

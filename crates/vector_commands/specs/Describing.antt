@@ -16,9 +16,9 @@ use Rattle.surface_pieces.specs.ComponentLists.{no_component}
 use Rattle.vector_commands.specs.declared.describe_command.Description.{Description}
 
 -- the vector is described, or refused; of want of memory nothing is said
-abbrev pub TellsDescription : Skeleton → Coords → List EquationRow → List ℕ → Result Description (Failure Refusal) → Type 0
-TellsDescription s coords equations xs (Ok d) = IsDescription s coords equations xs (Ok (record { vector = xs; properties = d.properties; components = d.pieces }))
-TellsDescription s coords equations xs (Err e) = IfFault e (λ refusal. IsDescription s coords equations xs (Err refusal))
+abbrev pub IsDescriptionResult : Skeleton → Coords → List EquationRow → List ℕ → Result Description (Failure Refusal) → Type 0
+IsDescriptionResult s coords equations xs (Ok d) = IsDescription s coords equations xs (Ok (record { vector = xs; properties = d.properties; components = d.pieces }))
+IsDescriptionResult s coords equations xs (Err e) = IfFault e (λ refusal. IsDescription s coords equations xs (Err refusal))
 
 -- each component's vector is as wide as the table wants, and no sum of it passes the limit
 pub record AreSmall (s : Skeleton) (coords : Coords) (components : List Component) : Type 0 where

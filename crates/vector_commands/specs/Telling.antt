@@ -17,16 +17,16 @@ pub record AreAnsweredIn {A : Type 0} (IsTold : List ℕ → Result A Refusal �
   pub lines : text ≡ flat_map line answers
 
 -- the lines of the answer to a vector were appended, or it is refused; of want of memory nothing is said
-abbrev pub TellsOne : {A : Type 0} → (List ℕ → Result A Refusal → Type 0) → (A → List ℕ) → List ℕ → List ℕ → List ℕ → Result (Unit {0}) (Failure Refusal) → Type 0
-TellsOne {A} IsTold line xs before now (Ok done) = (a : A) × IsTold xs (Ok a) × (now ≡ before ++ line a)
-TellsOne IsTold line xs before now (Err e) = IfFault e (λ refusal. IsTold xs (Err refusal))
+abbrev pub AppendsAnswer : {A : Type 0} → (List ℕ → Result A Refusal → Type 0) → (A → List ℕ) → List ℕ → List ℕ → List ℕ → Result (Unit {0}) (Failure Refusal) → Type 0
+AppendsAnswer {A} IsTold line xs before now (Ok done) = (a : A) × IsTold xs (Ok a) × (now ≡ before ++ line a)
+AppendsAnswer IsTold line xs before now (Err e) = IfFault e (λ refusal. IsTold xs (Err refusal))
 
 -- the lines of the answers to all vectors, or the first vector that is refused
-abbrev pub TellsEach : {A : Type 0} → (List ℕ → Result A Refusal → Type 0) → (A → List ℕ) → List (List ℕ) → Result (Vec ℕ Global) (Failure FirstRefusal) → Type 0
-TellsEach IsTold line vectors (Ok text) = AreAnsweredIn IsTold line vectors text.items
-TellsEach IsTold line vectors (Err e) = IfFault e (λ first. IsFirstRefused IsTold vectors first.vector first.refusal)
+abbrev pub WritesAnswers : {A : Type 0} → (List ℕ → Result A Refusal → Type 0) → (A → List ℕ) → List (List ℕ) → Result (Vec ℕ Global) (Failure FirstRefusal) → Type 0
+WritesAnswers IsTold line vectors (Ok text) = AreAnsweredIn IsTold line vectors text.items
+WritesAnswers IsTold line vectors (Err e) = IfFault e (λ first. IsFirstRefused IsTold vectors first.vector first.refusal)
 
 -- a quad vector is lifted, or refused; of want of memory nothing is said
-abbrev pub TellsLift : Skeleton → List EquationRow → List ℕ → Result (Vec ℕ Global) (Failure Refusal) → Type 0
-TellsLift s equations xs (Ok lift) = IsLifted s equations xs (Ok lift.items)
-TellsLift s equations xs (Err e) = IfFault e (λ refusal. IsLifted s equations xs (Err refusal))
+abbrev pub IsLiftResult : Skeleton → List EquationRow → List ℕ → Result (Vec ℕ Global) (Failure Refusal) → Type 0
+IsLiftResult s equations xs (Ok lift) = IsLifted s equations xs (Ok lift.items)
+IsLiftResult s equations xs (Err e) = IfFault e (λ refusal. IsLifted s equations xs (Err refusal))

@@ -7,7 +7,7 @@ ghost use Rattle.surface_definitions.specs.QuadEquations.{AreEquations};
 ghost use Rattle.text_document_definitions.specs.Documents.{vector_document};
 ghost use Rattle.outcome_definitions.specs.Outcomes.{IsReadOutcome};
 ghost use Rattle.outcome_definitions.specs.Vectors.{IsCrushAnswer};
-ghost use Rattle.vector_commands.specs.Crushed.{TellsCrushed};
+ghost use Rattle.vector_commands.specs.Crushed.{IsCrushOutcome};
 
 use crate::refusals::refusal_outcome;
 use command_answers::{Outcome, answer_read, read_table_and_vector};
@@ -23,7 +23,7 @@ use surface_vector_definitions::Refusal;
 /// The outcome for `table` and an admissible solution.
 fn outcome_of(alloc: Global, table: &Table, x: &[u128]) -> Result<Outcome, NoMemory>
     requires { length x.now ≡ columns Standard (length table.now) }
-    ensures { IfOk result (TellsCrushed table.now x.now) }
+    ensures { IfOk result (IsCrushOutcome table.now x.now) }
 {
     let new = crushing::crush_table(alloc, table, x)?;
     let mut text = Vec::new(alloc);

@@ -11,8 +11,8 @@ ghost use Rattle.outcome_definitions.specs.Outcomes.{IsReadOutcome};
 ghost use Rattle.outcome_definitions.specs.Vectors.{AreDescribed, IsDescribeAnswer};
 ghost use Rattle.surface_vector_definitions.specs.Answers.{verdict_in, IsDescription};
 ghost use Rattle.surface_vector_definitions.specs.Texts.{description_text};
-ghost use Rattle.vector_commands.specs.Telling.{TellsOne, TellsEach};
-ghost use Rattle.vector_commands.specs.Describing.{TellsDescription};
+ghost use Rattle.vector_commands.specs.Telling.{AppendsAnswer, WritesAnswers};
+ghost use Rattle.vector_commands.specs.Describing.{IsDescriptionResult};
 
 use crate::descriptions::append_description;
 use crate::refusals::{FirstRefusal, refusal_outcome};
@@ -48,7 +48,7 @@ fn describe_solution(
     requires equations { AreEquations coords.system skeleton.now.rows system.now.rows }
     requires width { length x.now ≡ columns coords.system (length skeleton.now.rows) }
     requires fit { verdict_in coords.system skeleton.now.rows system.now.rows x.now ≡ solution }
-    ensures { TellsDescription skeleton.now coords.system system.now.rows x.now result }
+    ensures { IsDescriptionResult skeleton.now coords.system system.now.rows x.now result }
 {
     let properties = match properties_of(skeleton, coords.system, x) {
         Ok(properties) => properties,
@@ -76,7 +76,7 @@ fn describe_vector(
     requires skeleton { IsSkeleton skeleton.now }
     requires equations { AreEquations coords.system skeleton.now.rows system.now.rows }
     requires columns { system.now.columns ≡ columns coords.system (length skeleton.now.rows) }
-    ensures { TellsDescription skeleton.now coords.system system.now.rows x.now result }
+    ensures { IsDescriptionResult skeleton.now coords.system system.now.rows x.now result }
 {
     match check(coords.system, skeleton.table(), system, x) {
         Ok(()) => describe_solution(alloc, skeleton, system, coords, x),
@@ -96,7 +96,7 @@ fn append_vector(
     requires skeleton { IsSkeleton skeleton.now }
     requires equations { AreEquations coords.system skeleton.now.rows system.now.rows }
     requires columns { system.now.columns ≡ columns coords.system (length skeleton.now.rows) }
-    ensures { TellsOne (IsDescription skeleton.now coords.system system.now.rows) (description_text skeleton.now coords.system) x.now text.old.items text.new.items result }
+    ensures { AppendsAnswer (IsDescription skeleton.now coords.system system.now.rows) (description_text skeleton.now coords.system) x.now text.old.items text.new.items result }
 {
     let told = describe_vector(alloc, skeleton, system, coords, x)?;
     append_description(
@@ -122,7 +122,7 @@ fn descriptions(
     requires skeleton { IsSkeleton skeleton.now }
     requires equations { AreEquations coords.system skeleton.now.rows system.now.rows }
     requires columns { system.now.columns ≡ columns coords.system (length skeleton.now.rows) }
-    ensures { TellsEach (IsDescription skeleton.now coords.system system.now.rows) (description_text skeleton.now coords.system) (all_entries vectors.now) result }
+    ensures { WritesAnswers (IsDescription skeleton.now coords.system system.now.rows) (description_text skeleton.now coords.system) (all_entries vectors.now) result }
 {
     let mut text = Vec::new(alloc);
     for v in 0..vectors.len() {

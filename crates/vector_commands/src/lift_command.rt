@@ -12,7 +12,7 @@ ghost use Rattle.command_answers.specs.Reads.{all_entries};
 ghost use Rattle.outcome_definitions.specs.Outcomes.{IsReadOutcome};
 ghost use Rattle.outcome_definitions.specs.Vectors.{IsLiftsAnswer};
 ghost use Rattle.surface_vector_definitions.specs.Answers.{verdict_in, IsLifted};
-ghost use Rattle.vector_commands.specs.Telling.{TellsOne, TellsEach, TellsLift};
+ghost use Rattle.vector_commands.specs.Telling.{AppendsAnswer, WritesAnswers, IsLiftResult};
 
 use crate::refusals::{FirstRefusal, refusal_outcome};
 use command_answers::{Outcome, answer_read, read_table_and_vectors};
@@ -37,7 +37,7 @@ fn lift_solution(
 ) -> Result<Vec<u128>, Failure<Refusal>>
     requires width { length x.now ≡ columns coordinates.Quad (length skeleton.now.rows) }
     requires fit { verdict_in coordinates.Quad skeleton.now.rows system.now.rows x.now ≡ solution }
-    ensures { TellsLift skeleton.now system.now.rows x.now result }
+    ensures { IsLiftResult skeleton.now system.now.rows x.now result }
 {
     match lift_of(alloc, skeleton, x) {
         Ok(lifted) => Ok(lifted),
@@ -57,7 +57,7 @@ fn lift_vector(
     x: &[u128],
 ) -> Result<Vec<u128>, Failure<Refusal>>
     requires { system.now.columns ≡ columns coordinates.Quad (length skeleton.now.rows) }
-    ensures { TellsLift skeleton.now system.now.rows x.now result }
+    ensures { IsLiftResult skeleton.now system.now.rows x.now result }
 {
     match check(Coords::Quad, skeleton.table(), system, x) {
         Ok(()) => lift_solution(alloc, skeleton, system, x),
@@ -74,7 +74,7 @@ fn append_lift(
     text: &mut Vec<u8>,
 ) -> Result<(), Failure<Refusal>>
     requires { system.now.columns ≡ columns coordinates.Quad (length skeleton.now.rows) }
-    ensures { TellsOne (IsLifted skeleton.now system.now.rows) vector_text x.now text.old.items text.new.items result }
+    ensures { AppendsAnswer (IsLifted skeleton.now system.now.rows) vector_text x.now text.old.items text.new.items result }
 {
     let lifted = lift_vector(alloc, skeleton, system, x)?;
     write_vector(alloc, &lifted, text)?;
@@ -89,7 +89,7 @@ fn lifts(
     vectors: &[Vec<u128>],
 ) -> Result<Vec<u8>, Failure<FirstRefusal>>
     requires { system.now.columns ≡ columns coordinates.Quad (length skeleton.now.rows) }
-    ensures { TellsEach (IsLifted skeleton.now system.now.rows) vector_text (all_entries vectors.now) result }
+    ensures { WritesAnswers (IsLifted skeleton.now system.now.rows) vector_text (all_entries vectors.now) result }
 {
     let mut text = Vec::new(alloc);
     for v in 0..vectors.len() {

@@ -13,7 +13,7 @@ use Rattle.outcome_definitions.specs.declared.Status.TheVariants.{Done, Usage, I
 use Rattle.outcome_definitions.specs.Lines.{read_line, usage_line}
 use Rattle.outcome_definitions.specs.Outcomes.{Outcome, IsOwnStatus, usage_outcome}
 use Rattle.outcome_definitions.specs.Answers.{IsOutcome, IsOutcomeOf, IsAnswerTo}
-use Rattle.workbench.specs.Runs.{IsAnswered, IsCalm, IsWithin, IsReadWell, IsResponse, IsCutOff, IsDelivered, IsToBeWritten, IsOutcomeAlone, IsRun}
+use Rattle.workbench.specs.Runs.{IsAnswered, IsCalm, IsWithinInputLimit, IsReadWell, IsResponse, IsCutOff, IsDelivered, IsToBeWritten, IsOutcomeAlone, IsRun}
 use Rattle.workbench.proofs.RunClauses.{run_outcome, run_prefix}
 
 own_answered : (status : Status) → IsOwnStatus status → IsAnswered status
@@ -31,7 +31,7 @@ no_own : (status other : Status) → IsOwnStatus status → status ≡ other →
 no_own status other own e = subst IsOwnStatus e own
 
 -- what was left untouched has as many bytes as before
-pub all_within : (left : Option (List ℕ)) → IsWithin left left
+pub all_within : (left : Option (List ℕ)) → IsWithinInputLimit left left
 all_within None = tt
 all_within (Some bytes) = omega arith
 
@@ -76,7 +76,7 @@ module _ {X Y : Type 0} (words : List (List ℕ)) (source read : X) (left rest :
   }
 
   -- memory ran out
-  pub spent_run : (accepted_request words ≡ None → read ≡ source) → LeavesIdle words source read → IsCalm faults read_faults → IsWithin left rest → written ≡ sink → write_faults ≡ sink_faults → Run NoMemory
+  pub spent_run : (accepted_request words ≡ None → read ≡ source) → LeavesIdle words source read → IsCalm faults read_faults → IsWithinInputLimit left rest → written ≡ sink → write_faults ≡ sink_faults → Run NoMemory
   spent_run refused idle calm within same still = record {
     usage = λ e. (inr (inr refl), refused e);
     usage_alone = λ e. absurd cc;

@@ -2,7 +2,7 @@
 use Rattle.std.proofs.Common.{◌≡◌, ℕ, ◌≤◌, ◌<◌, ◌-◌, ◌^◌, Bool, true, false, inl, inr, List, ◌++◌, length, Option, Some, None, Result, Ok, Err, sym, ◌∙◌, ap, subst, true≢false, append-nil, arith}
 use Rattle.std.specs.Prelude.{IfSome}
 use Rattle.std.proofs.lemmas.Bool.{cases_order}
-use Rattle.text_io.specs.Causes.{Takes, IsEnded}
+use Rattle.text_io.specs.Causes.{TakesBytes, IsEnded}
 use Rattle.std.specs.Bool.{MatchBool}
 use Rattle.command_definitions.specs.declared.Request.{Request}
 use Rattle.command_definitions.specs.Requests.{reads_input}
@@ -33,12 +33,12 @@ calm_of before now never later small = elim (cases_order before now) [
 
 -- the outcome of a request that reads, over a source of which all was taken
 module _ (request : Request) (o : Outcome) (bytes : List ℕ) (reads : reads_input request ≡ true) (answer : IsAnswerTo request bytes o) (few : length bytes ≤ most_bytes) where
-  taken : (left rest : Option (List ℕ)) → Takes left rest bytes → IsEnded rest → IfSome left (λ xs. IsRequestOutcome request xs o)
+  taken : (left rest : Option (List ℕ)) → TakesBytes left rest bytes → IsEnded rest → IfSome left (λ xs. IsRequestOutcome request xs o)
   taken None rest t e = tt
   taken (Some xs) None t e = absurd t
   taken (Some xs) (Some ys) t e = subst (λ (zs : List ℕ). IsRequestOutcome request zs o) (sym (t ∙ ap (λ (zs : List ℕ). bytes ++ zs) e ∙ append-nil bytes)) (answers_input request o bytes few answer)
 
-  pub read_well : (left rest : Option (List ℕ)) (before now : ℕ) → Takes left rest bytes → IsEnded rest → IsCalm before now → IsReadWell request left rest before now o
+  pub read_well : (left rest : Option (List ℕ)) (before now : ℕ) → TakesBytes left rest bytes → IsEnded rest → IsCalm before now → IsReadWell request left rest before now o
   read_well left rest before now t e calm = record {
     outcome = taken left rest t e;
     alone = λ nothing. absurd (true≢false (sym reads ∙ nothing));

@@ -30,8 +30,8 @@ abbrev pub IsCalm : ℕ → ℕ → Type 0
 IsCalm before now = before < 2 ^ 64 - 1 → now ≡ before
 
 -- the source gave no more bytes than an input may have
-abbrev pub IsWithin : Option (List ℕ) → Option (List ℕ) → Type 0
-IsWithin before now = IfSome before (λ bytes. IfSome now (λ rest. length bytes ≤ length rest + most_bytes))
+abbrev pub IsWithinInputLimit : Option (List ℕ) → Option (List ℕ) → Type 0
+IsWithinInputLimit before now = IfSome before (λ bytes. IfSome now (λ rest. length bytes ≤ length rest + most_bytes))
 
 -- the source failed, and that is told
 pub record IsReadFault (before now : ℕ) (o : Outcome) : Type 0 where
@@ -53,7 +53,7 @@ IsResponse request left rest before now o = IsReadFault before now o ⊎ IsReadW
 -- memory ran out before the source failed or gave too much
 pub record IsWithoutMemory (left rest : Option (List ℕ)) (before now : ℕ) : Type 0 where
   pub calm : IsCalm before now
-  pub within : IsWithin left rest
+  pub within : IsWithinInputLimit left rest
 
 -- a prefix of a text was appended, and not all of it
 abbrev pub IsCutOff : Option (List ℕ) → Option (List ℕ) → List ℕ → Type 0
@@ -89,7 +89,7 @@ pub record IsRun {X Y : Type 0} (words : List (List ℕ)) (result : Status) (sou
   pub prefix : result ≡ WriteFault → (o : Outcome) × IsToBeWritten words left faults read_faults o × IsCutOff held grown o.text
   pub no_memory : result ≡ NoMemory → written ≡ sink
   pub no_memory_calm : result ≡ NoMemory → IsCalm faults read_faults
-  pub no_memory_within : result ≡ NoMemory → IsWithin left rest
+  pub no_memory_within : result ≡ NoMemory → IsWithinInputLimit left rest
   pub outcome : IsAnswered result → IfSome left (λ bytes. (o : Outcome) × IsOutcome words bytes o × (result ≡ o.status) × Grows held grown o.text)
   pub end : (request : Request) → accepted_request words ≡ Some request → reads_input request ≡ true → result ≡ Done → IsEnded rest
   pub untouched : (request : Request) → accepted_request words ≡ Some request → reads_input request ≡ false → read ≡ source

@@ -25,7 +25,7 @@ ghost use Rattle.outcome_answer_laws.specs.Sums.{IsDecomposition, IsAddition};
 ghost use Rattle.outcome_answer_laws.specs.Covers.{IsCovering};
 ghost use Rattle.outcome_answer_laws.specs.Scripts.{IsPlayed};
 ghost use Rattle.workbench.specs.Prints.{PrintsSurfaces, PrintsRays, PrintsVerdicts, ListsSurfaces, IsCutShort, Writes, WritesOf, AnswersSurfaces, AnswersRays};
-ghost use Rattle.workbench.specs.Runs.{Answers, IsAnswered, IsCalm, IsWithin, IsResponse, IsWithoutMemory, IsCutOff, IsToBeWritten, IsDelivered, IsRun};
+ghost use Rattle.workbench.specs.Runs.{Answers, IsAnswered, IsCalm, IsWithinInputLimit, IsResponse, IsWithoutMemory, IsCutOff, IsToBeWritten, IsDelivered, IsRun};
 
 use certificate_commands::{bulk, check, descend, make};
 use command_answers::Outcome;
@@ -173,7 +173,7 @@ pub fn run<S: Source, K: Sink>(alloc: Global, words: &Words, source: &mut S, sin
     // may have.
     ensures no_memory { result ≡ Status.NoMemory → sink.new ≡ sink.old }
     ensures no_memory_calm { result ≡ Status.NoMemory → IsCalm (S.faults source.old) (S.faults source.new) }
-    ensures no_memory_within { result ≡ Status.NoMemory → IsWithin (S.left source.old) (S.left source.new) }
+    ensures no_memory_within { result ≡ Status.NoMemory → IsWithinInputLimit (S.left source.old) (S.left source.new) }
 
     // Every other status is that of the outcome for the words and the input, whose text was appended.
     ensures outcome { IsAnswered result → IfSome (S.left source.old) (λ bytes. (o : outcomes.Outcome)

@@ -2,7 +2,7 @@
 use Rattle.std.proofs.Common.{◌≡◌, ◌<◌, ◌≤◌, ℕ, All, Contains, length, subst, subst₂, sym, ◌∙◌, arith}
 use Rattle.plain_facts.proofs.Members.{Ascends}
 use Rattle.table_definitions.specs.Places.{IsConnected}
-use Rattle.table_definitions.specs.Relabelling.{IsRelabelled, stand_in}
+use Rattle.table_definitions.specs.Relabelling.{AreIsomorphic, relabelled_place}
 use Rattle.signature_definitions.specs.Labellings.{IsLeastRelabelling}
 use Rattle.component_definitions.specs.Parts.{Part, IsPart}
 use Rattle.component_definitions.specs.SameParts.{GoesBy}
@@ -45,7 +45,7 @@ relabelling_of_connected-requires-clause-relabelled c =
     part_here c.args.first.now.parts.items c.args.first.now.signed.items m.in_order c.args.place c.index.result.now c.requires.in_range c.index.ensures c.index-part.result.now c.index-part.ensures in
     let f : c.index-other.result.now ≡ part_in c.args.second.now.parts.items (entries_of c.args.second.now.signed.items) c.args.place =
     part_here c.args.second.now.parts.items c.args.second.now.signed.items m.others_in_order c.args.place c.index-2.result.now l c.index-2.ensures c.index-other.result.now c.index-other.ensures in
-    subst₂ (λ (p q : Part). IsRelabelled p.rows q.rows) (sym (c.part.view_is ∙ e)) (sym (c.other.view_is ∙ f))
+    subst₂ (λ (p q : Part). AreIsomorphic p.rows q.rows) (sym (c.part.view_is ∙ e)) (sym (c.other.view_is ∙ f))
     (relabelled_at _ _ _ _ _ m c.args.place (in_entries c.args.first.now.signed.items c.args.place c.requires.in_range))
 
 pub write_part-requires-clause-tets : goal.write_part-requires-clause-tets
@@ -108,5 +108,5 @@ returns-clause-written c =
     written_more _ _ _ _ _ m c.args.place c.args.draft.now c.write_part.new.draft c.in_ok-by.by (in_entries c.args.first.now.signed.items c.args.place c.requires.in_range)
     (subst₂ (λ (p q : Part). IsLeastRelabelling p.rows q.rows c.in_ok-by.by) (c.part.view_is ∙ e) (c.other.view_is ∙ f) c.in_ok-by.ensures)
     (subst₂ (λ (p q : Part). GoesBy c.write_part.new.draft p q c.in_ok-by.by) e f c.write_part.ensures.goes)
-    (subst (λ (p : Part). (t : ℕ) → (Contains p.numbers t → ⊥) → stand_in c.write_part.new.draft t ≡ stand_in c.args.draft.now t) e c.write_part.ensures.others)
+    (subst (λ (p : Part). (t : ℕ) → (Contains p.numbers t → ⊥) → relabelled_place c.write_part.new.draft t ≡ relabelled_place c.args.draft.now t) e c.write_part.ensures.others)
     c.requires.written

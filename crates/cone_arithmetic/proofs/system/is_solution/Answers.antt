@@ -3,11 +3,11 @@ use Rattle.std.proofs.lemmas.Bool.{false≢true}
 use Rattle.std.proofs.lemmas.List.{get_or_default}
 use Rattle.cone_definitions.specs.Rows.{Row}
 use Rattle.cone_definitions.specs.Elimination.{HasLargePart}
-use Rattle.cone_definitions.specs.Met.{IsMet}
+use Rattle.cone_definitions.specs.Met.{HoldsWithin}
 use Rattle.cone_arithmetic.specs.declared.numbers.TheConstants.{MAX_ENTRY}
 use Rattle.cone_arithmetic.proofs.system.is_solution.Goals as goal
 
-not_met : (limit : ℕ) (x : List ℕ) (row : Row) → IsMet limit x row → ¬ HasLargePart limit row x
+not_met : (limit : ℕ) (x : List ℕ) (row : Row) → HoldsWithin limit x row → ¬ HasLargePart limit row x
 not_met limit x row met large = ⊎_elim (λ h. omega (arith, met.within.0)) (λ h. omega (arith, met.within.1)) large
 
 pub returns-in-Err-clause-ok : goal.returns-in-Err-clause-ok
@@ -19,4 +19,4 @@ returns-in-Err-clause-ok c = (
 
 pub returns-clause-ok : goal.returns-clause-ok
 returns-clause-ok c =
-    (λ _ k d h. subst (IsMet MAX_ENTRY c.args.x.now) (get_or_default c.args.system.now.rows k [] d h) (c.loop-row.invariant k (omega arith)), λ _. refl)
+    (λ _ k d h. subst (HoldsWithin MAX_ENTRY c.args.x.now) (get_or_default c.args.system.now.rows k [] d h) (c.loop-row.invariant k (omega arith)), λ _. refl)

@@ -1,5 +1,5 @@
 use Rattle.std.proofs.Common.{ap, ◌∙◌, take_all}
-use Rattle.gluing_table.specs.Neighbours.{all_behind}
+use Rattle.gluing_table.specs.Neighbours.{all_neighbours}
 use Rattle.gluing_table.proofs.Chains.{behind_none, behind_more}
 use Rattle.gluing_table.proofs.joined.rows_behind.Goals as goal
 
@@ -12,4 +12,4 @@ loop-row-preserved c =
     c.in_ok-push.ensures.items
 
 pub returns : goal.returns
-returns c = c.loop-row.invariant ∙ ap all_behind (take_all c.loop-row.row-index c.args.rows.now c.loop-row-test.false)
+returns c = c.loop-row.invariant ∙ ap all_neighbours (take_all c.loop-row.row-index c.args.rows.now c.loop-row-test.false)

@@ -3,7 +3,7 @@ use Rattle.std.specs.List.{AllZip}
 use Rattle.surface_definitions.specs.Coordinates.{columns}
 use Rattle.surface_definitions.specs.declared.Coords.TheVariants.{Quad}
 use Rattle.surface_definitions.specs.QuadEquations.{IsQuadRow}
-use Rattle.skeleton_definitions.specs.Corners.{inner_edges}
+use Rattle.skeleton_definitions.specs.Corners.{internal_edges}
 use Rattle.skeleton_definitions.specs.Skeleton.{IsSkeleton}
 use Rattle.matching_equations.proofs.quads.quad_system.Given as goal
 
@@ -11,6 +11,6 @@ abbrev pub invariant-loop-class : goal.invariant-loop-class
 invariant-loop-class l = record {
   skeleton : IsSkeleton l.skeleton;
   columns : l.system.columns ≡ columns Quad (length l.skeleton.rows);
-  rows : AllZip (IsQuadRow l.skeleton.rows l.skeleton.edges.classes) (inner_edges l.skeleton.rows l.skeleton.edges.classes l.class) l.system.rows;
+  rows : AllZip (IsQuadRow l.skeleton.rows l.skeleton.edges.classes) (internal_edges l.skeleton.rows l.skeleton.edges.classes l.class) l.system.rows;
   few : length l.system.rows ≤ l.class;
 }

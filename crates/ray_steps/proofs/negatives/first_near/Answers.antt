@@ -1,6 +1,6 @@
 use Rattle.std.proofs.Common.{◌≡◌, [], ⊎_elim, get_or, subst, arith}
 use Rattle.std.proofs.lemmas.Bool.{cases_lt}
-use Rattle.ray_steps.specs.Negatives.{IsFar}
+use Rattle.ray_steps.specs.Negatives.{IsRuledOut}
 use Rattle.ray_steps.proofs.negatives.first_near.Goals as goal
 
 pub loop-place-preserved : goal.loop-place-preserved
@@ -13,6 +13,6 @@ loop-place-preserved c =
       within = omega (arith, c.len.ensures, c.loop-place-test.true);
       earlier = λ k low less. ⊎_elim
           (λ old. so_far.earlier k low old)
-          (λ last. let e : place ≡ k = omega arith in subst (λ n. IsFar c.args.a.now c.args.joined.now c.args.most (get_or supports n [])) e (c.is_far.ensures.0 c.if-not-is_far.false))
+          (λ last. let e : place ≡ k = omega arith in subst (λ n. IsRuledOut c.args.a.now c.args.joined.now c.args.most (get_or supports n [])) e (c.is_far.ensures.0 c.if-not-is_far.false))
           (cases_lt k place);
     }

@@ -1,7 +1,7 @@
 use Rattle.std.proofs.Common.{◌<◌, ◌+◌, false, length, subst, sym, ap, ◌∙◌, arith}
 use Rattle.std.proofs.lemmas.List.{get_or_default}
 use Rattle.residual_pairs.specs.declared.rivals.Rival.{Rival}
-use Rattle.residual_pairs.specs.Rivals.{AreAlone}
+use Rattle.residual_pairs.specs.Rivals.{AreUnrepeated}
 use Rattle.residual_pairs.proofs.CandidateLemmas.{alone_push, alone_skip}
 use Rattle.residual_pairs.proofs.minimal.alone.Goals.{then-not-index+in_ok-push, else-not-index}
 use Rattle.residual_pairs.proofs.minimal.alone.Goals as goal
@@ -14,10 +14,10 @@ loop-at-preserved c =
     let within : at < length least.rivals.items = omega (arith, c.loop-at-test.true, c.len-at-end.ensures) in
     let doubled = c.index.ensures ∙ get_or_default least.doubled.items at c.index.result.now false (omega (arith, within, c.requires)) in
     elim c.if-not-index.branch [
-      | then-not-index+in_ok-push w ↦ subst (AreAlone least (at + 1)) (sym (ap (λ v. v.items) w.places-is ∙ w.in_ok-push.ensures.items))
+      | then-not-index+in_ok-push w ↦ subst (AreUnrepeated least (at + 1)) (sym (ap (λ v. v.items) w.places-is ∙ w.in_ok-push.ensures.items))
           (alone_push least at places c.loop-at.invariant within w.index-then-not-index.result.now.place
           (ap (λ (r : Rival). r.place) (w.index-then-not-index.ensures ∙ get_or_default least.rivals.items at w.index-then-not-index.result.now (record { place = 0; size = 0 }) within))
           (sym doubled ∙ w.if-not-index.true))
-      | else-not-index w ↦ subst (AreAlone least (at + 1)) (sym (ap (λ v. v.items) w.places-is))
+      | else-not-index w ↦ subst (AreUnrepeated least (at + 1)) (sym (ap (λ v. v.items) w.places-is))
           (alone_skip least at places c.loop-at.invariant (sym doubled ∙ w.if-not-index.false))
     ]

@@ -1,6 +1,6 @@
 -- the places of those so far
-use Rattle.residual_pairs.specs.Rivals.{AreAlone}
+use Rattle.residual_pairs.specs.Rivals.{AreUnrepeated}
 use Rattle.residual_pairs.proofs.minimal.alone.Given as goal
 
 abbrev pub invariant-loop-at : goal.invariant-loop-at
-invariant-loop-at l = AreAlone l.least l.at l.places.items
+invariant-loop-at l = AreUnrepeated l.least l.at l.places.items

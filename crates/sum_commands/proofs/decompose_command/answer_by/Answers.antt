@@ -3,7 +3,7 @@ use Rattle.std.proofs.Common.{ℕ, List, sym, ap, ◌∙◌, subst}
 use Rattle.outcome_definitions.specs.Enumerations.{large_outcome}
 use Rattle.std.proofs.lemmas.Result.{IfOk-weaker}
 use Rattle.command_answers.specs.Reads.{all_entries}
-use Rattle.sum_commands.specs.Telling.{HaveRays, TellsList}
+use Rattle.sum_commands.specs.Telling.{HaveRays, IsBlocksOutcome}
 use Rattle.sum_commands.proofs.Decomposed.{have_rays, unfit_told, sums_told, past_told}
 use Rattle.sum_commands.proofs.decompose_command.answer_by.Goals as goal
 
@@ -23,7 +23,7 @@ pub returns-in-Ok : goal.returns-in-Ok
 returns-in-Ok c = IfOk-weaker c.outcome_of.result _ _
     (λ o t. sums_told c.args.coords c.args.table.now c.args.system.now.rows c.requires.equations c.args.limit
     c.in-Ok.list.items (all_entries c.args.vectors.now) o c.in-Ok.ensures.ok c.in_default.ensures
-    (subst (λ (list : List (List ℕ)). TellsList c.args.limit list c.args.table.now (all_entries c.args.vectors.now) o) c.deref.ensures.value t))
+    (subst (λ (list : List (List ℕ)). IsBlocksOutcome c.args.limit list c.args.table.now (all_entries c.args.vectors.now) o) c.deref.ensures.value t))
     c.outcome_of.ensures
 
 pub returns-in-Err-Fault : goal.returns-in-Err-Fault

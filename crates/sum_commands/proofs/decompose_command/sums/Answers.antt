@@ -5,7 +5,7 @@ use Rattle.no_memory.specs.declared.Failure.{Failure}
 use Rattle.text_definitions.specs.Written.{limit}
 use Rattle.sum_definitions.specs.declared.LargeTurn.{LargeTurn}
 use Rattle.sum_definitions.specs.Sums.{HasRays}
-use Rattle.sum_commands.specs.Telling.{TellsSum}
+use Rattle.sum_commands.specs.Telling.{AppendsBlock}
 use Rattle.sum_commands.proofs.Walks.{seen_at}
 use Rattle.sum_commands.proofs.SumAnswers.{entries, next_summed, large_told}
 use Rattle.sum_commands.proofs.decompose_command.sums.Goals as goal
@@ -24,7 +24,7 @@ pub returns-in-Err-Fault : goal.returns-in-Err-Fault
 returns-in-Err-Fault c =
     rw c.in-Err-Fault.field-0-is (large_told c.args.limit c.args.list.now c.args.table.now c.args.vectors.now c.loop-vector.vector c.index-vectors-vector.result c.deref.result.now c.loop-vector.text.items c.append_sum.new.out.items
     c.loop-vector-test.true c.index-vectors-vector.is c.deref.ensures.value c.loop-vector.invariant c.in-Err-Fault.fault
-    (subst (λ (f : Failure LargeTurn). TellsSum c.args.limit c.args.list.now c.deref.result.now c.loop-vector.text.items c.append_sum.new.out.items (Err f)) c.in-Err-Fault.field-0-is c.in-Err-Fault.ensures))
+    (subst (λ (f : Failure LargeTurn). AppendsBlock c.args.limit c.args.list.now c.deref.result.now c.loop-vector.text.items c.append_sum.new.out.items (Err f)) c.in-Err-Fault.field-0-is c.in-Err-Fault.ensures))
 
 pub loop-vector-preserved : goal.loop-vector-preserved
 loop-vector-preserved c =

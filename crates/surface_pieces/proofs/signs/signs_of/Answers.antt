@@ -2,7 +2,7 @@
 use Rattle.std.proofs.Common.{ℕ, ◌*◌, ◌<◌, ◌↔◌, List, length, ap, sym, subst, arith}
 use Rattle.table_walk_laws.specs.Joined.{IsJoined, neighbours_of}
 use Rattle.table_definitions.specs.Classes.{IsNumbering}
-use Rattle.surface_definitions.specs.Pieces.{pieces_of, HasSigns}
+use Rattle.surface_definitions.specs.Pieces.{discs_of, HasSigns}
 use Rattle.surface_pieces.specs.declared.joined.SearchKind.TheVariants.{Signed}
 use Rattle.surface_pieces.specs.Searches.{stays_at, HasClasses, IsFree}
 use Rattle.surface_pieces.proofs.Held.{held}
@@ -26,7 +26,7 @@ returns c = record {
     signed : HasClasses (Signed c.args.signs) c.args.joined.now.surface.table.now c.args.joined.now.surface.coords.system c.args.joined.now.surface.entries.now c.in_ok-signed.signed.classes.items c.in_ok-signed.signed.count
     signed = c.in_ok-signed.ensures
 
-    numbered : IsNumbering (2 * length (pieces_of c.args.joined.now.surface.entries.now)) (IsJoined (neighbours_of signed.listed)) c.in_ok-signed.signed.classes.items c.in_ok-signed.signed.count
+    numbered : IsNumbering (2 * length (discs_of c.args.joined.now.surface.entries.now)) (IsJoined (neighbours_of signed.listed)) c.in_ok-signed.signed.classes.items c.in_ok-signed.signed.count
     numbered = subst (λ n. IsNumbering n (IsJoined (neighbours_of signed.listed)) c.in_ok-signed.signed.classes.items c.in_ok-signed.signed.count) (signed.are).size signed.numbered
 
     told : (i : ℕ) → i < c.args.components.now.count → IsFree c.in_ok-signed.signed.classes.items c.args.components.now.classes.items i

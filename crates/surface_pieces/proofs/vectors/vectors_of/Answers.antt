@@ -3,7 +3,7 @@ use Rattle.std.proofs.Common.{◌≡◌, ℕ, ◌+◌, ◌<◌, List, length, se
 use Rattle.std.specs.List.{slice_index_or}
 use Rattle.std.specs.Vec.{with_items}
 use Rattle.std.proofs.lemmas.List.{with_items_is}
-use Rattle.surface_definitions.specs.Pieces.{SurfacePiece, pieces_of}
+use Rattle.surface_definitions.specs.Pieces.{NormalDisc, discs_of}
 use Rattle.surface_laws.specs.PieceLaws.{IsPieceOf}
 use Rattle.surface_laws.proofs.PieceNumbers.{no_piece}
 use Rattle.surface_laws.proofs.Offsets.{piece_numbers}
@@ -30,7 +30,7 @@ count_piece-requires-clause-in_range c = omega (arith, column, of_vector.column,
     of_vector = item_piece c.args.pieces.now.surface.entries.now c.args.pieces.now.listed.now c.loop-number.number c.index-pieces-number.result c.args.pieces.now.all inside c.index-pieces-number.is
 
     column : c.piece.inside.column ≡ (c.index-pieces-number.result).column
-    column = ap (λ (p : SurfacePiece). p.column) (c.piece.view_is ∙ sym c.index-pieces-number.is)
+    column = ap (λ (p : NormalDisc). p.column) (c.piece.view_is ∙ sym c.index-pieces-number.is)
 
     own : IsTally c.args.pieces.now.surface.entries.now c.args.components.now c.loop-number.number k (c.index_mut-vector.result.now).items
     own = held c.args.pieces.now.surface.entries.now c.args.components.now c.args.count c.loop-number.number c.loop-number.vectors.items c.index_mut-vector.result.now c.loop-number.invariant low c.index_mut-vector.ensures.value
@@ -40,7 +40,7 @@ count_piece-requires-clause-few c =
     let there : c.piece.inside.column < length c.args.pieces.now.surface.entries.now = omega (arith, column, of_vector.column) in
     let few : slice_index c.deref_mut.result.now c.piece.inside.column ≡ tally c.args.pieces.now.surface.entries.now c.args.components.now c.loop-number.number k c.piece.inside.column =
     ap (λ (ys : List ℕ). slice_index ys c.piece.inside.column) c.deref_mut.ensures.value ∙ own.entry c.piece.inside.column there in
-    omega (arith, tally_low c.args.pieces.now.surface.entries.now c.args.components.now c.loop-number.number k c.piece.inside.column, inside, ap (λ (ps : List SurfacePiece). length ps) c.args.pieces.now.all, (piece_numbers c.args.pieces.now.surface.entries.now).count, c.args.pieces.now.surface.few)
+    omega (arith, tally_low c.args.pieces.now.surface.entries.now c.args.components.now c.loop-number.number k c.piece.inside.column, inside, ap (λ (ps : List NormalDisc). length ps) c.args.pieces.now.all, (piece_numbers c.args.pieces.now.surface.entries.now).count, c.args.pieces.now.surface.few)
   where
     k : ℕ
     k = slice_index c.args.components.now c.loop-number.number
@@ -55,7 +55,7 @@ count_piece-requires-clause-few c =
     of_vector = item_piece c.args.pieces.now.surface.entries.now c.args.pieces.now.listed.now c.loop-number.number c.index-pieces-number.result c.args.pieces.now.all inside c.index-pieces-number.is
 
     column : c.piece.inside.column ≡ (c.index-pieces-number.result).column
-    column = ap (λ (p : SurfacePiece). p.column) (c.piece.view_is ∙ sym c.index-pieces-number.is)
+    column = ap (λ (p : NormalDisc). p.column) (c.piece.view_is ∙ sym c.index-pieces-number.is)
 
     own : IsTally c.args.pieces.now.surface.entries.now c.args.components.now c.loop-number.number k (c.index_mut-vector.result.now).items
     own = held c.args.pieces.now.surface.entries.now c.args.components.now c.args.count c.loop-number.number c.loop-number.vectors.items c.index_mut-vector.result.now c.loop-number.invariant low c.index_mut-vector.ensures.value
@@ -64,7 +64,7 @@ pub loop-number-preserved : goal.loop-number-preserved
 loop-number-preserved c =
     tallies_next c.args.pieces.now.surface.entries.now c.args.components.now c.args.count c.loop-number.number c.loop-number.vectors.items c.index_mut-vector.result.now
     (with_items c.index_mut-vector.result.now c.count_piece.new.vector) c.loop-number.invariant low
-    (subst (λ (p : SurfacePiece). p.column < length c.args.pieces.now.surface.entries.now) item of_vector.column) c.index_mut-vector.ensures.value
+    (subst (λ (p : NormalDisc). p.column < length c.args.pieces.now.surface.entries.now) item of_vector.column) c.index_mut-vector.ensures.value
     (with_items_is c.index_mut-vector.result.now c.count_piece.new.vector (c.count_piece.auto.vector ∙ ap (λ (ys : List ℕ). length ys) c.deref_mut.ensures.value ∙ sym (c.index_mut-vector.result.now).ok.0)
     ∙ c.count_piece.ensures ∙ (λ i. set (c.deref_mut.ensures.value i) (place i) (slice_index (c.deref_mut.ensures.value i) (place i) + 1)))
   where
@@ -81,16 +81,16 @@ loop-number-preserved c =
     of_vector = item_piece c.args.pieces.now.surface.entries.now c.args.pieces.now.listed.now c.loop-number.number c.index-pieces-number.result c.args.pieces.now.all inside c.index-pieces-number.is
 
     column : c.piece.inside.column ≡ (c.index-pieces-number.result).column
-    column = ap (λ (p : SurfacePiece). p.column) (c.piece.view_is ∙ sym c.index-pieces-number.is)
+    column = ap (λ (p : NormalDisc). p.column) (c.piece.view_is ∙ sym c.index-pieces-number.is)
 
     own : IsTally c.args.pieces.now.surface.entries.now c.args.components.now c.loop-number.number k (c.index_mut-vector.result.now).items
     own = held c.args.pieces.now.surface.entries.now c.args.components.now c.args.count c.loop-number.number c.loop-number.vectors.items c.index_mut-vector.result.now c.loop-number.invariant low c.index_mut-vector.ensures.value
 
-    item : c.index-pieces-number.result ≡ slice_index_or (pieces_of c.args.pieces.now.surface.entries.now) c.loop-number.number no_piece
+    item : c.index-pieces-number.result ≡ slice_index_or (discs_of c.args.pieces.now.surface.entries.now) c.loop-number.number no_piece
     item = item_is c.args.pieces.now.surface.entries.now c.args.pieces.now.listed.now c.loop-number.number c.index-pieces-number.result c.args.pieces.now.all inside c.index-pieces-number.is
 
-    place : c.piece.inside.column ≡ (slice_index_or (pieces_of c.args.pieces.now.surface.entries.now) c.loop-number.number no_piece).column
-    place = column ∙ ap (λ (p : SurfacePiece). p.column) item
+    place : c.piece.inside.column ≡ (slice_index_or (discs_of c.args.pieces.now.surface.entries.now) c.loop-number.number no_piece).column
+    place = column ∙ ap (λ (p : NormalDisc). p.column) item
 
 pub returns : goal.returns
 returns c =

@@ -2,7 +2,7 @@ use Rattle.std.proofs.Common.{◌≡◌, ℕ, ◌+◌, ◌<◌, ◌≤◌, List,
 use Rattle.std.specs.Prelude.{IfSome, IsErrOf}
 use Rattle.std.proofs.lemmas.List.{length-append, length-take, length-drop}
 use Rattle.std.proofs.lemmas.Result.{err_from_is_err_and}
-use Rattle.text_io.specs.Causes.{Takes}
+use Rattle.text_io.specs.Causes.{TakesBytes}
 use Rattle.text_io.proofs.KnownBytes.{takes_none, front_kept, read_more}
 use Rattle.text_io.specs.declared.transfer.ReadEnd.TheVariants.{the_data, Failed, TooLong, NoMemory}
 use Rattle.text_io.proofs.transfer.read_all.Goals as goal
@@ -11,7 +11,7 @@ pub loop-bytes-init : goal.loop-bytes-init
 loop-bytes-init g c = record {
   room = omega (arith, c.in_ok-bytes.ensures.capacity);
   within = omega (arith, c.in_ok-bytes.ensures.len);
-  taken = subst (Takes (g.S.Source.left c.args.source.now) (g.S.Source.left c.args.source.now)) (sym c.in_ok-bytes.ensures.items) (takes_none (g.S.Source.left c.args.source.now));
+  taken = subst (TakesBytes (g.S.Source.left c.args.source.now) (g.S.Source.left c.args.source.now)) (sym c.in_ok-bytes.ensures.items) (takes_none (g.S.Source.left c.args.source.now));
   calm = refl;
 }
 
@@ -28,10 +28,10 @@ loop-bytes-preserved g c =
     record {
       room = omega (arith, c.loop-bytes.invariant.room, c.in_ok-resize.ensures.capacity, c.truncate.ensures.capacity);
       within = omega (arith, within, c.truncate.ensures.len, c.in_ok-resize.ensures.len, c.read_length.ensures.within, c.loop-bytes.invariant.within, c.len-len.ensures);
-      taken = subst (Takes (g.S.Source.left c.args.source.now) (g.S.Source.left c.read.new.self)) (sym c.truncate.ensures.items)
+      taken = subst (TakesBytes (g.S.Source.left c.args.source.now) (g.S.Source.left c.read.new.self)) (sym c.truncate.ensures.items)
           (read_more _ _ _ buffer c.read.new.buf _ _ len count c.resize.new.self.len
           (omega (arith, c.deref_mut.ensures.len, c.in_ok-resize.ensures.len)) c.in_ok-count.ensures.count within
-          (subst (Takes (g.S.Source.left c.args.source.now) (g.S.Source.left c.loop-bytes.source)) (sym front) c.loop-bytes.invariant.taken) c.in_ok-count.ensures.taken);
+          (subst (TakesBytes (g.S.Source.left c.args.source.now) (g.S.Source.left c.loop-bytes.source)) (sym front) c.loop-bytes.invariant.taken) c.in_ok-count.ensures.taken);
       calm = c.in_ok-count.ensures.ok ∙ c.loop-bytes.invariant.calm;
     }
 
@@ -54,7 +54,7 @@ long_not_memory : {V : Type 0} → IsErrOf {T = V} {E = the_data} (Err TooLong) 
 long_not_memory e = cc
 
 -- a source that gave too many bytes had too many
-had_more : (a b : Option (List ℕ)) (taken : List ℕ) (limit : ℕ) → Takes a b taken → limit < length taken → IfSome a (λ bytes. limit < length bytes)
+had_more : (a b : Option (List ℕ)) (taken : List ℕ) (limit : ℕ) → TakesBytes a b taken → limit < length taken → IfSome a (λ bytes. limit < length bytes)
 had_more None b taken limit h l = tt
 had_more (Some xs) None taken limit h l = absurd h
 had_more (Some xs) (Some ys) taken limit h l = rw h (omega (arith, length-append taken ys, l))
@@ -87,7 +87,7 @@ returns-in_err-count g c =
       too_long = λ e. absurd (failed_not_long e);
       taken = (
         c.loop-bytes.bytes.items,
-        subst (λ b. Takes (g.S.Source.left c.args.source.now) b c.loop-bytes.bytes.items) (sym c.in_err-count.ensures.untouched) c.loop-bytes.invariant.taken,
+        subst (λ b. TakesBytes (g.S.Source.left c.args.source.now) b c.loop-bytes.bytes.items) (sym c.in_err-count.ensures.untouched) c.loop-bytes.invariant.taken,
         omega (arith, c.loop-bytes.invariant.within, c.loop-bytes.bytes.ok.0),
         (λ e. absurd (failed_not_long e), λ l. absurd (omega (arith, l, c.loop-bytes-test.true, c.len.ensures, c.loop-bytes.bytes.ok.0))),
       );

@@ -1,13 +1,13 @@
 -- The bytes at hand are those that were taken, there is room for the rest, and no call failed.
 use Rattle.std.proofs.Common.{◌≡◌, ◌+◌, ◌-◌, ◌≤◌, vec_len, vec_capacity}
-use Rattle.text_io.specs.Causes.{Takes}
+use Rattle.text_io.specs.Causes.{TakesBytes}
 use Rattle.text_io.proofs.transfer.read_all.Given as goal
 
 abbrev pub invariant-loop-bytes : goal.invariant-loop-bytes
 invariant-loop-bytes g l = record {
   room : l.limit + 1 ≤ vec_capacity l.bytes;
   within : vec_len l.bytes ≤ l.limit + 1;
-  taken : Takes (g.S.Source.left l.fn.source) (g.S.Source.left l.source) l.bytes.items;
+  taken : TakesBytes (g.S.Source.left l.fn.source) (g.S.Source.left l.source) l.bytes.items;
   calm : g.S.Source.faults l.source ≡ g.S.Source.faults l.fn.source;
 }
 

@@ -3,7 +3,7 @@ use Rattle.std.proofs.Common.{Err, subst}
 use Rattle.no_memory.specs.declared.Failure.{Failure}
 use Rattle.surface_vector_definitions.specs.Answers.{IsDescription}
 use Rattle.surface_vector_definitions.specs.Texts.{description_text}
-use Rattle.vector_commands.specs.Telling.{TellsEach}
+use Rattle.vector_commands.specs.Telling.{WritesAnswers}
 use Rattle.vector_commands.specs.declared.refusals.FirstRefusal.{FirstRefusal}
 use Rattle.std.proofs.lemmas.Result.{IfOk-weaker}
 use Rattle.command_answers.specs.Reads.{all_entries}
@@ -20,5 +20,5 @@ returns-in-Err-Fault c =
     IfOk-weaker c.refusal_outcome.result _ _
     (λ o h. describe_refused c.args.skeleton.now c.args.coords.system c.args.system.now.rows (all_entries c.args.vectors.now) o
     c.requires.equations c.in-Err-Fault.first.vector c.in-Err-Fault.first.refusal
-    (subst (λ (e : Failure FirstRefusal). TellsEach (IsDescription c.args.skeleton.now c.args.coords.system c.args.system.now.rows) (description_text c.args.skeleton.now c.args.coords.system) (all_entries c.args.vectors.now) (Err e)) c.in-Err-Fault.field-0-is c.in-Err-Fault.ensures) h)
+    (subst (λ (e : Failure FirstRefusal). WritesAnswers (IsDescription c.args.skeleton.now c.args.coords.system c.args.system.now.rows) (description_text c.args.skeleton.now c.args.coords.system) (all_entries c.args.vectors.now) (Err e)) c.in-Err-Fault.field-0-is c.in-Err-Fault.ensures) h)
     c.refusal_outcome.ensures

@@ -5,7 +5,7 @@ use Rattle.std.proofs.lemmas.Bool.{false≢true}
 use Rattle.surface_definitions.specs.Coordinates.{clash_list}
 use Rattle.ray_steps.specs.Clashes.{IsClashFree}
 use Rattle.quad_condition.specs.Bits.{HasTwo}
-use Rattle.quad_condition.specs.Marks.{Masked, HasNear}
+use Rattle.quad_condition.specs.Marks.{Masked, HasPairAtDistance}
 use Rattle.quad_condition.proofs.MarkLemmas.{decides_two, decides_near}
 use Rattle.quad_condition.proofs.masks.Masks.allows.Goals as goal
 
@@ -16,7 +16,7 @@ returns-then-not-has_near c =
     subst (λ (m : Masked). IsTrue (not c.has_two.result) ↔ IsClashFree (clash_list m.coords m.tets) c.args.a.now c.args.b.now) c.self.view_is
     (decides_two c.self.inside.coords c.self.inside.tets c.self.inside.near.items c.self.inside.octagons.items c.args.a.now c.args.b.now a b c.has_two.result
     c.self.invariant c.words-first.ensures c.words-second.ensures
-    (λ h. false≢true (c.if-not-has_near.ensures.1 (subst (λ (v : List (Vec ℕ Global)). HasNear v a b) (sym c.deref.ensures.value) h)))
+    (λ h. false≢true (c.if-not-has_near.ensures.1 (subst (λ (v : List (Vec ℕ Global)). HasPairAtDistance v a b) (sym c.deref.ensures.value) h)))
     (subst (λ (mask : List ℕ). IsTrue c.has_two.result ↔ HasTwo mask a b) c.deref-then-not-has_near.ensures.value c.has_two.ensures))
 
 pub returns-else-not-has_near : goal.returns-else-not-has_near
@@ -26,4 +26,4 @@ returns-else-not-has_near c =
     subst (λ (m : Masked). IsTrue (not c.has_near.result) ↔ IsClashFree (clash_list m.coords m.tets) c.args.a.now c.args.b.now) c.self.view_is
     (decides_near c.self.inside.coords c.self.inside.tets c.self.inside.near.items c.self.inside.octagons.items c.args.a.now c.args.b.now a b c.has_near.result
     c.self.invariant c.words-first.ensures c.words-second.ensures c.if-not-has_near.false
-    (subst (λ (v : List (Vec ℕ Global)). IsTrue c.has_near.result ↔ HasNear v a b) c.deref.ensures.value c.has_near.ensures))
+    (subst (λ (v : List (Vec ℕ Global)). IsTrue c.has_near.result ↔ HasPairAtDistance v a b) c.deref.ensures.value c.has_near.ensures))

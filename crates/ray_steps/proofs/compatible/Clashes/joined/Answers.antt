@@ -1,7 +1,7 @@
 use Rattle.std.proofs.Common.{◌≡◌, subst, sym, ap, length, ◌∙◌}
 use Rattle.std.specs.List.{All}
 use Rattle.std.proofs.lemmas.Result.{IfOk-weaker}
-use Rattle.support_table.specs.Joins.{AreJoinedTo}
+use Rattle.support_table.specs.Joins.{AreClashingColumns}
 use Rattle.ray_steps.specs.Partners.{IsJoinedBelow}
 use Rattle.ray_steps.proofs.PartnerLemmas.{joined_all, partner_widths}
 use Rattle.ray_steps.proofs.compatible.Clashes.joined.Goals as goal
@@ -11,7 +11,7 @@ returns g c =
     let support = c.args.support.now in
     let columns = ap (λ d. d.columns) c.self.view_is in
     IfOk-weaker c.partners_of_support.result _ _
-    (λ joined h. subst (λ pairs. AreJoinedTo pairs support joined) (ap (λ d. d.pairs) c.self.view_is)
+    (λ joined h. subst (λ pairs. AreClashingColumns pairs support joined) (ap (λ d. d.pairs) c.self.view_is)
     (joined_all _ _ c.self.inside.partners.items support joined c.self.invariant.0 (c.requires ∙ sym columns)
     (subst (λ ps. IsJoinedBelow (length support) ps support joined) c.deref.ensures.value h)))
     c.partners_of_support.ensures

@@ -9,7 +9,7 @@ use Rattle.ray_steps.specs.declared.signs.Sign.TheVariants.{Zero}
 use Rattle.ray_steps.specs.Faults.{IfLarge}
 use Rattle.ray_steps.specs.Rays.{rays_of, AreOfWidth}
 use Rattle.ray_steps.specs.Signs.{IsMadeUpTo}
-use Rattle.ray_steps.specs.Steps.{StepData, AreMadeTo, IsFaceIfAdmissible, IsFirstLargeOf}
+use Rattle.ray_steps.specs.Steps.{StepData, AreMadeTo, IsAdjacentIfAdmissible, IsFirstLargeOf}
 use Rattle.ray_steps.proofs.LargeLemmas.{first_large, reduced_width}
 use Rattle.ray_steps.proofs.RayLemmas.{ray_read, ray_width, rays_of-push}
 use Rattle.ray_steps.proofs.CombinationLemmas.{made_skip, made_push}
@@ -78,7 +78,7 @@ returns-in_err-kept-clause-err g c =
     let u = ray_read ray_list i a i_in c.index-u.ensures in
     let w = ray_read ray_list j b j_in c.index-w.ensures in
     let before = subst (λ (d : StepData). AreMadeTo d i j made) (sym c.self.view_is) c.requires.made in
-    let face = (subst (λ (d : StepData). IsFaceIfAdmissible d i j) (sym c.self.view_is) c.requires.face) ((clash_read pairs a b (ray_at rays i) (ray_at rays j) u w).0 (c.allows.ensures.0 c.if-allows.true)) in
+    let face = (subst (λ (d : StepData). IsAdjacentIfAdmissible d i j) (sym c.self.view_is) c.requires.face) ((clash_read pairs a b (ray_at rays i) (ray_at rays j) u w).0 (c.allows.ensures.0 c.if-allows.true)) in
     let p = err_from_is_err_and c.from_residual.result c.from_residual.ensures.1 in
     rw (p.1, p.2) (subst (λ (d : StepData). IfLarge (IsFirstLargeOf d) c.in_err-kept.field-0.0) c.self.view_is
     (first_large s.limit.number pairs rays signs i j (rays_of made) before.so_far
@@ -113,7 +113,7 @@ returns-clause-ok g c =
     subst (λ (d : StepData). AreMadeTo d i (j + 1) c.if-allows.made.items) c.self.view_is (elim c.if-allows.branch [
       | then-allows+in_ok-kept+in_ok-push w' ↦
           let kept = w'.in_ok-kept.kept in
-          let face = (subst (λ (d : StepData). IsFaceIfAdmissible d i j) (sym c.self.view_is) c.requires.face) (read.0 (c.allows.ensures.0 w'.if-allows.true)) in
+          let face = (subst (λ (d : StepData). IsAdjacentIfAdmissible d i j) (sym c.self.view_is) c.requires.face) (read.0 (c.allows.ensures.0 w'.if-allows.true)) in
           let p = the_pair pairs ray_list signs i j c.in-Positive.at_u c.in-Negative.at_w facts.count i_in j_signed
           (sym (c.index.ensures ∙ get_or_default signs i c.index.result.now Zero i_signed) ∙ c.in-Positive.is)
           (sym (c.index-2.ensures ∙ get_or_default signs j c.index-2.result.now Zero j_signed) ∙ c.in-Negative.is) face in

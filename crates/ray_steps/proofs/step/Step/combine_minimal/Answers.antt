@@ -1,7 +1,7 @@
 use Rattle.std.proofs.Common.{◌≡◌, ◌+◌, ◌<◌, length, subst, subst₂, sym, ◌∙◌, ap, arith}
 use Rattle.std.proofs.lemmas.List.{get_or_default}
 use Rattle.cone_definitions.specs.Vectors.{ray_at}
-use Rattle.support_table.specs.Joins.{AreJoinedTo}
+use Rattle.support_table.specs.Joins.{AreClashingColumns}
 use Rattle.residual_pairs.specs.Residuals.{AreMinimal}
 use Rattle.ray_steps.specs.declared.signs.Sign.TheVariants.{Zero}
 use Rattle.ray_steps.specs.Rays.{rays_of}
@@ -48,7 +48,7 @@ returns-then-near-len g c =
     record {
       ok = subst (λ (d : StepData). AreMadeTo d (i + 1) 0 made) c.self.view_is (record {
         so_far = none_near s.limit.number s.clashes.now.pairs ray_list s.signs.items i s.clashes.now.columns s.most c.first_near-near.result c.in_ok-joined.joined c.args.negatives.now u (rays_of made)
-            (subst (λ t. AreJoinedTo s.clashes.now.pairs t c.in_ok-joined.joined) (support_read u (ray_at (rays_of ray_list) i) read) c.in_ok-joined.ensures) facts.rays.small (negatives_read _ _ c.self.view_is _ c.requires.negatives) facts.count i_in facts.rays.widths read c.first_near-near.ensures
+            (subst (λ t. AreClashingColumns s.clashes.now.pairs t c.in_ok-joined.joined) (support_read u (ray_at (rays_of ray_list) i) read) c.in_ok-joined.ensures) facts.rays.small (negatives_read _ _ c.self.view_is _ c.requires.negatives) facts.count i_in facts.rays.widths read c.first_near-near.ensures
             (omega (arith, c.if-near-len.true, c.len.ensures)) before.so_far;
         widths = before.widths;
       });
@@ -68,7 +68,7 @@ combine_found-requires-clause-second g c =
     let joined = c.in_ok-joined.joined in
     let xs = c.deref-place-items.result.now in
     let outer_is = support_read u (ray_at d.rays i) (ap (λ rays. ray_at rays i) (sym same) ∙ ray_read ray_list i u (place_of_rays ray_list d.rays i same c.requires.in_range) c.index-u.ensures) in
-    let joins = subst₂ (λ ps s. AreJoinedTo ps s joined) (ap (λ (d : StepData). d.pairs) c.self.view_is) outer_is c.in_ok-joined.ensures in
+    let joins = subst₂ (λ ps s. AreClashingColumns ps s joined) (ap (λ (d : StepData). d.pairs) c.self.view_is) outer_is c.in_ok-joined.ensures in
     let found = subst (AreMinimal c.args.supports.now.supports u.support joined i c.self.inside.most) (sym c.deref-place-items.ensures.value) c.in_ok-places.ensures in
     found_in_range d.pairs d.rays i d.columns c.self.inside.most joined c.args.supports.now c.requires.supports joins u.support outer_is xs c.loop-place.place-index 0 found c.loop-place-test.true
 
@@ -82,7 +82,7 @@ combine_found-requires-clause-face g c =
     let joined = c.in_ok-joined.joined in
     let xs = c.deref-place-items.result.now in
     let outer_is = support_read u (ray_at d.rays i) (ap (λ rays. ray_at rays i) (sym same) ∙ ray_read ray_list i u (place_of_rays ray_list d.rays i same c.requires.in_range) c.index-u.ensures) in
-    let joins = subst₂ (λ ps s. AreJoinedTo ps s joined) (ap (λ (d : StepData). d.pairs) c.self.view_is) outer_is c.in_ok-joined.ensures in
+    let joins = subst₂ (λ ps s. AreClashingColumns ps s joined) (ap (λ (d : StepData). d.pairs) c.self.view_is) outer_is c.in_ok-joined.ensures in
     let found = subst (AreMinimal c.args.supports.now.supports u.support joined i c.self.inside.most) (sym c.deref-place-items.ensures.value) c.in_ok-places.ensures in
     found_face d.pairs d.rays i d.columns c.self.inside.most joined c.args.supports.now c.requires.supports joins u.support outer_is xs c.loop-place.place-index 0 found c.loop-place-test.true
 
@@ -96,7 +96,7 @@ combine_found-requires-clause-made g c =
     let joined = c.in_ok-joined.joined in
     let xs = c.deref-place-items.result.now in
     let outer_is = support_read u (ray_at d.rays i) (ap (λ rays. ray_at rays i) (sym same) ∙ ray_read ray_list i u (place_of_rays ray_list d.rays i same c.requires.in_range) c.index-u.ensures) in
-    let joins = subst₂ (λ ps s. AreJoinedTo ps s joined) (ap (λ (d : StepData). d.pairs) c.self.view_is) outer_is c.in_ok-joined.ensures in
+    let joins = subst₂ (λ ps s. AreClashingColumns ps s joined) (ap (λ (d : StepData). d.pairs) c.self.view_is) outer_is c.in_ok-joined.ensures in
     let i_in = c.requires.in_range in
     let small = subst (λ (d : StepData). HaveSmallUnions d.columns c.self.inside.most d.pairs d.rays) c.self.view_is c.self.invariant.rays.small in
     let wide = subst (λ (d : StepData). length (ray_at d.rays i) ≡ d.columns) c.self.view_is (ray_width ray_list i c.self.inside.clashes.now.columns (place_of_rays ray_list d.rays i same i_in) c.self.invariant.rays.widths) in
@@ -117,7 +117,7 @@ loop-place-preserved g c =
     let joined = c.in_ok-joined.joined in
     let xs = c.deref-place-items.result.now in
     let outer_is = support_read u (ray_at d.rays i) (ap (λ rays. ray_at rays i) (sym same) ∙ ray_read ray_list i u (place_of_rays ray_list d.rays i same c.requires.in_range) c.index-u.ensures) in
-    let joins = subst₂ (λ ps s. AreJoinedTo ps s joined) (ap (λ (d : StepData). d.pairs) c.self.view_is) outer_is c.in_ok-joined.ensures in
+    let joins = subst₂ (λ ps s. AreClashingColumns ps s joined) (ap (λ (d : StepData). d.pairs) c.self.view_is) outer_is c.in_ok-joined.ensures in
     let i_in = c.requires.in_range in
     let small = subst (λ (d : StepData). HaveSmallUnions d.columns c.self.inside.most d.pairs d.rays) c.self.view_is c.self.invariant.rays.small in
     let wide = subst (λ (d : StepData). length (ray_at d.rays i) ≡ d.columns) c.self.view_is (ray_width ray_list i c.self.inside.clashes.now.columns (place_of_rays ray_list d.rays i same i_in) c.self.invariant.rays.widths) in
@@ -138,7 +138,7 @@ returns-clause-ok g c =
     let joined = c.in_ok-joined.joined in
     let xs = c.deref-place-items.result.now in
     let outer_is = support_read u (ray_at d.rays i) (ap (λ rays. ray_at rays i) (sym same) ∙ ray_read ray_list i u (place_of_rays ray_list d.rays i same c.requires.in_range) c.index-u.ensures) in
-    let joins = subst₂ (λ ps s. AreJoinedTo ps s joined) (ap (λ (d : StepData). d.pairs) c.self.view_is) outer_is c.in_ok-joined.ensures in
+    let joins = subst₂ (λ ps s. AreClashingColumns ps s joined) (ap (λ (d : StepData). d.pairs) c.self.view_is) outer_is c.in_ok-joined.ensures in
     let i_in = c.requires.in_range in
     let small = subst (λ (d : StepData). HaveSmallUnions d.columns c.self.inside.most d.pairs d.rays) c.self.view_is c.self.invariant.rays.small in
     let wide = subst (λ (d : StepData). length (ray_at d.rays i) ≡ d.columns) c.self.view_is (ray_width ray_list i c.self.inside.clashes.now.columns (place_of_rays ray_list d.rays i same i_in) c.self.invariant.rays.widths) in

@@ -8,7 +8,7 @@ use Rattle.cone_arithmetic.specs.Combinations.{IsReducedBy}
 use Rattle.ray_steps.specs.declared.signs.Sign.TheVariants.{Zero}
 use Rattle.ray_steps.specs.Faults.{IfLarge}
 use Rattle.ray_steps.specs.Rays.{rays_of, AreOfWidth}
-use Rattle.ray_steps.specs.Signs.{IsFacePair, IsMadeUpTo}
+use Rattle.ray_steps.specs.Signs.{IsAdjacentPair, IsMadeUpTo}
 use Rattle.ray_steps.proofs.LargeLemmas.{first_large, reduced_width}
 use Rattle.ray_steps.proofs.RayLemmas.{length-rays_of, ray_read, ray_width, rays_of-push}
 use Rattle.ray_steps.proofs.CombinationLemmas.{made_skip, made_push, made_next, made_skip_all}
@@ -99,7 +99,7 @@ returns-in_err-kept-clause-err g c =
     let j_within : j < length ray_list = omega (arith, facts.count) in
     let u = ray_read ray_list i c.index-u.result.now i_in c.index-u.ensures in
     let w = ray_read ray_list j c.index-then-branch.result.now j_within c.index-then-branch.ensures in
-    let face = subst (λ (d : StepData). IsFacePair d.pairs d.rays i j) (sym c.self.view_is) (c.in_ok-is_face.ensures.face.0 c.if-branch.true) in
+    let face = subst (λ (d : StepData). IsAdjacentPair d.pairs d.rays i j) (sym c.self.view_is) (c.in_ok-is_face.ensures.face.0 c.if-branch.true) in
     let p = err_from_is_err_and c.from_residual-in_err-kept.result c.from_residual-in_err-kept.ensures.1 in
     rw (p.1, p.2) (subst (λ (d : StepData). IfLarge (IsFirstLargeOf d) c.in_err-kept.field-0.0) c.self.view_is
     (first_large s.limit.number pairs rays signs i j made
@@ -165,7 +165,7 @@ loop-m-preserved g c =
       | in-Negative+in_ok-is_face+then-branch+in_ok-kept+in_ok-push w' ↦
           let search = subst (IsSearchAt d i) (sym w'.search-is) w'.in_ok-is_face.ensures.search in
           let w = ray_read ray_list j w'.index-then-branch.result.now j_within w'.index-then-branch.ensures in
-          let face = subst (λ (d : StepData). IsFacePair d.pairs d.rays i j) (sym c.self.view_is) (w'.in_ok-is_face.ensures.face.0 w'.if-branch.true) in
+          let face = subst (λ (d : StepData). IsAdjacentPair d.pairs d.rays i j) (sym c.self.view_is) (w'.in_ok-is_face.ensures.face.0 w'.if-branch.true) in
           let p = the_pair pairs ray_list signs i j c.in-Positive.at_u w'.in-Negative.at_w facts.count i_in j_in
           (sym (c.index.ensures ∙ get_or_default signs i c.index.result.now Zero i_signed) ∙ c.in-Positive.is) (sym sign ∙ w'.in-Negative.is) face in
           let e = ap (λ v. v.ray_list.items) w'.made-is ∙ w'.in_ok-push.ensures.items in
@@ -187,7 +187,7 @@ loop-m-preserved g c =
           let e = ap (λ v. v.ray_list.items) w'.made-is in
           let next = near _ search (subst (λ xs. IsMadeUpTo s.limit.number pairs rays signs i (j + 1) (rays_of xs)) (sym e)
           (made_skip s.limit.number pairs rays signs i j (rays_of made) before
-          (no_pair pairs rays signs i j (λ face. false≢true (sym w'.if-branch.false ∙ w'.in_ok-is_face.ensures.face.1 (subst (λ (d : StepData). IsFacePair d.pairs d.rays i j) c.self.view_is face)))))) in
+          (no_pair pairs rays signs i j (λ face. false≢true (sym w'.if-branch.false ∙ w'.in_ok-is_face.ensures.face.1 (subst (λ (d : StepData). IsAdjacentPair d.pairs d.rays i j) c.self.view_is face)))))) in
           record { within = next.0; taken = next.1; widths = subst (AreOfWidth columns) (sym e) c.loop-m.invariant.widths; search = search }
       | in_default-index w' ↦
           let search = subst (IsSearchAt d i) (sym w'.search-is) c.loop-m.invariant.search in

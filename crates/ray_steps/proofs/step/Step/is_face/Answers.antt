@@ -5,9 +5,9 @@ use Rattle.std.proofs.lemmas.Bool.{false≢true}
 use Rattle.cone_definitions.specs.Vectors.{ray_at}
 use Rattle.cone_definitions.specs.Surfaces.{IsAdmissibleUnion}
 use Rattle.support_bits.specs.Columns.{support_of}
-use Rattle.support_table.specs.Joins.{AreJoinedTo}
+use Rattle.support_table.specs.Joins.{AreClashingColumns}
 use Rattle.ray_steps.specs.Rays.{rays_of}
-use Rattle.ray_steps.specs.Signs.{IsFacePair}
+use Rattle.ray_steps.specs.Signs.{IsAdjacentPair}
 use Rattle.ray_steps.proofs.RayLemmas.{length-rays_of, ray_read}
 use Rattle.ray_steps.proofs.SingleLemmas.{single_of_two}
 use Rattle.ray_steps.proofs.RivalLemmas.{support_read, clash_read, not_face_third, face_from_rivals}
@@ -31,7 +31,7 @@ returns-then-has_single-clause-face g c =
     let read = clash_read pairs a b _ _ u w in
     let single = single_of_two (ray_at (rays_of ray_list) i) (ray_at (rays_of ray_list) j) a.support b.support (support_read a _ u) (support_read b _ w) (c.has_single.ensures.0 c.if-has_single.true) in
     let n = length-rays_of ray_list in
-    subst (λ (d : StepData). (IsTrue c.allows.result → IsFacePair d.pairs d.rays i j) × (IsFacePair d.pairs d.rays i j → IsTrue c.allows.result)) c.self.view_is (
+    subst (λ (d : StepData). (IsTrue c.allows.result → IsAdjacentPair d.pairs d.rays i j) × (IsAdjacentPair d.pairs d.rays i j → IsTrue c.allows.result)) c.self.view_is (
       (λ h. c.self.invariant.rays.singles i j (omega (arith, i_in)) (omega (arith, j_in)) single (read.0 (c.allows.ensures.0 h))),
       (λ face. c.allows.ensures.1 (read.1 face.no_clash)),
     )
@@ -48,7 +48,7 @@ returns-in-Some-clause-face g c =
     let u = ap (λ rays. ray_at rays i) (sym same) ∙ ray_read ray_list i a (place_of_rays ray_list d.rays i same c.requires.search.in_range) c.index-u.ensures in
     let w = ap (λ rays. ray_at rays j) (sym same) ∙ ray_read ray_list j b (place_of_rays ray_list d.rays j same c.requires.second) c.index-w.ensures in
     let found = c.in-Some.ensures.some in
-    let joined = subst (AreJoinedTo d.pairs (support_of (ray_at d.rays i))) (sym c.in_ok-rivals.ensures.joined) c.requires.search.joined in (
+    let joined = subst (AreClashingColumns d.pairs (support_of (ray_at d.rays i))) (sym c.in_ok-rivals.ensures.joined) c.requires.search.joined in (
       λ h. absurd (false≢true h),
       λ face. absurd (not_face_third d.pairs d.rays i j d.columns c.in-Some.m c.in_ok-rivals.rivals a.support b.support
           (record { joined = joined; listed = c.in_ok-rivals.ensures.rivals }) (support_read a _ u) (support_read b _ w) found.0 found.1 face),
@@ -67,7 +67,7 @@ returns-in-None-clause-face g c =
     let u = ap (λ rays. ray_at rays i) (sym same) ∙ ray_read ray_list i a (place_of_rays ray_list d.rays i same c.requires.search.in_range) c.index-u.ensures in
     let w = ap (λ rays. ray_at rays j) (sym same) ∙ ray_read ray_list j b (place_of_rays ray_list d.rays j same c.requires.second) c.index-w.ensures in
     let read = clash_read c.self.inside.clashes.now.pairs a b _ _ u w in
-    let joined = subst (AreJoinedTo d.pairs (support_of (ray_at d.rays i))) (sym c.in_ok-rivals.ensures.joined) c.requires.search.joined in (
+    let joined = subst (AreClashingColumns d.pairs (support_of (ray_at d.rays i))) (sym c.in_ok-rivals.ensures.joined) c.requires.search.joined in (
       λ h. face_from_rivals d.pairs d.rays i j d.columns c.in_ok-rivals.rivals a.support b.support
           (record { joined = joined; listed = c.in_ok-rivals.ensures.rivals }) (support_read a _ u) (support_read b _ w) c.in-None.ensures.none
           (subst (λ pairs. IsAdmissibleUnion pairs (ray_at d.rays i) (ray_at d.rays j)) clashing (read.0 (c.allows-in-None.ensures.0 h))),

@@ -2,7 +2,7 @@
 use Rattle.std.proofs.Common.{◌≡◌, ◌/◌, ◌%◌, ◌<◌, IfNone, refl, sym, ap, ◌∙◌, subst, arith}
 use Rattle.std.specs.Prelude.{sum}
 use mathlib.Core.Bool.{beq}
-use Rattle.surface_definitions.specs.Pieces.{SurfacePiece, piece_of, piece_number}
+use Rattle.surface_definitions.specs.Pieces.{NormalDisc, disc_of, disc_number}
 use Rattle.surface_pieces.specs.Meetings.{HasNoMeeting}
 use Rattle.surface_pieces.proofs.MetArcs.{number_low, joined_is}
 use Rattle.surface_pieces.proofs.surface.NumberedPieces.joined_at.Goals as goal
@@ -19,8 +19,8 @@ returns-in_err-meeting-clause-none c =
 
 pub invariant_of-result : goal.invariant_of-result
 invariant_of-result c =
-    let low : piece_number c.args.self.now.surface.entries.now (piece_of c.args.self.now.surface.coords.system c.args.self.now.surface.entries.now c.in_ok-meeting.meeting.other) < sum c.args.self.now.surface.entries.now = number_low c.args.self.now.surface.entries.now (piece_of c.args.self.now.surface.coords.system c.args.self.now.surface.entries.now c.in_ok-meeting.meeting.other) c.in_ok-meeting.ensures.some.other_piece in
-    let same : c.number_of.result ≡ piece_number c.args.self.now.surface.entries.now (piece_of c.args.self.now.surface.coords.system c.args.self.now.surface.entries.now c.in_ok-meeting.meeting.other) = c.number_of.ensures ∙ ap (λ (p : SurfacePiece). piece_number c.args.self.now.surface.entries.now p) c.piece_of-other.ensures in
+    let low : disc_number c.args.self.now.surface.entries.now (disc_of c.args.self.now.surface.coords.system c.args.self.now.surface.entries.now c.in_ok-meeting.meeting.other) < sum c.args.self.now.surface.entries.now = number_low c.args.self.now.surface.entries.now (disc_of c.args.self.now.surface.coords.system c.args.self.now.surface.entries.now c.in_ok-meeting.meeting.other) c.in_ok-meeting.ensures.some.other_piece in
+    let same : c.number_of.result ≡ disc_number c.args.self.now.surface.entries.now (disc_of c.args.self.now.surface.coords.system c.args.self.now.surface.entries.now c.in_ok-meeting.meeting.other) = c.number_of.ensures ∙ ap (λ (p : NormalDisc). disc_number c.args.self.now.surface.entries.now p) c.piece_of-other.ensures in
     omega (arith, c.args.self.now.surface.few)
 
 pub returns-clause-some : goal.returns-clause-some
@@ -33,4 +33,4 @@ returns-clause-some c =
       keeps_orientation = beq c.in_ok-meeting.meeting.odd (beq c.looks_positive-from.result c.looks_positive-to.result);
     })
     c.in_ok-corner.ensures.some.0 c.in_ok-corner.ensures.some.1 c.in_ok-meeting.ensures.some c.looks_positive-from.ensures c.looks_positive-to.ensures
-    (c.number_of.ensures ∙ ap (λ (p : SurfacePiece). piece_number c.args.self.now.surface.entries.now p) c.piece_of-other.ensures) refl refl
+    (c.number_of.ensures ∙ ap (λ (p : NormalDisc). disc_number c.args.self.now.surface.entries.now p) c.piece_of-other.ensures) refl refl

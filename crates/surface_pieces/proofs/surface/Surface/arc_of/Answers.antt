@@ -2,7 +2,7 @@
 use Rattle.std.proofs.Common.{◌≡◌, ℕ, ◌+◌, ◌-◌, ◌/◌, ◌<◌, length, sym, ap, ◌∙◌, subst}
 use Rattle.std.specs.Prelude.{slice_index, if◌then◌else◌}
 use Rattle.surface_definitions.specs.Coordinates.{columns_each, tri_column}
-use Rattle.surface_definitions.specs.Pieces.{SurfacePiece, further_column, keeps_by_zero, type_in}
+use Rattle.surface_definitions.specs.Pieces.{NormalDisc, further_column, keeps_by_zero, type_in}
 use Rattle.surface_laws.proofs.MeetingArcs.{arc_at}
 use Rattle.surface_pieces.specs.Arcs.{IsOnlyArcOf}
 use Rattle.surface_pieces.proofs.ArcsOfPieces.{triangle_arc, further_arc, tet_in_range}
@@ -18,10 +18,10 @@ returns-then-piece-triangle_column-clause-some c =
     (sym column ∙ c.if-piece-triangle_column.true ∙ c.triangle_column.ensures))
   where
     column : c.piece.inside.column ≡ c.args.piece.column
-    column = ap (λ (p : SurfacePiece). p.column) c.piece.view_is
+    column = ap (λ (p : NormalDisc). p.column) c.piece.view_is
 
     number : c.piece.inside.number ≡ c.args.piece.number
-    number = ap (λ (p : SurfacePiece). p.number) c.piece.view_is
+    number = ap (λ (p : NormalDisc). p.number) c.piece.view_is
 
     tet : c.tet_of-tet.result ≡ c.args.piece.column / columns_each c.args.self.now.coords.system
     tet = c.tet_of-tet.ensures ∙ ap (λ k. k / columns_each c.args.self.now.coords.system) column
@@ -34,10 +34,10 @@ returns-clause-some c =
     (sym column ∙ c.if-piece-further.false ∙ c.behind-further.ensures.column))
   where
     column : c.piece.inside.column ≡ c.args.piece.column
-    column = ap (λ (p : SurfacePiece). p.column) c.piece.view_is
+    column = ap (λ (p : NormalDisc). p.column) c.piece.view_is
 
     number : c.piece.inside.number ≡ c.args.piece.number
-    number = ap (λ (p : SurfacePiece). p.number) c.piece.view_is
+    number = ap (λ (p : NormalDisc). p.number) c.piece.view_is
 
     tet : c.tet_of-tet.result ≡ c.args.piece.column / columns_each c.args.self.now.coords.system
     tet = c.tet_of-tet.ensures ∙ ap (λ k. k / columns_each c.args.self.now.coords.system) column

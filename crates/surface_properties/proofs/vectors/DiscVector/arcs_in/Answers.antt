@@ -2,7 +2,7 @@
 use Rattle.std.proofs.Common.{ℕ, sym, ap, ◌∙◌}
 use Rattle.std.specs.Prelude.{slice_index}
 use Rattle.table_definitions.specs.Permutation.{others}
-use Rattle.surface_definitions.specs.Pieces.{arcs_round}
+use Rattle.surface_definitions.specs.Pieces.{arcs_around}
 use Rattle.surface_properties.specs.Capped.{capped}
 use Rattle.surface_properties.proofs.CappedSums.{capped_three}
 use Rattle.surface_properties.proofs.ArcSums.{three_others}
@@ -17,4 +17,4 @@ returns c =
     c.add-two.ensures ∙ ap capped (sym (three_others round c.args.face.face c.arcs_round.ensures.a_face))
   where
     round : ℕ → ℕ
-    round v = arcs_round c.args.self.now.coords.system c.args.self.now.entries.now c.args.face.tet c.args.face.face v
+    round v = arcs_around c.args.self.now.coords.system c.args.self.now.entries.now c.args.face.tet c.args.face.face v
