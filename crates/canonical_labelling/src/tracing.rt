@@ -92,7 +92,7 @@ fn agrees_glued(
     if number < trace.order.len() {
         return Ok(maps_to(from, trace.order[number], glue, wanted));
     }
-    // a table in walk order has no such gluing
+    // a walk-ordered table has no such gluing
     if number > trace.order.len() || wanted.perm != Perm4::identity() {
         return Ok(true);
     }

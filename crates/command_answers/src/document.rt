@@ -32,8 +32,8 @@ pub struct TableAndVector {
     pub vector: Vec<u128>,
 }
 
-/// Checks that no line is left. Fails with `ExtraWord` at the first word of the next line, or with `BadByte` at a byte
-/// that no word contains.
+/// Checks that `lexer` has no line left. Fails with `ExtraWord` at the first word of the next line, or with `BadByte`
+/// at a byte that no word contains.
 pub fn end_document(lexer: &mut Lexer<'_>) -> Result<(), LexFault>
     ensures { Moves result lexer.new (no_line_at lexer.old) }
 {
@@ -43,8 +43,8 @@ pub fn end_document(lexer: &mut Lexer<'_>) -> Result<(), LexFault>
     lexer.end_line()
 }
 
-/// Reads a table from the next lines, as rows or as a signature. Fails with the first error in the text, `MissingWord`
-/// if there is no line.
+/// Reads a table from the next lines of `lexer`, as rows or as a signature. Fails with the first error in the text,
+/// `MissingWord` if there is no line.
 #[tactic(auto, unfolding(text_document_definitions::specs::Documents::next_table_at))]
 pub fn read_table(alloc: Global, lexer: &mut Lexer<'_>) -> Result<Table, InputFault>
     ensures { ReadsFrom InputFault.NoMemory (λ table. table) result lexer.new (next_table_at lexer.old) }

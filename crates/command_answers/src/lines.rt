@@ -1,4 +1,4 @@
-//! Writes truth values, numbers and whole answers in lines.
+//! Writes truth values, numbers and whole outcomes in lines.
 ghost use Rattle.std.specs.Prelude.{◌≡◌, ◌++◌, IfOk, OnOk};
 ghost use Rattle.outcome_definitions.specs.Information as information;
 ghost use Rattle.text_definitions.specs.Written as written;

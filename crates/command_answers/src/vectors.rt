@@ -10,8 +10,8 @@ use gluing_table::TextFault;
 use std::alloc::Global;
 use text_io::{LIMIT, Lexer};
 
-/// Reads the decimals up to the end of the line. Fails at the first byte of no word (`BadByte`), word that is no
-/// decimal (`BadWord`), or number above 2^127 - 1 (`NumberTooWide`).
+/// Reads the decimals up to the end of the line of `lexer`. Fails at the first byte of no word (`BadByte`), word that
+/// is no decimal (`BadWord`), or number above 2^127 - 1 (`NumberTooWide`).
 pub fn read_numbers(alloc: Global, lexer: &mut Lexer<'_>) -> Result<Vec<u128>, TextFault>
     ensures { ReadsFrom TextFault.NoMemory (λ v. v.items) result lexer.new (lexed (numbers_at limit lexer.old)) }
 {
@@ -23,8 +23,8 @@ pub fn read_numbers(alloc: Global, lexer: &mut Lexer<'_>) -> Result<Vec<u128>, T
     Ok(numbers)
 }
 
-/// Reads the current line, of which no word is read yet, as a vector. Fails as `read_numbers`, and with `BadWord` or
-/// `MissingWord` if the line does not begin with `vec`.
+/// Reads the current line of `lexer`, of which no word is read yet, as a vector. Fails with `MissingWord`, `BadByte` or
+/// `BadWord` if the line does not begin with `vec`, and then as `read_numbers`.
 #[tactic(auto, unfolding(cone_text_definitions::specs::VectorText::vector_at, text_definitions::specs::Reading::exactly_at))]
 pub fn read_vector(alloc: Global, lexer: &mut Lexer<'_>) -> Result<Vec<u128>, TextFault>
     ensures { ReadsFrom TextFault.NoMemory (λ v. v.items) result lexer.new (lexed (vector_at lexer.old)) }
@@ -36,7 +36,7 @@ pub fn read_vector(alloc: Global, lexer: &mut Lexer<'_>) -> Result<Vec<u128>, Te
     read_numbers(alloc, lexer)
 }
 
-/// Reads a vector from each line that is left. Fails at the first line on which `read_vector` does.
+/// Reads a vector from each line that `lexer` has left. Fails at the first line on which `read_vector` does.
 pub fn read_vectors(alloc: Global, lexer: &mut Lexer<'_>) -> Result<Vec<Vec<u128>>, TextFault>
     ensures { ReadsFrom TextFault.NoMemory entries_of result lexer.new (lexed (each_line_from vector_at lexer.old.later lexer.old)) }
 {

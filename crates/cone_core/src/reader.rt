@@ -123,9 +123,9 @@ fn rows_of_no_columns(alloc: Global, count: u32) -> Result<System, NoMemory>
     Ok(system)
 }
 
-/// Reads a cone from the current line on, of which no word is read yet. Fails with the first error in the text:
-/// `BadWord` also if the first word is not `cone`, and `NumberTooWide` for a count above 10,000 or a coefficient of
-/// magnitude above 1,000,000.
+/// Reads a cone from the current line of `lexer` on, of which no word is read yet. Fails with the first error in the
+/// text: `BadWord` also if the first word is not `cone`, and `NumberTooWide` for a count above 10,000 or a coefficient
+/// of magnitude above 1,000,000.
 #[tactic(auto, unfolding(cone_text_definitions::specs::ConeText::cone_at, text_definitions::specs::Reading::exactly_at))]
 pub fn read_cone(alloc: Global, lexer: &mut Lexer<'_>) -> Result<System, ConeFault>
     ensures { GivesCone result lexer.new (cone_at lexer.old) }

@@ -75,8 +75,8 @@ impl NumberedSurface<'_> {
 }
 
 /// Crushes `table` along the standard vector `x`: removes the tetrahedra with quads, and renumbers the others in order
-/// (Jaco and Rubinstein 2003; Burton). Two retained faces are glued if a chain through removed tetrahedra joins them,
-/// and a face whose chain ends at a boundary face becomes one.
+/// (Jaco and Rubinstein 2003; Burton 2014). Two retained faces are glued if a chain through removed tetrahedra joins
+/// them, and a face whose chain ends at a boundary face becomes one.
 pub fn crush_table(alloc: Global, table: &Table, x: &[u128]) -> Result<Table, NoMemory>
     requires { length x.now ≡ columns Standard (length table.now) }
     ensures crushed { IfOk result (λ new. IsCrushed table.now x.now new) }

@@ -11,7 +11,7 @@ use gluing_table::Relabelling;
 use perm_four::Perm4;
 use std::alloc::{AllocError, Global};
 
-/// The image of each tetrahedron of the cover under the deck transformation.
+/// The image of each tetrahedron of the cover under the deck transformation, by the numbering `sheets`.
 pub fn exchange_images(alloc: Global, sheets: Sheets) -> Result<Vec<u32>, AllocError>
     ensures { IfOk result (λ images. images.items ≡ map (λ u. definition.above sheets.tets (definition.over sheets.tets u) (definition.other_sheet (definition.sheet sheets.tets u))) (below (2 * sheets.tets))) }
 {
@@ -37,7 +37,8 @@ fn copy_of(sheets: Sheets, signs: &[bool], tet: u32) -> Sheet
     }
 }
 
-/// The image of each tetrahedron of the cover in two copies of a base with orientation `signs`.
+/// The image of each tetrahedron of the cover in two copies of a base with the orientation `signs`, by the numbering
+/// `sheets`.
 pub fn split_images(alloc: Global, sheets: Sheets, signs: &[bool]) -> Result<Vec<u32>, AllocError>
     requires { length signs.now ≡ sheets.tets }
     ensures { IfOk result (λ images. images.items ≡ map (λ u. definition.above sheets.tets (definition.over sheets.tets u) (definition.copy_of sheets.tets signs.now u)) (below (2 * sheets.tets))) }
@@ -50,7 +51,7 @@ pub fn split_images(alloc: Global, sheets: Sheets, signs: &[bool]) -> Result<Vec
     Ok(images)
 }
 
-/// The relabelling with these images that fixes all vertex numbers.
+/// The relabelling with the images `images` that fixes all vertex numbers.
 pub fn by_images(alloc: Global, images: Vec<u32>) -> Result<Relabelling, AllocError>
     requires { IsRelabelling (length images.items) (record { images = images.items; perms = replicate (length images.items) identity }) }
     ensures { IfOk result (λ by. by ≡ record { images = images.items; perms = replicate (length images.items) identity }) }

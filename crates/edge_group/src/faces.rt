@@ -21,7 +21,7 @@ pub fn face_of(number: u32) -> Face
     }
 }
 
-/// The index of the least face of each face class.
+/// The index of the least face of each face class of `skeleton`.
 pub fn first_faces(alloc: Global, skeleton: &Skeleton) -> Result<Vec<u32>, AllocError>
     ensures { IfOk result (λ firsts. AreLeastFaces skeleton.now firsts.items) }
 {

@@ -16,7 +16,7 @@ use presentation_definitions::Letter;
 use skeleton::{Corner, Skeleton};
 use std::alloc::{AllocError, Global};
 
-/// The internal edge classes, ascending.
+/// The internal edge classes of `skeleton`, ascending.
 pub fn inner_edges(alloc: Global, skeleton: &Skeleton) -> Result<Vec<u32>, AllocError>
     ensures edges { IfOk result (λ edges. edges.items ≡ definition.internal_edges skeleton.now.rows skeleton.now.edges.classes skeleton.now.edges.count) }
     ensures in_range { IfOk result (λ edges. All (λ c. c < skeleton.now.edges.count) edges.items) }

@@ -108,9 +108,9 @@ fn read_counted(alloc: Global, lexer: &mut Lexer<'_>, count: u32) -> Result<Tabl
     Ok(table)
 }
 
-/// Reads a table from after the word `tri`: the number of rows on the same line, then one line per row. Fails with the
-/// first fault in reading order. A count above 1,000 is reported before the rest of the line is read; faults of the
-/// gluings (`Table`), once all rows are read.
+/// Reads a table from `lexer` after the word `tri`: the number of rows on the same line, then one line per row. Fails
+/// with the first fault in reading order. A count above 1,000 is reported before the rest of the line is read; faults
+/// of the gluings (`Table`), once all rows are read.
 #[tactic(auto, unfolding(table_definitions::specs::TableText::table_at))]
 pub fn read_rows(alloc: Global, lexer: &mut Lexer<'_>) -> Result<Table, TextFault>
     ensures { ReadsFrom TextFault.NoMemory (λ table. table) result lexer.new (table_at lexer.old) }

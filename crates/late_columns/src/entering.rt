@@ -122,7 +122,7 @@ pub fn enter_others(
     Ok(())
 }
 
-/// Lets all columns enter that have not entered before.
+/// Lets all of `columns` columns enter that have not entered in `late` before.
 pub fn enter_all(alloc: Global, columns: u32, late: &mut LateRays) -> Result<(), NoMemory>
     requires columns { length late.old.seen.items ≡ columns }
     ensures entered { OnOk result (HaveEntered columns late.old late.new) }

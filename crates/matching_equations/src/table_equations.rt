@@ -22,8 +22,8 @@ pub fn quad_equations(alloc: Global, skeleton: &Skeleton) -> Result<System, NoMe
     quad_system(alloc, skeleton)
 }
 
-/// The equations of the table of `skeleton` in the coordinates `coords`: the matching equations in standard and octagon
-/// coordinates, and one equation for each internal edge class in quad coordinates (Haken 1961; Tollefson 1998).
+/// The equations of the table of `skeleton` in the coordinates `coords` (Haken 1961; Tollefson 1998). In standard and
+/// octagon coordinates they are the matching equations; in quad coordinates there is one for each internal edge class.
 pub fn equations(alloc: Global, skeleton: &Skeleton, coords: Coords) -> Result<System, NoMemory>
     ensures columns { IfOk result (λ s. s.columns ≡ coordinates.columns coords (length skeleton.now.rows)) }
     ensures equations { IfOk result (λ s. AreEquations coords skeleton.now.rows s.rows) }

@@ -10,7 +10,7 @@ use move_undo::{Step, read_step};
 use std::alloc::Global;
 use text_io::Lexer;
 
-/// Reads a step from each line that is left. Fails at the first line on which `read_step` does.
+/// Reads a step from each line that `lexer` has left. Fails at the first line on which `read_step` does.
 pub fn read_steps(alloc: Global, lexer: &mut Lexer<'_>) -> Result<Vec<Step>, TextFault>
     ensures { ReadsFrom TextFault.NoMemory steps_of result lexer.new (lexed (each_line_from step_at lexer.old.later lexer.old)) }
 {

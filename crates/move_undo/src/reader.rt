@@ -97,7 +97,7 @@ fn edge_named(word: &[u8]) -> Option<Core>
     None
 }
 
-/// Reads the next word as a vertex. Fails with `BadWord` if it is none.
+/// Reads the next word of `lexer` as a vertex. Fails with `BadWord` if it is none.
 #[tactic(auto, unfolding(move_definitions::specs::MoveText::vertices_at))]
 fn read_vertex(lexer: &mut Lexer<'_>) -> Result<u8, LexFault>
     ensures vertex { Gives (λ v. v ∷ []) result lexer.new (text.vertices_at text.single lexer.old) }
@@ -107,7 +107,7 @@ fn read_vertex(lexer: &mut Lexer<'_>) -> Result<u8, LexFault>
     vertex_named(word).ok_or(lexer.bad_word())
 }
 
-/// Reads the next word as an edge. Fails with `BadWord` if it is none.
+/// Reads the next word of `lexer` as an edge. Fails with `BadWord` if it is none.
 #[tactic(auto, unfolding(move_definitions::specs::MoveText::vertices_at))]
 fn read_edge(lexer: &mut Lexer<'_>) -> Result<Core, LexFault>
     ensures { Gives (λ core. core) result lexer.new (text.vertices_at edge_ends lexer.old) }
@@ -151,9 +151,9 @@ fn read_named(lexer: &mut Lexer<'_>, word: &[u8]) -> Result<Move, LexFault>
     }
 }
 
-/// Reads the current line, of which no word is read yet, as a move: its kind, its tetrahedron and its core. Fails at
-/// the first missing word (`MissingWord`), byte of no word (`BadByte`), word of another form (`BadWord`), number above
-/// 2^32 - 1 (`NumberTooWide`) or superfluous word (`ExtraWord`).
+/// Reads the current line of `lexer`, of which no word is read yet, as a move: its kind, its tetrahedron and its core.
+/// Fails at the first missing word (`MissingWord`), byte of no word (`BadByte`), word of another form (`BadWord`),
+/// number above 2^32 - 1 (`NumberTooWide`) or superfluous word (`ExtraWord`).
 #[tactic(auto, unfolding(move_definitions::specs::MoveText::move_at))]
 pub fn read_move(lexer: &mut Lexer<'_>) -> Result<Move, LexFault>
     ensures { Gives (λ m. m) result lexer.new (text.move_at lexer.old) }
@@ -162,7 +162,7 @@ pub fn read_move(lexer: &mut Lexer<'_>) -> Result<Move, LexFault>
     read_named(lexer, word)
 }
 
-/// Reads a move from each line that is left. Fails at the first line on which `read_move` does.
+/// Reads a move from each line that `lexer` has left. Fails at the first line on which `read_move` does.
 pub fn read_moves(alloc: Global, lexer: &mut Lexer<'_>) -> Result<Vec<Move>, TextFault>
     ensures { ReadsFrom TextFault.NoMemory (λ moves. moves.items) result lexer.new (lexed (each_line_from text.move_at lexer.old.later lexer.old)) }
 {
@@ -205,7 +205,8 @@ fn end_step(lexer: &mut Lexer<'_>, word: &[u8], step: Step) -> Result<Step, LexF
     Ok(step)
 }
 
-/// Reads the current line, of which no word is read yet, as a step: `undo`, `redo` or a move. Fails as `read_move`.
+/// Reads the current line of `lexer`, of which no word is read yet, as a step: `undo`, `redo` or a move. Fails as
+/// `read_move`.
 #[tactic(auto, unfolding(move_definitions::specs::MoveText::step_at))]
 pub fn read_step(lexer: &mut Lexer<'_>) -> Result<Step, LexFault>
     ensures { Gives step_value result lexer.new (text.step_at lexer.old) }

@@ -49,7 +49,7 @@ pub fn arc_columns(coords: DiscCoords, tet: u32, face: u8, vertex: u8) -> ArrayV
 }
 
 /// The columns of the disc types of tetrahedron `tet` that meet its edge from `vertex` to `other`, once for each point
-/// of intersection: each octagon once, and the one that has both vertices on one side twice.
+/// of intersection. Each octagon occurs once, but twice if it has both vertices on one side.
 pub fn edge_columns(coords: DiscCoords, tet: u32, vertex: u8, other: u8) -> ArrayVec<u32, 8>
     requires tet { tet ≤ max_tets }
     requires a_vertex { vertex < 4 }

@@ -218,7 +218,7 @@ pub fn apply(table: &mut Table, m: Move) -> Result<Undo, MoveFault>
     apply_legal(table, m, &pattern)
 }
 
-/// The inverse of the recorded move up to relabelling, to be played on the table that resulted from it.
+/// The inverse, up to relabelling, of the move recorded in `undo`, to be played on the table that resulted from it.
 pub fn inverse_move(undo: &Undo) -> Move
     ensures { result ≡ moves.inverse_move undo.now.tets undo.now.played }
 {

@@ -27,7 +27,7 @@ pub struct Sum {
 /// out.
 pub type SumFault = Failure<LargeTurn>;
 
-/// Writes the solution `x` of `system` as a sum of rays in `list`: each step takes the first ray whose support lies in
+/// Writes the solution `x` of `system` as a sum of rays in `list`. Each step takes the first ray whose support lies in
 /// that of the remainder, and subtracts the largest multiple that leaves no entry negative. Fails with `Large` at the
 /// first step, and its first column, at which the multiplied entry of `x` exceeds `limit`.
 ///

@@ -11,8 +11,8 @@ use cone_arithmetic::Ray;
 use no_memory::NoMemory;
 use std::alloc::{AllocError, Global};
 
-/// Sorts rays in lexicographic order. Those that the last step kept come in descending order, a run that the stable
-/// sort finds at once.
+/// Sorts `ray_list` in lexicographic order. Those that the last step retained come in descending order, a run that the
+/// stable sort finds at once.
 pub fn sort_rays(ray_list: &mut Vec<RayWithSupport>) -> Result<(), AllocError>
     ensures permutation { IsPermutation ray_list.old.items ray_list.new.items }
     ensures sorted { OnOk result (IsSorted (slice_cmp nat_cmp) (rays_of ray_list.new.items)) }
@@ -20,7 +20,8 @@ pub fn sort_rays(ray_list: &mut Vec<RayWithSupport>) -> Result<(), AllocError>
     ray_list.sort_by(|a, b| a.ray.compare(&b.ray))
 }
 
-/// The rays without their supports, with 128 bits for each entry. Frees each packed ray once it is converted.
+/// The rays of `ray_list` without their supports, with 128 bits for each entry. Frees each packed ray once it is
+/// converted.
 pub fn without_supports(alloc: Global, ray_list: Vec<RayWithSupport>) -> Result<Vec<Ray>, NoMemory>
     ensures { IfOk result (λ rays. rays.items ≡ rays_of ray_list.items) }
 {

@@ -33,7 +33,7 @@ fn negative_places(alloc: Global, signs: &[Sign]) -> Result<Vec<usize>, NoMemory
     Ok(places)
 }
 
-/// Collects the negative rays and their supports.
+/// Collects the rays of `rays` that are negative by `signs`, and their supports.
 pub fn negatives_of(alloc: Global, rays: RayList, signs: &[Sign]) -> Result<Negatives, NoMemory>
     requires { length signs.now ≡ length rays.items.now }
     ensures { IfOk result (AreNegatives (rays_of rays.entry.items.now) signs.now rays.entry.columns) }

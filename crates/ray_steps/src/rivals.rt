@@ -66,7 +66,7 @@ pub fn rivals_with(alloc: Global, rays: RayList, joined: Support) -> Result<Riva
     })
 }
 
-/// The supports of all rays.
+/// The supports of all rays of `rays`.
 pub fn all_supports(alloc: Global, rays: RayList) -> Result<SupportTable, NoMemory>
     ensures { IfOk result (HasAllSupports (rays_of rays.entry.items.now) rays.entry.columns) }
 {

@@ -20,7 +20,7 @@ pub enum Sign {
     Negative(u128),
 }
 
-/// Whether a sign is negative.
+/// Whether `sign` is negative.
 pub fn is_negative(sign: Sign) -> bool
     ensures { IsTrue result ↔ IsNegative sign }
 {

@@ -350,7 +350,8 @@ impl<'a, C: Compatible> Step<'a, C> {
         self.combine_each(alloc, &negatives, &supports)
     }
 
-    /// The rays after this step: the combinations of all adjacent pairs, then the rays of sign zero.
+    /// The rays after this step: the combinations of all adjacent pairs, then the rays of sign zero. Fails with `Large`
+    /// at the first pair of which an entry exceeds the limit.
     pub fn next(self, alloc: Global) -> Result<Vec<RayWithSupport>, StepFault>
         ensures ok { IfOk result (λ next. IsNextFrom self.entry.limit self.entry.pairs self.entry.rays self.entry.signs 0 (rays_of next.items)) }
         ensures widths { IfOk result (λ next. AreOfWidth self.entry.columns next.items) }

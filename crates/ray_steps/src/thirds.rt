@@ -9,7 +9,7 @@ use crate::rivals::Rivals;
 use support_bits::Support;
 use support_table::union_count;
 
-/// Whether a support has at most one column.
+/// Whether `support` has at most one column.
 pub fn is_single(support: &Support) -> bool
     ensures { IsTrue result ↔ columns_in_either support.now support.now ≤ 1 }
 {
@@ -17,7 +17,7 @@ pub fn is_single(support: &Support) -> bool
     union_count(support.words(), support.words()) <= 1
 }
 
-/// Whether one of two supports has at most one column.
+/// Whether `a` or `b` has at most one column.
 pub fn has_single(a: &Support, b: &Support) -> bool
     ensures { IsTrue result ↔ HasSingle a.now b.now }
 {

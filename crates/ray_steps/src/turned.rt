@@ -18,7 +18,7 @@ fn turned_sign(sign: Sign) -> Sign
     }
 }
 
-/// The signs of the negated row.
+/// The signs of the negated row, if those of the row are `signs`.
 pub fn turned_signs(alloc: Global, signs: &[Sign]) -> Result<Vec<Sign>, NoMemory>
     ensures { IfOk result (λ turned. turned.items ≡ map turned_sign signs.now) }
 {
@@ -26,7 +26,7 @@ pub fn turned_signs(alloc: Global, signs: &[Sign]) -> Result<Vec<Sign>, NoMemory
     Ok(turned)
 }
 
-/// The number of positive signs. Affects only how pairs are looked for, so the contract says nothing.
+/// The number of positive signs in `signs`. Affects only how pairs are looked for, so the contract says nothing.
 pub fn positive_count(signs: &[Sign]) -> usize {
     signs
         .iter()
@@ -34,7 +34,7 @@ pub fn positive_count(signs: &[Sign]) -> usize {
         .count()
 }
 
-/// Whether more signs are positive than negative. Affects speed alone, so the contract says nothing.
+/// Whether more of `signs` are positive than negative. Affects speed alone, so the contract says nothing.
 pub fn has_more_positives(signs: &[Sign]) -> bool {
     let negatives = signs
         .iter()
@@ -43,7 +43,7 @@ pub fn has_more_positives(signs: &[Sign]) -> bool {
     negatives < positive_count(signs)
 }
 
-/// Whether a sign is positive.
+/// Whether one of `signs` is positive.
 pub fn has_positive(signs: &[Sign]) -> bool
     ensures { IsTrue result ↔ HasPositive signs.now }
 {

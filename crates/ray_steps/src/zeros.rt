@@ -24,7 +24,8 @@ fn keep_if_zero(
     Ok(())
 }
 
-/// Moves the rays of sign zero to the end of `next`, last one first, and drops the others.
+/// Moves the rays of `ray_list` whose entry in `signs` is zero to the end of `next`, last one first, and drops the
+/// others. Fails only with `NoMemory`.
 pub fn keep_zeros(
     mut ray_list: Vec<RayWithSupport>,
     signs: &[Sign],

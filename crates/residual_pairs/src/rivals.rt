@@ -64,8 +64,8 @@ fn push_rivals(
     Ok(())
 }
 
-/// The candidates for adjacency to the ray with index `own` and support `outer`, by index: the other rays that contain
-/// none of `joined` and whose union with `outer` has at most `most` columns.
+/// The candidates for adjacency to the ray with index `own` and support `outer`, by index. They are the other rays that
+/// contain none of `joined` and whose union with `outer` has at most `most` columns.
 pub fn rivals_of(
     alloc: Global,
     rays: &RayTable,

@@ -19,9 +19,9 @@ fn read_signature_line(alloc: Global, lexer: &mut Lexer<'_>) -> Result<Table, In
     Ok(table)
 }
 
-/// Reads a table from the current line on, of which no word is read yet: after `tri` the number of rows and a line for
-/// each, or after `sig` a signature. Fails with the first error of the text, `BadWord` if the first word is neither;
-/// after an error nothing is stated about the position.
+/// Reads a table from the current line of `lexer` on, of which no word is read yet: after `tri` the number of rows and
+/// a line for each, or after `sig` a signature. Fails with the first error of the text, `BadWord` if the first word is
+/// neither; after an error nothing is stated about the position.
 #[tactic(auto, unfolding(signature_definitions::specs::SignatureText::any_table_at))]
 pub fn read_any(alloc: Global, lexer: &mut Lexer<'_>) -> Result<Table, InputFault>
     ensures { ReadsFrom InputFault.NoMemory (λ table. table) result lexer.new (any_table_at lexer.old) }

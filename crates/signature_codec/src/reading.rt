@@ -25,7 +25,7 @@ fn table_of(alloc: Global, rows: Vec<Row>) -> Result<Table, SigFault>
 
 /// Reads `text` as a walk-ordered table. Fails with the first error of the first phase that has one; the phases are the
 /// head, the types of the faces, the destinations, the gluings, and the gluing of the faces. The format is this
-/// project's profile of Burton's isomorphism signatures.
+/// project's profile of isomorphism signatures (Burton 2011).
 pub fn read_signature(alloc: Global, text: &[u8]) -> Result<Table, SigFault>
     ensures reads { Reads (λ t. t) result (signature_table text.now) }
     ensures spelled { IfOk result (Spells text.now) }

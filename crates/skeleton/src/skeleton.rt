@@ -157,8 +157,8 @@ impl Skeleton {
         self.faces.classes[4 * tet as usize + face as usize]
     }
 
-    /// The class of edge `edge` of tetrahedron `tet`, and whether this edge, from its lesser end, is identified with
-    /// the least member of the class from its greater end (false in an invalid class).
+    /// The class of edge `edge` of tetrahedron `tet`, and whether the edge runs against the least member of the class:
+    /// from its lesser end it is identified with that member from the greater end. False in an invalid class.
     pub fn edge_class(&self, tet: u32, edge: u8) -> (u32, bool)
         requires in_range { tet < length self.now.rows }
         requires an_edge { edge < 6 }

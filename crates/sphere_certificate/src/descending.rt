@@ -82,9 +82,9 @@ fn descent_of(alloc: Global, table: &Table) -> Result<Descent, NoMemory>
     })
 }
 
-/// Simplifies a copy of `table`: as long as it is not isomorphic to the standard sphere, plays the first accepted 4-1
-/// move, by tetrahedron and vertex, otherwise the first accepted 3-2 move, by tetrahedron and edge, and ends if there
-/// is neither. Fails with `NotConnected`, which names the least tetrahedron of `table` not reached from tetrahedron 0.
+/// Simplifies a copy of `table` until it is isomorphic to the standard sphere or has no such move. Each step plays the
+/// first accepted 4-1 move, by tetrahedron and vertex, otherwise the first accepted 3-2 move, by tetrahedron and edge.
+/// Fails with `NotConnected`, which names the least tetrahedron of `table` not reached from tetrahedron 0.
 pub fn descend(alloc: Global, table: &Table) -> Result<Descent, WalkFault>
     ensures descent { IfOk result (λ d. IsDescended table.now (record { reached = d.reached; moves = d.moves.items; table = d.table })) }
     ensures certificate { IfOk result (λ d. d.reached ≡ true → IsCertificate table.now d.moves.items) }

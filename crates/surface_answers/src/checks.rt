@@ -9,7 +9,7 @@ use quad_condition::check_vector;
 use surface_definitions::{Coords, VectorFault};
 
 /// Checks that `x` is an admissible solution of `system`, the equations of `table` in the coordinates `coords`. Fails
-/// with `Length`; then at the first equation of which a part exceeds 2^127 - 1 (`Large`), or which is not met
+/// with `Length`; then at the first equation of which a part exceeds 2^127 - 1 (`Large`), or which does not hold
 /// (`NotSolution`); then at the first clashing pair (`Clash`).
 pub fn check(coords: Coords, table: &Table, system: &System, x: &[u128]) -> Result<(), VectorFault>
     requires { system.now.columns ≡ columns coords (length table.now) }

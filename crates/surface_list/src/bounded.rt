@@ -11,8 +11,9 @@ use no_memory::NoMemory;
 use number_bounds::triples_fit;
 use std::alloc::Global;
 
-/// Whether no number of an enumeration of the vertex surfaces of `tets` tetrahedra can exceed `limit`, as far as the
-/// bound by `tets` shows it, or in quad coordinates the sums of squares of the equations `system`.
+/// Whether no number of an enumeration of the vertex surfaces of `tets` tetrahedra can exceed `limit`. Decided by the
+/// bound for `tets`, or in quad coordinates also by the sums of squares of the equations `system`; false if neither
+/// shows it.
 pub fn are_numbers_bounded(
     alloc: Global,
     system: &System,

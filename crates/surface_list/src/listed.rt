@@ -35,8 +35,8 @@ fn triangles(alloc: Global, coords: Coords, system: &System) -> Result<Vec<u32>,
     Ok(pivots)
 }
 
-/// The vertex surfaces of `table` by its equations `system` in the coordinates `coords`, in strictly ascending order,
-/// with the equations processed in the order `order` (Haken 1961; Tollefson 1998; Burton 2010). Fails with `LargeStep`
+/// The vertex surfaces of `table` by its equations `system` in the coordinates `coords`, in strictly ascending order
+/// (Haken 1961; Tollefson 1998; Burton 2010a). The equations are processed in the order `order`. Fails with `LargeStep`
 /// at the first step at which a number exceeds `limit`.
 pub fn surfaces_by(
     alloc: Global,

@@ -10,8 +10,8 @@ use matching_equations::{Coords, equations};
 use skeleton::Skeleton;
 use std::alloc::Global;
 
-/// The vertex surfaces of the table of `skeleton` in the coordinates `coords`, in strictly ascending order, with its
-/// equations processed in the order `order`, which is not `Free` (Haken 1961; Tollefson 1998; Burton 2010). Fails with
+/// The vertex surfaces of the table of `skeleton` in the coordinates `coords`, in strictly ascending order (Haken 1961;
+/// Tollefson 1998; Burton 2010a). Its equations are processed in the order `order`, which is not `Free`. Fails with
 /// `LargeStep` at the first step at which a number exceeds `limit`.
 pub fn surfaces(
     alloc: Global,

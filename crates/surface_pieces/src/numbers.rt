@@ -20,7 +20,7 @@ fn append_column(listed: &mut Vec<Piece>, column: u32, entry: u32) -> Result<(),
     Ok(())
 }
 
-/// For each column the number of discs in the columns before it.
+/// For each column of `surface` the number of discs in the columns before it.
 pub fn starts_of(alloc: Global, surface: &Surface) -> Result<Vec<u32>, AllocError>
     ensures { IfOk result (λ starts. AreStarts surface.now.entries.now starts.items) }
 {

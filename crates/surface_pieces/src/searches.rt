@@ -67,7 +67,7 @@ fn piece_in(kind: SearchKind, number: usize) -> usize
 }
 
 impl<'a> JoinedPieces<'a> {
-    /// The number of numbers in a search of kind `kind`.
+    /// How many numbers there are.
     fn numbers(&self, kind: SearchKind) -> usize
         ensures value { result ≡ searches.numbers kind (length self.now.rows.now) }
         ensures few { result ≤ 2 * most_pieces }

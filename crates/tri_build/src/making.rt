@@ -39,7 +39,7 @@ fn play(alloc: Global, table: &mut Table, seed: u64, most: u32) -> Result<Vec<Pl
     Ok(steps)
 }
 
-/// Makes a table by up to `moves` moves from the standard sphere, each drawn by a generator with seed `seed` among the
+/// Makes a table by up to `moves` moves from the standard sphere. A generator with seed `seed` draws each among the
 /// accepted 2-3 and 3-2 moves, or among the accepted 1-4 moves if there are none. The certificate has at most `moves`
 /// moves, the inverse of the last step first.
 pub fn make(alloc: Global, seed: u64, moves: u32) -> Result<Made, NoMemory>

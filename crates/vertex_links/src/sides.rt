@@ -67,8 +67,8 @@ fn is_first(table: &Table, face: Face) -> bool
     face.tet < other.tet || (face.tet == other.tet && face.face < other.face)
 }
 
-/// For each of the 12n sides of link triangles, whether it lies in a boundary face or in the lesser of two faces that
-/// are glued.
+/// For each of the 12n sides of link triangles of `table`, whether it lies in a boundary face or in the lesser of two
+/// faces that are glued.
 pub fn first_sides(alloc: Global, table: &Table) -> Result<Vec<bool>, NoMemory>
     ensures size { IfOk result (λ passes. length passes.items ≡ 12 * length table.now) }
     ensures passes { IfOk result (λ passes. (j : ℕ) → j < 12 * length table.now → slice_index_or passes.items j false ≡ is_first_side (side_at j) (gluings.glue table.now (side_at j))) }
