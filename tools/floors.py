@@ -1,7 +1,6 @@
 #!/usr/bin/env python3
-"""Puts crates.txt into the order of the floors, writes the crates by subject into docs/ARCHITECTURE.md, the floors into
-docs/floors.svg, the files that the contracts of law crates cite into docs/DEFINITIONS.md, and the longest chain into
-docs/PROVING.md.
+"""Puts crates.txt into the order of the floors, writes the map of the crates by subject into docs/ARCHITECTURE.md, the files
+that the contracts of law crates cite into docs/DEFINITIONS.md, and the longest chain into docs/PROVING.md.
 
     tools/floors.py [--check]
 
@@ -19,7 +18,7 @@ from build_times import Plan, read_times
 from refusals import kind, refusals
 from repository import TOP, crates_of_build, lines_of_crates
 
-# what each crate is about; its kind is told by its name
+# The subject of each crate; its name says its kind.
 SUBJECTS = {
     "below all": "plain_facts no_memory",
     "text": "text_definitions text_document_definitions text_document_laws text_partial_laws text_io"
@@ -53,7 +52,20 @@ MARKS = {
     "laws": ("<!-- laws: tools/floors.py -->", "<!-- end of laws -->"),
     "chain": ("<!-- chain: tools/floors.py -->", "<!-- end of chain -->"),
 }
-COLOURS = {"definitions": "#dbe9f6", "laws": "#fde8c8", "code": "#e3f1dc", "program": "#f5d9e2"}
+# The commands of each subject.
+COMMANDS = {
+    "table": "info",
+    "signature": "sig same group",
+    "component": "csig csame",
+    "move": "play",
+    "certificate": "check descend make bulk",
+    "cover": "cover",
+    "presentation": "pi1",
+    "cone": "rays",
+    "surface": "surfaces verify describe lift crush",
+    "sum": "decompose addup",
+}
+KINDS = ("definitions", "laws", "code", "program")
 Crates = Dict[str, List[str]]
 Storeys = List[List[str]]
 
@@ -96,9 +108,8 @@ def what(name: str) -> str:
 
 
 def by_floor(levels: Dict[str, int]) -> Storeys:
-    kinds = list(COLOURS)
     return [
-        sorted((name for name in levels if levels[name] == floor), key=lambda name: (kinds.index(kind(name)), name))
+        sorted((name for name in levels if levels[name] == floor), key=lambda name: (KINDS.index(kind(name)), name))
         for floor in range(max(levels.values()) + 1)
     ]
 
@@ -130,16 +141,30 @@ def laws_text(storeys: Storeys) -> str:
     return "\n".join(lines + [f"| `{name}` | {', '.join(files)} |" for name, files in laws.items() if files not in ([], ["Laws"])])
 
 
-def subjects_text(known: Crates) -> str:
-    """Of each subject the names of its definitions and laws, and what its code does."""
-    parts = []
+def quoted(names: List[str]) -> str:
+    """Names as code, with a comma between each two."""
+    return ", ".join(f"`{name}`" for name in names)
+
+
+def map_text(known: Crates) -> str:
+    """The map: a row for each subject, with its definitions, laws, code and commands."""
+    rows = ["| Subject | Definitions | Laws | Code | Commands |", "|---|---|---|---|---|"]
     for subject, names in SUBJECTS.items():
-        there = [name for name in names.split() if name in known]
-        theory = [name for name in there if kind(name) in ("definitions", "laws")]
-        head = f"**{subject}**" + (": " if theory else "") + ", ".join(f"`{name}`" for name in theory)
-        code = [f"- `{name}`: {what(name)}" for name in there if name not in theory]
-        parts.append("\n".join([head, *code]))
-    return "\n\n".join(parts)
+        crates_there = [name for name in names.split() if name in known]
+        cells = [quoted([name for name in crates_there if kind(name) in kinds]) for kinds in (("definitions",), ("laws",), ("code", "program"))]
+        rows.append(f"| {subject} | {' | '.join(cells)} | {quoted(COMMANDS.get(subject, '').split())} |")
+    return "\n".join(rows)
+
+
+def code_text(known: Crates) -> str:
+    """Each crate of code with the first sentence of its head, in the order of the map."""
+    names = " ".join(SUBJECTS.values()).split()
+    return "\n".join(f"- `{name}`: {what(name)}" for name in names if name in known and kind(name) in ("code", "program"))
+
+
+def subjects_text(known: Crates) -> str:
+    """The map and the crates of code."""
+    return f"{map_text(known)}\n\nWhat each crate of code is for:\n\n{code_text(known)}"
 
 
 def chain_text() -> str:
@@ -153,24 +178,6 @@ def chain_text() -> str:
     unmeasured = [f"`{name}`" for name in below if name not in times.crates]
     left_out = f" Not measured yet: {', '.join(unmeasured)}." if unmeasured else ""
     return f"It takes {total:,} s: {told} and `{names[-1]}` {round(plan.seconds[names[-1]])}.{left_out}"
-
-
-def picture(storeys: Storeys) -> str:
-    wide, high, gap = 190, 24, 6
-    columns = max(len(names) for names in storeys)
-    across, down = columns * (wide + gap) + 40, len(storeys) * (high + 14) + 60
-    parts = [f'<svg xmlns="http://www.w3.org/2000/svg" width="{across}" height="{down}" font-family="sans-serif" font-size="12">']
-    for floor, names in enumerate(storeys):
-        top = down - 50 - (floor + 1) * (high + 14)
-        parts.append(f'<text x="8" y="{top + 16}">{floor}</text>')
-        for place, name in enumerate(names):
-            left = 30 + place * (wide + gap)
-            parts.append(f'<rect x="{left}" y="{top}" width="{wide}" height="{high}" rx="4" fill="{COLOURS[kind(name)]}" stroke="#888"/>')
-            parts.append(f'<text x="{left + wide / 2}" y="{top + 16}" text-anchor="middle">{name}</text>')
-    for place, (name, colour) in enumerate(COLOURS.items()):
-        parts.append(f'<rect x="{30 + place * 120}" y="{down - 36}" width="16" height="16" fill="{colour}" stroke="#888"/>')
-        parts.append(f'<text x="{52 + place * 120}" y="{down - 23}">{name}</text>')
-    return "\n".join([*parts, "</svg>"]) + "\n"
 
 
 def with_part(page: str, part: str, text: str, gap: str = "\n") -> str:
@@ -187,7 +194,6 @@ def wanted_files(known: Crates) -> Dict[str, str]:
         "docs/ARCHITECTURE.md": with_part(read("docs/ARCHITECTURE.md"), "subjects", subjects_text(known)),
         "docs/DEFINITIONS.md": with_part(read("docs/DEFINITIONS.md"), "laws", laws_text(storeys)),
         "docs/PROVING.md": with_part(read("docs/PROVING.md"), "chain", chain_text(), " "),
-        "docs/floors.svg": picture(storeys),
     }
 
 
