@@ -1,4 +1,4 @@
--- Counts of faces that a relabelling keeps.
+-- Counts of faces that a relabelling does not change.
 use Rattle.std.specs.Prelude.{ℕ, ◌*◌, List, length, count_by}
 use Rattle.table_definitions.specs.Lists.{below}
 use Rattle.table_definitions.specs.Table.{Row}

@@ -1,4 +1,4 @@
--- Starts of a table that need no walk: the marked ones, and those to which automorphisms carry them.
+-- Starts of a table whose traversal is not needed: the marked ones, and those to which automorphisms carry them.
 use Rattle.std.specs.Prelude.{◌≡◌, ℕ, ◌*◌, ◌<◌, ◌≤◌, Bool, true, false, List, length, slice_index, All}
 use Rattle.std.specs.List.{slice_index_or}
 use Rattle.table_definitions.specs.Table.{max_tets, Row, IsTable}
@@ -15,18 +15,18 @@ pub record AreOrbits (orbits : Orbits) : Type 0 where
   pub marked : (k : ℕ) → k < length orbits.numbers.items → slice_index_or orbits.marked.items (slice_index orbits.numbers.items k) false ≡ true
   pub sizes : All (λ (by : Relabelling). 24 * length by.images ≡ length orbits.marked.items) orbits.automorphisms.items
 
--- for each table of which the relabellings are automorphisms, and each text: if no text of a start with a mark is before it,
--- no text of a start with a new mark is
+-- for each table of which the relabellings are automorphisms, and each text: if no text of a start with a mark is
+-- before it, no text of a start with a new mark is
 abbrev pub MarksFollow : List Relabelling → List Bool → List Bool → Type 0
 MarksFollow automorphisms marks new =
     (rows : List Row) (text : List ℕ) → IsTable rows → All (IsAutomorphism rows) automorphisms → 24 * length rows ≡ length marks
     → MarkedHaveNoLesserText rows text marks → MarkedHaveNoLesserText rows text new
 
--- the relabelling is the one of the walk from the start to the table that the text spells
+-- by is the relabelling of the traversal from the start to the table that text spells
 abbrev pub IsTextBy : List Row → Start → Relabelling → List ℕ → Type 0
 IsTextBy rows start by text = (new : List Row) × IsWalked rows start by new × Spells text new
 
--- the text and the relabelling are those of a walk
+-- the text and the relabelling are those of a traversal
 abbrev pub IsFound : List Row → Relabelling → List ℕ → Type 0
 IsFound rows by text = (i : ℕ) × (i < 24 * length rows) × IsTextBy rows (numbered_start i) by text
 

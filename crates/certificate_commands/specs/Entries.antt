@@ -1,7 +1,7 @@
--- The greatest of some entries.
+-- The greatest of a list of entries.
 use Rattle.std.specs.Prelude.{ℕ, ◌≤◌, List, All}
 
--- the greatest of a number and of entries
+-- the greatest of least and the entries
 pub record IsGreatestOf (least : ℕ) (entries : List ℕ) (greatest : ℕ) : Type 0 where
   pub from : least ≤ greatest
   pub up_to : All (λ entry. entry ≤ greatest) entries

@@ -1,4 +1,4 @@
--- What the workbench's types stand for.
+-- The values of the workbench's types.
 use Rattle.std.specs.Prelude.{ℕ, List}
 use Rattle.outcome_definitions.specs.Lines.{usage_line, read_line, too_long_line}
 use Rattle.outcome_definitions.specs.Canonical.{different_text}
@@ -7,7 +7,7 @@ use Rattle.command_answers.specs.declared.outcome.Fixed.TheVariants.{Usage, Read
 use Rattle.command_answers.specs.declared.outcome.Text.{Text}
 use Rattle.command_answers.specs.declared.outcome.Text.TheVariants as texts
 
--- the bytes of a text that needs no memory, and of any text
+-- the bytes of a text that needs no allocation, and of any text
 abbrev pub fixed_bytes : Fixed → List ℕ
 fixed_bytes Usage = usage_line
 fixed_bytes ReadFault = read_line

@@ -1,4 +1,4 @@
--- The command line as the parser is told it, and what is read of its matches.
+-- The grammar of the command line as given to the parser, and what is read from its matches.
 use Rattle.std.specs.Prelude.{true, if◌then◌else◌, List, [], ◌∷◌, map, Option, Some, None, codes}
 use Rattle.std.specs.Borrow.{Bor}
 use Rattle.clap.specs.Walk.{Row, Rule, Text, first_of}
@@ -36,7 +36,7 @@ bare_program = record {
 abbrev pub program_with : Command → App
 program_with c = with_subcommand bare_program (subcommand_with c.0 (option_names c.1))
 
--- what the command of a request takes, whatever the request holds
+-- what the command of a request takes, whatever the values of the request
 abbrev pub takes_of : Request → Takes
 takes_of (Verify coords) = (Coordinates ∷ [], Verify)
 takes_of (Surfaces coords order most) = (Coordinates ∷ RowOrder ∷ Limit ∷ [], Surfaces)
@@ -55,7 +55,7 @@ Listed = Bor Text × Request
 abbrev pub listed_command : Listed → Command
 listed_command row = (row.0.now, takes_of row.1)
 
--- the first of these commands that has this name
+-- the first of the commands with this name
 abbrev pub command_among : Text → List Listed → Option Command
 command_among name [] = None
 command_among name (row ∷ rows) = if same_word row.0.now name then Some (listed_command row) else command_among name rows
@@ -65,7 +65,7 @@ abbrev pub command_before : List Text → Option Command
 command_before [] = None
 command_before (w ∷ ws) = command_named w
 
--- the values of the options among what was found
+-- the values of the options among the matches
 abbrev pub values_in : List Row → Values
 values_in found = record {
   coords = first_of (codes "coords") found;
@@ -75,7 +75,7 @@ values_in found = record {
   moves = first_of (codes "moves") found;
 }
 
--- the request of a command that takes this, with what was found for its options, where it was met
+-- the request of a command that takes these options, with the values in the matches, if the command occurs
 abbrev pub request_in : Takes → Option (Text × List Row) → Option Request
 request_in takes None = None
 request_in takes (Some p) = request_with takes (values_in p.1)

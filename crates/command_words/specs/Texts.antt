@@ -7,11 +7,11 @@ abbrev pub AreTexts : List (List ℕ) → Type 0
 AreTexts [] = ⊤
 AreTexts (w ∷ ws) = IsUtf8 w × AreTexts ws
 
--- two hyphens alone
+-- the word of two hyphens
 abbrev pub dashes : List ℕ
 dashes = 45 ∷ 45 ∷ []
 
--- whether a word is `--`
+-- whether one of the words is `--`
 abbrev pub has_dashes : List (List ℕ) → Bool
 has_dashes ws = list_any (λ w. bytes_eq w dashes) ws
 
@@ -32,6 +32,6 @@ is_naming option w = bytes_eq (take (length option) w) option && ends_option (dr
 abbrev pub is_repeated : List (List ℕ) → List ℕ → Bool
 is_repeated ws option = nat_lt 1 (count_by (λ w. is_naming option w) ws)
 
--- whether some option is named by more than one of the words
+-- whether an option is named by more than one of the words
 abbrev pub has_repeats : List (List ℕ) → Bool
 has_repeats ws = list_any (λ option. is_repeated ws option) options

@@ -1,4 +1,4 @@
--- The signatures of parts that are kept, as the definitions see them.
+-- The stored signatures of components, as the definitions see them.
 use Rattle.std.specs.Prelude.{List, map}
 use Rattle.component_laws.specs.Ordered.{Entry}
 use Rattle.component_signature.specs.declared.order.PartSignature.{PartSignature}

@@ -1,4 +1,4 @@
--- When each fault comes.
+-- When each error occurs.
 use Rattle.std.specs.Prelude.{ℕ, ◌<◌, List, [], length, slice_index_or}
 use Rattle.cone_definitions.specs.Rows.{Row, IsZeroAt}
 use Rattle.cone_definitions.specs.Elimination.{HasLargePart, HasPartsWithin}
@@ -9,23 +9,23 @@ use Rattle.cone_arithmetic.specs.declared.ray.CombineFault.TheVariants.{Passed a
 use Rattle.cone_arithmetic.specs.declared.system.SolutionFault.{SolutionFault}
 use Rattle.cone_arithmetic.specs.declared.system.SolutionFault.TheVariants.{Passed, NotZero}
 
--- why two rays aren't combined
+-- why two rays are not combined
 abbrev pub CombineFails : ℕ → ℕ → ℕ → List ℕ → List ℕ → CombineFault → Type 0
 CombineFails limit at_u at_w u w (CombinePassed column) = HasFirstPast limit at_u at_w u w column
 CombineFails limit at_u at_w u w NoMemory = Unit {0}
 
--- why the entries of a sum aren't listed
+-- why the entries of a sum are not listed
 abbrev pub PassesAt : ℕ → List ℕ → CombineFault → Type 0
 PassesAt limit z (CombinePassed column) = IsFirstPast limit z column
 PassesAt limit z NoMemory = Unit {0}
 
--- at the first row that isn't met a part passes the limit
+-- row i is the first that is not 0 at x with parts within the limit, and a part exceeds it
 pub record IsPastAt (limit : ℕ) (rows : List Row) (x : List ℕ) (i : ℕ) : Type 0 where
   pub in_range : i < length rows
   pub earlier : HoldWithinBefore limit rows x i
   pub past : HasLargePart limit (slice_index_or rows i []) x
 
--- or else the row isn't 0 there
+-- row i is the first that is not 0 at x with parts within the limit, and it is not 0
 pub record IsNotZeroAt (limit : ℕ) (rows : List Row) (x : List ℕ) (i : ℕ) : Type 0 where
   pub in_range : i < length rows
   pub earlier : HoldWithinBefore limit rows x i

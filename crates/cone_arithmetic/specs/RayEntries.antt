@@ -1,10 +1,10 @@
--- What holds of the entries of each ray.
+-- What each ray's entries satisfy.
 use Rattle.std.specs.Prelude.{ℕ, ◌<◌, ◌≤◌, ◌^◌, List, length, slice_index}
 use Rattle.cone_definitions.specs.Vectors.{IsNonzero, IsPrimitive}
 use Rattle.cone_arithmetic.specs.declared.entries.Entries.{Entries}
 use Rattle.cone_arithmetic.specs.declared.entries.Entries.TheVariants.{Small, Large}
 
--- entries in 64 bits or in 128 are one list of numbers
+-- the entries as a list of numbers, whether stored in 64 or in 128 bits
 abbrev pub numbers_of : Entries → List ℕ
 numbers_of (Small small) = small.items
 numbers_of (Large large) = large.items

@@ -4,7 +4,7 @@ use Rattle.std.specs.List.{slice_index_or}
 use Rattle.table_definitions.specs.Table.{Gluing, Row}
 use Rattle.surface_definitions.specs.Crushing.{is_removed, number_kept, CrushesTo, renumbered}
 
--- the row of a tetrahedron that stays
+-- the row of a retained tetrahedron
 pub record IsCrushedRow (rows : List Row) (xs : List ℕ) (t : ℕ) (row : Row) : Type 0 where
   pub four_faces : length row ≡ 4
   pub glued : (f : ℕ) (end : Option Gluing) → f < 4 → CrushesTo rows xs (record { tet = t; face = f }) end → slice_index_or row f None ≡ option_map (renumbered xs) end

@@ -1,4 +1,4 @@
--- What is kept of a group.
+-- What a group stores.
 use Rattle.std.specs.Prelude.{◌≡◌, ℕ, ◌<◌, ◌^◌, ◌↔◌, Bool, List, length, Option, None, Vec}
 use Rattle.std.specs.List.{slice_index_or}
 use Rattle.std.specs.declared.alloc.Global.{Global}
@@ -13,6 +13,6 @@ pub record IsKept (tree : List (Option Face)) (generators : List ℕ) (turning :
   pub one_each : length relators ≡ length edges
   pub root : (t : ℕ) → t < length tree → (slice_index_or tree t None ≡ None) ↔ (t ≡ 0)
 
--- the letters of a list that is kept
+-- the letters of a stored list
 abbrev pub letters_of : Vec Letter Global → List Letter
 letters_of v = v.items

@@ -1,4 +1,4 @@
--- Generators over a skeleton, and what is known of them.
+-- Generators over a skeleton.
 use Rattle.std.specs.Prelude.{ℕ, ◌<◌, ◌^◌, List, length}
 use Rattle.skeleton_definitions.specs.Skeleton.{Skeleton, IsSkeleton}
 use Rattle.presentation_definitions.specs.Presentations.{AreGenerators}
@@ -9,7 +9,7 @@ pub record Generators : Type 0 where
   pub skeleton : Skeleton
   pub classes : List ℕ
 
--- with the least face of each class
+-- the generators over s, with the least face of each face class
 pub record AreFound (s : Skeleton) (faces numbers : List ℕ) : Type 0 where
   pub skeleton : IsSkeleton s
   pub firsts : AreLeastFaces s faces

@@ -1,4 +1,4 @@
--- Marks of a search from tetrahedron 0, level by level: a tetrahedron is marked with its distance.
+-- Marks of a breadth-first search from tetrahedron 0: a tetrahedron is marked with its distance.
 use Rattle.std.specs.Prelude.{◌≡◌, ℕ, ◌+◌, ◌<◌, ◌≤◌, ◌⊎◌, ◌↔◌, List, ◌++◌, length, Option, Some, None, Contains, count_by, is_none}
 use Rattle.std.specs.List.{slice_index_or}
 use Rattle.table_definitions.specs.Table.{Gluing, Row, Face, glue}
@@ -8,11 +8,11 @@ use Rattle.presentation_definitions.specs.Trees.{IsDistance}
 abbrev pub mark_of : List (Option ℕ) → ℕ → Option ℕ
 mark_of marks t = slice_index_or marks t None
 
--- how many tetrahedra are not marked
+-- the number of tetrahedra without a mark
 abbrev pub unmarked : List (Option ℕ) → ℕ
 unmarked marks = count_by is_none marks
 
--- a face of the set leads to t
+-- a face of the set is glued to t
 pub record IsBehind (rows : List Row) (Crossed : Face → Type 0) (t : ℕ) : Type 0 where
   pub face : Face
   pub crossed : Crossed face
@@ -20,7 +20,7 @@ pub record IsBehind (rows : List Row) (Crossed : Face → Type 0) (t : ℕ) : Ty
   pub glued : glue rows face ≡ Some gluing
   pub to : gluing.tet ≡ t
 
--- what was not marked behind the faces of a set is marked with a distance and added to a list
+-- the tetrahedra across the faces of the set that had no mark are marked with distance and listed in added
 pub record IsGrown (rows : List Row) (Crossed : Face → Type 0) (distance : ℕ) (old new : List (Option ℕ)) (added : List ℕ) : Type 0 where
   pub one_each : length new ≡ length old
   pub kept : (t j : ℕ) → mark_of old t ≡ Some j → mark_of new t ≡ Some j
@@ -29,13 +29,13 @@ pub record IsGrown (rows : List Row) (Crossed : Face → Type 0) (distance : ℕ
   pub all : (x : Face) (g : Gluing) → Crossed x → glue rows x ≡ Some g → (j : ℕ) × (mark_of new g.tet ≡ Some j)
   pub count : unmarked new + length added ≡ unmarked old
 
--- the same with a list that had something before
+-- IsGrown, with the tetrahedra appended to a list
 pub record HasGrown (rows : List Row) (Crossed : Face → Type 0) (distance : ℕ) (old new : List (Option ℕ)) (pending next : List ℕ) : Type 0 where
   pub added : List ℕ
   pub appended : next ≡ pending ++ added
   pub grown : IsGrown rows Crossed distance old new added
 
--- sets of faces: one face, those of a tetrahedron, those below face f of a tetrahedron, and those of the tetrahedra of a list
+-- sets of faces: one face, the faces of a tetrahedron, its faces below f, and the faces of the tetrahedra of a list
 abbrev pub IsFace : Face → Face → Type 0
 IsFace y x = x ≡ y
 
@@ -48,7 +48,7 @@ IsFaceBelow t f x = (x.tet ≡ t) × (x.face < f)
 abbrev pub IsFaceOfSome : List ℕ → Face → Type 0
 IsFaceOfSome ts x = Contains ts x.tet
 
--- the tetrahedra up to a distance are marked with their distances, and the level has those at this distance
+-- the tetrahedra up to a distance are marked with their distances, and the level has those at that distance
 pub record IsSearched (rows : List Row) (distance : ℕ) (marks : List (Option ℕ)) (level : List ℕ) : Type 0 where
   pub one_each : length marks ≡ length rows
   pub told : (t j : ℕ) → t < length rows → (mark_of marks t ≡ Some j) ↔ (IsDistance rows t j × (j ≤ distance))

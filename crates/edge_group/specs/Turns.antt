@@ -1,4 +1,4 @@
--- Paths of tree faces, and the even gluings on them.
+-- Paths in the maximal tree, and the even gluings on them.
 use Rattle.std.specs.Prelude.{◌≡◌, ℕ, Bool, List, Option}
 use Rattle.table_definitions.specs.Table.{Row, Face}
 use Rattle.presentation_definitions.specs.Trees.{IsTreePath, evens, is_odd_number}
@@ -10,7 +10,7 @@ pub record IsTreeWith (rows : List Row) (faces : List (Option Face)) (marks : Li
   pub tree : IsTree rows faces
   pub distances : AreDistances rows marks
 
--- a path of tree faces to t has an odd number of even gluings, or not
+-- whether the path in the tree to t has an odd number of even gluings
 pub record IsPathOdd (rows : List Row) (t : ℕ) (odd : Bool) : Type 0 where
   pub path : List Face
   pub is_path : IsTreePath rows t path

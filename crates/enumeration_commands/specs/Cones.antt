@@ -1,4 +1,4 @@
--- What reading the document of a cone answers.
+-- What reading the document of a cone returns.
 use Rattle.std.specs.Prelude.{◌≡◌, Result, Ok, Err}
 use Rattle.text_definitions.specs.declared.LexFault.{LexFault}
 use Rattle.cone_text_definitions.specs.ConeText.{Cone, system_of}

@@ -1,8 +1,9 @@
--- The marks of a row of neighbours, in the turn of a search.
+-- The marks of a row of neighbours, in a step of a search.
 use Rattle.std.specs.Prelude.{◌≡◌, ℕ, ◌≤◌, List, [], length, drop, Bool}
 use Rattle.table_walk_laws.specs.Search.{IsSearchStep, AreMembers, work_left}
 
--- those of the numbers of a row that are done are marked, and what was not marked is pending behind the others: turns go on, members are kept, and the work is the same
+-- the numbers of the row in done are marked, and those not marked before are appended to pending: the step of the
+-- search, its members and its measure are unchanged
 pub record IsRowMarked (row done : List ℕ) (before after : List Bool) (pending longer : List ℕ) : Type 0 where
   pub size : length after ≡ length before
   pub behind : length pending ≤ length longer

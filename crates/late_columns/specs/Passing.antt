@@ -1,4 +1,4 @@
--- What it tells that no list is found: the next row's step, at late rays of the rows before, has a number past the greatest entry.
+-- Why no list is found: in a row's step, at the rays of the rows before it, a number exceeds MAX_ENTRY.
 use Rattle.std.specs.Prelude.{◌≡◌, ℕ, ◌⊎◌, List, ◌∷◌, ◌++◌, Bool}
 use Rattle.cone_arithmetic.specs.declared.numbers.TheConstants.{MAX_ENTRY}
 use Rattle.cone_definitions.specs.Rows.{Row}
@@ -11,28 +11,28 @@ use Rattle.late_columns.specs.declared.entering.LateRays.{LateRays}
 use Rattle.late_columns.specs.Late.{AreLate}
 use Rattle.late_columns.specs.Fresh.{oriented}
 
--- a pair is named, the first of the row's step at the rays, with or without all signs turned, whose combination has an entry past the greatest
+-- named is the first pair of the step of the row, or of the negated row, whose combination has an entry above MAX_ENTRY
 pub record PassesAtPair (clashes : ClashData) (row : Row) (rays : List (List ℕ)) (named : Named) : Type 0 where
   pub is_turned : Bool
   pub step : StepData
   pub is : IsStepOf MAX_ENTRY clashes (oriented is_turned row) rays step
   pub passes : IsFirstLargeOf step named
 
--- what is named has a number past the greatest entry: a ray at which a part of the row passes it, or a pair
+-- a ray at which a part of the row exceeds MAX_ENTRY, or a pair at which an entry does
 abbrev pub PassesAt : ClashData → Row → List (List ℕ) → Named → Type 0
 PassesAt clashes row rays named = IsFirstLargeValue MAX_ENTRY row rays named ⊎ PassesAtPair clashes row rays named
 
--- the same at the vertex surfaces of the rows before that have none of the columns not entered yet
+-- PassesAt, at the rays of the rows before that are 0 at each column that has not entered
 pub record PassesBehind (clashes : ClashData) (before : List Row) (row : Row) (named : Named) : Type 0 where
   pub late : LateRays
   pub are_late : AreLate clashes.columns before clashes.pairs late
   pub passes : PassesAt clashes row (rays_of late.ray_list.items) named
 
--- so it is behind any rows that these are late rays of
+-- PassesBehind, for any rows of which late has the rays
 abbrev pub PassesNext : ClashData → Row → LateRays → Named → Type 0
 PassesNext clashes row late named = (before : List Row) → AreLate clashes.columns before clashes.pairs late → PassesBehind clashes before row named
 
--- when some of the first rows were taken, the next row's step has a number past the greatest entry
+-- for some first rows, a number of the next row's step exceeds MAX_ENTRY
 pub record HasPassedStep (clashes : ClashData) (rows : List Row) : Type 0 where
   pub before : List Row
   pub row : Row

@@ -1,4 +1,4 @@
--- Rays with what a row leaves for a column.
+-- Rays with the entry that a row leaves for a column.
 use Rattle.std.specs.Prelude.{◌≡◌, ◌≢◌, ℕ, ◌<◌, ◌≤◌, ◌⊎◌, List, [], ◌∷◌, ◌++◌, length, slice_index, slice_index_or, slice_set, Contains}
 use Rattle.std.specs.List.{All, AllPairs}
 use Rattle.cone_definitions.specs.Vectors.{ray_at}
@@ -9,24 +9,25 @@ use Rattle.ray_steps.specs.declared.signs.Sign.{Sign}
 use Rattle.ray_steps.specs.declared.signs.Sign.TheVariants.{Zero, Positive, Negative}
 use Rattle.ray_steps.specs.Signs.{AreSigns, IsSignedPair, ComesFromPlaces, GivesFrom, IsStepAt}
 
--- what a row leaves for a column in which it has 1: nothing where it is zero, its magnitude where it is negative
+-- the entry that a row with coefficient 1 in a column leaves for it: 0 if the row is zero, its magnitude if it is
+-- negative
 abbrev pub IsLeft : Sign → ℕ → Type 0
 IsLeft Zero left = left ≡ 0
 IsLeft (Positive value) left = ⊥
 IsLeft (Negative value) left = left ≡ value
 
--- the ray has the column, and is 0 there
+-- the column is in range, and the ray is 0 there
 pub record HasRoom (column : ℕ) (kept : RayWithSupport) : Type 0 where
   pub in_range : column < length kept.ray
   pub gone : slice_index kept.ray column ≡ 0
 
--- the ray is appended with what is left for the column, or left out
+-- the ray is appended with the entry that is left for the column, or left out
 abbrev pub AppendsRaised : ℕ → Sign → RayWithSupport → List RayWithSupport → List RayWithSupport → Type 0
 AppendsRaised column Zero kept old new = new ≡ old ++ kept ∷ []
 AppendsRaised column (Positive value) kept old new = new ≡ old
 AppendsRaised column (Negative value) kept old new = (raised : RayWithSupport) × (raised.ray ≡ slice_set kept.ray column value) × (new ≡ old ++ raised ∷ [])
 
--- x is a ray at a place from m on with what is left for the column
+-- x is a ray with index m or more, with the entry that is left for the column
 pub record ComesFromRaised (rays : List (List ℕ)) (signs : List Sign) (column m : ℕ) (x : List ℕ) : Type 0 where
   pub place : ℕ
   pub from : m ≤ place
@@ -35,13 +36,14 @@ pub record ComesFromRaised (rays : List (List ℕ)) (signs : List Sign) (column 
   pub leaves : IsLeft (slice_index_or signs place Zero) left
   pub is : x ≡ slice_set (ray_at rays place) column left
 
--- a step of which no solution so far has the column
+-- a step at which each solution so far is 0 in the column
 pub record IsFreshStepAt (limit : ℕ) (pairs : List Clash) (rays : List (List ℕ)) (signs : List Sign) (column : ℕ) : Type 0 where
   pub step : IsStepAt limit pairs rays signs
   pub in_range : column < step.columns
   pub gone : (x : List ℕ) → IsSolution step.columns step.before x → slice_index x column ≡ 0
 
--- the list has the rays from a place on with what is left for the column and what all pairs give, each once, and nothing else
+-- the list has the rays from index m on with the entry left for the column and the combinations of all pairs, each
+-- once, and nothing else
 pub record IsRaisedFrom (limit : ℕ) (pairs : List Clash) (rays : List (List ℕ)) (signs : List Sign) (column m : ℕ) (next : List (List ℕ)) : Type 0 where
   pub comes : All (λ x. ComesFromRaised rays signs column m x ⊎ ComesFromPlaces limit pairs rays signs (length rays) 0 x) next
   pub keeps : (k left : ℕ) → m ≤ k → k < length rays → IsLeft (slice_index_or signs k Zero) left → Contains next (slice_set (ray_at rays k) column left)

@@ -6,7 +6,7 @@ use Rattle.table_definitions.specs.Places.{is_boundary_edge}
 use Rattle.surface_definitions.specs.QuadEquations.{IsQuadRow}
 use Rattle.cone_definitions.specs.Rows.{Row as EquationRow}
 
--- the row of an inner class stands behind the rows before; a boundary class has none
+-- the row of an internal class is appended; a boundary class has none
 abbrev pub IsRowAppended : List Row → List ℕ → ℕ → List EquationRow → List EquationRow → Type 0
 IsRowAppended rows classes c before now =
     MatchBool (is_boundary_edge rows classes c) (now ≡ before) ((row : EquationRow) × IsQuadRow rows classes c row × (now ≡ before ++ row ∷ []))

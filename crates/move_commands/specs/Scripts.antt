@@ -1,4 +1,4 @@
--- Steps, and the lines of a script's answers.
+-- Steps, and the lines of their results.
 use Rattle.std.specs.Prelude.{◌≡◌, ℕ, List, map, ◌++◌, Vec}
 use Rattle.std.specs.declared.alloc.Global.{Global}
 use Rattle.move_definitions.specs.MoveText as text
@@ -14,10 +14,10 @@ all_steps steps = map step_value steps
 abbrev pub steps_of : Vec Step Global → List text.Step
 steps_of steps = all_steps steps.items
 
--- a step is answered, and the answer is written behind a text
+-- the step is run, and the line of its result is appended to written
 abbrev pub Steps : Session → text.Step → Session → List ℕ → List ℕ → Type 0
 Steps before step after written now = (a : StepAnswer) × IsSessionStep before step a after × (now ≡ written ++ line (step_answer_text a))
 
--- steps are answered one after another, and these are the answers
+-- the steps are run in order, and text has the lines of their results
 abbrev pub Plays : Session → List text.Step → Session → List ℕ → Type 0
 Plays before steps after now = (answers : List StepAnswer) × AreSteps before steps answers after × (now ≡ answers_text answers)

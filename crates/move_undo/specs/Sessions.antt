@@ -10,5 +10,5 @@ session_of s = record { first = first_table s.undos.items s.table; moves = s.mov
 pub record IsKept (s : Inside) : Type 0 where
   pub recorded : Recorded (first_table s.undos.items s.table) s.moves.items s.undos.items s.table
   pub few : length s.moves.items < 2 ^ 32
-  -- each kept move can be played once more without memory
+  -- each recorded move can be played again without an allocation
   pub room : length s.moves.items ≤ vec_capacity s.undos

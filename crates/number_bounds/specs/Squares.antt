@@ -3,11 +3,11 @@ use Rattle.std.specs.Prelude.{◌≡◌, ℕ, ◌^◌, ◌<◌, ◌≤◌, List,
 use Rattle.cone_definitions.specs.Systems.{System}
 use Rattle.cone_square_laws.specs.Squares.{sum_of_squares}
 
--- one number for each column, which is its sum of squares
+-- for each column its sum of squares
 pub record AreSquares (system : System) (squares : List ℕ) : Type 0 where
   pub count : length squares ≡ system.columns
   pub each : (j : ℕ) → slice_index squares j ≡ sum_of_squares system.rows j
 
--- some column's sum of squares passes 2^64 - 1
+-- the sum of squares of a column exceeds 2^64 - 1
 abbrev pub HasHeavyColumn : System → Type 0
 HasHeavyColumn system = (column : ℕ) × (column < system.columns) × (2 ^ 64 ≤ sum_of_squares system.rows column)

@@ -6,10 +6,10 @@ use Rattle.table_definitions.specs.Permutation.{four}
 abbrev pub has_bit : ℕ → ℕ → Bool
 has_bit mask v = ((mask / (2 ^ v)) % 2) == 1
 
--- the vertices whose bits the mask has
+-- the vertices whose bits are set in the mask
 abbrev pub core_of : ℕ → List ℕ
 core_of mask = filter (has_bit mask) four
 
--- the mask of some vertices
+-- the mask of the vertices
 abbrev pub mask_of : List ℕ → ℕ
 mask_of vertices = sum_by (λ v. 2 ^ v) vertices

@@ -1,4 +1,4 @@
--- What is wrong with a vector that is no solution.
+-- Why a vector is no solution.
 use Rattle.cone_arithmetic.specs.declared.system.SolutionFault.{SolutionFault}
 use Rattle.cone_arithmetic.specs.declared.system.SolutionFault.TheVariants.{Passed, NotZero}
 use Rattle.surface_definitions.specs.declared.VectorFault.{VectorFault}

@@ -11,7 +11,7 @@ pub record Masked : Type 0 where
   pub coords : Coords
   pub tets : ℕ
 
--- whether the place of a column in its tetrahedron is `least` or later and has so many places behind it
+-- whether the column has an index of at least least in its tetrahedron, and more than distance columns from it on
 abbrev pub is_marked : Coords → ℕ → ℕ → ℕ → Bool
 is_marked coords least distance column =
     nat_le least (column % columns_each coords) && nat_lt (column % columns_each coords + distance) (columns_each coords)
@@ -30,7 +30,7 @@ pub record AreMasks (coords : Coords) (n : ℕ) (near : List (Vec ℕ Global)) (
   pub near_marks : AreDistanceMasks coords n near
   pub octagon_marks : AreMarks coords n 7 0 octagons
 
--- a column of a mask and the one at its distance ahead are both of a or of b
+-- a column of a mask and the one at its distance ahead both are in the union of a and b
 pub record HasPairAtDistance (near : List (Vec ℕ Global)) (a b : List ℕ) : Type 0 where
   pub place : ℕ
   pub in_range : place < length near

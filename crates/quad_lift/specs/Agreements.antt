@@ -1,18 +1,18 @@
--- Whether heights and quads agree, and what a lift is made of.
+-- Whether heights and quads agree, and the entries of a lift.
 use Rattle.std.specs.Prelude.{◌≡◌, ℕ, ◌+◌, ◌-◌, ◌*◌, ◌/◌, ◌%◌, ◌<◌, ◌≤◌, List, length, nat_lt, slice_index, if◌then◌else◌}
 use Rattle.skeleton_definitions.specs.Links.{vertex_number}
 use Rattle.skeleton_definitions.specs.Skeleton.{Skeleton}
 use Rattle.quad_lift.specs.Crossings.{IsCrossing}
 
--- the heights and the quads add up to the same on both sides of face f at vertex i
+-- height plus quads are equal on both sides of face f at vertex i
 abbrev pub Agrees : Skeleton → List ℕ → List ℕ → ℕ → ℕ → Type 0
 Agrees s xs heights i f = (other up down : ℕ) → IsCrossing s xs i f other up down → slice_index heights i + up ≡ slice_index heights other + down
 
--- so at each face of vertex i
+-- Agrees at each face of vertex i
 abbrev pub AgreesRound : Skeleton → List ℕ → List ℕ → ℕ → Type 0
 AgreesRound s xs heights i = (f : ℕ) → f < 4 → Agrees s xs heights i f
 
--- the least class with a vertex where they don't agree, or the number of classes
+-- the least class with a vertex at which they do not agree, or the number of classes
 pub record IsLeastWrong (s : Skeleton) (xs heights : List ℕ) (least : ℕ) : Type 0 where
   pub within : least ≤ s.vertices.count
   pub before : (i : ℕ) → i < 4 * length s.rows → slice_index s.vertices.classes i < least → AgreesRound s xs heights i
@@ -31,7 +31,7 @@ pub record AreLeastHeights (s : Skeleton) (heights lows : List ℕ) : Type 0 whe
   pub one_each : length lows ≡ s.vertices.count
   pub each : (c : ℕ) → c < s.vertices.count → IsLeastHeight s heights c (slice_index lows c)
 
--- an entry of the lift: of a triangle its height above the least of its class, and else the quads
+-- the entry of the lift: for a triangle its height above the least of its class, otherwise the quads
 abbrev pub lifted_entry : Skeleton → List ℕ → List ℕ → List ℕ → ℕ → ℕ
 lifted_entry s xs heights lows i =
     if nat_lt (i % 7) 4 then slice_index heights (vertex_number (i / 7) (i % 7)) - slice_index lows (slice_index s.vertices.classes (vertex_number (i / 7) (i % 7)))

@@ -7,7 +7,7 @@ use Rattle.skeleton_definitions.specs.Skeleton.{Skeleton}
 use Rattle.surface_definitions.specs.declared.Coords.TheVariants.{Quad}
 use Rattle.surface_definitions.specs.Coordinates.{quad_column, keeping}
 
--- across face f vertex i meets the vertex other, with quads of either side
+-- vertex i is glued across face f to vertex other, with up and down quads on the two sides
 pub record IsCrossing (s : Skeleton) (xs : List ℕ) (i f other up down : ℕ) : Type 0 where
   pub gluing : Gluing
   pub glued : glue s.rows (record { tet = i / 4; face = f }) ≡ Some gluing

@@ -13,7 +13,7 @@ use Rattle.surface_laws.specs.LiftLaws.{AreHeights}
 unfoldable pub vertices_round : List Row → ℕ → List ℕ
 vertices_round rows i = filter_map (λ o. o) (row_at (crossed_vertex rows) i)
 
--- those across the faces before face f
+-- the vertices across the faces of vertex i before face f
 abbrev pub round_before : List Row → ℕ → ℕ → List ℕ
 round_before rows i f = filter_map (λ o. o) (take f (row_at (crossed_vertex rows) i))
 
@@ -21,11 +21,12 @@ round_before rows i f = filter_map (λ o. o) (take f (row_at (crossed_vertex row
 unfoldable pub quads_beside : List ℕ → ℕ → ℕ
 quads_beside xs i = slice_index xs (3 * (i / 4)) + slice_index xs (3 * (i / 4) + 1) + slice_index xs (3 * (i / 4) + 2)
 
--- the quads beside the marked vertices, added
+-- the sum of the quads of the tetrahedra of the marked vertices below n
 unfoldable pub marked_quads : List ℕ → List Bool → ℕ → ℕ
 marked_quads xs marked n = sum_by (λ i. if slice_index_or marked i false then quads_beside xs i else 0) (below n)
 
--- heights are given to the marked vertices: any heights of a class rise from one of its marked vertices to another by as much as these, and no height is far from the first
+-- the marked vertices have heights: between marked vertices of a class any heights differ as these do, and each differs
+-- from the first by at most the quads of the marked vertices
 pub record AreSpread (s : Skeleton) (xs : List ℕ) (marked : List Bool) (heights : List ℕ) : Type 0 where
   pub one_mark : length marked ≡ 4 * length s.rows
   pub one_height : length heights ≡ 4 * length s.rows
@@ -34,7 +35,7 @@ pub record AreSpread (s : Skeleton) (xs : List ℕ) (marked : List Bool) (height
   pub low : (i : ℕ) → IsMarked marked i → 4 * sum xs ≤ slice_index heights i + marked_quads xs marked (4 * length s.rows)
   pub high : (i : ℕ) → IsMarked marked i → slice_index heights i + quads_beside xs i ≤ 4 * sum xs + marked_quads xs marked (4 * length s.rows)
 
--- heights of all vertices, from which any heights of a class differ by one number
+-- heights of all vertices; any heights of a class differ from them by one number
 pub record AreAllSpread (s : Skeleton) (xs heights : List ℕ) : Type 0 where
   pub one_height : length heights ≡ 4 * length s.rows
   pub forced : (i j : ℕ) (h : ℕ → ℕ) → i < 4 * length s.rows → j < 4 * length s.rows → slice_index s.vertices.classes i ≡ slice_index s.vertices.classes j

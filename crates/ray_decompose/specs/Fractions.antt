@@ -1,7 +1,7 @@
 -- The column of the least fraction.
 use Rattle.std.specs.Prelude.{ℕ, ◌≢◌, ◌*◌, ◌<◌, ◌≤◌, List, slice_index}
 
--- of the columns below n at which v isn't 0, the fraction of r by v is least at this one
+-- of the columns below n with a nonzero entry of v, the quotient of r by v is least at this one
 pub record IsLeastColumn (r v : List ℕ) (n column : ℕ) : Type 0 where
   pub in_range : column < n
   pub some : slice_index v column ≢ 0

@@ -1,4 +1,4 @@
--- The texts that are kept.
+-- The stored texts.
 use Rattle.std.specs.Prelude.{ℕ, List, map, Vec}
 use Rattle.std.specs.declared.alloc.Global.{Global}
 

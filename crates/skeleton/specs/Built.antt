@@ -1,4 +1,4 @@
--- All that is kept of a skeleton.
+-- All that a skeleton stores.
 use Rattle.std.specs.Prelude.{◌≡◌, ℕ, Bool, List, length, Option, Vec}
 use Rattle.std.specs.declared.alloc.Global.{Global}
 use Rattle.skeleton_definitions.specs.Corners.{Corner}

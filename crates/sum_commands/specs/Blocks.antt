@@ -11,7 +11,7 @@ use Rattle.sum_commands.specs.declared.blocks.Times.{Times}
 abbrev pub given_terms : Vec Given Global → List Term
 given_terms terms = terms_of terms.items
 
--- how many times a vector is taken, and the terms
+-- the number of times that a vector is taken, and the terms
 abbrev pub sum_of : Times → ℕ × List Term
 sum_of sum = (sum.times, given_terms sum.terms)
 

@@ -1,4 +1,4 @@
--- What a walk through a list tells: each passes, or the first that is refused.
+-- The result of a check of a list: each item is accepted, or the first that is refused.
 use Rattle.std.specs.Prelude.{List, Result, Ok, Err}
 use Rattle.std.specs.List.{All}
 use Rattle.outcome_definitions.specs.Sums.{IsFirstRefused}

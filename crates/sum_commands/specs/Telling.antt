@@ -1,4 +1,4 @@
--- What is answered of the vectors of a document as sums, one after another.
+-- The results for the vectors of a document as sums, one after another.
 use Rattle.std.specs.Prelude.{◌≡◌, ℕ, ◌≤◌, List, ◌++◌, Vec, Result, Ok, Err, slice_index}
 use Rattle.std.specs.declared.alloc.Global.{Global}
 use Rattle.std.specs.List.{All, AllZip}
@@ -14,7 +14,7 @@ use Rattle.outcome_definitions.specs.Outcomes.{Outcome}
 use Rattle.outcome_definitions.specs.Sums.{IsFirstRefused, IsSummed, AreAnswered, sums_text, sums_outcome}
 use Rattle.sum_commands.specs.declared.checks.FirstFault.{FirstFault}
 
--- no entry of the vectors passes the greatest number of a document
+-- no entry of the vectors exceeds the greatest number of a document
 abbrev pub AreInRange : List (List ℕ) → Type 0
 AreInRange vectors = All (λ x. (column : ℕ) → slice_index x column ≤ limit) vectors
 
@@ -22,7 +22,7 @@ AreInRange vectors = All (λ x. (column : ℕ) → slice_index x column ≤ limi
 abbrev pub HaveRays : System → List (List ℕ) → List (List ℕ) → Type 0
 HaveRays system list vectors = All (HasRays system.columns system.rows list) vectors
 
--- the block of a vector is appended, or its sum gets too large
+-- the block of a vector is appended, or its sum exceeds the limit
 abbrev pub AppendsBlock : ℕ → List (List ℕ) → List ℕ → List ℕ → List ℕ → Result (Unit {0}) (Failure LargeTurn) → Type 0
 AppendsBlock most list x before now (Ok done) = (block : Block) × IsSummed most list x (Ok block) × (now ≡ before ++ block_text block)
 AppendsBlock most list x before now (Err (Fault large)) = IsLargeStep most list x large.turn large.column
@@ -34,12 +34,12 @@ pub record AreSummedIn (most : ℕ) (list : List (List ℕ)) (rows : List Row) (
   pub sums : AllZip (λ x block. IsSummed most list x (Ok block)) vectors told
   pub lines : text ≡ sums_text rows told
 
--- the table and the blocks of all vectors, or the first whose sum gets too large
+-- the table and the blocks of all vectors, or the first whose sum exceeds the limit
 abbrev pub WritesBlocks : ℕ → List (List ℕ) → List Row → List (List ℕ) → Result (Vec ℕ Global) (Failure (FirstFault LargeTurn)) → Type 0
 WritesBlocks most list rows vectors (Ok text) = AreSummedIn most list rows vectors text.items
 WritesBlocks most list rows vectors (Err (Fault first)) = IsFirstRefused (IsSummed most list) vectors first.number first.fault
 WritesBlocks most list rows vectors (Err NoMemory) = Unit {0}
 
--- what is answered of the vectors is the outcome
+-- the outcome of the vectors, by the list of vertex surfaces
 abbrev pub IsBlocksOutcome : ℕ → List (List ℕ) → List Row → List (List ℕ) → Outcome → Type 0
 IsBlocksOutcome most list rows vectors o = (told : Result (List Block) (ℕ × LargeTurn)) × AreAnswered (IsSummed most list) vectors told × (o ≡ sums_outcome rows told)

@@ -1,9 +1,9 @@
--- Blocks of supports that stand one after another by their words, and the columns that all supports of a block have.
+-- Blocks of consecutive supports, with the columns that all supports of a block have.
 use Rattle.std.specs.Prelude.{◌≡◌, ℕ, ◌+◌, ◌*◌, ◌/◌, ◌<◌, ◌≤◌, List, length, slice_index}
 use Rattle.std.specs.Int.{bit_at}
 use Rattle.std.specs.Int.Bits.{bit_and}
 
--- how many supports a block has
+-- the number of supports of a block
 abbrev pub block_size : ℕ
 block_size = 32
 

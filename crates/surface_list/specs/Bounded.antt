@@ -1,4 +1,4 @@
--- Whether all numbers of an enumeration of a table's surfaces are within a limit, as far as it is read off beforehand.
+-- Whether all numbers of an enumeration of a table's surfaces are known beforehand to be within a limit.
 use Rattle.std.specs.Prelude.{◌≡◌, ℕ, ◌<◌, ◌≤◌, ◌⊎◌}
 use Rattle.cone_definitions.specs.Systems.{System}
 use Rattle.surface_definitions.specs.declared.Coords.{Coords}
@@ -10,6 +10,6 @@ use Rattle.number_bounds.specs.Triples.{AreTriplesBounded, ArePastTriples}
 abbrev pub AreNumbersBounded : Coords → ℕ → System → ℕ → Type 0
 AreNumbersBounded coords tets system limit = (number_bound coords tets ≤ limit) ⊎ ((coords ≡ Quad) × AreTriplesBounded system limit)
 
--- by neither
+-- neither the number of tetrahedra nor the sums of squares shows it
 abbrev pub AreBothPast : Coords → ℕ → System → ℕ → Type 0
 AreBothPast coords tets system limit = (limit < number_bound coords tets) × (coords ≡ Quad → ArePastTriples system limit)

@@ -1,4 +1,4 @@
--- What an enumeration of a table's surfaces gives, the rows taken in a named order.
+-- The result of an enumeration of a table's surfaces, with the rows processed in a named order.
 use Rattle.std.specs.Prelude.{ℕ, List}
 use Rattle.no_memory.specs.declared.Failure.{Failure}
 use Rattle.no_memory.specs.Failures.{IfFault}

@@ -1,7 +1,7 @@
--- The piece across an arc.
+-- The disc across an arc.
 use Rattle.std.specs.Prelude.{ℕ, Bool}
 
--- the number of the piece, and which signs are kept at the arc
+-- the number of the disc, and which signs are equal on both sides of the arc
 pub record Across : Type 0 where
   pub piece : ℕ
   pub keeps_sides : Bool

@@ -1,4 +1,4 @@
--- What is known of tables that are read and not kept.
+-- What is known of tables that are read and not stored.
 use Rattle.std.specs.Prelude.{◌≡◌, ℕ, ◌<◌, ◌≤◌, List, [], ◌∷◌, ◌++◌, length, Option, Some, None, Result, Ok, Err}
 use Rattle.text_definitions.specs.Reading.{Reading, Fails}
 use Rattle.table_definitions.specs.Table.{Row, IsTable}
@@ -18,7 +18,7 @@ pub record AreClassed (tables : List (List Row)) (classes : List ℕ) (signature
   pub connected : AreConnected tables (length tables)
   pub census : IsCensus tables classes signatures
 
--- the first table that isn't connected, and its least unreached tetrahedron
+-- the first disconnected table, and its least tetrahedron not reached from tetrahedron 0
 pub record IsFirstFound (tables : List (List Row)) (found : NotConnected) : Type 0 where
   pub in_range : found.table < length tables
   pub before : AreConnected tables found.table
@@ -35,7 +35,7 @@ pub record AreGrouped (tables : List (List Row)) (groups : Groups) : Type 0 wher
   pub few_signatures : length groups.census ≤ length tables
   pub grouped : AreGroupedBy tables groups.classes.items groups.census groups.found
 
--- one more table was read, and is known of
+-- one more table is read and added
 pub record GroupsOneMore (read : Result (List Row × Reading) InputFault) (left : Reading) (before now : Groups) : Type 0 where
   pub rows : List Row
   pub read_so : read ≡ Ok (rows, left)
@@ -45,7 +45,7 @@ abbrev pub GivesOneMore : Result (Unit {0}) InputFault → Result (List Row × R
 GivesOneMore (Ok u) read left before now = GroupsOneMore read left before now
 GivesOneMore (Err e) read left before now = Fails NoMemory e read
 
--- all tables were read, and are known of
+-- all tables are read and added
 abbrev pub GivesGroups : Result Groups InputFault → Reading → Result (List (List Row) × Reading) InputFault → Type 0
 GivesGroups (Ok groups) left read = (tables : List (List Row)) × (read ≡ Ok (tables, left)) × AreGrouped tables groups
 GivesGroups (Err e) left read = Fails NoMemory e read

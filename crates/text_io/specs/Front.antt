@@ -1,4 +1,4 @@
--- What stands first on the rest of a line.
+-- The beginning of the rest of a line.
 use Rattle.std.specs.Prelude.{◌≡◌, ℕ, ◌+◌, ◌<◌, List, [], ◌∷◌, length, if◌then◌else◌}
 use Rattle.text_definitions.specs.Text.{Token, word, stray, is_blank, tokens_from}
 use Rattle.text_io.specs.declared.front.Front.{Front}
@@ -9,7 +9,7 @@ abbrev pub drop_blanks : List ℕ → List ℕ
 drop_blanks [] = []
 drop_blanks (b ∷ bs) = if is_blank b then drop_blanks bs else b ∷ bs
 
--- what stands first in bytes that begin in column c, and the column at where it stands
+-- what comes first in bytes that begin in column c, and the column at in which it begins
 abbrev pub IsFront : ℕ → List ℕ → ℕ → Front → Type 0
 IsFront c bytes at End = (tokens_from c bytes ≡ []) × (at ≡ c + length bytes)
 IsFront c bytes at Stray = ((ts : List Token) × (tokens_from c bytes ≡ stray at ∷ ts)) × (at < c + length bytes)

@@ -1,4 +1,4 @@
--- What a lexer's fields stand for.
+-- What a lexer's fields represent.
 use Rattle.std.specs.Prelude.{◌+◌, ◌≤◌, length}
 use Rattle.text_definitions.specs.Text.{max_text, tokens_from, lines_from, pieces}
 use Rattle.text_definitions.specs.Reading.{Reading}
@@ -13,7 +13,7 @@ left_to_read a = record {
   taken = a.taken;
 }
 
--- no number of a line or column passes its type
+-- no number of a line or column exceeds its type
 pub record Fits (a : Inside) : Type 0 where
   pub lines : a.number + length a.later.now ≤ max_text
   pub columns : a.column + length a.line.now ≤ max_text + 1

@@ -3,7 +3,7 @@ use Rattle.std.specs.Prelude.{◌≡◌, ℕ, ◌+◌, ◌≤◌, List, ◌∷�
 use Rattle.text_definitions.specs.Text.{pieces, line_of, lines_from}
 use Rattle.text_io.specs.declared.lines.FoundLine.{FoundLine}
 
--- this is the first line in the bytes before which line n stands
+-- the line is the first one in bytes, which line n precedes
 abbrev pub IsFirstLine : ℕ → List ℕ → FoundLine → Type 0
 IsFirstLine n bytes found =
     (lines_from (n + 1) (pieces bytes) ≡ line_of found.number found.line.now ∷ lines_from (found.number + 1) (pieces found.later.now))

@@ -1,4 +1,4 @@
--- What stands for the tetrahedra of a table before a step, once the move back is played.
+-- The images of the tetrahedra of a table before a step, in the table after the inverse move.
 use Rattle.std.specs.Prelude.{◌≡◌, ℕ, ◌+◌, ◌-◌, ◌<◌, List, filter, map, length, not, ◌==◌, nat_lt, Option, Some, None, find, slice_index, All, if◌then◌else◌}
 use Rattle.table_definitions.specs.Lists.{below, rank_without}
 use Rattle.table_definitions.specs.Permutation.{IsPermutationOfFour}
@@ -8,16 +8,17 @@ use Rattle.move_definitions.specs.Moves.{Move, Facet, old_facets, kept, inverse_
 use Rattle.certificate_definitions.specs.CarriedMoves.{move_under, label_under, by_labels}
 use Rattle.tri_build.specs.Steps.{PlayedMove}
 
--- The label, in the inverse of a move whose core has so many vertices, of the vertices that have label l in the move. The
--- facets that were taken out come first, and that of label 0 is the tetrahedron of the inverse.
+-- the label, in the inverse of a move whose core has size vertices, of the vertices with label l in the move; the
+-- removed facets come first, and that of label 0 is the tetrahedron of the inverse
 abbrev pub inverse_label : ℕ → ℕ → ℕ
 inverse_label size l = if nat_lt l size then (if l == 0 then 4 else l + (4 - size)) else l - size
 
--- the label, in the move back, to which label l of a step corresponds
+-- the label of the inverse move that corresponds to label l of a step
 abbrev pub label_back : PlayedMove → Relabelling → ℕ → ℕ
 label_back step on l = label_under on (inverse_move step.tets step.played) (inverse_label (length step.played.core) l)
 
--- the move back, how many tetrahedra it keeps, the facets that it takes out, and the labels to which those of the step correspond
+-- the inverse move, the number of tetrahedra that it retains, the facets that it removes, and its label that
+-- corresponds to each label of the step
 pub record Back : Type 0 where
   pub played : Move
   pub kept : ℕ
@@ -30,15 +31,15 @@ pub record IsBack (step : PlayedMove) (now : List Row) (on : Relabelling) (back 
   pub facets : back.facets ≡ old_facets now back.played
   pub labels : back.labels ≡ map (label_back step on) (below 5)
 
--- the number of a tetrahedron once facets are taken out
+-- the number of tetrahedron t after facets are removed
 abbrev pub number_without : List Facet → ℕ → ℕ
 number_without facets t = rank_without (map (λ (f : Facet). f.tet) facets) t
 
--- the facet that is put in for a label behind so many tetrahedra
+-- the new facet that lacks label j, if kept tetrahedra are retained
 abbrev pub put_in : ℕ → ℕ → Facet
 put_in kept j = record { tet = kept + j; missing = j; labels = filter (λ l. not (l == j)) (below 5) }
 
--- what stands for a tetrahedron that the step kept, and for one that it took out
+-- the image of a tetrahedron that the step retained, and of one that it removed
 abbrev pub retained_stands : PlayedMove → Back → Relabelling → ℕ → Gluing
 retained_stands step back on t =
     record { tet = number_without back.facets (relabelled_place on (number_without step.facets t)).tet; perm = (relabelled_place on (number_without step.facets t)).perm }
@@ -53,7 +54,7 @@ stands_by step back on t (Some f) = facet_stands back f
 abbrev pub stands_at : PlayedMove → Back → Relabelling → ℕ → Gluing
 stands_at step back on t = stands_by step back on t (find (λ (f : Facet). f.tet == t) step.facets)
 
--- a facet whose labels correspond to those of another
+-- the facet has labels, and its image is a permutation
 pub record CanStand (back : Back) (f : Facet) : Type 0 where
   pub missing : f.missing < 5
   pub labels : All (λ l. l < 5) f.labels
@@ -66,7 +67,7 @@ CanStandBy step back on t (Some f) = CanStand back f
 abbrev pub CanStandAt : PlayedMove → Back → Relabelling → ℕ → Type 0
 CanStandAt step back on t = CanStandBy step back on t (find (λ (f : Facet). f.tet == t) step.facets)
 
--- the relabelling by which each tetrahedron goes to what stands for it
+-- the relabelling that maps each tetrahedron to its image
 pub record IsImageRelabelling (step : PlayedMove) (back : Back) (on : Relabelling) (by : Relabelling) : Type 0 where
   pub relabels : IsRelabelling step.tets by
   pub can : (t : ℕ) → t < step.tets → CanStandAt step back on t

@@ -6,6 +6,6 @@ use Rattle.surface_definitions.specs.Crushing.{IsCrushed}
 use Rattle.outcome_definitions.specs.declared.Status.TheVariants.{Done}
 use Rattle.outcome_definitions.specs.Outcomes.{Outcome}
 
--- the table crushed along a vector is told
+-- the outcome is the table crushed along a vector
 abbrev pub IsCrushOutcome : List Row → List ℕ → Outcome → Type 0
 IsCrushOutcome rows xs o = (new : List Row) × IsCrushed rows xs new × (o ≡ record { status = Done; text = table_text new })

@@ -1,4 +1,4 @@
--- What a run that is done has printed, command by command.
+-- What a run with status Done has printed, command by command.
 use Rattle.std.specs.Prelude.{◌≡◌, ◌⊎◌, ◌≤◌, ℕ, List, [], map, length, Option, Result, Ok, IfSome, codes}
 use Rattle.text_io.specs.Causes.{Grows}
 use Rattle.signature_definitions.specs.declared.InputFault.{InputFault}
@@ -21,8 +21,8 @@ use Rattle.outcome_definitions.specs.Outcomes.{Outcome}
 use Rattle.outcome_definitions.specs.Enumerations.{listing, large_outcome, ray_enumeration}
 use Rattle.outcome_definitions.specs.Answers.{most_bytes}
 
--- The input spells a table, and exactly the primitive vectors that lie on extreme rays of the solution cone of its
--- equations and meet the quadrilateral condition were printed, each once, in lexicographic order.
+-- The input is a table, and exactly the primitive vectors on extreme rays of the solution cone of its equations that
+-- satisfy the quadrilateral condition were printed, each once, in lexicographic order.
 pub record PrintsSurfaces (coords : Coords) (bytes : List ℕ) (before now : Option (List ℕ)) : Type 0 where
   pub rows : List Row
   pub spelled : table_document bytes ≡ Ok rows
@@ -49,8 +49,8 @@ pub record PrintsVerdicts (coords : Coords) (bytes : List ℕ) (before now : Opt
   pub of_table : AreEquations coords rows equations
   pub printed : Grows before now (verdicts_text (map (verdict_in coords rows equations) vectors))
 
--- The vertex surfaces of a table were printed: exactly the primitive vectors that lie on extreme rays of the solution cone of
--- its equations and meet the quadrilateral condition, each once, in lexicographic order.
+-- The vertex surfaces of a table were printed: exactly the primitive vectors on extreme rays of the solution cone of
+-- its equations that satisfy the quadrilateral condition, each once, in lexicographic order.
 pub record ListsSurfaces (coords : Coords) (rows : List Row) (status : Status) (before now : Option (List ℕ)) : Type 0 where
   pub done : status ≡ Done
   pub equations : List EquationRow
@@ -59,7 +59,7 @@ pub record ListsSurfaces (coords : Coords) (rows : List Row) (status : Status) (
   pub surfaces : IsSurfaceList (columns coords (length rows)) equations (clash_list coords (length rows)) list
   pub printed : Grows before now (listing (codes "surfaces") list)
 
--- the first step of an enumeration of which a number passes the limit was named, with the ray or the pair of rays
+-- the first step of an enumeration at which a number exceeds the limit was named, with the ray or the pair of rays
 pub record NamesLarge (e : Enumeration) (status : Status) (before now : Option (List ℕ)) : Type 0 where
   pub large : status ≡ Large
   pub taken : List ℕ
@@ -67,11 +67,11 @@ pub record NamesLarge (e : Enumeration) (status : Status) (before now : Option (
   pub past : IsPastLimit e taken kind
   pub named : Grows before now (large_outcome taken kind).text
 
--- the source failed, the sink failed, or memory ran out; each comes where its own clause says
+-- the source failed, the sink failed, or memory ran out; each has a clause of its own
 abbrev pub IsCutShort : Status → Type 0
 IsCutShort status = (status ≡ ReadFault) ⊎ (status ≡ WriteFault) ⊎ (status ≡ NoMemory)
 
--- the answer of `surfaces` to a table, or what came in its place
+-- the answer of `surfaces` for a table, or a number that exceeds the limit is named, or the run was cut short
 abbrev pub AnswersSurfaces : Coords → Order → ℕ → List Row → Status → Option (List ℕ) → Option (List ℕ) → Type 0
 AnswersSurfaces coords order most rows status before now = ListsSurfaces coords rows status before now
     ⊎ ((equations : List EquationRow) × AreEquations coords rows equations × NamesLarge (table_enumeration coords order most rows equations) status before now)
@@ -84,7 +84,7 @@ pub record ListsRays (cone : ConeText) (status : Status) (before now : Option (L
   pub rays : IsSurfaceList (system_of cone).columns (system_of cone).rows [] list
   pub printed : Grows before now (listing (codes "rays") list)
 
--- the answer of `rays` to a cone, or what came in its place
+-- the answer of `rays` for a cone, or a number that exceeds the limit is named, or the run was cut short
 abbrev pub AnswersRays : Order → ℕ → ConeText → Status → Option (List ℕ) → Option (List ℕ) → Type 0
 AnswersRays order most cone status before now =
     ListsRays cone status before now ⊎ NamesLarge (ray_enumeration order most cone) status before now ⊎ IsCutShort status
@@ -93,7 +93,7 @@ AnswersRays order most cone status before now =
 abbrev pub Writes : (Outcome → Type 0) → Status → Option (List ℕ) → Option (List ℕ) → Type 0
 Writes IsMeant status before now = ((o : Outcome) × IsMeant o × (status ≡ o.status) × Grows before now o.text) ⊎ IsCutShort status
 
--- where the source tells its bytes, and these are such a document, an outcome was written that says this of what was read, or the
+-- if the source's bytes are visible and are a document of this kind, an outcome with the property was written, or the
 -- run was cut short
 abbrev pub WritesOf : {A : Type 0} → (List ℕ → Result A InputFault) → (A → Outcome → Type 0) → Option (List ℕ) → Status → Option (List ℕ) → Option (List ℕ) → Type 0
 WritesOf {A} document IsMeant left status before now =

@@ -1,4 +1,4 @@
--- What a run answers, over what is read and what is written.
+-- The effect of a run on the source and the sink, and its status.
 use Rattle.std.specs.Prelude.{◌≡◌, ◌↔◌, ℕ, ◌-◌, ◌^◌, ◌<◌, ◌≤◌, ◌+◌, true, false, List, [], length, take, Option, Some, None, ◌⊎◌, ⊤, IfSome}
 use Rattle.text_io.specs.Causes.{Grows, Rose, IsEnded}
 use Rattle.outcome_definitions.specs.declared.Status.{Status}
@@ -14,7 +14,7 @@ use Rattle.outcome_definitions.specs.Answers.{IsOutcome, IsAnswerTo, IsRequestOu
 abbrev pub Answers : Status → Status → Type 0
 Answers result status = (result ≡ status) ⊎ (result ≡ WriteFault) ⊎ (result ≡ NoMemory)
 
--- neither the source nor the sink failed, and memory was there
+-- neither the source nor the sink failed, and memory did not run out
 abbrev pub IsAnswered : Status → Type 0
 IsAnswered ReadFault = ⊥
 IsAnswered WriteFault = ⊥
@@ -25,20 +25,20 @@ IsAnswered Input = ⊤
 IsAnswered Refused = ⊤
 IsAnswered Large = ⊤
 
--- a count stands still, if it didn't stand at its type's end
+-- the count did not grow, unless it was 2^64 - 1 before
 abbrev pub IsCalm : ℕ → ℕ → Type 0
 IsCalm before now = before < 2 ^ 64 - 1 → now ≡ before
 
--- the source gave no more bytes than an input may have
+-- the source returned no more bytes than an input may have
 abbrev pub IsWithinInputLimit : Option (List ℕ) → Option (List ℕ) → Type 0
 IsWithinInputLimit before now = IfSome before (λ bytes. IfSome now (λ rest. length bytes ≤ length rest + most_bytes))
 
--- the source failed, and that is told
+-- the source failed, and the outcome reports it
 pub record IsReadFault (before now : ℕ) (o : Outcome) : Type 0 where
   pub rose : Rose before now
   pub outcome : o ≡ read_outcome
 
--- the source gave the input, if one was read, and the outcome is that of the request and of the input
+-- the source returned the input, if one was read, and the outcome is that of the request and the input
 pub record IsReadWell (request : Request) (left rest : Option (List ℕ)) (before now : ℕ) (o : Outcome) : Type 0 where
   pub outcome : IfSome left (λ bytes. IsRequestOutcome request bytes o)
   pub alone : reads_input request ≡ false → IsAnswerTo request [] o
@@ -50,33 +50,33 @@ pub record IsReadWell (request : Request) (left rest : Option (List ℕ)) (befor
 abbrev pub IsResponse : Request → Option (List ℕ) → Option (List ℕ) → ℕ → ℕ → Outcome → Type 0
 IsResponse request left rest before now o = IsReadFault before now o ⊎ IsReadWell request left rest before now o
 
--- memory ran out before the source failed or gave too much
+-- memory ran out before the source failed or returned too many bytes
 pub record IsWithoutMemory (left rest : Option (List ℕ)) (before now : ℕ) : Type 0 where
   pub calm : IsCalm before now
   pub within : IsWithinInputLimit left rest
 
--- a prefix of a text was appended, and not all of it
+-- a proper prefix of the text was appended
 abbrev pub IsCutOff : Option (List ℕ) → Option (List ℕ) → List ℕ → Type 0
 IsCutOff before now text = (n : ℕ) × (n < length text) × Grows before now (take n text)
 
--- the outcome of the words alone, where they ask for nothing or for a command that reads nothing
+-- the outcome of the words alone, if they are not accepted or are a command that reads no input
 abbrev pub IsOutcomeAlone : Option Request → Outcome → Type 0
 IsOutcomeAlone None o = o ≡ usage_outcome
 IsOutcomeAlone (Some request) o = reads_input request ≡ false → IsAnswerTo request [] o
 
--- What is to be written: that the source failed, exactly where its count rose, and otherwise the outcome of the words and
--- of the input, if the source tells it, or of the words alone.
+-- the text to be written: the line of a failed read if the source's count grew; otherwise the outcome of the words and
+-- of the input, if the source's bytes are visible, or of the words alone
 abbrev pub IsToBeWritten : List (List ℕ) → Option (List ℕ) → ℕ → ℕ → Outcome → Type 0
 IsToBeWritten words left before now o = IsReadFault before now o
     ⊎ (IsCalm before now × IfSome left (λ bytes. IsOutcome words bytes o) × IsOutcomeAlone (accepted_request words) o)
 
--- an outcome was written whole, or cut off where the sink failed
+-- an outcome was written whole, or cut off because the sink failed
 abbrev pub IsDelivered : Outcome → Status → Option (List ℕ) → Option (List ℕ) → ℕ → ℕ → Type 0
 IsDelivered o result before now faults_before faults_now = ((result ≡ o.status) × Grows before now o.text × IsCalm faults_before faults_now)
     ⊎ ((result ≡ WriteFault) × IsCutOff before now o.text × Rose faults_before faults_now)
 
--- What holds of each run, whatever is asked: of its words and its status, of the source before and after, with the bytes that it
--- has left and its count of faults, and of the sink, with the bytes that it holds and its count.
+-- What holds for each run of any command: of its words and its status, of the source before and after, with its bytes
+-- left and its count of failures, and of the sink, with the bytes that it holds and its count.
 pub record IsRun {X Y : Type 0} (words : List (List ℕ)) (result : Status) (source read : X) (left rest : Option (List ℕ)) (faults read_faults : ℕ)
     (sink written : Y) (held grown : Option (List ℕ)) (sink_faults write_faults : ℕ) : Type 0 where
   pub usage : accepted_request words ≡ None → Answers result Usage × (read ≡ source)
