@@ -14,7 +14,8 @@ AreBelow n order = (i : ℕ) → i < length order → (start_at order i).tet < n
 abbrev pub IsVisited : List Start → ℕ → Type 0
 IsVisited order t = (i : ℕ) × (i < length order) × ((start_at order i).tet ≡ t)
 
--- a relabelling of n tetrahedra maps each start of the order to its index, and a gluing of the tetrahedron of from to wanted
+-- a relabelling of n tetrahedra maps each start of the order to its index, and a gluing of the tetrahedron of from to
+-- wanted
 pub record Becomes (n : ℕ) (order : List Start) (from : Start) (g wanted : Gluing) (by : Relabelling) : Type 0 where
   pub in_range : g.tet < n
   pub from_permutes : IsPermutationOfFour from.perm
@@ -27,6 +28,7 @@ pub record Becomes (n : ℕ) (order : List Start) (from : Start) (g wanted : Glu
 abbrev pub AgreesGlued : ℕ → List Start → List Start → Start → Gluing → Gluing → Bool → Type 0
 AgreesGlued n order after from g wanted agrees = (by : Relabelling) → Becomes n order from g wanted by → (agrees ≡ true) × Numbers after by
 
--- each relabelling that carries the rows to the target, and maps each start of the order to its index, agrees, and maps the new order so too
+-- each relabelling that carries the rows to the target, and maps each start of the order to its index, agrees, and maps
+-- the new order so too
 abbrev pub Agrees : List Row → List Row → List Start → List Start → Bool → Type 0
 Agrees rows target order after agrees = (by : Relabelling) → Relabels rows target by → Numbers order by → (agrees ≡ true) × Numbers after by

@@ -286,8 +286,8 @@ fn order(first: &[u8], second: &[u8]) -> Option<bool>
 }
 
 /// Whether the text of the traversal from `start` comes before `bound`, or `None` if the two are equal. If it does not
-/// come before `bound`, the number of faces read is bounded as for `lesser`. For a disconnected table, which has no such
-/// text, any result may come.
+/// come before `bound`, the number of faces read is bounded as for `lesser`. For a disconnected table, which has no
+/// such text, any result may come.
 pub fn compare(
     alloc: Global,
     probe: &mut Probe<'_>,

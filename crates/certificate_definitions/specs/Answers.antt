@@ -27,8 +27,8 @@ sphere_text = codes "bkaagj"
 abbrev pub CheckAnswer : Type 0
 CheckAnswer = Result (Unit {0}) (CheckFault (List ℕ))
 
--- The moves are a certificate; or the first move that is refused, by its place from 1; or the last table has a tetrahedron
--- that isn't reached; or it has this signature, which isn't that of the standard sphere.
+-- The moves are a certificate; or the first move that is refused, by its place from 1; or the last table has a
+-- tetrahedron that isn't reached; or it has this signature, which isn't that of the standard sphere.
 abbrev pub IsChecked : List Row → List Move → CheckAnswer → Type 0
 IsChecked rows moves (Ok u) = IsCertificate rows moves
 IsChecked rows moves (Err (Illegal step fault)) = IsRefusedAt rows moves step fault

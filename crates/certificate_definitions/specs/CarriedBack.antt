@@ -1,4 +1,5 @@
--- The way back from the table that was made: for each step its inverse move, carried to the table to which the later ones led.
+-- The way back from the table that was made: for each step its inverse move, carried to the table to which the later
+-- ones led.
 use Rattle.std.specs.Prelude.{◌≡◌, ℕ, ◌<◌, ◌≤◌, Bool, false, ◌&&◌, List, [], ◌∷◌, ◌++◌, length, map, ◌==◌, Option, Some, find, slice_index, IsTrue}
 use Rattle.std.specs.List.{list_all}
 use Rattle.table_definitions.specs.Lists.{below, has}
@@ -16,18 +17,18 @@ facet_at rows m t = find (λ (f : Facet). f.tet == t) (old_facets rows m)
 abbrev pub is_renaming : List ℕ → Bool
 is_renaming labels = (length labels == 5) && list_all (has labels) (below 5)
 
--- The labels of a step m correspond to those of the move that is played back on `now`, each once: the label at a vertex of a
--- facet that the step put in corresponds to the label at the vertex to which this one goes, and so a label that no such facet
--- has corresponds to the one that is left.
+-- The labels of a step m correspond to those of the move that is played back on `now`, each once: the label at a vertex
+-- of a facet that the step put in corresponds to the label at the vertex to which this one goes, and so a label that no
+-- such facet has corresponds to the one that is left.
 pub record Correspond (old : List Row) (m : Move) (now : List Row) (back : Move) (on : Relabelling) (labels : List ℕ) : Type 0 where
   pub each_once : IsTrue (is_renaming labels)
   pub held : (j : ℕ) → j < length m.core
       → (f : Facet) × (facet_at now back (relabelled_place on (new_facet old m j).tet).tet ≡ Some f)
       × ((v : ℕ) → v < 4 → slice_index labels (image (new_facet old m j).labels v) ≡ image f.labels (image (relabelled_place on (new_facet old m j).tet).perm v))
 
--- The relabelling `by` of the table before step m, made from the relabelling `on` of the table behind it, which carries that
--- to `now`. A tetrahedron that the step kept goes where what it became goes, and one that it took out, which lacks a label,
--- to the facet that is put in for the corresponding label, each vertex to the one with the corresponding label.
+-- The relabelling `by` of the table before step m, made from the relabelling `on` of its result, which carries that to
+-- `now`. A retained tetrahedron is mapped as `on` maps what it becomes. A removed one, which lacks a label, is mapped
+-- to the new facet for the corresponding label, each vertex to the vertex with the corresponding label.
 pub record IsCarriedBack (old : List Row) (m : Move) (now : List Row) (back : Move) (on by : Relabelling) : Type 0 where
   pub labels : List ℕ
   pub correspond : Correspond old m now back on labels
@@ -45,8 +46,8 @@ staying n = record { images = below n; perms = map (λ t. identity) (below n) }
 abbrev pub move_back : List Row → Move → Relabelling → Move
 move_back old m on = move_under on (inverse_move (length old) m)
 
--- The moves lead from a table to the last one; the moves back, from the last step to the first, lead from there to `end`, to
--- which the relabelling carries the table.
+-- The moves lead from a table to the last one; the moves back, from the last step to the first, lead from there to
+-- `end`, to which the relabelling carries the table.
 abbrev pub AreCarriedBack : List Row → List Move → List Row → List Move → List Row → Relabelling → Type 0
 AreCarriedBack rows [] last back end by = (rows ≡ last) × (back ≡ []) × (end ≡ last) × (by ≡ staying (length last))
 AreCarriedBack rows (m ∷ ms) last back end by =

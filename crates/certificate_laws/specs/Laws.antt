@@ -11,8 +11,8 @@ use Rattle.certificate_definitions.specs.CarriedBack.{IsCarriedBack, move_back, 
 use Rattle.certificate_definitions.specs.Makings.{IsMade}
 use Rattle.certificate_definitions.specs.Answers.{CheckAnswer, IsChecked, sphere_text, Descended, IsDescended, DescentAnswer, IsDescentAnswer}
 
--- where a relabelling carries the table, the move that stands for a legal move is legal, and leads to what stands for the
--- table to which that one leads
+-- Theorem: under a relabelling of the table, the move that corresponds to a legal move is legal, and its result
+-- corresponds to the result of that move
 abbrev pub MovesGoOn : Type 0
 MovesGoOn =
     (by : Relabelling) (old other : List Row) (m : Move) (new : List Row) → IsTable old → IsRelabelling (length old) by → Carries by old other → IsMoved old m new
@@ -24,7 +24,7 @@ MovesGoOnOnce =
     (by : Relabelling) (old other : List Row) (m : Move) (new : List Row) (on on' : Relabelling) → IsTable old → IsRelabelling (length old) by → Carries by old other → IsMoved old m new
     → IsRelabelling (length new) on → IsRelabelling (length new) on' → CarriesAfterMove by old m other on → CarriesAfterMove by old m other on' → on ≡ on'
 
--- where a relabelling carries the table, a move is legal exactly if the move that stands for it is
+-- under a relabelling of the table, a move is legal if and only if the corresponding move is
 abbrev pub IsLegalAlong : Relabelling → List Row → List Row → Type 0
 IsLegalAlong by old other = (m : Move) → m.tet < length old → IsCore m.core → (move_fault old m ≡ None) ↔ (move_fault other (move_under by m) ≡ None)
 
@@ -84,7 +84,7 @@ SphereIsTable = IsTable standard_sphere
 abbrev pub SphereHasSignature : Type 0
 SphereHasSignature = IsSignature standard_sphere sphere_text
 
--- which tells what is standard
+-- Theorem: a table is isomorphic to the standard sphere if and only if its signature is this one
 abbrev pub TextsTellStandard : Type 0
 TextsTellStandard = (rows : List Row) (text : List ℕ) → IsTable rows → IsSignature rows text → (text ≡ sphere_text) ↔ IsStandard rows
 

@@ -37,7 +37,7 @@ MakingsAreDone =
     (most : ℕ) (first : Stage) (moves : List Move) (now : Stage) → MakesSoFar first moves now → length moves ≤ most → (length moves ≡ most) ⊎ (candidates now.table ≡ [])
     → IsMaking most first.state first.table moves now.table
 
--- a way back, from the last move to the first
+-- a list of inverse moves, from the last move to the first
 abbrev pub WaysBackGoOn : Type 0
 WaysBackGoOn =
     (rows next : List Row) (moves : List Move) (k : ℕ) (m : Move) (last : List Row) (back : List Move) (now : List Row) (on : Relabelling) (end : List Row) (by : Relabelling)

@@ -18,7 +18,8 @@ CandidatesAreThere = (rows : List Row) → 0 < length rows → length rows + 3 �
 abbrev pub PlaysAddFew : Type 0
 PlaysAddFew = (rows : List Row) (moves : List Move) (last : List Row) → 0 < length rows → PlaysAll rows moves last → (0 < length last) × (length last ≤ length rows + 3 * length moves)
 
--- a making has as many moves as are asked for, or ends where three tetrahedra more are past the limit
+-- a making has as many moves as requested, or ends with a table to which three tetrahedra cannot be added within the
+-- limit
 abbrev pub MakingsEndAtLimit : Type 0
 MakingsEndAtLimit = (most state : ℕ) (rows : List Row) (moves : List Move) (last : List Row) → 0 < length rows → IsMaking most state rows moves last →
     (length moves ≡ most) ⊎ (max_tets < length last + 3)

@@ -6,7 +6,8 @@ use Rattle.command_definitions.specs.declared.Request.{Request}
 use Rattle.command_definitions.specs.declared.Request.TheVariants.{Verify, Info, Surfaces, Rays, Describe, Lift, Crush, Play, Sig, Same, Group, Check, Descend, Make, Bulk, Decompose, Addup, Cover, Pi1, Csig, Csame}
 use Rattle.command_definitions.specs.Requests.{most_moves, most_bulk_moves}
 
--- The kinds of options. Of coordinates there are any, and those in which surfaces have pieces; of moves, up to a number.
+-- The kinds of options. Of coordinates there are any, and those in which surfaces have pieces; of moves, up to a
+-- number.
 pub data Kind : Type 0 where
   Coordinates : Kind
   PieceCoordinates : Kind

@@ -20,7 +20,8 @@ pub record AreMatched (n : ℕ) (parts : List Part) (entries : List Entry) (othe
   pub others_in_order : AreInOrder others other_entries
   pub same : texts_of entries ≡ texts_of other_entries
 
--- of the parts at the first i places of the orders, each goes to the other table's part there, by the relabelling that is answered of the two
+-- of the components at the first i places of the orders, each is mapped to the component of the other table there, by
+-- the relabelling that is defined for the two
 abbrev pub AreWritten : List Part → List ℕ → List Part → List ℕ → ℕ → Relabelling → Type 0
 AreWritten parts order others other_order i by =
     (k : ℕ) → k < i → (r : Relabelling)

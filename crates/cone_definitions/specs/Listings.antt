@@ -12,7 +12,8 @@ use Rattle.cone_definitions.specs.declared.Order.{Order}
 abbrev pub AreWithin : ℕ → System → List Clash → List ℕ → Type 0
 AreWithin limit system pairs taken = (k : ℕ) → k < length taken → IsWithin limit (step_at system.columns (in_order system.rows taken) pairs k)
 
--- what an enumeration is of: the rows, the clashing pairs, the order in which the rows are taken, and the greatest number
+-- what an enumeration is of: the rows, the clashing pairs, the order in which the rows are taken, and the greatest
+-- number
 pub record Enumeration : Type 0 where
   pub system : System
   pub pairs : List Clash

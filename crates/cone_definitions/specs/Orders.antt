@@ -16,7 +16,7 @@ leading_zeros columns (term ∷ _) = term.0
 abbrev pub row_of : System → ℕ → Row
 row_of system number = slice_index_or system.rows number []
 
--- one row number comes before another: by the order's own measure, and then the lesser number
+-- one row number comes before another: by the measure of the order, and then by the number
 abbrev pub prefers : Order → System → ℕ → ℕ → Bool
 prefers Given system a b = nat_lt a b
 prefers Short system a b =

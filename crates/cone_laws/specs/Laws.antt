@@ -29,7 +29,8 @@ abbrev pub LargeUnionsAreNoPairs : Type 0
 LargeUnionsAreNoPairs = (columns : ℕ) (rows : List Row) (pairs : List Clash) (k : ℕ) (u w : List ℕ) → k + 2 < union_size columns u w →
     ¬ IsPair (step_at columns rows pairs k) u w
 
--- in a surface list, if their union holds no clashing pair and has more columns, it contains the support of a ray at a third place
+-- in a surface list, if their union holds no clashing pair and has more columns, it contains the support of a ray at a
+-- third place
 abbrev pub LargeUnionsHaveThird : Type 0
 LargeUnionsHaveThird = (columns : ℕ) (rows : List Row) (pairs : List Clash) (rays : List (List ℕ)) → IsSurfaceList columns rows pairs rays →
     (i j : ℕ) → i < length rays → j < length rays → IsAdmissibleUnion pairs (ray_at rays i) (ray_at rays j) →

@@ -36,8 +36,8 @@ MeetingRowsBoundUnions = (columns : ℕ) (rows : List Row) (u w : List ℕ) → 
 abbrev pub MeetingRowsBoundPairs : Type 0
 MeetingRowsBoundPairs = (step : Step) (u w : List ℕ) → IsPair step u w → union_size step.columns u w ≤ meeting_count step.before u w + 2
 
--- in a surface list, a union with more columns that holds no clashing pair contains the support of a ray at a third place;
--- the rows may be any of which it is the surface list
+-- in a surface list, a union with more columns that holds no clashing pair contains the support of a ray at a third
+-- place; the rows may be any of which it is the surface list
 abbrev pub UnionsPastMeetingRowsHaveThird : Type 0
 UnionsPastMeetingRowsHaveThird = (columns : ℕ) (rows : List Row) (pairs : List Clash) (rays : List (List ℕ)) → IsSurfaceList columns rows pairs rays →
     (i j : ℕ) → i < length rays → j < length rays → IsAdmissibleUnion pairs (ray_at rays i) (ray_at rays j) →

@@ -5,7 +5,7 @@ use Rattle.cone_definitions.specs.Vectors.{IsInside, IsInsideUnion, ray_at}
 use Rattle.cone_definitions.specs.Surfaces.{Clash, IsAdmissibleUnion}
 use Rattle.cone_laws.specs.Unions.{union_size}
 
--- the residual of x beside u: x where u is 0, and 0 elsewhere
+-- the residual of x with respect to u: x where u is 0, and 0 elsewhere
 abbrev pub residual : List ℕ → List ℕ → List ℕ
 residual u x = map (λ column. cond (slice_index u column == 0) (slice_index x column) 0) (range_with_len 0 (length x))
 
@@ -13,7 +13,7 @@ residual u x = map (λ column. cond (slice_index u column == 0) (slice_index x c
 abbrev pub ResidualsDecide : Type 0
 ResidualsDecide = (u w t : List ℕ) → IsInsideUnion t u w ↔ IsInside (residual u t) (residual u w)
 
--- beside the ray at i, the residual of the ray at j contains that of no other ray
+-- with respect to the ray at i, the residual of the ray at j contains that of no other ray
 abbrev pub IsMinimalResidual : List (List ℕ) → ℕ → ℕ → Type 0
 IsMinimalResidual rays i j = (k : ℕ) → k < length rays → k ≢ i → IsInside (residual (ray_at rays i) (ray_at rays k)) (residual (ray_at rays i) (ray_at rays j)) → k ≡ j
 
@@ -25,15 +25,15 @@ HasNoThirdPlace rays i j = (k : ℕ) → k < length rays → IsInsideUnion (ray_
 abbrev pub MinimalResidualsHaveNoThird : Type 0
 MinimalResidualsHaveNoThird = (rays : List (List ℕ)) (i j : ℕ) → IsMinimalResidual rays i j ↔ HasNoThirdPlace rays i j
 
--- no listed pair has one column in u and the other in t: t is a rival of u
+-- no clashing pair has one column in u and the other in t: t is compatible with u
 abbrev pub IsRivalOf : List Clash → List ℕ → List ℕ → Type 0
 IsRivalOf pairs u t = All (λ pair. ((slice_index u pair.0 ≡ 0) ⊎ (slice_index t pair.1 ≡ 0)) × ((slice_index u pair.1 ≡ 0) ⊎ (slice_index t pair.0 ≡ 0))) pairs
 
--- what lies inside a union that holds no clashing pair is a rival of u
+-- Theorem: what lies inside a union without clashing pairs is compatible with u
 abbrev pub InsideAreRivals : Type 0
 InsideAreRivals = (pairs : List Clash) (u w t : List ℕ) → IsAdmissibleUnion pairs u w → IsInsideUnion t u w → IsRivalOf pairs u t
 
--- so there the rivals alone are looked at
+-- so only the compatible rays are compared
 abbrev pub IsMinimalAmongRivals : List Clash → List (List ℕ) → ℕ → ℕ → Type 0
 IsMinimalAmongRivals pairs rays i j = (k : ℕ) → k < length rays → k ≢ i → IsRivalOf pairs (ray_at rays i) (ray_at rays k) →
     IsInside (residual (ray_at rays i) (ray_at rays k)) (residual (ray_at rays i) (ray_at rays j)) → k ≡ j
@@ -42,7 +42,8 @@ abbrev pub RivalsDecide : Type 0
 RivalsDecide = (pairs : List Clash) (rays : List (List ℕ)) (i j : ℕ) → IsAdmissibleUnion pairs (ray_at rays i) (ray_at rays j) →
     IsMinimalAmongRivals pairs rays i j ↔ HasNoThirdPlace rays i j
 
--- a residual inside another has no more columns, and as many where they are equal, so that each is tested against smaller ones alone
+-- a residual inside another has no more columns, and as many where they are equal, so that each is tested against
+-- smaller ones alone
 abbrev pub SmallerResidualsAlone : Type 0
 SmallerResidualsAlone = (columns : ℕ) (u w t : List ℕ) → IsInsideUnion t u w → union_size columns u t ≤ union_size columns u w
 

@@ -1,4 +1,5 @@
--- A pair with the most columns that one row lets a pair have, two rays with one column more, and rows of which not all cut.
+-- A pair with the most columns that one row lets a pair have, two rays with one column more, and rows of which not all
+-- cut.
 use Rattle.std.specs.Prelude.{◌≡◌, ℕ, zero, suc, List, [], ◌∷◌, take, pos, negsuc}
 use Rattle.cone_definitions.specs.Rows.{Row, IsPositiveAt, IsNegativeAt}
 use Rattle.cone_definitions.specs.Elimination.{step_at, IsPair}
@@ -23,7 +24,7 @@ first_of_four = (0, pos 1) ∷ (1, pos 1) ∷ (2, negsuc 0) ∷ (3, negsuc 0) �
 abbrev pub second_of_four : Row
 second_of_four = (0, pos 1) ∷ (1, negsuc 0) ∷ (2, pos 1) ∷ (3, negsuc 0) ∷ []
 
--- 1 0 1 0 and 0 1 0 1 stand on the two sides of the second row, but their union has four columns, and they are no pair
+-- the second row is positive at 1 0 1 0 and negative at 0 1 0 1, but their union has four columns, and they are no pair
 abbrev pub WorkedNoPair : Type 0
 WorkedNoPair = IsPositiveAt second_of_four (1 ∷ 0 ∷ 1 ∷ 0 ∷ []) × IsNegativeAt second_of_four (0 ∷ 1 ∷ 0 ∷ 1 ∷ []) ×
     (union_size 4 (1 ∷ 0 ∷ 1 ∷ 0 ∷ []) (0 ∷ 1 ∷ 0 ∷ 1 ∷ []) ≡ 4) ×
@@ -40,7 +41,8 @@ rays_before (suc _) = worked_surfaces
 abbrev pub WorkedCuts : Type 0
 WorkedCuts = (cuts_before three_rows rays_before 1 ≡ 1) × (cuts_before three_rows rays_before 2 ≡ 1) × (cuts_before three_rows rays_before 3 ≡ 2)
 
--- of x + y - z - t and p - q the first alone meets the union of 1 0 1 0 0 0 and 0 1 0 1 0 0, which has four columns, so that they are no pair
+-- of x + y - z - t and p - q the first alone meets the union of 1 0 1 0 0 0 and 0 1 0 1 0 0, which has four columns, so
+-- that they are no pair
 abbrev pub six_columns : List Row
 six_columns = first_of_four ∷ ((4, pos 1) ∷ (5, negsuc 0) ∷ []) ∷ second_of_four ∷ []
 

@@ -69,10 +69,10 @@ pub fn enumerations_end()
     ensures { EnumerationsEnd }
 {}
 
-/// Theorem: the support of t lies in the union of those of u and w if and only if the residual of t beside u (t where u
-/// is 0, and 0 elsewhere) has its support in that of w. So two rays have no third ray in their union if and only if the
-/// residual of the second is minimal. If the union contains no clashing pair, only rays compatible with the first
-/// count, and of these only such with smaller residuals, or an equal one.
+/// Theorem: the support of t lies in the union of those of u and w if and only if the residual of t with respect to u
+/// (t where u is 0, and 0 elsewhere) has its support in that of w. So two rays have no third ray in their union if and
+/// only if the residual of the second is minimal. If the union contains no clashing pair, only rays compatible with the
+/// first count, and of these only such with smaller residuals, or an equal one.
 pub fn residuals_decide()
     ensures inside { ResidualsDecide }
     ensures minimal { MinimalResidualsHaveNoThird }

@@ -41,7 +41,7 @@ SignsAreTurned = (columns : ℕ) (front back : List Row) (row : Row) → HaveSam
 abbrev pub OrderIsChanged : Type 0
 OrderIsChanged = (columns : ℕ) (rows others : List Row) → IsPermutation rows others → HaveSameSolutions columns rows others
 
--- a row without terms is dropped, and so is one that stands in the list again, also with its signs turned
+-- Theorem: a row without terms may be dropped, and so may a row that occurs again in the list, or whose negative does
 abbrev pub EmptyRowsAreDropped : Type 0
 EmptyRowsAreDropped = (columns : ℕ) (front back : List Row) → HaveSameSolutions columns (front ++ [] ∷ back) (front ++ back)
 

@@ -14,7 +14,7 @@ OneListOfSolutions = (columns : ℕ) (rows others : List Row) (pairs : List Clas
 abbrev pub IsRedundant : ℕ → List Row → Row → Type 0
 IsRedundant columns rows row = (x : List ℕ) → IsSolution columns rows x → IsZeroAt row x
 
--- redundant rows in front change no solution
+-- Theorem: redundant rows, put before the others, change no solution
 abbrev pub RedundantRowsAreFree : Type 0
 RedundantRowsAreFree = (columns : ℕ) (rows further : List Row) → All (IsRedundant columns rows) further → HaveSameSolutions columns (further ++ rows) rows
 

@@ -1,4 +1,5 @@
--- Rays and numbers are bounded by the sums of squares that the equations have in their columns, whatever the order of the rows.
+-- Rays and numbers are bounded by the sums of squares that the equations have in their columns, whatever the order of
+-- the rows.
 use Rattle.std.specs.Prelude.{ℕ, ◌*◌, ◌≤◌, false, List, length, slice_index}
 use Rattle.std.specs.List.{range_with_len}
 use Rattle.std.specs.List.Sorted.{IsPermutation}
@@ -25,7 +26,8 @@ EntriesAreBoundedBySquares = (columns : ℕ) (rows : List Row) (pairs : List Cla
     HasSquareCaps columns rows pairs group cap groups size → (x : List ℕ) → IsVertexSurface columns rows pairs x → (j : ℕ) →
     slice_index x j * slice_index x j ≤ caps_product cap groups
 
--- so no number of a step passes a limit that is at least the size of the rows times that product, in any order of the rows
+-- so no number of a step passes a limit that is at least the size of the rows times that product, in any order of the
+-- rows
 abbrev pub NumbersAreBoundedBySquares : Type 0
 NumbersAreBoundedBySquares = (limit : ℕ) (system : System) (pairs : List Clash) (group cap : ℕ → ℕ) (groups size : ℕ) →
     HasSquareCaps system.columns system.rows pairs group cap groups size → size * caps_product cap groups ≤ limit →

@@ -1,4 +1,5 @@
--- The sums of squares that equations have in their columns: a certificate that is read off them, sharper than their weights where no column is free.
+-- The sums of squares that equations have in their columns: a certificate that is read off them, sharper than their
+-- weights where no column is free.
 use Rattle.std.specs.Prelude.{◌≡◌, ℕ, ◌*◌, ◌<◌, ◌≤◌, List, Contains}
 use Rattle.std.specs.List.{All, sum_by}
 use Rattle.cone_definitions.specs.Rows.{Row}
@@ -10,8 +11,8 @@ use Rattle.cone_bound_laws.specs.Caps.{row_weight, row_size, caps_product}
 abbrev pub sum_of_squares : List Row → ℕ → ℕ
 sum_of_squares rows column = sum_by (λ row. row_weight column row * row_weight column row) rows
 
--- the columns fall into groups, of which an admissible vector has one column at most, and no column of a group has a greater sum of squares than
--- its cap; no row is large
+-- the columns fall into groups, of which an admissible vector has one column at most, and no column of a group has a
+-- greater sum of squares than its cap; no row is large
 pub record HasSquareCaps (columns : ℕ) (rows : List Row) (pairs : List Clash) (group cap : ℕ → ℕ) (groups size : ℕ) : Type 0 where
   pub some_cap : (g : ℕ) → g < groups → 1 ≤ cap g
   pub light : (j : ℕ) → j < columns → sum_of_squares rows j ≤ cap (group j)

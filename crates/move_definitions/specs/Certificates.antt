@@ -19,7 +19,7 @@ standard_sphere = (to_itself (1 ∷ 0 ∷ 2 ∷ 3 ∷ []) ∷ to_itself (1 ∷ 0
 abbrev pub IsStandard : List Row → Type 0
 IsStandard rows = AreIsomorphic rows standard_sphere
 
--- the moves lead to a table isomorphic to the standard sphere
+-- the moves carry the table to one isomorphic to the standard sphere
 abbrev pub IsCertificate : List Row → List Move → Type 0
 IsCertificate rows moves = (last : List Row) × PlaysAll rows moves last × IsStandard last
 

@@ -19,7 +19,7 @@ MovesAgree = (old : List Row) (m : Move) (new new' : List Row) → IsTable old �
 abbrev pub MovesMakeTables : Type 0
 MovesMakeTables = (old : List Row) (m : Move) (new : List Row) → IsTable old → length new ≤ max_tets → IsMoved old m new → IsTable new
 
--- Theorem: the inverse of a move has a core, and leads to a table isomorphic to the first, and to no other
+-- Theorem: the inverse of a move has a core, and its result is a table isomorphic to the first, and nothing else
 abbrev pub InversesHaveCores : Type 0
 InversesHaveCores = (n : ℕ) (m : Move) → IsCore m.core → IsCore (inverse_move n m).core
 
@@ -37,7 +37,7 @@ InversesLeadOnlyBack =
 abbrev pub MoveLinesHaveCores : Type 0
 MoveLinesHaveCores = (line : Line) (m : Move) → IsMoveLine line m → IsCore m.core
 
--- Theorem: a sequence of moves leads to at most one table
+-- Theorem: a sequence of moves has at most one resulting table
 abbrev pub PlaysAgree : Type 0
 PlaysAgree =
     (old : List Row) (moves : List Move) (last last' : List Row) → IsTable old → PlaysAll old moves last → PlaysAll old moves last'

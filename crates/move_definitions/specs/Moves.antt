@@ -1,5 +1,5 @@
--- The moves 1-4, 2-3, 3-2 and 4-1. The boundary of a 4-simplex with vertices labelled 0 to 4 has five facets, and facet i lacks label i.
--- A move takes out the facets that a table has and puts in the others.
+-- The moves 1-4, 2-3, 3-2 and 4-1. The boundary of a 4-simplex with vertices labelled 0 to 4 has five facets, and facet
+-- i lacks label i. A move takes out the facets that a table has and puts in the others.
 use Rattle.std.specs.Prelude.{◌≡◌, ℕ, ◌+◌, ◌-◌, ◌<◌, ◌≢◌, Bool, false, ◌&&◌, not, List, ◌∷◌, ◌++◌, length, map, filter, drop, ◌==◌, nat_lt, Option, Some, None, option_map, option_and_then, find, filter_map, All, IsTrue, if◌then◌else◌}
 use Rattle.std.specs.Option.{option_or}
 use Rattle.std.specs.List.{FoldsTo}
@@ -74,7 +74,8 @@ abbrev pub facet_fault : List Row → Move → ℕ → Option Facet → Option M
 facet_fault rows m i None = Some (Boundary i)
 facet_fault rows m i (Some f) = if has (tets_before rows m i) f.tet then Some (Repeated i) else None
 
--- whether the face of facet f opposite label j is glued to facet g, label j going to the missing label of f and the others staying
+-- whether the face of facet f opposite label j is glued to facet g, label j going to the missing label of f and the
+-- others staying
 abbrev pub is_matched : Facet → Facet → Option Gluing → Bool
 is_matched f g None = false
 is_matched f g (Some p) = (p.tet == g.tet) && same_list (compose g.labels p.perm) (map (substitute g.missing f.missing) f.labels)

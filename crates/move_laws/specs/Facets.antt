@@ -33,7 +33,7 @@ pub record AreOldFacets (rows : List Row) (m : Move) (facets : List Facet) : Typ
   pub few : length (taken_numbers rows m) ≤ 4
   pub each : (k : ℕ) (d : Facet) → k < length facets → IsOldFacet rows m (length m.core + k) (slice_index_or facets k d)
 
--- what the face of the new facet j is glued by that stands for the one of the old facet f opposite label j
+-- the gluing of the face of the new facet j that replaces the face of the old facet f opposite label j
 abbrev pub outer_gluing : List Row → Move → Facet → ℕ → Option Gluing
 outer_gluing rows m f j = option_and_then (moved_gluing rows m (opposite f j) (facet_gluing rows m f j)) (glue rows (opposite f j))
 

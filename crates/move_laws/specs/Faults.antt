@@ -12,7 +12,7 @@ abbrev pub verdict : Option MoveFault → Result (Unit {0}) MoveFault
 verdict None = Ok tt
 verdict (Some fault) = Err fault
 
--- the first fault of the facets behind faces
+-- the first error of the facets across faces
 abbrev pub first_facet_fault : List Row → moves.Move → Option MoveFault
 first_facet_fault rows m = first_some (λ i. moves.facet_fault rows m i (moves.facet rows m i)) (moves.found_labels m)
 

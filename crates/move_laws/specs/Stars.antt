@@ -1,10 +1,11 @@
--- When a move is legal, in terms of the boundary of a 4-simplex, whose vertices are labelled 0 to 4 and whose facet i lacks label i.
+-- When a move is legal, in terms of the boundary of a 4-simplex, whose vertices are labelled 0 to 4 and whose facet i
+-- lacks label i.
 use Rattle.std.specs.Prelude.{◌≡◌, ◌≢◌, ◌↔◌, ℕ, ◌<◌, ◌≤◌, List, length, None, Some}
 use Rattle.table_definitions.specs.Permutation.{image}
 use Rattle.table_definitions.specs.Table.{Gluing, Row, glue, IsTable}
 use Rattle.move_definitions.specs.Moves.{Move, IsCore, Facet, own_facet, opposite, facet, move_fault}
 
--- a tetrahedron of the table stands for facet i: its four vertices have the labels 0 to 4 without i, each once
+-- a tetrahedron of the table is facet i: its four vertices have the labels 0 to 4 without i, each once
 pub record StandsFor (rows : List Row) (i : ℕ) (f : Facet) : Type 0 where
   pub in_range : f.tet < length rows
   pub missing : f.missing ≡ i
@@ -12,8 +13,8 @@ pub record StandsFor (rows : List Row) (i : ℕ) (f : Facet) : Type 0 where
   pub labels : (v : ℕ) → v < 4 → (image f.labels v < 5) × (image f.labels v ≢ i)
   pub once : (v w : ℕ) → v < 4 → w < 4 → image f.labels v ≡ image f.labels w → v ≡ w
 
--- two facets meet as in the boundary: the face of f opposite the label that g lacks is glued to g, and each of its vertices goes
--- to the vertex of g that has its label
+-- two facets meet as in the boundary: the face of f opposite the label that g lacks is glued to g, and each of its
+-- vertices is mapped to the vertex of g with its label
 pub record MeetsByLabels (rows : List Row) (f g : Facet) : Type 0 where
   pub by : Gluing
   pub glued : glue rows (opposite f g.missing) ≡ Some by
@@ -24,8 +25,8 @@ pub record MeetsByLabels (rows : List Row) (f g : Facet) : Type 0 where
 abbrev pub IsOldLabel : Move → ℕ → Type 0
 IsOldLabel m i = (length m.core ≤ i) × (i < 5)
 
--- the star of the core is a part of the boundary: for each such label a facet that lacks it, the move's own as facet 4, in different
--- tetrahedra, and any two of them meet label by label
+-- the star of the core is a part of the boundary: for each such label a facet that lacks it, the move's own as facet 4,
+-- in different tetrahedra, and any two of them meet label by label
 pub record IsStar (rows : List Row) (m : Move) (facets : ℕ → Facet) : Type 0 where
   pub own : facets 4 ≡ own_facet m
   pub stand : (i : ℕ) → IsOldLabel m i → StandsFor rows i (facets i)

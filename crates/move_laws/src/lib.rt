@@ -42,7 +42,7 @@ pub fn moves_are_taken_back()
     ensures { TakesBack }
 {}
 
-/// Theorem: a sequence of moves leads to at most one table, and moves that lines of text spell have cores for it.
+/// Theorem: a sequence of moves has at most one resulting table, and moves that lines of text spell have cores for it.
 pub fn plays_agree()
     ensures tables { PlaysAgree }
     ensures lines { MoveLinesHaveCores }

@@ -6,8 +6,8 @@ use Rattle.skeleton_definitions.specs.declared.Link.{Link}
 use Rattle.outcome_definitions.specs.Information.{characteristic}
 use Rattle.surface_quad_laws.specs.EulerLaws.{integer_sum}
 
--- where no edge is invalid, twice the Euler characteristic of a closed table is what the links have less than 2, in all: 0 where they
--- are spheres
+-- where no edge is invalid, twice the Euler characteristic of a closed table is what the links have less than 2, in
+-- all: 0 where they are spheres
 abbrev pub ClosedCharacteristicsAreOfLinks : Type 0
 ClosedCharacteristicsAreOfLinks =
     (s : Skeleton) (links : List Link) → IsSkeleton s → AreLinks s s.vertices.count links → IsTrue (is_closed s.rows) → HasValidEdges s.rows

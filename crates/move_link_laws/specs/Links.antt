@@ -23,7 +23,8 @@ pub record AreAlike (one other : Link) : Type 0 where
   pub orientable : one.orientable ≡ other.orientable
   pub kind : one.kind ≡ other.kind
 
--- the vertex classes that the move leaves and those that its inverse leaves correspond one to one, and so that links are alike
+-- the vertex classes that the move leaves and those that its inverse leaves correspond one to one, and so that links
+-- are alike
 pub record LinksCorrespond (s : Skeleton) (m back : Move) (s' : Skeleton) : Type 0 where
   pub to : ℕ → ℕ
   pub left : (c : ℕ) → IsLeft s m c → IsLeft s' back (to c)
@@ -35,7 +36,8 @@ abbrev pub MovesKeepLinks : Type 0
 MovesKeepLinks =
     (s : Skeleton) (m : Move) (s' : Skeleton) → IsSkeleton s → IsSkeleton s' → IsMoved s.rows m s'.rows → LinksCorrespond s m (inverse_move (length s.rows) m) s'
 
--- the link of a class that is taken away is a sphere, and so is that of a class that is put in, which the inverse takes away
+-- the link of a class that is taken away is a sphere, and so is that of a class that is put in, which the inverse takes
+-- away
 abbrev pub TakenAwayAreSpheres : Type 0
 TakenAwayAreSpheres =
     (s : Skeleton) (m : Move) (new : List Row) (c : ℕ) (link : Link) → IsSkeleton s → IsMoved s.rows m new → IsTakenAway s m c → HasLink s c link → IsSphere link

@@ -16,8 +16,8 @@ use Rattle.outcome_answer_laws.specs.Requests.{IsOutcomeTo}
 use Rattle.surface_quad_lift_laws.specs.Laws.{HasLink}
 use Rattle.move_link_laws.specs.Certified.{IsSphere}
 
--- the numbers of a connected, closed and orientable 3-manifold: no edge is invalid, each vertex link is a sphere, and the Euler
--- characteristic is 0
+-- the numbers of a connected, closed and orientable 3-manifold: no edge is invalid, each vertex link is a sphere, and
+-- the Euler characteristic is 0
 pub record HasManifoldNumbers (rows : List Row) : Type 0 where
   pub connected : IsConnected rows
   pub closed : IsTrue (is_closed rows)

@@ -1,5 +1,6 @@
-//! What a legal move keeps: valid edges, and the links of vertex classes. So a table with a certificate, and each that `check` accepts, is
-//! a closed 3-manifold's by its numbers; and the Euler characteristic of a closed table by those of its links. The functions here have no code: their contracts are laws over the definitions.
+//! What a legal move keeps: valid edges, and the links of vertex classes. So a table with a certificate, and each that
+//! `check` accepts, is a closed 3-manifold's by its numbers; and the Euler characteristic of a closed table by those of
+//! its links. The functions here have no code: their contracts are laws over the definitions.
 #![tactic(auto)]
 
 ghost use Rattle.move_link_laws.specs.Valid.{MovesKeepValid, PlaysKeepValid, MovesKeepInvalid};
@@ -8,23 +9,24 @@ ghost use Rattle.move_link_laws.specs.Certified.{CertifiedHaveValidEdges, Certif
 ghost use Rattle.move_link_laws.specs.ClosedEuler.{ClosedCharacteristicsAreOfLinks, ClosedManifoldsHaveCharacteristicZero};
 ghost use Rattle.move_link_laws.specs.Manifolds.{CertifiedHaveManifoldNumbers, AcceptedHaveManifoldNumbers};
 
-/// A move leads to a table with valid edges exactly from tables with valid edges, and leaves the number of invalid edge classes.
+/// A move leads to a table with valid edges exactly from tables with valid edges, and leaves the number of invalid edge
+/// classes.
 pub fn moves_keep_valid()
     ensures moves { MovesKeepValid }
     ensures plays { PlaysKeepValid }
     ensures number { MovesKeepInvalid }
 {}
 
-/// The vertex classes of both tables correspond, and so that their links are alike, but for the sphere that a 1-4 puts in and a 4-1
-/// takes away.
+/// The vertex classes of both tables correspond, and so that their links are alike, but for the sphere that a 1-4 puts
+/// in and a 4-1 takes away.
 pub fn moves_keep_links()
     ensures correspond { MovesKeepLinks }
     ensures taken_away { TakenAwayAreSpheres }
     ensures put_in { PutInAreSpheres }
 {}
 
-/// Twice the Euler characteristic of a closed table without invalid edges is what the vertex links have less than 2, in all. So it is at
-/// least 0, and 0 exactly where each link has Euler characteristic 2, as a sphere has.
+/// Twice the Euler characteristic of a closed table without invalid edges is what the vertex links have less than 2, in
+/// all. So it is at least 0, and 0 exactly where each link has Euler characteristic 2, as a sphere has.
 pub fn closed_characteristics()
     ensures links { ClosedCharacteristicsAreOfLinks }
     ensures zero { ClosedManifoldsHaveCharacteristicZero }

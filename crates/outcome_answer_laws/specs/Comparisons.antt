@@ -19,8 +19,8 @@ use Rattle.outcome_answer_laws.specs.Requests.{Means}
 abbrev pub SaysSame : Outcome → Type 0
 SaysSame o = (by : Relabelling) × (o ≡ done (relabelling_text by))
 
--- `same` is said exactly where a relabelling carries the one table to the other, and such a one is told; `different` exactly where
--- none does
+-- the answer is `same`, with an isomorphism, if and only if the tables are isomorphic, and `different` if and only if
+-- they are not
 pub record AreCompared (first second : List Row) (o : Outcome) : Type 0 where
   pub same : SaysSame o ↔ AreIsomorphic first second
   pub different : (o ≡ different_outcome) ↔ (¬ AreIsomorphic first second)
@@ -50,7 +50,8 @@ pub record IsComponentComparison (pair : List Row × List Row) (o : Outcome) : T
   pub compared : AreCompared pair.0 pair.1 o
   pub components : SaysSame o ↔ ComponentsMatch pair.0 pair.1
 
--- each table is in one class, each class has a table, and two are in one exactly where a relabelling carries the one to the other
+-- each table is in one class, each class has a table, and two are in one exactly where a relabelling carries the one to
+-- the other
 pub record AreClassified (tables : List (List Row)) (o : Outcome) : Type 0 where
   pub classes : List ℕ
   pub signatures : List (List ℕ)
@@ -61,7 +62,7 @@ pub record AreClassified (tables : List (List Row)) (o : Outcome) : Type 0 where
   pub signed : (k : ℕ) → k < length tables → IsSignature (table_in tables k) (signature_in signatures (slice_index classes k))
   pub outcome : o ≡ done (census_text classes signatures)
 
--- each table is connected exactly where the classes are told
+-- the answer is the classes if and only if each table is connected
 pub record IsGrouping (tables : List (List Row)) (o : Outcome) : Type 0 where
   pub is_done : (o.status ≡ Done) ↔ ((k : ℕ) → k < length tables → IsConnected (table_in tables k))
   pub classified : ((k : ℕ) → k < length tables → IsConnected (table_in tables k)) → AreClassified tables o

@@ -16,8 +16,8 @@ use Rattle.outcome_answer_laws.specs.Requests.{Means}
 abbrev pub TwoLieOver : ℕ → Type 0
 TwoLieOver n = (t u : ℕ) → t < n → u < 2 * n → (over n u ≡ t) ↔ ((u ≡ above n t 0) ⊎ (u ≡ above n t 1))
 
--- an orientable table of twice the length, closed exactly where the other is: each face is glued over the face below it, to the sheet
--- behind that gluing, or is a boundary face as that is; the exchange of the sheets carries it to itself
+-- an orientable table of twice the length, closed if and only if the other is: each face is glued over the face below
+-- it, to the sheet across that gluing, or is a boundary face as that is; the deck transformation carries it to itself
 pub record IsOrientationCover (rows new : List Row) : Type 0 where
   pub table : IsTable new
   pub twice : length new ≡ 2 * length rows
@@ -27,7 +27,8 @@ pub record IsOrientationCover (rows new : List Row) : Type 0 where
   pub closed : IsTrue (is_closed new) ↔ IsTrue (is_closed rows)
   pub exchanged : CarriesCover rows (exchange (length rows)) new
 
--- the cover is told, and whether it is connected: over a connected table it is exactly where that isn't orientable
+-- the answer is the cover, and whether it is connected: over a connected table it is if and only if that is not
+-- orientable
 pub record IsCoverOutcome (rows : List Row) (o : Outcome) : Type 0 where
   pub is_cover : IsOrientationCover rows (cover rows)
   pub connected : Bool
@@ -35,7 +36,7 @@ pub record IsCoverOutcome (rows : List Row) (o : Outcome) : Type 0 where
   pub is_connected : IsTrue connected ↔ IsConnected (cover rows)
   pub orientation : IsConnected rows → 0 < length rows → IsTrue connected ↔ (¬ IsOrientable rows)
 
--- it is told, or refused exactly where it would have too many tetrahedra
+-- the answer is the cover, or a refusal if and only if it has more tetrahedra than the limit
 pub record IsCovering (rows : List Row) (o : Outcome) : Type 0 where
   pub too_many : (o ≡ large_cover_outcome) ↔ (max_tets < 2 * length rows)
   pub told : 2 * length rows ≤ max_tets → IsCoverOutcome rows o

@@ -35,7 +35,7 @@ IsAnotherReason (TooManyPieces n) = ⊤
 IsAnotherReason LargeLift = ⊤
 IsAnotherReason (NoLift c) = ⊥
 
--- the lifts are told, or a vector is refused for another reason
+-- the answer is the lifts, or a vector is refused for another reason
 abbrev pub AreLiftsOrAnotherReason : Result (List (List ℕ)) (ℕ × Refusal) → Type 0
 AreLiftsOrAnotherReason (Ok lifts) = ⊤
 AreLiftsOrAnotherReason (Err refusal) = IsAnotherReason refusal.1
@@ -51,7 +51,7 @@ pub record IsSmallSolution (rows : List Row) (equations : List EquationRow) (xs 
   pub fit : IsFit Quad rows equations xs
   pub small : 4 * sum xs ≤ limit
 
--- each vector's lift is told
+-- the answer has the lift of each vector
 pub record AreLifted (rows : List Row) (vectors : List (List ℕ)) (o : Outcome) : Type 0 where
   pub skeleton : Skeleton
   pub of_rows : skeleton.rows ≡ rows

@@ -8,7 +8,7 @@ use Rattle.outcome_definitions.specs.Outcomes.{Outcome}
 use Rattle.outcome_definitions.specs.Makings.{make_outcome, IsSummary}
 use Rattle.outcome_answer_laws.specs.Requests.{IsOutcomeTo}
 
--- a table and a certificate of exactly so many moves
+-- a table and a certificate with exactly this number of moves
 pub record IsTableWithMoves (moves : ℕ) (o : Outcome) : Type 0 where
   pub table : List Row
   pub certificate : List Move
@@ -19,7 +19,7 @@ pub record IsTableWithMoves (moves : ℕ) (o : Outcome) : Type 0 where
 abbrev pub AllMovesAreMade : Type 0
 AllMovesAreMade = (words : List (List ℕ)) (bytes : List ℕ) (o : Outcome) (seed moves : ℕ) → IsOutcomeTo (Make seed moves) words bytes o → moves ≤ 333 → IsTableWithMoves moves o
 
--- the summary of the surfaces of a table that so many moves certify
+-- the summary of the surfaces of a table that this number of moves certify
 pub record IsSummaryWithMoves (seed moves : ℕ) (o : Outcome) : Type 0 where
   pub table : List Row
   pub certificate : List Move

@@ -6,7 +6,7 @@ use Rattle.command_definitions.specs.Words.{accepted_request}
 use Rattle.outcome_definitions.specs.Outcomes.{Outcome}
 use Rattle.outcome_definitions.specs.Answers.{IsOutcome, most_bytes}
 
--- the words ask for this of an input of at most so many bytes, and the outcome is theirs
+-- the words ask for this request, the input is within the limit of bytes, and the outcome is theirs
 pub record IsOutcomeTo (request : Request) (words : List (List ℕ)) (bytes : List ℕ) (o : Outcome) : Type 0 where
   pub accepted : accepted_request words ≡ Some request
   pub within : length bytes ≤ most_bytes

@@ -11,11 +11,11 @@ use Rattle.outcome_definitions.specs.Outcomes.{Outcome}
 use Rattle.outcome_definitions.specs.Scripts.{script_outcome}
 use Rattle.outcome_answer_laws.specs.Requests.{Means}
 
--- moves that can all be played are all done, and lead to their table
+-- moves that can all be played are all done, and their result is the table
 abbrev pub MovesAreDone : List Row × List Step → Outcome → Type 0
 MovesAreDone d o = (moves : List Move) (end : List Row) → d.1 ≡ map play moves → PlaysAll d.0 moves end → o ≡ script_outcome (map (λ (m : Move). sessions.done) moves) end
 
--- behind any steps, moves that can all be played and are all taken back leave the table to which these steps led
+-- after any steps, moves that can all be played and are all undone leave the table that resulted from these steps
 abbrev pub MovesAreTakenBack : List Row × List Step → Outcome → Type 0
 MovesAreTakenBack d o =
     (before : List Step) (answers : List StepAnswer) (session : Session) (table : List Row) (moves : List Move) (end : List Row)
@@ -23,8 +23,8 @@ MovesAreTakenBack d o =
     → d.1 ≡ before ++ (map play moves ++ map (λ (m : Move). undo) moves)
     → o ≡ script_outcome (answers ++ (map (λ (m : Move). sessions.done) moves ++ map (λ (m : Move). sessions.undone) moves)) table
 
--- what is printed is the table to which the moves lead that are played at the end; as many undos at the end as there are steps before
--- lead back to the table of the input
+-- what is printed is the table to which the moves lead that are played at the end; as many undos at the end as there
+-- are steps before lead back to the table of the input
 pub record IsPlayed (d : List Row × List Step) (o : Outcome) : Type 0 where
   pub answers : List StepAnswer
   pub last : Session

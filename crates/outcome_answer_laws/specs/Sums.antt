@@ -27,18 +27,18 @@ use Rattle.outcome_definitions.specs.Sums.{IsFirstRefused, sum_refusal_outcome, 
 use Rattle.surface_equation_laws.specs.Few.{most_tetrahedra}
 use Rattle.outcome_answer_laws.specs.Requests.{Means}
 
--- the vector, taken so many times, is the sum of the terms: listed surfaces, ascending, each taken at least once
+-- the vector, times its factor, is the sum of the terms: listed surfaces, ascending, each taken at least once
 pub record IsSumOfSurfaces (surfaces : List (List ℕ)) (most : ℕ) (x : List ℕ) (block : Block) : Type 0 where
   pub vector : block.vector ≡ x
   pub sum : IsSumOfRays surfaces most x block.times block.terms
 
--- each vector is told as such a sum
+-- the answer has each vector as such a sum
 pub record AreSumsOfSurfaces (surfaces : List (List ℕ)) (most : ℕ) (rows : List Row) (vectors : List (List ℕ)) (o : Outcome) : Type 0 where
   pub blocks : List Block
   pub sums : AllZip (IsSumOfSurfaces surfaces most) vectors blocks
   pub outcome : o ≡ done (sums_text rows blocks)
 
--- the first vector is told whose sum gets too large, with the turn and the column
+-- the answer names the first vector whose sum exceeds the limit, with the step and the column
 pub record IsFirstLargeAnswered (surfaces : List (List ℕ)) (most : ℕ) (vectors : List (List ℕ)) (o : Outcome) : Type 0 where
   pub vector : ℕ
   pub large : LargeTurn
@@ -51,28 +51,30 @@ pub record AreSumsOfVertexSurfaces (coords : Coords) (most : ℕ) (rows : List R
   pub are_all : IsSurfaceList (columns coords (length rows)) equations (clash_list coords (length rows)) surfaces
   pub told : AreSumsOfSurfaces surfaces most rows vectors o ⊎ IsFirstLargeAnswered surfaces most vectors o
 
--- the first vector is told that isn't fit, and why
+-- the answer names the first vector that is no admissible solution within the limit, and why
 pub record IsFirstUnfitAnswered (coords : Coords) (rows : List Row) (equations : List EquationRow) (vectors : List (List ℕ)) (o : Outcome) : Type 0 where
   pub vector : ℕ
   pub fault : VectorFault
   pub first : IsFirstRefused (IsVerdict coords rows equations) vectors vector fault
   pub outcome : o ≡ sum_refusal_outcome vector (Unfit fault)
 
--- all vectors are fit (admissible solutions of which no part of an equation is large), and their sums are told, or the first number past the
--- limit; or the first is told that isn't
+-- all vectors are admissible solutions of which no part of an equation exceeds the limit, and the answer is their sums,
+-- or the first number that exceeds the limit; or the answer names the first vector that is not such
 abbrev pub AreDecomposed : Coords → ℕ → List Row → List EquationRow → List (List ℕ) → Outcome → Type 0
 AreDecomposed coords most rows equations vectors o =
     (All (IsFit coords rows equations) vectors × (AreSumsOfVertexSurfaces coords most rows equations vectors o ⊎ IsLargeAnswered (table_enumeration coords Given most rows equations) o))
     ⊎ IsFirstUnfitAnswered coords rows equations vectors o
 
--- under the equations of the table; with few tetrahedra no number of the enumeration passes a limit that is at least the default
+-- under the equations of the table; within the greatest number of tetrahedra of the coordinates no number of the
+-- enumeration exceeds a limit that is at least the default
 pub record IsDecomposition (coords : Coords) (most : ℕ) (d : List Row × List (List ℕ)) (o : Outcome) : Type 0 where
   pub equations : List EquationRow
   pub of_table : AreEquations coords d.0 equations
   pub decomposed : AreDecomposed coords most d.0 equations d.1 o
   pub never_past : length d.0 ≤ most_tetrahedra coords → limit ≤ most → ¬ IsLargeAnswered (table_enumeration coords Given most d.0 equations) o
 
--- the vector and the terms are fit, and the vector, taken so many times, is the sum of the terms
+-- the vector and the terms are admissible solutions within the limit, and the vector, times its factor, is the sum of
+-- the terms
 pub record IsTrueSum (coords : Coords) (rows : List Row) (equations : List EquationRow) (block : Block) : Type 0 where
   pub fit : AreFit coords rows equations block
   pub adds_up : AddsUp limit block.vector block.times block.terms

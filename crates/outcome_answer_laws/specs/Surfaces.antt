@@ -30,7 +30,7 @@ BoundedTablesAreListed =
     (words : List (List ℕ)) (bytes : List ℕ) (o : Outcome) (coords : Coords) (order : Order) (most : ℕ) (rows : List Row) → IsOutcomeTo (Surfaces coords order most) words bytes o
     → table_document bytes ≡ Ok rows → number_bound coords (length rows) ≤ most → IsTableList coords rows o
 
--- and so at the default limit, where there are few tetrahedra
+-- Theorem: so it is at the default limit, up to the greatest number of tetrahedra of the coordinates
 abbrev pub SmallTablesAreListed : Type 0
 SmallTablesAreListed =
     (words : List (List ℕ)) (bytes : List ℕ) (o : Outcome) (coords : Coords) (order : Order) (rows : List Row) → IsOutcomeTo (Surfaces coords order limit) words bytes o

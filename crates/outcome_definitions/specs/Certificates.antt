@@ -1,4 +1,5 @@
--- What `check` and `descend` are to answer: whether moves certify a table as a sphere, or why not; and the moves of a table's descent.
+-- What `check` and `descend` are to answer: whether moves certify a table as a sphere, or why not; and the moves of a
+-- table's descent.
 use Rattle.std.specs.Prelude.{◌≡◌, ℕ, Bool, true, false, List, ◌++◌, length, codes, decimal, Ok, Err}
 use Rattle.std.specs.List.{flat_map}
 use Rattle.table_definitions.specs.Table.{Row}
@@ -15,8 +16,8 @@ use Rattle.outcome_definitions.specs.Lines.{accepted_text}
 use Rattle.outcome_definitions.specs.Outcomes.{Outcome}
 use Rattle.outcome_definitions.specs.Canonical.{done, not_connected_line, not_connected_outcome}
 
--- why moves certify no table: the first move that is refused, by its place from 1, or the last table, which is table 0, isn't
--- connected, or has another signature than the standard sphere
+-- why moves certify no table: the first move that is refused, by its place from 1, or the last table, which is table 0,
+-- isn't connected, or has another signature than the standard sphere
 unfoldable pub check_line : CheckFault (List ℕ) → List ℕ
 check_line (Illegal step fault) = line (codes "refused: check illegal " ++ decimal step ++ codes " " ++ move_fault_text fault)
 check_line (NotConnected t) = not_connected_line 0 t

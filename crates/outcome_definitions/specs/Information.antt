@@ -15,7 +15,8 @@ use Rattle.outcome_definitions.specs.declared.Status.TheVariants.{Done}
 use Rattle.outcome_definitions.specs.Lines.{number_line}
 use Rattle.outcome_definitions.specs.Outcomes.{Outcome}
 
--- the skeleton of a table, the links of its vertex classes, which edge classes are valid, and whether the table is connected and orientable
+-- the skeleton of a table, the links of its vertex classes, which edge classes are valid, and whether the table is
+-- connected and orientable
 pub record Information : Type 0 where
   pub skeleton : Skeleton
   pub links : List Link

@@ -1,5 +1,5 @@
--- What `make` and `bulk` are to answer, which read nothing: a table that is made with its certificate, and what is answered of its
--- surfaces.
+-- What `make` and `bulk` are to answer, which read nothing: a table that is made with its certificate, and what is
+-- answered of its surfaces.
 use Rattle.std.specs.Prelude.{◌≡◌, ◌⊎◌, ℕ, ◌≤◌, List, ◌++◌, length, codes, count_by}
 use Rattle.cone_definitions.specs.Rows.{Row as EquationRow}
 use Rattle.cone_definitions.specs.Listings.{Enumeration, IsListed}
@@ -66,7 +66,8 @@ pub record IsSummary (n : Numbers) (table : List Row) (o : Outcome) : Type 0 whe
   pub of_table : AreEquations Standard table equations
   pub told : AreSummedUp n (table_enumeration Standard Given limit table equations) o ⊎ IsLargeAnswered (table_enumeration Standard Given limit table equations) o
 
--- the answer of `bulk` to a seed and a number of moves: a table is made, its certificate is one, and its surfaces are summed up
+-- the answer of `bulk` to a seed and a number of moves: a table is made, its certificate is one, and its surfaces are
+-- summed up
 pub record IsBulkAnswer (seed moves : ℕ) (o : Outcome) : Type 0 where
   pub table : List Row
   pub certificate : List Move

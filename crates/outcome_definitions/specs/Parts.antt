@@ -1,4 +1,5 @@
--- What `csig` and `csame` are to answer: the component signature of a table, and the relabelling that is answered of two tables.
+-- What `csig` and `csame` are to answer: the component signature of a table, and the relabelling that is answered of
+-- two tables.
 use Rattle.std.specs.Prelude.{◌≡◌, ◌⊎◌, ℕ, List}
 use Rattle.table_definitions.specs.Table.{Row}
 use Rattle.table_definitions.specs.Relabelling.{Relabelling, AreIsomorphic}

@@ -1,4 +1,5 @@
--- What `crush`, `lift` and `describe` are to answer: what is answered of the vectors of a table, or the first that is refused, and why.
+-- What `crush`, `lift` and `describe` are to answer: what is answered of the vectors of a table, or the first that is
+-- refused, and why.
 use Rattle.std.specs.Prelude.{◌≡◌, ◌⊎◌, ℕ, List, None, Some, Result, Ok, Err}
 use Rattle.std.specs.List.{flat_map}
 use Rattle.cone_definitions.specs.Rows.{Row as EquationRow}

@@ -6,7 +6,7 @@ use Rattle.signature_definitions.specs.Spelling.{IsSignature}
 use Rattle.component_definitions.specs.Parts.{Part, AreParts}
 use Rattle.component_definitions.specs.ComponentSignature.{IsInOrder, IsComponentSignature}
 
--- what stands between the full stops of a text
+-- the sections between the full stops of a text
 abbrev pub between_stops : List ℕ → List (List ℕ)
 between_stops text = slice_split (λ b. b == 46) text
 

@@ -1,4 +1,5 @@
--- What `describe` tells of what `surfaces` listed decides whether a table is 0-efficient by its numbers (Jaco and Rubinstein), and then whether it has an almost normal sphere by its numbers (Rubinstein; Thompson).
+-- What `describe` tells of what `surfaces` listed decides whether a table is 0-efficient by its numbers (Jaco and
+-- Rubinstein), and then whether it has an almost normal sphere by its numbers (Rubinstein; Thompson).
 use Rattle.std.specs.Prelude.{◌≡◌, ◌↔◌, ℕ, pos, ◌<ℤ◌, true, List, ◌++◌, map, Ok}
 use Rattle.std.specs.List.{All, Contains}
 use Rattle.cone_definitions.specs.declared.Order.{Order}
@@ -45,7 +46,8 @@ DescribedListsDecide =
 abbrev pub IsToldAlmostNormal : Skeleton → Description → Type 0
 IsToldAlmostNormal s d = (octagons s d.vector ≡ 1) × (d.properties.euler ≡ pos 2)
 
--- all octagon vertex surfaces of the table are described, and where it is 0-efficient there is an almost normal sphere exactly where one is told
+-- all octagon vertex surfaces of the table are described, and where it is 0-efficient there is an almost normal sphere
+-- exactly where one is told
 pub record DecidesAlmostNormal (rows : List Row) (o : Outcome) : Type 0 where
   pub skeleton : Skeleton
   pub of_rows : skeleton.rows ≡ rows

@@ -23,7 +23,7 @@ WrittenTablesAreRead = (rows : List Row) → IsTable rows → table_document (ta
 abbrev pub WrittenVectorsAreLines : Type 0
 WrittenVectorsAreLines = (list : List (List ℕ)) → AreUpTo limit list → AllZip IsVectorLine (lines_of (list_text list)) list
 
--- what is written for a table, with an answer of `surfaces` behind it, is read as the table and the vectors
+-- Theorem: the text of a table, followed by an answer of `surfaces`, is read as the table and the vectors
 abbrev pub WrittenAnswersAreRead : Type 0
 WrittenAnswersAreRead =
     (rows : List Row) (list : List (List ℕ)) → IsTable rows → AreUpTo limit list → vectors_document (table_text rows ++ listing (codes "surfaces") list) ≡ Ok (rows, list)

@@ -23,7 +23,8 @@ LiftsAreWithin =
     (s : Skeleton) (xs ys : List ℕ) → IsSkeleton s → length xs ≡ columns Quad (length s.rows) → IsLiftOf s xs ys
     → (column : ℕ) → slice_index ys column ≤ 4 * sum xs
 
--- the text behind what is written for the table is read as the table and the lifts of the vectors, which are admissible solutions
+-- the text of the table followed by this text is read as the table and the lifts of the vectors, which are admissible
+-- solutions
 pub record IsReadAsLifts (rows : List Row) (vectors : List (List ℕ)) (text : List ℕ) : Type 0 where
   pub skeleton : Skeleton
   pub of_rows : skeleton.rows ≡ rows
@@ -39,12 +40,12 @@ LiftsAreRead =
     (words : List (List ℕ)) (bytes : List ℕ) (o : Outcome) (rows : List Row) (vectors : List (List ℕ)) → IsOutcomeTo Lift words bytes o → vectors_document bytes ≡ Ok (rows, vectors)
     → o.status ≡ Done → IsReadAsLifts rows vectors o.text
 
--- the answer tells of each lift that it is a solution, or the first equation of which a part passes the limit
+-- the answer says of each lift that it is a solution, or names the first equation of which a part exceeds the limit
 pub record AreVerifiedLifts (rows : List Row) (lifts : List (List ℕ)) (o : Outcome) : Type 0 where
   pub verdicts : All (IsSolutionUnlessLarge Standard rows (matching_rows Standard rows)) lifts
   pub outcome : o ≡ verify_outcome Standard rows (matching_rows Standard rows) lifts
 
--- so does the answer of `verify` in standard coordinates to what `lift` answered behind the table
+-- so does the answer of `verify` in standard coordinates to the answer of `lift` after the table
 abbrev pub LiftsAreVerified : Type 0
 LiftsAreVerified =
     (words asked : List (List ℕ)) (bytes : List ℕ) (o p : Outcome) (rows : List Row) (vectors : List (List ℕ)) → IsOutcomeTo Lift words bytes o

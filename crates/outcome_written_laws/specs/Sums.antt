@@ -1,5 +1,5 @@
--- The laws of sums that are written: what `decompose` answers is read again by `addup`, and accepted, unless a part of an
--- equation at a listed surface passes the limit.
+-- The laws of sums that are written: what `decompose` answers is read again by `addup`, and accepted, unless a part of
+-- an equation at a listed surface passes the limit.
 use Rattle.std.specs.Prelude.{◌≡◌, ◌↔◌, ◌⊎◌, ℕ, ◌≤◌, List, Ok}
 use Rattle.std.specs.List.{All, AllZip}
 use Rattle.text_definitions.specs.Written.{limit}
@@ -31,7 +31,7 @@ pub record AreSumsOf (coords : Coords) (most : ℕ) (rows : List Row) (equations
   pub listed : IsListed (table_enumeration coords Given most rows equations) taken list
   pub sums : AllZip (λ x block. IsSummed most list x (Ok block)) vectors blocks
 
--- what `decompose` answers where nothing is refused is the table, with such blocks behind it
+-- Theorem: unless it refuses, the answer of `decompose` is the table, followed by such blocks
 pub record AreAnsweredAsSums (coords : Coords) (most : ℕ) (rows : List Row) (vectors : List (List ℕ)) (text : List ℕ) : Type 0 where
   pub equations : List EquationRow
   pub blocks : List Block
@@ -66,7 +66,8 @@ IsLargeBlock equations at block = IsFirst (IsSmallTerm equations) (IsLargeTerm e
 abbrev pub AreLarge : List EquationRow → List Block → ℕ → ℕ × ℕ → Type 0
 AreLarge equations blocks v at = IsFirst (IsSmallBlock equations) (IsLargeBlock equations at) blocks v
 
--- the blocks are accepted, if no part passes the limit at any term; else the first block, term and equation at which one does are told
+-- the blocks are accepted, if no part exceeds the limit at any term; otherwise the answer names the first block, term
+-- and equation at which one does
 abbrev pub IsAcceptedUnlessLarge : List EquationRow → List Block → Outcome → Type 0
 IsAcceptedUnlessLarge equations blocks o = (All (IsSmallBlock equations) blocks × (o ≡ accepted_outcome))
     ⊎ ((v : ℕ) × (at : ℕ × ℕ) × AreLarge equations blocks v at × (o ≡ sum_refusal_outcome v (UnfitTerm at.0 (Large at.1))))
@@ -83,8 +84,8 @@ WholeSumsAreAccepted =
     (coords : Coords) (most : ℕ) (rows : List Row) (equations : List EquationRow) (vectors : List (List ℕ)) (blocks : List Block) → most ≤ limit
     → AreSumsOf coords most rows equations vectors blocks → All (λ (block : Block). block.times ≡ 1) blocks → (o : Outcome) → IsAddupAnswer coords (rows, blocks) o ↔ (o ≡ accepted_outcome)
 
--- the bytes were read as a table and vectors; the text is read as the table and blocks that are the sums of these vectors, and
--- `addup` accepts it, unless a part passes the limit
+-- the bytes were read as a table and vectors; the text is read as the table and blocks that are the sums of these
+-- vectors, and `addup` accepts it, unless a part passes the limit
 pub record IsReadAgain (coords : Coords) (most : ℕ) (bytes text : List ℕ) : Type 0 where
   pub rows : List Row
   pub vectors : List (List ℕ)

@@ -26,7 +26,7 @@ pub record AreVertexSurfaces (coords : Coords) (rows : List Row) (equations : Li
   pub of_table : AreEquations coords rows equations
   pub surfaces : IsSurfaceList (columns coords (length rows)) equations (clash_list coords (length rows)) list
 
--- the text behind what is written for the table is read as the table and all its vertex surfaces
+-- the text of the table followed by this text is read as the table and all its vertex surfaces
 pub record IsReadAsSurfaces (coords : Coords) (rows : List Row) (text : List ℕ) : Type 0 where
   pub equations : List EquationRow
   pub list : List (List ℕ)
@@ -43,7 +43,8 @@ SurfacesAreRead =
 abbrev pub IsFirstLarge : List EquationRow → List ℕ → ℕ → Type 0
 IsFirstLarge equations x row = IsFirst (λ equation. HasPartsWithin limit equation x) (λ equation. HasLargePart limit equation x) equations row
 
--- the verdict on x is that it is a solution where no part passes the limit, and else the first equation of which one does
+-- the verdict on x is that it is a solution where no part passes the limit, and else the first equation of which one
+-- does
 abbrev pub IsSolutionUnlessLarge : Coords → List Row → List EquationRow → List ℕ → Type 0
 IsSolutionUnlessLarge coords rows equations x = (All (λ equation. HasPartsWithin limit equation x) equations × (verdict_in coords rows equations x ≡ solution))
     ⊎ ((row : ℕ) × IsFirstLarge equations x row × (verdict_in coords rows equations x ≡ Err (Large row)))
@@ -54,7 +55,7 @@ SurfacesAreSolutions =
     (coords : Coords) (rows : List Row) (equations : List EquationRow) (x : List ℕ) → IsVertexSurface (columns coords (length rows)) equations (clash_list coords (length rows)) x
     → IsSolutionUnlessLarge coords rows equations x
 
--- the answer tells such a verdict on each vertex surface of the table
+-- the answer has such a verdict on each vertex surface of the table
 pub record AreVerified (coords : Coords) (rows : List Row) (o : Outcome) : Type 0 where
   pub equations : List EquationRow
   pub list : List (List ℕ)
@@ -62,7 +63,7 @@ pub record AreVerified (coords : Coords) (rows : List Row) (o : Outcome) : Type 
   pub verdicts : All (IsSolutionUnlessLarge coords rows equations) list
   pub outcome : o ≡ verify_outcome coords rows equations list
 
--- so does the answer of `verify` to what `surfaces` answered behind the table
+-- so has the answer of `verify` to the answer of `surfaces` after the table
 abbrev pub ListedAreVerified : Type 0
 ListedAreVerified =
     (words asked : List (List ℕ)) (bytes : List ℕ) (o p : Outcome) (coords : Coords) (order : Order) (most : ℕ) (rows : List Row) → IsOutcomeTo (Surfaces coords order most) words bytes o

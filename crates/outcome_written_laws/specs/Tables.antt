@@ -26,8 +26,8 @@ CrushedAreRead =
     (words : List (List ℕ)) (bytes : List ℕ) (o : Outcome) (rows : List Row) (xs : List ℕ) → IsOutcomeTo Crush words bytes o → vector_document bytes ≡ Ok (rows, xs) → o.status ≡ Done
     → IsReadAsCrushed rows xs o.text
 
--- the descent that is told: its table and its moves behind what is written for the first table are read again, and where it
--- reached the standard sphere `check` answers to these that they are accepted, and nothing else
+-- the answer of `descend`: its table, and its moves after the text of the first table, are read again, and if it
+-- reached the standard sphere `check` accepts these and has no other outcome
 pub record IsDescentRead (rows : List Row) (o : Outcome) : Type 0 where
   pub descended : Descended
   pub descends : IsDescended rows descended

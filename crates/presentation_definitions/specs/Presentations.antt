@@ -19,7 +19,8 @@ pub record AreGenerators (s : Skeleton) (generators : List ℕ) : Type 0 where
   pub ascending : AllPairs (λ c d. c < d) generators
   pub members : (c : ℕ) → Contains generators c ↔ ((c < s.faces.count) × (degree s.faces.classes c ≡ 2) × (¬ HoldsTreeFace s c))
 
--- the letter of a face: none if its class is no generator; the generator at the lesser face of the class, and the inverse at the greater one
+-- the letter of a face: none if its class is no generator; the generator at the first face of the class, and the
+-- inverse at the second one
 abbrev pub letter_of : Skeleton → List ℕ → ℕ → Option Letter
 letter_of s generators i =
     if has generators (slice_index s.faces.classes i)
@@ -42,7 +43,7 @@ pub record IsTurningFace (rows : List Row) (x : Face) (turns : Bool) : Type 0 wh
   pub back_path : IsTreePath rows gluing.tet back
   pub odd : turns ≡ is_odd_number (evens rows forth + evens rows (x ∷ []) + evens rows back)
 
--- a face class reverses orientation if its lesser face does
+-- a face class reverses orientation if its first face does
 abbrev pub IsTurning : Skeleton → ℕ → Bool → Type 0
 IsTurning s c turns = IsTurningFace s.rows (face_of (least s.faces.classes c)) turns
 

@@ -22,7 +22,8 @@ EqualTextsGiveAutomorphisms =
     (rows : List Row) (start other : Start) (text : List ℕ) → IsTable rows → start.tet < length rows → other.tet < length rows → IsTextFrom rows start text → IsTextFrom rows other text
     → (by : Relabelling) × IsAutomorphism rows by × (carried_start by start ≡ other)
 
--- Theorem: marking the start to which an automorphism carries one without a lesser text keeps marked starts without lesser texts
+-- Theorem: if an automorphism carries a start without a smaller text to another, marking the other keeps marked starts
+-- without smaller texts
 abbrev pub MarksKeepNoLesserText : Type 0
 MarksKeepNoLesserText =
     (rows : List Row) (by : Relabelling) (text : List ℕ) (marks : List Bool) (i : ℕ) → IsTable rows → IsAutomorphism rows by → i < 24 * length rows
@@ -34,7 +35,7 @@ MarkedStartsNeedNoWalk =
     (rows : List Row) (text : List ℕ) (marks : List Bool) (k : ℕ) → MarkedHaveNoLesserText rows text marks → slice_index_or marks k false ≡ true
     → IsLeastText rows k text → IsLeastText rows (k + 1) text
 
--- Theorem: marked starts have no text before a lesser text
+-- Theorem: marked starts have no text before a smaller text
 abbrev pub LesserTextsKeepNoLesserText : Type 0
 LesserTextsKeepNoLesserText =
     (rows : List Row) (text lesser : List ℕ) (marks : List Bool) → is_list_before lesser text ≡ true → MarkedHaveNoLesserText rows text marks → MarkedHaveNoLesserText rows lesser marks

@@ -3,8 +3,8 @@
 
 ghost use Rattle.signature_automorphism_laws.specs.Laws.{StartsCarriedHaveOneText, EqualTextsGiveAutomorphisms, MarksKeepNoLesserText, MarkedStartsNeedNoWalk, LesserTextsKeepNoLesserText, LeastTextsAreSignatures};
 
-/// Theorem: for a table, an automorphism and a start, a text belongs to the start if and only if it belongs to the start
-/// to which the automorphism carries it.
+/// Theorem: for a table, an automorphism and a start, a text belongs to the start if and only if it belongs to the
+/// start to which the automorphism carries it.
 pub fn starts_carried_have_one_text()
     ensures { StartsCarriedHaveOneText }
 {}
@@ -21,13 +21,13 @@ pub fn marks_keep_no_lesser_text()
     ensures { MarksKeepNoLesserText }
 {}
 
-/// Theorem: let no text of a marked start be before a text. If the text is the least of the first k starts and start k is
-/// marked, the text is the least of the first k + 1 starts.
+/// Theorem: let no text of a marked start be before a text. If the text is the least of the first k starts and start k
+/// is marked, the text is the least of the first k + 1 starts.
 pub fn marked_starts_need_no_walk()
     ensures { MarkedStartsNeedNoWalk }
 {}
 
-/// Theorem: if no text of a marked start is before a text, none is before a lesser one.
+/// Theorem: if no text of a marked start is before a text, none is before a smaller one.
 pub fn lesser_texts_keep_no_lesser_text()
     ensures { LesserTextsKeepNoLesserText }
 {}

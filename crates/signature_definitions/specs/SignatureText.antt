@@ -108,7 +108,8 @@ numbers_in (suc k) text w bound fault at = do
   others ← unless (nat_le bound v) (fault at) (numbers_in k text w bound fault (at + w))
   Ok ((v, at) ∷ others)
 
--- what the phases before the last one read: the types, and the destination and the gluing of each type 2, with their places
+-- what the phases before the last one read: the types, and the destination and the gluing of each type 2, with their
+-- places
 pub record Parts : Type 0 where
   pub types : List ℕ
   pub destinations : List (ℕ × ℕ)

@@ -18,7 +18,8 @@ character v = slice_index alphabet v
 abbrev pub value_of : ℕ → Option ℕ
 value_of b = position (λ c. c == b) alphabet
 
--- how many characters a number takes in a text of n tetrahedra: the least w, from 1 on, with n below 64 ^ w, for n below 64 ^ 3
+-- how many characters a number takes in a text of n tetrahedra: the least w, from 1 on, with n below 64 ^ w, for n
+-- below 64 ^ 3
 abbrev pub width : ℕ → ℕ
 width n = if nat_lt n 64 then 1 else (if nat_lt n 4096 then 2 else 3)
 

@@ -1,4 +1,5 @@
--- Relabellings by what stands for each tetrahedron: the way back of one, one after another, and one and back by another.
+-- Relabellings by what stands for each tetrahedron: the way back of one, one after another, and one and back by
+-- another.
 use Rattle.std.specs.Prelude.{◌==◌, ℕ, List, [], length, map, slice_index}
 use Rattle.std.specs.List.{slice_index_or, position_or_len}
 use Rattle.table_definitions.specs.Lists.{below}
@@ -6,22 +7,22 @@ use Rattle.table_definitions.specs.Permutation.{inverse, compose}
 use Rattle.table_definitions.specs.Table.{Gluing}
 use Rattle.table_definitions.specs.Relabelling.{Relabelling}
 
--- the relabelling by which f t stands for tetrahedron t
+-- the relabelling that maps tetrahedron t to f t
 unfoldable pub made : ℕ → (ℕ → Gluing) → Relabelling
 made n f = record { images = map (λ t. (f t).tet) (below n); perms = map (λ t. (f t).perm) (below n) }
 
--- the tetrahedron that goes to u
+-- the tetrahedron that is mapped to u
 unfoldable pub place_of : Relabelling → ℕ → ℕ
 place_of by u = position_or_len (λ v. v == u) by.images
 
--- what stands for u on the way back
+-- the image of u under the inverse
 abbrev pub back_of : Relabelling → ℕ → Gluing
 back_of by u = record { tet = place_of by u; perm = inverse (slice_index_or by.perms (place_of by u) []) }
 
 abbrev pub inverted : ℕ → Relabelling → Relabelling
 inverted n by = made n (back_of by)
 
--- what stands for t by one relabelling and then another
+-- the image of t under one relabelling and then another
 abbrev pub after_of : Relabelling → Relabelling → ℕ → Gluing
 after_of second first t = record {
   tet = slice_index second.images (slice_index first.images t);

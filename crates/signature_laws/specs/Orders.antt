@@ -6,7 +6,7 @@ use Rattle.table_definitions.specs.Table.{Gluing, Row, Face, glue}
 use Rattle.table_definitions.specs.Relabelling.{Relabelling, relabelled_place}
 use Rattle.signature_definitions.specs.Labellings.{Start}
 
--- what stands at a place in the order: the tetrahedron with this new number, and where its vertices go
+-- an entry of the order: the tetrahedron with this new number, and the new vertex of each of its vertices
 abbrev pub start_at : List Start → ℕ → Start
 start_at order i = slice_index_or order i (record { tet = 0; perm = [] })
 
@@ -14,15 +14,15 @@ start_at order i = slice_index_or order i (record { tet = 0; perm = [] })
 abbrev pub is_visited : List Start → ℕ → Bool
 is_visited order t = list_any (λ s. s.tet == t) order
 
--- the start of the tetrahedron behind a gluing under which the gluing becomes the identity
+-- the start of the tetrahedron across a gluing that makes the gluing the identity
 abbrev pub start_behind : Start → Gluing → Start
 start_behind from g = record { tet = g.tet; perm = compose from.perm (inverse g.perm) }
 
--- the face that goes to face f
+-- the face that is mapped to face f
 abbrev pub face_from : Start → ℕ → Face
 face_from from f = record { tet = from.tet; face = preimage from.perm f }
 
--- the tetrahedron behind a gluing gets the next number, unless it is met
+-- the tetrahedron across a gluing gets the next number, unless it is visited
 abbrev pub follow : Bool → Start → Gluing → List Start → List Start
 follow met from g order = if met then order else order ++ start_behind from g ∷ []
 
@@ -44,7 +44,7 @@ order_after rows start (suc k) = take_face rows k (order_after rows start k)
 abbrev pub whole_order : List Row → Start → List Start
 whole_order rows start = order_after rows start (4 * length rows)
 
--- the marks say which tetrahedra are met
+-- the marks say which tetrahedra are visited
 abbrev pub AreVisited : List Start → List Bool → Type 0
 AreVisited order marks = (t : ℕ) → slice_index_or marks t false ≡ is_visited order t
 
@@ -53,12 +53,12 @@ pub record IsWalking (rows : List Row) (order : List Start) (marks : List Bool) 
   pub size : length marks ≡ length rows
   pub met : AreVisited order marks
 
--- each of the n tetrahedra stands in the order once
+-- the order contains each of the n tetrahedra once
 pub record IsWholeOrder (n : ℕ) (order : List Start) : Type 0 where
   pub in_range : (i : ℕ) → i < length order → (start_at order i).tet < n
   pub apart : (i j : ℕ) → i < j → j < length order → (start_at order i).tet ≢ (start_at order j).tet
   pub all : (t : ℕ) → t < n → (i : ℕ) × (i < length order) × ((start_at order i).tet ≡ t)
 
--- each tetrahedron goes to its place in the order
+-- each tetrahedron is mapped to its index in the order
 abbrev pub Numbers : List Start → Relabelling → Type 0
 Numbers order by = (i : ℕ) → i < length order → relabelled_place by (start_at order i).tet ≡ record { tet = i; perm = (start_at order i).perm }

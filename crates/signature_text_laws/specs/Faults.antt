@@ -6,7 +6,7 @@ use Rattle.signature_definitions.specs.declared.SigFault.TheVariants.{NoMemory}
 use Rattle.signature_definitions.specs.Spelling.{Spells}
 use Rattle.text_definitions.specs.Reading as texts
 
--- the fault is want of memory, or the one that the definition gives
+-- the error is that memory ran out, or the one that the definition gives
 abbrev pub Fails : {A : Type 0} → SigFault → Result A SigFault → Type 0
 Fails e read = texts.Fails NoMemory e read
 
@@ -18,6 +18,6 @@ Reads view r read = texts.Reads NoMemory view r read
 abbrev pub Leaves : {X A : Type 0} → A → Result X SigFault → Result A SigFault → Type 0
 Leaves x r read = Reads (λ u. x) r read
 
--- a text that is refused for another reason than want of memory spells no table
+-- a text that is refused for another reason than memory spells no table
 abbrev pub SpellsNothing : List ℕ → SigFault → Type 0
 SpellsNothing text e = e ≢ NoMemory → (rows : List Row) → Spells text rows → ⊥

@@ -10,7 +10,7 @@ use Rattle.signature_definitions.specs.SignatureText as signatures
 abbrev pub types_begun : ℕ → signatures.Types
 types_begun n = record { read = []; left = 4 * n; ones = 0 }
 
--- what is read behind the types
+-- what is read after the types
 abbrev pub parts_of : List ℕ → signatures.Head → signatures.Types → ℕ → Result signatures.Parts SigFault
 parts_of text h s at =
     let twos : ℕ = times_in s.read 2 in

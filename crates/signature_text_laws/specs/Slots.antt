@@ -10,17 +10,17 @@ use Rattle.signature_definitions.specs.declared.SigFault.{SigFault}
 use Rattle.signature_definitions.specs.declared.SigFault.TheVariants as sig_faults
 use Rattle.signature_definitions.specs.SignatureText as signatures
 
--- what the faces that are met are glued to, the number of tetrahedra seen, and the parts that were not used
+-- the gluings of the faces that were read, the number of tetrahedra seen, and the unused sections
 pub record Slots : Type 0 where
   pub met : List (Option (Option Gluing))
   pub seen : ℕ
   pub parts : signatures.Parts
 
--- what is known of a face: nothing where it isn't met
+-- what is known of a face: nothing if it was not read
 abbrev pub slot : List (Option (Option Gluing)) → Face → Option (Option Gluing)
 slot met x = slice_index_or met (face_number x) None
 
--- both sides of a face are met
+-- both sides of a face were read
 abbrev pub meet_at : List (Option (Option Gluing)) → Face → Gluing → List (Option (Option Gluing))
 meet_at met x g = slice_set (slice_set met (face_number (other_side x g)) (Some (Some (way_back x g)))) (face_number x) (Some (Some g))
 
@@ -55,14 +55,14 @@ slot_next x (type ∷ types) s = if is_some (slot s.met x) then Ok s else slot_t
 abbrev pub slot_face : Face → Slots → Result Slots SigFault
 slot_face x s = signatures.unless (nat_le s.seen x.tet) sig_faults.Unreached (slot_next x s.parts.types s)
 
--- so many faces from a place on
+-- the given number of faces from an index on
 unfoldable pub slot_faces : ℕ → ℕ → Slots → Result Slots SigFault
 slot_faces zero k s = Ok s
 slot_faces (suc m) k s = do
   t ← slot_face (face_of k) s
   slot_faces m (k + 1) t
 
--- no face is met yet
+-- no face was read yet
 abbrev pub slots_begun : ℕ → signatures.Parts → Slots
 slots_begun n parts = record { met = replicate (4 * n) None; seen = 1; parts = parts }
 

@@ -7,7 +7,7 @@ use Rattle.signature_definitions.specs.Spelling.{character, in_values, joined}
 abbrev pub number_text : ℕ → ℕ → List ℕ
 number_text w v = map character (in_values w v)
 
--- the tetrahedra behind gluings
+-- the tetrahedra across gluings
 abbrev pub destinations_text : ℕ → List Gluing → List ℕ
 destinations_text w gs = map character (joined (map (λ (g : Gluing). in_values w g.tet) gs))
 

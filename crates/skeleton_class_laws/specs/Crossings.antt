@@ -8,7 +8,7 @@ use Rattle.skeleton_definitions.specs.Links.{directed}
 abbrev pub vertex_at : Place → ℕ
 vertex_at q = 4 * q.tet + slice_index q.vertices 0
 
--- the vertex behind face f that vertex i meets there
+-- the vertex across face f that vertex i is glued to
 unfoldable pub crossed_vertex : List Row → ℕ → ℕ → Option ℕ
 crossed_vertex rows i f = option_map vertex_at (across rows (vertex i) f)
 

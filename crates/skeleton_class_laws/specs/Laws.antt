@@ -24,6 +24,6 @@ pub record HasClasses (kind : Kind) (rows : List Row) : Type 0 where
 abbrev pub ClassesExist : Type 0
 ClassesExist = (kind : Kind) (rows : List Row) → IsTable rows → HasClasses kind rows
 
--- and a walk round each edge class, or none where it is on the boundary
+-- and a tour around each edge class, or none if it is on the boundary
 abbrev pub WalksExist : Type 0
 WalksExist = (s : Skeleton) → IsSkeleton s → (c : ℕ) → c < s.edges.count → (corners : List Corner) × IsAround s c corners

@@ -19,6 +19,6 @@ led next i (f ∷ fs) = option_and_then (λ j. led next j fs) (next i f)
 abbrev pub IsLed : (ℕ → ℕ → Option ℕ) → ℕ → ℕ → Type 0
 IsLed next i j = (choices : List ℕ) × (led next i choices ≡ Some j)
 
--- each step from a place below n leads to another, from which a step leads back
+-- each step from an index below n reaches another, from which a step reaches the first
 abbrev pub IsReversible : ℕ → (ℕ → ℕ → Option ℕ) → Type 0
 IsReversible n next = (i f j : ℕ) → i < n → f < 4 → next i f ≡ Some j → (j < n) × ((g : ℕ) × (g < 4) × (next j g ≡ Some i))

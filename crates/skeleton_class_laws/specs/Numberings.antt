@@ -36,7 +36,7 @@ same Faces rows = SameFace rows
 same Signs rows = IsLed (crossed_sign rows)
 same VertexSigns rows = IsLed (crossed_vertex_sign rows)
 
--- each lesser class than that of x is the class of something before
+-- each smaller class than that of x is the class of an earlier thing
 abbrev pub IsOrdered : List ℕ → Type 0
 IsOrdered classes = (x class : ℕ) → x < length classes → class < slice_index classes x → (y : ℕ) × (y < x) × (slice_index classes y ≡ class)
 
@@ -53,7 +53,7 @@ pub record AreClassesOf (kind : Kind) (rows : List Row) (classes firsts : List �
   pub numbering : IsNumbering (per_tet kind * length rows) (same kind rows) classes (length firsts)
   pub least_members : AreFirsts classes firsts
 
--- the same of what stands before place i
+-- as `AreFirsts`, for the things before index i
 pub record AreFirstsUpTo (i : ℕ) (classes firsts : List ℕ) : Type 0 where
   pub below : (j : ℕ) → j < i → slice_index classes j < length firsts
   pub least_member : (c : ℕ) → c < length firsts → slice_index firsts c ≡ least classes c

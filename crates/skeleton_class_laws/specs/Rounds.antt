@@ -25,7 +25,7 @@ corner_word k = k.a ∷ k.b ∷ k.c ∷ k.d ∷ []
 abbrev pub swap : List ℕ
 swap = 0 ∷ 1 ∷ 3 ∷ 2 ∷ []
 
--- the order of the vertices behind a gluing
+-- the order of the vertices across a gluing
 unfoldable pub word_across : List ℕ → List ℕ → List ℕ
 word_across g p = compose (compose g p) swap
 
@@ -33,7 +33,7 @@ word_across g p = compose (compose g p) swap
 unfoldable pub next_corner : List Row → ℕ → Option ℕ
 next_corner rows k = option_map (λ (g : Gluing). 24 * g.tet + index (word_across g.perm (word_at k))) (glue rows (record { tet = k / 24; face = image (word_at k) 2 }))
 
--- the corner at which the walk round edge i starts
+-- the corner at which the tour around edge i starts
 abbrev pub starts : List ℕ
 starts = 0 ∷ 2 ∷ 4 ∷ 8 ∷ 10 ∷ 16 ∷ []
 

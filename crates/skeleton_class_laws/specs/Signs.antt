@@ -4,11 +4,11 @@ use Rattle.std.specs.List.{slice_index_or}
 use Rattle.table_definitions.specs.Permutation.{image, is_odd}
 use Rattle.table_definitions.specs.Table.{Gluing, Row, glue}
 
--- the other of 0 and 1 behind an even gluing
+-- the other of 0 and 1 across an even gluing
 abbrev pub sign_behind : Gluing → ℕ → ℕ
 sign_behind g s = if is_odd g.perm then s else 1 - s
 
--- the signed tetrahedron behind face f
+-- the signed tetrahedron across face f
 unfoldable pub crossed_sign : List Row → ℕ → ℕ → Option ℕ
 crossed_sign rows i f = option_map (λ g. 2 * g.tet + sign_behind g (i % 2)) (glue rows (record { tet = i / 2; face = f }))
 
@@ -17,7 +17,7 @@ pub record AreSignsBy (classes : List ℕ) (n : ℕ) (signs : List Bool) : Type 
   pub one_each : length signs ≡ n
   pub told : (t : ℕ) → t < n → slice_index_or signs t false ≡ nat_lt (slice_index classes (2 * t)) (slice_index classes (2 * t + 1))
 
--- vertex i with the sign true is 2 i, and with the sign false 2 i + 1; the signed vertex behind face f
+-- vertex i with the sign true is 2 i, and with the sign false 2 i + 1; the signed vertex across face f
 unfoldable pub crossed_vertex_sign : List Row → ℕ → ℕ → Option ℕ
 crossed_vertex_sign rows k f =
     if (k / 2 % 4) == f then None else option_map (λ (g : Gluing). 2 * (4 * g.tet + image g.perm (k / 2 % 4)) + sign_behind g (k % 2)) (glue rows (record { tet = k / 8; face = f }))

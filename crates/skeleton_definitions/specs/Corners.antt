@@ -6,7 +6,8 @@ use Rattle.table_definitions.specs.Permutation.{four, image}
 use Rattle.table_definitions.specs.Table.{Gluing, Row, Face, glue}
 use Rattle.table_definitions.specs.Places.{ends, is_boundary_edge}
 
--- the edge ab of a tetrahedron, and the faces c and d that meet in it: the walk comes through face d and leaves through face c
+-- the edge ab of a tetrahedron, and the faces c and d that meet in it: the walk comes through face d and leaves through
+-- face c
 pub record Corner : Type 0 where
   pub tet : ℕ
   pub a : ℕ
@@ -59,6 +60,6 @@ pub record AreCorners (rows : List Row) (first : Corner) (corners : List Corner)
   pub reached : (k : Corner) → Contains corners k ↔ Reaches rows first k
   pub once : (i j : ℕ) → i < j → j < length corners → slice_index_or corners i first ≢ slice_index_or corners j first
 
--- the inner edge classes, ascending
+-- the internal edge classes, ascending
 abbrev pub internal_edges : List Row → List ℕ → ℕ → List ℕ
 internal_edges rows classes count = filter (λ c. not (is_boundary_edge rows classes c)) (below count)

@@ -11,7 +11,8 @@ use Rattle.skeleton_definitions.specs.declared.LinkKind.{LinkKind}
 use Rattle.skeleton_definitions.specs.declared.LinkKind.TheVariants.{Sphere, Disc, Torus, Klein, Other}
 use Rattle.skeleton_definitions.specs.declared.Link.{Link}
 
--- directed place i, the i % 12-th pair of vertices v and w of tetrahedron i / 12: the corner, in the triangle at v, on the edge to w
+-- directed place i, the i % 12-th pair of vertices v and w of tetrahedron i / 12: the corner, in the triangle at v, on
+-- the edge to w
 abbrev pub directed : ℕ → Place
 directed i = record { tet = i / 12; vertices = (i % 12) / 3 ∷ slice_index (others ((i % 12) / 3)) (i % 3) ∷ [] }
 
@@ -26,7 +27,7 @@ vertex_number t v = 4 * t + v
 abbrev pub sides : List ℕ → ℕ → List Face
 sides classes c = flat_map (λ i. map (λ f. record { tet = i / 4; face = f }) (others (i % 4))) (members classes c)
 
--- whether a face is a boundary face or the lesser of two that are glued
+-- whether a face is a boundary face or the first of two that are glued
 abbrev pub is_first_side : Face → Option Gluing → Bool
 is_first_side x None = true
 is_first_side x (Some g) = is_face_before x (other_side x g)

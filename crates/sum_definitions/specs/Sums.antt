@@ -75,7 +75,7 @@ abbrev pub ReachesState : ℕ → List (List ℕ) → List ℕ → ℕ → State
 ReachesState limit list x zero s = s ≡ first_state x
 ReachesState limit list x (suc turns) s = (before : State) × ReachesState limit list x turns before × IsSumStep list before s × IsWithinTimes limit x s.times
 
--- the steps lead to a state with the remainder 0
+-- the steps end in a state with the remainder 0
 pub record IsSum (limit : ℕ) (list : List (List ℕ)) (x : List ℕ) (times : ℕ) (terms : List Term) : Type 0 where
   pub turns : ℕ
   pub rest : List ℕ

@@ -26,7 +26,8 @@ abbrev pub StepsAtMostColumns : Type 0
 StepsAtMostColumns = (columns : ℕ) (rows : List Row) (list : List (List ℕ)) (x : List ℕ) → HasRays columns rows list x →
     (limit turns : ℕ) (s : State) → ReachesState limit list x turns s → turns ≤ columns
 
--- the solution, taken at least once, is the sum of the terms; each count is at least 1, and the vectors are listed and strictly ascend
+-- the solution, taken at least once, is the sum of the terms; each count is at least 1, and the vectors are listed and
+-- strictly ascend
 pub record IsSumOfRays (list : List (List ℕ)) (limit : ℕ) (x : List ℕ) (times : ℕ) (terms : List Term) : Type 0 where
   pub adds_up : AddsUp limit x times terms
   pub counts : All (λ (term : Term). 1 ≤ term.count) terms
@@ -42,7 +43,8 @@ abbrev pub SumsExist : Type 0
 SumsExist = (columns : ℕ) (rows : List Row) (list : List (List ℕ)) (x : List ℕ) → HasRays columns rows list x →
     (limit times : ℕ) × (terms : List Term) × IsSumOfRays list limit x times terms
 
--- what is answered of a solution: how many times it is taken, and the terms of the sum; or the turn and the column at which it gets too large
+-- what is answered of a solution: how many times it is taken, and the terms of the sum; or the turn and the column at
+-- which it gets too large
 pub data Answer : Type 0 where
   sum : ℕ → List Term → Answer
   large : ℕ → ℕ → Answer

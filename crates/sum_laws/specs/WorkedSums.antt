@@ -22,7 +22,8 @@ both = 3 ∷ 3 ∷ 1 ∷ 1 ∷ 2 ∷ 0 ∷ 0 ∷ []
 abbrev pub sphere_surfaces : List (List ℕ)
 sphere_surfaces = torus ∷ link ∷ []
 
--- the surfaces of x + y - 2 z are the rays of 1 1 1; twice it is 0 2 1 and 2 0 1, which takes a limit of 2; 3 3 1 1 2 0 0 is two of one surface and one of the other; and nothing is taken of no columns
+-- the surfaces of x + y - 2 z are the rays of 1 1 1; twice it is 0 2 1 and 2 0 1, which takes a limit of 2; 3 3 1 1 2 0
+-- 0 is two of one surface and one of the other; and nothing is taken of no columns
 pub record WorkedSums : Type 0 where
   pub rays : HasRays 3 (worked_row ∷ []) worked_surfaces one_each
   pub halves : IsAnswer 2 worked_surfaces one_each (sum 2 (term 1 y_surface ∷ term 1 x_surface ∷ []))

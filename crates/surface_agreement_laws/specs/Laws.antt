@@ -61,7 +61,7 @@ abbrev pub CharacteristicsAgree : Type 0
 CharacteristicsAgree =
     (s : Skeleton) (ys : List ℕ) → IsSkeleton s → length ys ≡ columns Standard (length s.rows) → characteristic s Octagon (in_octagons (length s.rows) ys) ≡ characteristic s Standard ys
 
--- the lifts of the quad list stand in the standard list
+-- Theorem: the standard list contains the lifts of the quad list
 abbrev pub ListedLiftsAreListed : Type 0
 ListedLiftsAreListed =
     (s : Skeleton) (quad_rows : List EquationRow) (quads standard : List (List ℕ)) (xs lift : List ℕ) → IsSkeleton s → AreEquations Quad s.rows quad_rows
@@ -73,13 +73,14 @@ ListedQuadsLift =
     (s : Skeleton) (links : List Link) (quad_rows : List EquationRow) (quads standard : List (List ℕ)) → IsSkeleton s → HasSphereAndDiscLinks s links → AreEquations Quad s.rows quad_rows
     → IsSurfaceListBy s Quad quad_rows quads → IsSurfaceListOf s Standard standard → All (λ xs. (ys : List ℕ) × Contains standard ys × IsOneVertexSurfaceOver s xs ys) quads
 
--- and the vertex links stand in the standard and in the octagon list
+-- Theorem: the standard and the octagon list contain the vertex links
 abbrev pub LinksAreListed : Type 0
 LinksAreListed =
     (s : Skeleton) (coords : Coords) (list : List (List ℕ)) (c : ℕ) → IsSkeleton s → HasTriangles coords → IsSurfaceListOf s coords list → c < s.vertices.count
     → Contains list (link_of s coords c)
 
--- so, where all links are spheres or discs, the standard list is at least as long as the quad list and that of the vertices together
+-- so, where all links are spheres or discs, the standard list is at least as long as the quad list and that of the
+-- vertices together
 abbrev pub StandardListIsLong : Type 0
 StandardListIsLong =
     (s : Skeleton) (links : List Link) (quad_rows : List EquationRow) (quads standard : List (List ℕ)) → IsSkeleton s → HasSphereAndDiscLinks s links → AreEquations Quad s.rows quad_rows
@@ -114,13 +115,13 @@ VertexSurfacesAreLinksOrLifts =
     (s : Skeleton) (quad_rows : List EquationRow) (ys : List ℕ) → IsSkeleton s → AreEquations Quad s.rows quad_rows → IsVertexSurfaceOf s Standard ys
     → IsVertexLink s Standard ys ⊎ IsLiftOfItsQuads s quad_rows ys
 
--- the quads of a surface, so many times, are a sum of listed quad vertex surfaces
+-- Theorem: some multiple of the quads of a surface is a sum of listed quad vertex surfaces
 abbrev pub QuadsAreSums : Type 0
 QuadsAreSums =
     (s : Skeleton) (quad_rows : List EquationRow) (quads : List (List ℕ)) (ys : List ℕ) → IsSkeleton s → AreEquations Quad s.rows quad_rows → IsSurfaceListBy s Quad quad_rows quads
     → IsSurface s.rows Standard ys → (limit times : ℕ) × (terms : List Term) × IsSumOfRays quads limit (quads_of s ys) times terms
 
--- those of a canonical vertex surface stand in the quad list exactly where such a sum has one term
+-- Theorem: the quad list contains those of a canonical vertex surface if and only if such a sum has one term
 abbrev pub OneTermIsListed : Type 0
 OneTermIsListed =
     (s : Skeleton) (quad_rows : List EquationRow) (quads : List (List ℕ)) (ys : List ℕ) (limit times : ℕ) (terms : List Term) → IsSkeleton s → AreEquations Quad s.rows quad_rows

@@ -1,4 +1,5 @@
--- A standard vertex surface whose quads are no quad vertex surface: two tetrahedra, glued along a face, and a quad of each which meet in it.
+-- A standard vertex surface whose quads are no quad vertex surface: two tetrahedra, glued along a face, and a quad of
+-- each which meet in it.
 use Rattle.std.specs.Prelude.{◌≡◌, ℕ, List, [], ◌∷◌, Some, None}
 use Rattle.cone_definitions.specs.Rows.{Row as EquationRow}
 use Rattle.cone_definitions.specs.Surfaces.{IsVertexSurface}

@@ -14,7 +14,7 @@ use Rattle.surface_definitions.specs.Verdict.{verdict}
 abbrev pub ClashesAreApart : Type 0
 ClashesAreApart = (coords : Coords) (n : ℕ) → PairsAreOfTwoColumns (clash_list coords n)
 
--- where the first i equations are met, and the next one has a part that passes the limit, the verdict tells it
+-- Theorem: if the first i equations hold, and the next one has a part that exceeds the limit, the verdict names it
 abbrev pub FirstLargeIsAnswered : Type 0
 FirstLargeIsAnswered =
     (max n : ℕ) (equations : List EquationRow) (pairs : List (ℕ × ℕ)) (x : List ℕ) (i : ℕ) → length x ≡ n → i < length equations → HoldWithinBefore max equations x i

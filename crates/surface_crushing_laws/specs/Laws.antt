@@ -25,7 +25,7 @@ NothingElseIsCrushed = (rows new : List Row) (xs : List ℕ) → IsTable rows �
 abbrev pub LinkingCrushesNothing : Type 0
 LinkingCrushesNothing = (rows new : List Row) (xs : List ℕ) → IsTable rows → is_linking Standard xs ≡ true → IsCrushed rows xs new ↔ (new ≡ rows)
 
--- the one thing that is told of such an admissible solution is the table itself
+-- Theorem: the one answer for such an admissible solution is the table itself
 abbrev pub FitAreCrushedToItself : Type 0
 FitAreCrushedToItself =
     (rows : List Row) (equations : List EquationRow) (xs : List ℕ) (told : Result (List Row) Refusal) → IsTable rows → HasNoQuads (length rows) xs → IsFit Standard rows equations xs

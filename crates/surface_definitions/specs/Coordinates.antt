@@ -100,7 +100,7 @@ clash_test coords a b =
     (is_octagon coords a && is_octagon coords b)
     || ((a / columns_each coords == b / columns_each coords) && is_quad_or_octagon coords a && is_quad_or_octagon coords b)
 
--- all clashing pairs of n tetrahedra, the lesser column first, ascending
+-- all clashing pairs of n tetrahedra, the smaller column first, ascending
 unfoldable pub clash_list : Coords → ℕ → List (ℕ × ℕ)
 clash_list coords n =
     filter (λ p. nat_lt p.0 p.1 && clash_test coords p.0 p.1) (pairs_of (below (columns coords n)) (below (columns coords n)))

@@ -1,4 +1,5 @@
--- Crushing along a surface in standard coordinates: tetrahedra with a quad are taken out, and faces are followed through them.
+-- Crushing along a surface in standard coordinates: tetrahedra with a quad are taken out, and faces are followed
+-- through them.
 use Rattle.std.specs.Prelude.{◌≡◌, ℕ, zero, suc, ◌<◌, Bool, not, List, length, map, ◌==◌, nat_lt, Option, Some, None, option_map, count_by, slice_index, All, if◌then◌else◌, IsTrue}
 use Rattle.std.specs.List.{list_any, position_or_len}
 use Rattle.table_definitions.specs.Lists.{below, substitute}
@@ -31,7 +32,8 @@ passed_to rows g v w = option_map (λ (h : Gluing). record { tet = h.tet; perm =
 abbrev pub passed : List Row → List ℕ → Face → Gluing → Option Gluing
 passed rows xs x g = passed_to rows g (image g.perm x.face) (partner_in xs g.tet (image g.perm x.face))
 
--- what the chain from x, which has come by o, reaches after n further tetrahedra that are taken out: a kept face, or nothing at a boundary face
+-- what the chain from x, which has come by o, reaches after n further tetrahedra that are taken out: a kept face, or
+-- nothing at a boundary face
 abbrev pub ChainEnds : List Row → List ℕ → Face → ℕ → Option Gluing → Option Gluing → Type 0
 ChainEnds rows xs x zero None end = end ≡ None
 ChainEnds rows xs x zero (Some g) end = IsTrue (not (is_removed xs g.tet)) × (end ≡ Some g)

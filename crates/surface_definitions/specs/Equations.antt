@@ -1,4 +1,5 @@
--- The matching equations. A row is the list of the columns whose coefficient isn't 0, ascending, each with its coefficient.
+-- The matching equations. A row is the list of the columns whose coefficient isn't 0, ascending, each with its
+-- coefficient.
 use Rattle.std.specs.Prelude.{ℕ, ◌==◌, ℤ, pos, ◌-ℤ◌, List, length, map, Option, Some, None, if◌then◌else◌, ◌≡◌, sum_by, slice_index}
 use Rattle.std.specs.List.{filter_map, flat_map}
 use Rattle.table_definitions.specs.Lists.{below, times_in}
@@ -33,7 +34,7 @@ abbrev pub lesser_side : Face → Option Gluing → Option (Face × Gluing)
 lesser_side x None = None
 lesser_side x (Some g) = if is_face_before x (other_side x g) then Some (x, g) else None
 
--- the glued pairs of faces, each by its lesser side, ascending
+-- the glued pairs of faces, each by its first side, ascending
 unfoldable pub glued_pairs : List Row → List (Face × Gluing)
 glued_pairs rows = filter_map (λ x. lesser_side x (glue rows x)) (faces (length rows))
 
@@ -44,7 +45,7 @@ matching coords x g v = record {
   right = arc_columns coords g.tet (image g.perm x.face) (image g.perm v);
 }
 
--- one equation for each glued pair and each vertex of the lesser face, ascending; in standard and octagon coordinates
+-- one equation for each glued pair and each vertex of its first face, ascending; in standard and octagon coordinates
 unfoldable pub matching_equations : Coords → List Row → List Equation
 matching_equations coords rows =
     flat_map (λ (y : Face × Gluing). map (matching coords y.0 y.1) (others (y.0).face)) (glued_pairs rows)

@@ -1,4 +1,5 @@
--- The pieces of a surface, the arcs in which they end, and the components that meeting arcs join. Coordinates are standard or octagons.
+-- The pieces of a surface, the arcs in which they end, and the components that meeting arcs join. Coordinates are
+-- standard or octagons.
 use Rattle.std.specs.Prelude.{◌≡◌, ℕ, ◌-◌, ◌%◌, ◌<◌, ◌≢◌, Bool, ◌&&◌, ◌||◌, not, List, [], ◌∷◌, length, map, ◌==◌, nat_lt, Some, sum_by, count_by, slice_index, if◌then◌else◌}
 use Rattle.std.specs.List.{flat_map, position_or_len, slice_index_or}
 use Rattle.table_definitions.specs.Lists.{below}
@@ -61,7 +62,8 @@ disc_of coords xs a =
     else further_piece xs (further_column coords xs a) (a.place - triangles_around coords xs a)
     (keeps_by_zero (type_in coords (further_column coords xs a)) a.vertex)
 
--- whether the piece looks at v with its positive side: a triangle's is that of its vertex, and another's that of vertex 0
+-- whether the piece looks at v with its positive side: a triangle's is that of its vertex, and another's that of vertex
+-- 0
 abbrev pub looks_positive : Coords → List ℕ → Arc → Bool
 looks_positive coords xs a = is_triangle_arc coords xs a || keeps_by_zero (type_in coords (further_column coords xs a)) a.vertex
 

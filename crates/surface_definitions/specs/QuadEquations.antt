@@ -24,7 +24,7 @@ IsQuadRow rows classes c row =
     (corners : List Corner) × AreCorners rows (first_corner (least classes c)) corners
     × (row ≡ row_of (columns Quad (length rows)) (quad_equation corners))
 
--- one row for each inner edge class, ascending, by the numbering of the edges
+-- one row for each internal edge class, ascending, by the numbering of the edges
 abbrev pub AreQuadRows : List Row → List ℕ → ℕ → List EquationRow → Type 0
 AreQuadRows rows classes count quad_rows = AllZip (IsQuadRow rows classes) (internal_edges rows classes count) quad_rows
 
@@ -35,7 +35,7 @@ pub record AreQuadEquations (rows : List Row) (quad_rows : List EquationRow) : T
   pub numbered : IsNumbering (6 * length rows) (SameEdge rows) classes count
   pub each : AreQuadRows rows classes count quad_rows
 
--- the equations of a table: matching equations, and in quad coordinates those of the inner edges
+-- the equations of a table: matching equations, and in quad coordinates those of the internal edges
 abbrev pub AreEquations : Coords → List Row → List EquationRow → Type 0
 AreEquations Standard rows equations = equations ≡ matching_rows Standard rows
 AreEquations Quad rows equations = AreQuadEquations rows equations

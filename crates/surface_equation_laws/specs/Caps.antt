@@ -1,4 +1,5 @@
--- The certificate of a table: triangles are free, the quads of a tetrahedron are a group, and all octagons are one more.
+-- The certificate of a table: triangles are free, the quads of a tetrahedron are a group, and all octagons are one
+-- more.
 use Rattle.std.specs.Prelude.{ℕ, ◌+◌, ◌*◌, ◌/◌, ◌==◌, Bool, not, List, length, if◌then◌else◌}
 use Rattle.cone_definitions.specs.Rows.{Row as EquationRow}
 use Rattle.table_definitions.specs.Table.{Row, IsTable}

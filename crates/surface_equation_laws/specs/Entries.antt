@@ -9,7 +9,7 @@ unfoldable pub entry : EquationRow → ℕ → ℤ
 entry [] c = pos 0
 entry (t ∷ ts) c = (if t.0 == c then t.1 else pos 0) +ℤ entry ts c
 
--- each number stands at most once
+-- each number occurs at most once
 abbrev pub IsOnce : List ℕ → Type 0
 IsOnce cs = (c : ℕ) → times_in cs c ≤ 1
 

@@ -31,7 +31,7 @@ EquationColumnsAreAtMostWeights =
     (coords : Coords) (rows : List Row) (equations : List EquationRow) (c : ℕ) → IsTable rows → AreEquations coords rows equations
     → is_quad_or_octagon coords c ≡ true → column_sum equations c ≤ weight coords c
 
--- the same of the terms as they stand in the row
+-- as the one before, for the terms as they are in the row
 pub record HasTermsAtMost (row : EquationRow) (n : ℕ) : Type 0 where
   pub plus : sum_by (λ (term : ℕ × ℤ). positive_coefficient term.1) row ≤ n
   pub minus : sum_by (λ (term : ℕ × ℤ). negative_coefficient term.1) row ≤ n

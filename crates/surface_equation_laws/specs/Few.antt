@@ -32,7 +32,8 @@ OwnEnumerations =
     (coords : Coords) (order : Order) (most : ℕ) (rows : List Row) (equations : List EquationRow) → IsTable rows → AreEquations coords rows equations
     → IsOfTable coords rows (table_enumeration coords order most rows equations)
 
--- so with few tetrahedra the surface list is what it gives, and nothing passes the limit
+-- Theorem: up to the greatest number of tetrahedra of the coordinates, the surface list is the answer, and no number
+-- exceeds the limit
 abbrev pub SmallTablesAreListed : Type 0
 SmallTablesAreListed =
     (coords : Coords) (order : Order) (rows : List Row) (equations : List EquationRow) → IsTable rows → AreEquations coords rows equations → length rows ≤ most_tetrahedra coords

@@ -7,7 +7,7 @@ use Rattle.surface_definitions.specs.declared.Coords.TheVariants.{Standard, Quad
 use Rattle.surface_equation_laws.specs.Entries.{IsOnce}
 use Rattle.surface_equation_laws.specs.Weights.{weight_product}
 
--- no clashing pair of n tetrahedra stands in the list
+-- the list contains no clashing pair of n tetrahedra
 abbrev pub HaveNoClash : Coords → ℕ → List ℕ → Type 0
 HaveNoClash coords n cs = (pair : ℕ × ℕ) → Contains (clash_list coords n) pair → Contains cs pair.0 → Contains cs pair.1 → ⊥
 

@@ -12,7 +12,8 @@ use Rattle.surface_equation_laws.specs.MatchingSums.{AreAtMost}
 abbrev pub QuadColumnsAreAtMostFour : Type 0
 QuadColumnsAreAtMostFour = (rows : List Row) (quad_rows : List EquationRow) (c : ℕ) → IsTable rows → AreQuadEquations rows quad_rows → column_sum quad_rows c ≤ 4
 
--- in each row the positive entries add up to 6 for each tetrahedron at most, and so do the magnitudes of the negative ones
+-- in each row the positive entries add up to 6 for each tetrahedron at most, and so do the magnitudes of the negative
+-- ones
 abbrev pub QuadRowsAreAtMostEdges : Type 0
 QuadRowsAreAtMostEdges =
     (rows : List Row) (quad_rows : List EquationRow) (row : EquationRow) (cs : List ℕ) → IsTable rows → AreQuadEquations rows quad_rows

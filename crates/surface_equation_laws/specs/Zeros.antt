@@ -8,7 +8,8 @@ use Rattle.surface_definitions.specs.declared.Coords.{Coords}
 use Rattle.surface_definitions.specs.QuadEquations.{AreEquations}
 use Rattle.surface_equation_laws.specs.Entries.{entry}
 
--- the sum of the row's positive entries times the vector's, over the columns below n, and of the magnitudes of the negative ones
+-- the sum of the row's positive entries times the vector's, over the columns below n, and of the magnitudes of the
+-- negative ones
 abbrev pub plus_entries : ℕ → EquationRow → List ℕ → ℕ
 plus_entries n row x = sum_by (λ c. positive_coefficient (entry row c) * slice_index x c) (below n)
 

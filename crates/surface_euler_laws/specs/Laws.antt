@@ -48,13 +48,15 @@ abbrev pub LinksHaveAtMostTwo : Type 0
 LinksHaveAtMostTwo =
     (s : Skeleton) (c : ℕ) (link : Link) → IsSkeleton s → IsFirstInvalid s None → c < s.vertices.count → HasLink s c link → link.euler ≤ℤ pos 2
 
--- where that of a connected surface is positive it is 1, as that of a projective plane or a disc is, or 2, as that of a sphere
+-- where that of a connected surface is positive it is 1, as that of a projective plane or a disc is, or 2, as that of a
+-- sphere
 abbrev pub PositiveIsOneOrTwo : Type 0
 PositiveIsOneOrTwo =
     (s : Skeleton) (coords : Coords) (xs : List ℕ) → IsSkeleton s → IsFirstInvalid s None → IsConnectedSurface s coords xs → IsPositive s coords xs
     → (characteristic s coords xs ≡ pos 1) ⊎ (characteristic s coords xs ≡ pos 2)
 
--- where there are octagons, and it is at least twice their number, there is one octagon and it is 2: an almost normal sphere, by its numbers
+-- where there are octagons, and it is at least twice their number, there is one octagon and it is 2: an almost normal
+-- sphere, by its numbers
 abbrev pub TwiceOctagonsAreSpheres : Type 0
 TwiceOctagonsAreSpheres =
     (s : Skeleton) (xs : List ℕ) → IsSkeleton s → IsFirstInvalid s None → IsConnectedSurface s Octagon xs → HasTwiceOctagons s xs

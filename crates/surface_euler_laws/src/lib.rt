@@ -1,5 +1,5 @@
-//! Connected normal surfaces have Euler characteristic at most 2, as all polygons have that are glued along sides to one part. The functions here
-//! have no code: their contracts are laws over the definitions.
+//! Connected normal surfaces have Euler characteristic at most 2, as all polygons have that are glued along sides to
+//! one part. The functions here have no code: their contracts are laws over the definitions.
 #![tactic(auto)]
 
 ghost use Rattle.surface_euler_laws.specs.Laws.{SurfacesHaveAtMostTwoEach, ConnectedHaveAtMostTwo, ComponentsAreConnected, ComponentsHaveAtMostTwo, VertexSurfacesHaveAtMostTwo, LinksHaveAtMostTwo, PositiveIsOneOrTwo, TwiceOctagonsAreSpheres, AlmostNormalSphereIsListed};
@@ -15,7 +15,8 @@ pub fn components_are_connected()
     ensures { ComponentsAreConnected }
 {}
 
-/// Where no edge is invalid a surface has at most 2 for each component: a connected one at most 2, and so each component, each vertex surface and each vertex link.
+/// Where no edge is invalid a surface has at most 2 for each component: a connected one at most 2, and so each
+/// component, each vertex surface and each vertex link.
 pub fn surfaces_have_at_most_two_each()
     ensures each { SurfacesHaveAtMostTwoEach }
     ensures connected { ConnectedHaveAtMostTwo }
@@ -30,8 +31,8 @@ pub fn positive_surfaces_have_one_or_two()
     ensures octagons { TwiceOctagonsAreSpheres }
 {}
 
-/// Where no edge is invalid and a table is 0-efficient by its numbers, it has an almost normal sphere, by its numbers too, exactly
-/// where one is listed.
+/// Where no edge is invalid and a table is 0-efficient by its numbers, it has an almost normal sphere, by its numbers
+/// too, exactly where one is listed.
 pub fn almost_normal_sphere_is_listed()
     ensures { AlmostNormalSphereIsListed }
 {}

@@ -13,7 +13,7 @@ use Rattle.surface_definitions.specs.Lift.{projected, IsLift}
 use Rattle.surface_vector_definitions.specs.Lifting.{HasLiftAt, IsLiftAnswer}
 use Rattle.surface_vector_definitions.specs.declared.LiftFault.{LiftFault}
 
--- the triangles round vertex i
+-- the triangles around vertex i
 abbrev pub triangle_at : List ℕ → ℕ → ℕ
 triangle_at ys i = slice_index ys (tri_column Standard (i / 4) (i % 4))
 
@@ -37,7 +37,8 @@ abbrev pub OneLiftAnswer : Type 0
 OneLiftAnswer =
     (max : ℕ) (s : Skeleton) (xs : List ℕ) (a b : Result (List ℕ) LiftFault) → IsSkeleton s → IsLiftAnswer max s xs a → IsLiftAnswer max s xs b → a ≡ b
 
--- heights of the vertices of class c, by their numbers: across each gluing the height and the quad there add up to the same
+-- heights of the vertices of class c, by their numbers: across each gluing the height and the quad there add up to the
+-- same
 abbrev pub AreHeights : Skeleton → List ℕ → ℕ → (ℕ → ℕ) → Type 0
 AreHeights s xs c h =
     (x : Face) (g : Gluing) (v : ℕ) → glue s.rows x ≡ Some g → v < 4 → (v ≡ x.face → ⊥) → slice_index s.vertices.classes (vertex_number x.tet v) ≡ c
@@ -62,7 +63,7 @@ LiftsAreDecided =
     (s : Skeleton) (xs : List ℕ) (c : ℕ) → IsSkeleton s → length xs ≡ columns Quad (length s.rows) → c < s.vertices.count
     → HasLiftAt s xs c ⊎ (HasLiftAt s xs c → ⊥)
 
--- so something is told of each quad vector
+-- Theorem: each quad vector has an answer
 abbrev pub LiftAnswersExist : Type 0
 LiftAnswersExist =
     (max : ℕ) (s : Skeleton) (xs : List ℕ) → IsSkeleton s → length xs ≡ columns Quad (length s.rows) → (a : Result (List ℕ) LiftFault) × IsLiftAnswer max s xs a

@@ -21,7 +21,7 @@ pub record IsSurface (rows : List Row) (coords : Coords) (xs : List ℕ) : Type 
   pub solves : IsSolution (columns coords (length rows)) (matching_rows coords rows) xs
   pub admissible : IsAdmissible (clash_list coords (length rows)) xs
 
--- the face in which an arc stands
+-- the face that contains an arc
 abbrev pub face_of_arc : Arc → Face
 face_of_arc a = record { tet = a.tet; face = a.face }
 
@@ -53,7 +53,7 @@ ComponentsAreSurfaces =
     (rows : List Row) (coords : Coords) (xs components : List ℕ) (count i : ℕ) → IsSurface rows coords xs → AreComponents rows coords xs components count
     → IsSurface rows coords (component_vector xs components i)
 
--- pieces are numbered column by column: a column's pieces stand behind those of the columns before it
+-- Theorem: discs are numbered column by column: those of a column come after those of the columns before it
 pub record ArePieceNumbers (xs : List ℕ) : Type 0 where
   pub count : length (discs_of xs) ≡ sum xs
   pub there : (c j : ℕ) (d : NormalDisc) → c < length xs → j < slice_index xs c → slice_index_or (discs_of xs) (sum (take c xs) + j) d ≡ record { column = c; number = j }
@@ -111,7 +111,7 @@ pub record HasComponents (rows : List Row) (coords : Coords) (xs : List ℕ) : T
 abbrev pub ComponentsExist : Type 0
 ComponentsExist = (rows : List Row) (coords : Coords) (xs : List ℕ) → IsSurface rows coords xs → HasComponents rows coords xs
 
--- so something is told of the pieces of each surface
+-- Theorem: the discs of each surface have an answer
 abbrev pub PiecesAnswersExist : Type 0
 PiecesAnswersExist = (rows : List Row) (coords : Coords) (xs : List ℕ) → IsSurface rows coords xs → (a : Result (List Component) ManyPieces) × IsPiecesAnswer rows coords xs a
 

@@ -18,7 +18,8 @@ use Rattle.surface_quad_lift_laws.specs.Laws.{HasLink}
 abbrev pub first_end : ℕ → ℕ
 first_end i = vertex_number (i / 6) (slice_index (ends (i % 6)) 0)
 
--- as many arcs as the link has edges, and as many pieces as it has triangles; arcs in the boundary where it isn't closed
+-- as many arcs as the link has edges, and as many pieces as it has triangles; arcs in the boundary where it isn't
+-- closed
 pub record HasEdgesAndTriangles (link : Link) (p : Properties) : Type 0 where
   pub arcs : p.arcs ≡ link.edges
   pub pieces : p.pieces ≡ link.triangles
@@ -41,7 +42,8 @@ pub record AreInvalidEdgesAt (s : Skeleton) (c : ℕ) (edges : List ℕ) : Type 
   pub ascending : AllPairs ◌<◌ edges
   pub each : (e : ℕ) → Contains edges e ↔ IsInvalidAt s c e
 
--- a point for each vertex of the link, and one more for each invalid edge: the surface meets it in two points, which are one vertex
+-- a point for each vertex of the link, and one more for each invalid edge: the surface meets it in two points, which
+-- are one vertex
 pub record HasOneMoreForEach (s : Skeleton) (c : ℕ) (link : Link) (p : Properties) : Type 0 where
   pub edges : List ℕ
   pub are : AreInvalidEdgesAt s c edges

@@ -18,7 +18,7 @@ SidesTellOrientation =
     (rows : List Row) (coords : Coords) (xs components : List ℕ) (component : ℕ) → IsSurface rows coords xs → IsOrientable rows
     → IsTwoSided rows coords xs components component ↔ IsOrientableComponent rows coords xs components component
 
--- and so it is told of a component
+-- Theorem: so the answer for a component is the same for both
 abbrev pub OneAnswerToBoth : Type 0
 OneAnswerToBoth =
     (rows : List Row) (coords : Coords) (xs classes : List ℕ) (i : ℕ) (c : Component) → IsSurface rows coords xs → IsOrientable rows

@@ -18,7 +18,8 @@ use Rattle.surface_octagon_laws.specs.QuadOctagons.{quads_and_octagons, quads_fo
 abbrev pub IsOctagonSolution : Skeleton → List ℕ → Type 0
 IsOctagonSolution s ys = IsSolution (columns Octagon (length s.rows)) (matching_rows Octagon s.rows) ys
 
--- a vector solves the octagon equations exactly where it solves the standard ones, with two quads in place of each octagon
+-- a vector solves the octagon equations exactly where it solves the standard ones, with two quads in place of each
+-- octagon
 abbrev pub OctagonsMatchAsQuads : Type 0
 OctagonsMatchAsQuads =
     (s : Skeleton) (ys zs : List ℕ) → IsSkeleton s → length ys ≡ columns Octagon (length s.rows) → HasQuadsForOctagons (length s.rows) ys zs
@@ -35,7 +36,7 @@ abbrev pub QuadsAndOctagonsDecideAdmissibility : Type 0
 QuadsAndOctagonsDecideAdmissibility =
     (n : ℕ) (ys : List ℕ) → IsAdmissible (clash_list Octagon n) ys ↔ IsAdmissibleQuadOctagon n (quads_and_octagons n ys)
 
--- a canonical solution and so many of each vertex link add up to the vector
+-- the vector is the sum of a canonical solution and a combination of vertex links
 pub record IsCanonicalWithLinks (s : Skeleton) (ys canonical : List ℕ) (times : ℕ → ℕ) : Type 0 where
   pub solves : IsOctagonSolution s canonical
   pub is_canonical : IsCanonical s Octagon canonical

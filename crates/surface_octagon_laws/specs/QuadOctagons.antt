@@ -1,4 +1,5 @@
--- Quad-octagon coordinates: the quads and octagons of a vector, with no triangles. An octagon has the arcs of two quads, one of each other type.
+-- Quad-octagon coordinates: the quads and octagons of a vector, with no triangles. An octagon has the arcs of two
+-- quads, one of each other type.
 use Rattle.std.specs.Prelude.{◌≡◌, ℕ, ◌+◌, ◌*◌, ◌/◌, ◌%◌, ◌<◌, ◌≤◌, ◌⊎◌, not, ◌==◌, List, ◌++◌, length, map, filter, sum_by, slice_index}
 use Rattle.std.specs.List.{flat_map}
 use Rattle.cone_definitions.specs.Rows.{Row as EquationRow, IsSolution}

@@ -23,11 +23,11 @@ TrianglesDifferByClass =
     (s : Skeleton) (ys zs : List ℕ) (c : ℕ) → IsSkeleton s → IsStandardSolution s ys → IsStandardSolution s zs → quads_of s ys ≡ quads_of s zs → c < s.vertices.count
     → (d : ℤ) × ((i : ℕ) → i < 4 * length s.rows → slice_index s.vertices.classes i ≡ c → pos (triangle_at ys i) -ℤ pos (triangle_at zs i) ≡ d)
 
--- the entry in a column once so many of each vertex link are added to a vector
+-- the entry in a column of a vector plus a combination of vertex links
 abbrev pub with_links : Skeleton → (ℕ → ℕ) → List ℕ → ℕ → ℕ
 with_links s times ys column = slice_index ys column + links_sum s Standard times column
 
--- the vector is a lift of its quads and so many of each vertex link
+-- the vector is a lift of its quads plus a combination of vertex links
 pub record IsLiftWithLinks (s : Skeleton) (ys lift : List ℕ) (times : ℕ → ℕ) : Type 0 where
   pub is_lift : IsLiftOf s (quads_of s ys) lift
   pub adds : (column : ℕ) → column < columns Standard (length s.rows) → slice_index ys column ≡ with_links s times lift column
@@ -51,7 +51,7 @@ QuadsHaveLifts = (s : Skeleton) (ys : List ℕ) → IsSkeleton s → IsStandardS
 abbrev pub CanonicalAreLifts : Type 0
 CanonicalAreLifts = (s : Skeleton) (ys : List ℕ) → IsSkeleton s → IsStandardSolution s ys → IsCanonical s Standard ys ↔ IsLiftOf s (quads_of s ys) ys
 
--- two solutions with the same quads are the same once so many of each vertex link are added to each
+-- Theorem: two solutions with the same quads are equal after a combination of vertex links is added to each
 abbrev pub SameQuadsDifferByLinks : Type 0
 SameQuadsDifferByLinks =
     (s : Skeleton) (ys zs : List ℕ) → IsSkeleton s → IsStandardSolution s ys → IsStandardSolution s zs → quads_of s ys ≡ quads_of s zs

@@ -1,4 +1,5 @@
--- Where the link of a vertex class is a sphere or a disc, each solution of the quad equations has a lift there (Tollefson).
+-- Where the link of a vertex class is a sphere or a disc, each solution of the quad equations has a lift there
+-- (Tollefson).
 use Rattle.surface_vector_definitions.specs.declared.LiftFault.TheVariants.{NoLift}
 use Rattle.std.specs.Prelude.{◌≡◌, ℕ, ◌*◌, ◌<◌, ◌↔◌, ◌⊎◌, List, length, All, Err}
 use Rattle.cone_definitions.specs.Rows.{Row as EquationRow, IsSolution}
@@ -56,7 +57,7 @@ QuadSurfacesLift =
     (s : Skeleton) (links : List Link) (quad_rows : List EquationRow) (xs : List ℕ) → IsSkeleton s → HasSphereAndDiscLinks s links → AreEquations Quad s.rows quad_rows
     → IsSolution (columns Quad (length s.rows)) quad_rows xs → IsAdmissible (clash_list Quad (length s.rows)) xs → (lift : List ℕ) × IsOneSurfaceOver s xs lift
 
--- so none is refused for want of a lift
+-- Theorem: so none is refused with `no-lift`
 abbrev pub NoneWithoutLift : Type 0
 NoneWithoutLift =
     (max : ℕ) (s : Skeleton) (links : List Link) (quad_rows : List EquationRow) (xs : List ℕ) (c : ℕ) → IsSkeleton s → HasSphereAndDiscLinks s links → AreEquations Quad s.rows quad_rows

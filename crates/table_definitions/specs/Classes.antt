@@ -10,7 +10,7 @@ pub record IsNumbering (n : ℕ) (Same : ℕ → ℕ → Type 0) (classes : List
   pub one_each : length classes ≡ n
   pub in_range : (i : ℕ) → i < n → slice_index classes i < count
   pub together : (i j : ℕ) → i < n → j < n → (slice_index classes i ≡ slice_index classes j) ↔ Same i j
-  -- each lesser number is the class of something before
+  -- each smaller number is the class of an earlier thing
   pub ascending : (i c : ℕ) → i < n → c < slice_index classes i → (j : ℕ) × (j < i) × (slice_index classes j ≡ c)
   pub none_empty : (c : ℕ) → c < count → (i : ℕ) × (i < n) × (slice_index classes i ≡ c)
 

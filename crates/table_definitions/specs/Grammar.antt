@@ -1,4 +1,5 @@
--- The forms of words, numbers and tables in text, as relations between lines and values; nothing here says how a line is read.
+-- The forms of words, numbers and tables in text, as relations between lines and values; nothing here says how a line
+-- is read.
 use Rattle.std.specs.Prelude.{◌≡◌, ℕ, ◌-◌, ◌^◌, ◌≤◌, List, [], ◌∷◌, ◌++◌, length, Option, Some, None, ℤ, pos, neg_ℤ, ◌⊎◌, codes}
 use Rattle.std.specs.List.{AllZip}
 use Rattle.table_definitions.specs.Permutation.{digits_of, IsPermutationOfFour}

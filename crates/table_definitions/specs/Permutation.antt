@@ -26,7 +26,7 @@ preimage p w = position_or_len (λ v. v == w) p
 abbrev pub identity : List ℕ
 identity = four
 
--- the way back
+-- the inverse
 unfoldable pub inverse : List ℕ → List ℕ
 inverse p = map (preimage p) four
 

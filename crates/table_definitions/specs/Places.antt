@@ -1,4 +1,5 @@
--- Places in a table, chains of gluings that carry one to another, and the classes of vertices, edges, faces and tetrahedra.
+-- Places in a table, chains of gluings that carry one to another, and the classes of vertices, edges, faces and
+-- tetrahedra.
 use Rattle.std.specs.Prelude.{◌≡◌, ℕ, ◌*◌, ◌/◌, ◌%◌, ◌<◌, Bool, ◌&&◌, ◌||◌, not, List, [], ◌∷◌, length, map, reverse, ◌⊎◌, ◌==◌, Option, Some, None, option_map, option_and_then, is_none, slice_index, if◌then◌else◌}
 use Rattle.std.specs.List.{list_any, list_all, slice_index_or, position_or_len, AllByRecursion}
 use Rattle.table_definitions.specs.Lists.{below, has, same_list}
@@ -46,7 +47,8 @@ ends e = slice_index_or edge_ends e []
 abbrev pub edge_number : ℕ → ℕ → ℕ
 edge_number a b = position_or_len (λ e. same_list e (a ∷ b ∷ []) || same_list e (b ∷ a ∷ [])) edge_ends
 
--- tetrahedron t; vertex i, which is vertex i % 4 of tetrahedron i / 4; edge i, of the six of tetrahedron i / 6; face i likewise
+-- tetrahedron t; vertex i, which is vertex i % 4 of tetrahedron i / 4; edge i, of the six of tetrahedron i / 6; face i
+-- likewise
 abbrev pub whole : ℕ → Place
 whole t = record { tet = t; vertices = [] }
 

@@ -9,7 +9,9 @@ pub record AreNumbered (members : List ℕ) (class : ℕ) (before after : List �
   pub numbered : (x : ℕ) → Contains members x → slice_index after x ≡ class
   pub others : (x : ℕ) → ¬ Contains members x → slice_index after x ≡ slice_index before x
 
--- a numbering that is under way: of the marked numbers, among them all below i, two have the same class exactly where they are joined, each lesser class than that of x is the class of a marked number less than x, and the count classes that there are have members below i
+-- A numbering so far: of the marked numbers, among them all below i, two have the same class if and only if they are
+-- joined. Each smaller class than that of x is the class of a marked number less than x, and the `count` classes have
+-- members below i.
 pub record AreClassesUpTo (neighbours : ℕ → List ℕ) (i count : ℕ) (marked : List Bool) (classes : List ℕ) : Type 0 where
   pub closed : IsClosed neighbours marked
   pub seen : (x : ℕ) → x < i → IsMarked marked x

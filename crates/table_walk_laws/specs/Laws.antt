@@ -208,7 +208,8 @@ abbrev pub ClassesEnd : Type 0
 ClassesEnd = (neighbours : ℕ → List ℕ) (n count : ℕ) (marked : List Bool) (classes : List ℕ) → AreClassesUpTo neighbours n count marked classes →
     length classes ≡ n → IsNumbering n (IsJoined neighbours) classes count
 
--- all turns together are n at most: the work is n at first, a mark leaves it as it is, with its number pending, and to take a pending number lowers it
+-- all turns together are n at most: the work is n at first, a mark leaves it as it is, with its number pending, and to
+-- take a pending number lowers it
 pub record HasFewTurns : Type 0 where
   pub first : (n : ℕ) → work_left (replicate n false) [] ≡ n
   pub mark : (marked : List Bool) (pending : List ℕ) (y : ℕ) → y < length marked → slice_index_or marked y false ≡ false →

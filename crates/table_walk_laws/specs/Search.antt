@@ -1,4 +1,5 @@
--- A search marks what its first marks are joined to. It works off a list of pending numbers, whose neighbours it has still to mark.
+-- A search marks what its first marks are joined to. It works off a list of pending numbers, whose neighbours it has
+-- still to mark.
 use Rattle.std.specs.Prelude.{◌≡◌, ◌≢◌, ℕ, ◌+◌, ◌⊎◌, ◌↔◌, List, ◌∷◌, length, Bool, true, false, not, All, Contains, AllPairs, count_by}
 use Rattle.std.specs.List.{slice_index_or}
 use Rattle.table_walk_laws.specs.Joined.{IsJoined}
@@ -14,7 +15,8 @@ IsClosed neighbours marked = (x y : ℕ) → IsMarked marked x → Contains (nei
 abbrev pub IsJoinedToSome : (ℕ → List ℕ) → List Bool → ℕ → Type 0
 IsJoinedToSome neighbours first x = (start : ℕ) × IsMarked first start × IsJoined neighbours start x
 
--- a search that is under way: what was marked first is marked, and only what that is joined to; of a marked number that isn't pending each neighbour is marked
+-- a search that is under way: what was marked first is marked, and only what that is joined to; of a marked number that
+-- isn't pending each neighbour is marked
 pub record IsSearch (neighbours : ℕ → List ℕ) (first marked : List Bool) (pending : List ℕ) : Type 0 where
   pub kept : (x : ℕ) → IsMarked first x → IsMarked marked x
   pub joined : (x : ℕ) → IsMarked marked x → IsJoinedToSome neighbours first x

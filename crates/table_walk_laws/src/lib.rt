@@ -18,8 +18,8 @@ pub fn orbits()
     ensures holds { OrbitHoldsReached }
 {}
 
-/// Theorem: from a number that no step leads to, an injective step leads through different numbers to a number with no
-/// step, and no other such start leads there.
+/// Theorem: from a number that no step reaches, an injective step goes through different numbers to a number with no
+/// step, and no other such start ends there.
 pub fn chains()
     ensures ends { ChainEnds }
     ensures chain { SourceHasChain }

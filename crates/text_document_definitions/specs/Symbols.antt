@@ -33,8 +33,8 @@ symbols_of end (l ∷ ls) = line_symbols l.number l.tokens l.end (symbols_of end
 abbrev pub plain : List Placed → List Symbol
 plain symbols = map (λ (s : Placed). s.1) symbols
 
--- At place p stands a symbol with which the lines leave the grammar: other lines that show the same up to and with that
--- symbol are not in the grammar, whatever follows it.
+-- The symbol at place p leaves the grammar: no lines that show the same symbols up to and including it are in the
+-- grammar, whatever follows.
 pub record LeavesAt (InGrammar : List Line → Type 0) (end : Place) (lines : List Line) (p : Place) : Type 0 where
   pub before : List Placed
   pub symbol : Symbol
@@ -42,7 +42,7 @@ pub record LeavesAt (InGrammar : List Line → Type 0) (end : Place) (lines : Li
   pub stands : symbols_of end lines ≡ before ++ (p, symbol) ∷ after
   pub no_way_on : (others : List Line) (more : List Symbol) → plain (symbols_of end others) ≡ plain before ++ symbol ∷ more → InGrammar others → ⊥
 
--- The same, and no symbol before p is such: what stands before p can be gone on with.
+-- As the one before, and no symbol before p is such: what is before p has a continuation in the grammar.
 pub record FirstLeavesAt (InGrammar : List Line → Type 0) (end : Place) (lines : List Line) (p : Place) : Type 0 where
   pub leaves : LeavesAt InGrammar end lines p
   pub others : List Line

@@ -1,4 +1,5 @@
--- The text of documents with tables: what their lines look like, whatever the rows glue and whatever a signature spells.
+-- The text of documents with tables: what their lines look like, whatever the rows glue and whatever a signature
+-- spells.
 use Rattle.std.specs.Prelude.{◌≡◌, ℕ, zero, suc, List, [], ◌∷◌, ◌++◌, length, ◌⊎◌, codes}
 use Rattle.std.specs.List.{AllByRecursion}
 use Rattle.text_definitions.specs.Text.{Line}

@@ -1,6 +1,6 @@
--- The laws of faults beside those that all inputs with tables have, over whole grammars and not only the form of their text:
--- a cone leaves its grammar at the fault's place first, and so does what stands behind a table that was read. Where that is
--- itself a table, it leaves the form of a table's text there first.
+-- The laws of faults beside those that all inputs with tables have, over whole grammars and not only the form of their
+-- text: a cone leaves its grammar at the fault's place first, and so does what stands behind a table that was read.
+-- Where that is itself a table, it leaves the form of a table's text there first.
 use Rattle.std.specs.Prelude.{◌≡◌, ℕ, zero, suc, List, [], ◌∷◌, ◌++◌, length, Result, Ok, Err}
 use Rattle.text_definitions.specs.Text.{Line, lines_of, end_of}
 use Rattle.text_definitions.specs.Reading.{Reading, start_of}
@@ -20,7 +20,8 @@ use Rattle.text_document_definitions.specs.Documents.{cone_document, next_table_
 use Rattle.text_document_definitions.specs.Symbols.{FirstLeavesAt}
 use Rattle.text_document_definitions.specs.TextForms.{AreTableText, AreTablesText}
 
--- lines that some cone is read from; some table; a table and lines of one form, one vector, or blocks of sums; two tables
+-- lines that some cone is read from; some table; a table and lines of one form, one vector, or blocks of sums; two
+-- tables
 abbrev pub SomeCone : List Line → Type 0
 SomeCone lines = (cone : Cone) × AreConeLines lines cone
 
@@ -43,7 +44,7 @@ SomeTwoTables lines = (first : List Row) × (second : List Row) × AreTwoTables 
 abbrev pub SomeTableAndText : List Line → Type 0
 SomeTableAndText lines = (front : List Line) × (back : List Line) × (lines ≡ front ++ back) × SomeTable front × AreTableText back
 
--- so many tables, and then the text of any number of them
+-- the given number of tables, and then the text of any number of them
 abbrev pub SomeTablesAndText : ℕ → List Line → Type 0
 SomeTablesAndText zero lines = AreTablesText lines
 SomeTablesAndText (suc n) lines = (front : List Line) × (back : List Line) × (lines ≡ front ++ back) × SomeTable front × SomeTablesAndText n back
@@ -51,7 +52,8 @@ SomeTablesAndText (suc n) lines = (front : List Line) × (back : List Line) × (
 abbrev pub ConeFaultsLeave : Type 0
 ConeFaultsLeave = (bytes : List ℕ) (f : LexFault) → cone_document bytes ≡ Err f → FirstLeavesAt SomeCone (end_of bytes) (lines_of bytes) f.place
 
--- where a table was read and what stands behind it is refused, the fault stands at the first symbol with which nothing goes on
+-- Theorem: if a table was read and what follows is refused, the error is at the first symbol after which there is no
+-- continuation
 abbrev pub FaultsBehindLeaveFirst : {A : Type 0} → (List ℕ → Result A InputFault) → (List Line → Type 0) → Type 0
 FaultsBehindLeaveFirst read InGrammar =
     (bytes : List ℕ) (rows : List Row) (left : Reading) (f : LexFault) → next_table_at (start_of bytes) ≡ Ok (rows, left) → read bytes ≡ Err (Text (Lex f))
@@ -84,7 +86,7 @@ TwoTablesFaultsLeaveFirst =
     (bytes : List ℕ) (first second : List Row) (next left : Reading) (f : LexFault) → next_table_at (start_of bytes) ≡ Ok (first, next) → next_table_at next ≡ Ok (second, left) → two_tables_document bytes ≡ Err (Text (Lex f))
     → FirstLeavesAt SomeTwoTables (end_of bytes) (lines_of bytes) f.place
 
--- of any number of tables, where the lines begin with so many
+-- of any number of tables, if the lines begin with the given number
 abbrev pub TablesFaultsLeaveFirst : Type 0
 TablesFaultsLeaveFirst =
     (bytes : List ℕ) (front back : List Line) (tables : List (List Row)) (f : LexFault) → lines_of bytes ≡ front ++ back → AreTables front tables → tables_document bytes ≡ Err (Text (Lex f))

@@ -1,5 +1,5 @@
--- The laws of the inputs with tables: one record, and a case of it for each kind of input. A kind is a reader, the grammar
--- of its lines, and the form of their text, which says nothing of what rows glue and signatures spell.
+-- The laws of the inputs with tables: one record, and a case of it for each kind of input. A kind is a reader, the
+-- grammar of its lines, and the form of their text, which says nothing of what rows glue and signatures spell.
 use Rattle.std.specs.Prelude.{◌≡◌, ℕ, List, [], ◌∷◌, Result, Ok, Err, ◌↔◌}
 use Rattle.text_definitions.specs.Text.{Line, lines_of, end_of}
 use Rattle.text_definitions.specs.declared.LexFault.{LexFault}
@@ -30,11 +30,11 @@ AreRead {A} read grammar = (bytes : List ℕ) (value : A) → (read bytes ≡ Ok
 abbrev pub HaveForm : {A : Type 0} → (List Line → A → Type 0) → (List Line → Type 0) → Type 0
 HaveForm {A} grammar form = (lines : List Line) (value : A) → grammar lines value → form lines
 
--- where the text is refused, the fault stands at a symbol with which no input of the kind goes on, whatever follows it
+-- if the text is refused, the error is at a symbol after which no continuation is an input of the kind
 abbrev pub FaultsLeave : {A : Type 0} → (List ℕ → Result A InputFault) → (List Line → A → Type 0) → Type 0
 FaultsLeave read grammar = (bytes : List ℕ) (f : LexFault) → read bytes ≡ Err (Text (Lex f)) → LeavesAt (Some grammar) (end_of bytes) (lines_of bytes) f.place
 
--- and at the first symbol with which nothing goes on to the form of such a text
+-- and at the first symbol after which no continuation has the form of such a text
 abbrev pub FaultsStandFirst : {A : Type 0} → (List ℕ → Result A InputFault) → (List Line → Type 0) → Type 0
 FaultsStandFirst read form = (bytes : List ℕ) (f : LexFault) → read bytes ≡ Err (Text (Lex f)) → FirstLeavesAt form (end_of bytes) (lines_of bytes) f.place
 

@@ -22,11 +22,12 @@ pub record ReadsTable (c : Reading) (rows : List Row) (rest : List Line) : Type 
 abbrev pub AnyTablesAreRead : Type 0
 AnyTablesAreRead = (c : Reading) (rows : List Row) (rest : List Line) → ReadsTable c rows rest ↔ ((lines : List Line) × (c.later ≡ lines ++ rest) × AreTableLines lines rows)
 
--- lines that begin with the text of a table, whatever is left behind it
+-- lines that begin with the text of a table, whatever follows it
 abbrev pub BeginWithTableText : List Line → Type 0
 BeginWithTableText lines = (front : List Line) × (rest : List Line) × (lines ≡ front ++ rest) × AreTableText front
 
--- where the text of a table is refused, the fault stands at the first symbol with which nothing goes on to such a text
+-- Theorem: if the text of a table is refused, the error is at the first symbol after which no continuation is such a
+-- text
 abbrev pub AnyTableFaultsStandFirst : Type 0
 AnyTableFaultsStandFirst =
     (c : Reading) (f : LexFault) → c.current.tokens ≡ [] → next_table_at c ≡ Err (Text (Lex f)) → FirstLeavesAt BeginWithTableText c.input_end c.later f.place

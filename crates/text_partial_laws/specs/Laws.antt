@@ -21,12 +21,12 @@ use Rattle.text_partial_laws.specs.Sound.{IsSound, IsSoundOfTwo, IsSoundOfMany}
 abbrev pub PartialTablesAreCompleted : Type 0
 PartialTablesAreCompleted = (n : ℕ) (rows : List Row) → IsPartialTable n rows ↔ ((table : List Row) × Completes n rows table)
 
--- symbols are sound so far exactly where lines of a table show them, and a further symbol behind them
+-- Theorem: symbols are sound so far if and only if lines of a table show them, and a further symbol after them
 abbrev pub SoundSymbolsGoOn : Type 0
 SoundSymbolsGoOn = (end : Place) (ss : List Symbol) → IsSound ss ↔ ((lines : List Line) × (symbol : Symbol) × (more : List Symbol) × (plain (symbols_of end lines) ≡ ss ++ symbol ∷ more) × SomeTable lines)
 
--- where an input is refused, the fault stands at a symbol with which nothing goes on, and at the first such where what stands
--- before it is sound
+-- Theorem: if an input is refused, the error is at a symbol after which there is no continuation, and at the first such
+-- symbol if the symbols before it are sound
 abbrev pub FaultsLeaveFirstIf : {A : Type 0} → (List ℕ → Result A InputFault) → (List Line → Type 0) → (List Symbol → Type 0) → Type 0
 FaultsLeaveFirstIf read InGrammar Sound =
     (bytes : List ℕ) (f : LexFault) → read bytes ≡ Err (Text (Lex f))

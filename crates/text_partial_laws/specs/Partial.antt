@@ -8,8 +8,8 @@ use Rattle.table_definitions.specs.Table.{max_tets, Gluing, Row, Face, glue, oth
 abbrev pub is_given : List Row → Face → Bool
 is_given rows x = nat_lt x.face (length (slice_index_or rows x.tet []))
 
--- They glue soundly so far: each face that is glued leads to another face of n tetrahedra, which leads back where its entry
--- is given, too; and no two lead to one face.
+-- They are glued soundly so far: each face that is glued reaches another face of n tetrahedra, which is glued back by
+-- the inverse if its entry is given too; and no two reach one face.
 pub record IsPartialTable (n : ℕ) (rows : List Row) : Type 0 where
   pub few : n ≤ max_tets
   pub many : length rows ≤ n

@@ -22,8 +22,8 @@ fn smallest_beside_the_first(rt: HostRuntime) -> Result<(), NoMemory> {
     Ok(())
 }
 
-// Beside the first ray, the second and third have the same column more, which spoils both. The fourth is far where three
-// columns are the most.
+// Beside the first ray, the second and third have the same column more, which spoils both. The fourth is far where
+// three columns are the most.
 #[test]
 fn equal_ones_spoil_each_other(rt: HostRuntime) -> Result<(), NoMemory> {
     let alloc = rt.alloc();

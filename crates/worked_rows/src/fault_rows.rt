@@ -135,8 +135,8 @@ const ROWS: [Row; 21] = [
     },
 ];
 
-/// Runs a row over a source that gives 7 bytes a call and fails at the first call, at the second, and so on, until a run
-/// is answered. Each run before is told as a failed read.
+/// Runs a row over a source that gives 7 bytes a call and fails at the first call, at the second, and so on, until a
+/// run is answered. Each run before is told as a failed read.
 fn each_read_fails(rt: &impl Abort, alloc: Global, row: &Row) -> Result<(), Fail> {
     let mut is_answered = false;
     for call in 1..100 {
