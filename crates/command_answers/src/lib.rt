@@ -1,4 +1,8 @@
 //! What the commands share: outcomes, the one line of each refusal, and documents of tables and vectors.
+//!
+//! - `Outcome`: a status and the text to be written
+//! - `read_table_document` and the other `read` functions: documents from bytes, with the first error
+//! - `fault_outcome`, `not_connected_outcome`, `invalid_edge_outcome`, `refused_vector`: refusals
 #![tactic(auto)]
 
 mod answers;

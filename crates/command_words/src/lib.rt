@@ -1,4 +1,9 @@
 //! Reads the words of the command line as a request.
+//!
+//! - `read_words`: the request of the words, whose values are in range, or that they are not a command with valid
+//!   options
+//!
+//! Which words are accepted is a function of the words alone, and the contract states that the result is its value.
 #![tactic(auto)]
 
 mod program;

@@ -1,4 +1,13 @@
 //! Rows, systems of rows and rays of a cone, with exact arithmetic up to a limit.
+//!
+//! - `SparseRow`, `System`: rows with coefficients up to `MAX_COEFFICIENT`
+//! - `Ray`, `PackedRay`: primitive integer vectors with entries up to `MAX_ENTRY`; the second stores 64 bits for each
+//!   entry if they suffice
+//! - `parts`, `combine`, `combine_inside`: the positive and negative part of a row at a ray, and the combination of two
+//!   rays at which a row is 0
+//! - `is_solution`: whether a vector solves a system
+//!
+//! No result is rounded or wraps around: a number above the limit is an error that names the first place.
 #![tactic(auto)]
 
 mod divisors;

@@ -24,7 +24,7 @@ pub struct PlusMinus {
     pub minus: u128,
 }
 
-/// The greatest common divisor of `a` and `b`; that of 0 and 0 is 0. Once the lesser number fits in 64 bits, so do all
+/// The greatest common divisor of `a` and `b`; that of 0 and 0 is 0. Once the smaller number fits in 64 bits, so do all
 /// but one of the remainders.
 pub fn gcd(a: u128, b: u128) -> u128
     ensures { IsGcd a b result }

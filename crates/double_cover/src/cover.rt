@@ -128,8 +128,8 @@ impl Cover {
     }
 
     /// The relabelling that carries the cover to two copies of the base, the second numbered after the first, and fixes
-    /// all vertex numbers; `None` if and only if the base is non-orientable. A tetrahedron goes to the copy with the
-    /// number of its sheet if the orientation's sign below it is true, and to the other copy if it is false.
+    /// all vertex numbers; `None` if and only if the base is non-orientable. A tetrahedron is mapped to the copy with
+    /// the number of its sheet if the orientation's sign below it is true, and to the other copy if it is false.
     pub fn split(&self, alloc: Global) -> Result<Option<Relabelling>, NoMemory>
         ensures size { IfOk result (λ by. IfSome by (λ r. length r.images ≡ 2 * length self.now)) }
         ensures split { IfOk result (λ by. definition.IsSplit self.now by) }

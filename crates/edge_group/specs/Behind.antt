@@ -25,7 +25,7 @@ abbrev pub IsNotAfter : Option Face → Face → Type 0
 IsNotAfter None x = Unit {0}
 IsNotAfter (Some y) x = is_face_before y x ≡ false
 
--- the lesser of two faces, if there is any
+-- the first of two faces, if there is any
 abbrev pub IsLeastOf : Option Face → Option Face → Option Face → Type 0
 IsLeastOf first second None = (first ≡ None) × (second ≡ None)
 IsLeastOf first second (Some x) = ((first ≡ Some x) ⊎ (second ≡ Some x)) × IsNotAfter first x × IsNotAfter second x

@@ -14,7 +14,7 @@ abbrev pub rows_if_lesser : Coords → ℕ → Face → Option Gluing → List (
 rows_if_lesser coords n x None = []
 rows_if_lesser coords n x (Some g) = if is_face_before x (other_side x g) then glued_rows coords n x g else []
 
--- the rows of a face, if it is glued and the lesser side
+-- the rows of a face, if it is glued and the first side
 unfoldable pub face_rows : Coords → List Row → ℕ → Face → List (List (ℕ × ℤ))
 face_rows coords rows n x = rows_if_lesser coords n x (glue rows x)
 

@@ -1,4 +1,7 @@
 //! The equations of normal and octagonal surfaces of a gluing table, in standard, quad and octagon coordinates.
+//!
+//! - `equations`, `equations_of_table`, `matching_system`, `quad_equations`: the system of rows
+//! - `column`, `columns`: the column of a disc type, and the number of columns
 #![tactic(auto)]
 
 mod equation;

@@ -118,7 +118,7 @@ fn push_tet(
 }
 
 /// The matching equations of `table` in the coordinates `coords` (Haken 1961). There is one for each pair of glued
-/// faces and each vertex of the lesser face: both sides have equal numbers of normal arcs around the vertex.
+/// faces and each vertex of the first face: both sides have equal numbers of normal arcs around the vertex.
 pub fn matching_system(alloc: Global, coords: DiscCoords, table: &Table) -> Result<System, NoMemory>
     ensures columns { IfOk result (λ s. s.columns ≡ coordinates.columns coords.system (length table.now)) }
     ensures rows { IfOk result (λ s. s.rows ≡ matching_rows coords.system table.now) }

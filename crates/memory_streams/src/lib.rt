@@ -1,4 +1,9 @@
 //! A source and a sink in memory that fail at listed calls, for tests.
+//!
+//! - `MemorySource`: a source with a greatest number of bytes for each read
+//! - `MemorySink`: a sink with a capacity, and a greatest number of bytes for each write
+//!
+//! Contracts state each call's result and the state after it, failures included.
 #![tactic(auto)]
 
 ghost use Rattle.std.specs.Prelude.{◌≡◌, ◌↔◌, ◌⊎◌, ◌-◌, ◌<◌, ◌≤◌, [], ◌++◌, length, take, drop, min, Some, Contains, IfOk, OnErr, IsErr};

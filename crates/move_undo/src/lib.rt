@@ -1,4 +1,8 @@
 //! Scripts of moves, as steps in text, and sessions that play, undo and redo moves.
+//!
+//! - `read_move`, `read_moves`, `read_step`, `write_move`, `write_moves`: moves and steps as text
+//! - `Session`: a table with its played moves; `undo` restores the table row for row
+//! - `append_move_fault`: why a move is illegal, as text
 #![tactic(auto)]
 
 mod faults;

@@ -101,8 +101,8 @@ fn check_pairs(table: &Table, facets: &[Facet]) -> Result<(), MoveFault>
 }
 
 /// The facets that move `m` removes from `table`. Fails with `NoSuchTet` if there is no such tetrahedron; then at the
-/// first label outside the core whose face is a boundary face (`Boundary`) or leads to a tetrahedron that already is a
-/// facet (`Repeated`); then at the first pair of facets that are not glued label by label (`NotMatched`).
+/// first label outside the core whose face is a boundary face (`Boundary`) or is glued to a tetrahedron that already is
+/// a facet (`Repeated`); then at the first pair of facets that are not glued label by label (`NotMatched`).
 pub fn legal(table: &Table, m: Move) -> Result<Pattern, MoveFault>
     ensures pattern { IfOk result (λ p. IsPattern table.now m p.facets.items) }
     ensures fault { IfErr result (λ e. moves.move_fault table.now m ≡ Some e) }

@@ -59,7 +59,7 @@ fn push_partners(
     Ok(())
 }
 
-/// All clashing pairs of columns for `tets` tetrahedra, the lesser column first, in lexicographic order.
+/// All clashing pairs of columns for `tets` tetrahedra, the smaller column first, in lexicographic order.
 pub fn clash_list(alloc: Global, coords: Coords, tets: u32) -> Result<Vec<(u32, u32)>, NoMemory>
     requires { tets ≤ max_tets }
     ensures pairs { IfOk result (λ clashes. clashes.items ≡ coordinates.clash_list coords tets) }

@@ -1,4 +1,8 @@
 //! The quadrilateral condition, by which quads and octagons of one tetrahedron clash, and any two octagons do.
+//!
+//! - `check_vector`: whether a vector is an admissible solution, or what fails first
+//! - `clash_list`, `first_clash`: the clashing pairs, and the first one in a vector
+//! - `Masks`, `MaskedClashes`: the test whether a union of supports contains a clashing pair, word by word
 #![tactic(auto)]
 
 mod check;

@@ -1,4 +1,7 @@
 //! The lift of a quad vector to standard coordinates, and the quads of a standard vector.
+//!
+//! - `lift`: the standard vector without a vertex link as a summand, or the least vertex at which there is none
+//! - `project`: the quads of a standard vector
 #![tactic(auto)]
 
 mod checks;

@@ -1,4 +1,7 @@
 //! Writes a solution as a sum of listed rays, and tests such a sum.
+//!
+//! - `decompose`: a multiple of a solution as a sum of rays, or the first step at which a number exceeds the limit
+//! - `add_up`: whether terms add up to a multiple of a vector
 #![tactic(auto)]
 
 mod adding;

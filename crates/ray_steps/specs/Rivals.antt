@@ -33,7 +33,7 @@ pub record HaveCompatible (rays : List (List ℕ)) (columns : ℕ) (rivals : Riv
   pub places : AreCompatible rays rivals.joined (length rays) rivals.places.items
   pub table : HasSupportsOf rays columns rivals.places.items rivals.table
 
--- rivals.joined is the set of columns that clash with ray i, and the rivals are the rays that contain none of them
+-- rivals.joined is the set of columns that clash with ray i, and `rivals` are the rays that contain none of them
 pub record AreCompatibleWith (pairs : List Clash) (rays : List (List ℕ)) (i columns : ℕ) (rivals : Rivals) : Type 0 where
   pub joined : AreClashingColumns pairs (support_of (ray_at rays i)) rivals.joined
   pub listed : HaveCompatible rays columns rivals

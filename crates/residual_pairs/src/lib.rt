@@ -1,4 +1,7 @@
 //! All rays adjacent to a given ray at once, by their residuals, the columns that they have outside its support.
+//!
+//! - `RayTable`: the supports of rays, and for each column the rays that contain it
+//! - `minimal_places`: the rays whose residual contains that of no other candidate
 #![tactic(auto)]
 
 mod least;

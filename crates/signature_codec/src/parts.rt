@@ -19,7 +19,7 @@ fn twos_of(types: &[u8]) -> usize
     types.iter().filter(|kind| **kind == 2).count()
 }
 
-/// Reads the sections after the types. Fails with `Unreached` if too few types are 1 for `head.count` tetrahedra; then
+/// Reads the sections after the types. Fails with `Unreached` if fewer than `head.count` - 1 types are 1; then
 /// with the first error among the destinations and the gluings (`Short`, `BadChar`, `Destination`, `Gluing`); then with
 /// `Trailing` if characters are left.
 pub fn read_parts(

@@ -103,7 +103,7 @@ pub fn direction_across(exit: Exit<'_>, place: u32) -> Option<u32>
     Some(12 * glue.tet + number)
 }
 
-/// The index of `edge` as a directed edge from its lesser end.
+/// The index of `edge` as a directed edge from its smaller end.
 fn forward(edge: u32) -> usize
     ensures { result ≡ forward edge }
 {
@@ -119,7 +119,7 @@ fn backward(edge: u32) -> usize
     12 * (edge / 6) as usize + direction_number(higher, lower) as usize
 }
 
-/// Whether edge `one`, from its lesser end, is identified with edge `other` from its greater end. `directions` has the
+/// Whether edge `one`, from its smaller end, is identified with edge `other` from its greater end. `directions` has the
 /// class of each directed edge.
 pub fn runs_against(directions: &[u32], one: u32, other: u32) -> bool
     requires one_in_range { forward one < length directions.now }

@@ -1,4 +1,12 @@
 //! The skeleton of a gluing table: its vertex, edge and face classes, and its orientation.
+//!
+//! - `Skeleton`: the classes with their degrees, which edges are valid or on the boundary, the orientation, and
+//!   `around`, the corners around an internal edge
+//! - `classes_of`: the classes of one kind
+//! - `edge_ends`: the vertices of an edge of a tetrahedron
+//!
+//! Two vertices, edges or faces are in one class if and only if a chain of gluings identifies them, and classes are
+//! numbered by their least members.
 #![tactic(auto)]
 
 mod boundary;

@@ -158,7 +158,7 @@ impl Skeleton {
     }
 
     /// The class of edge `edge` of tetrahedron `tet`, and whether the edge runs against the least member of the class:
-    /// from its lesser end it is identified with that member from the greater end. False in an invalid class.
+    /// from its smaller end it is identified with that member from the greater end. False in an invalid class.
     pub fn edge_class(&self, tet: u32, edge: u8) -> (u32, bool)
         requires in_range { tet < length self.now.rows }
         requires an_edge { edge < 6 }
@@ -194,7 +194,7 @@ impl Skeleton {
         self.edges.firsts[class as usize]
     }
 
-    /// Whether edge `one`, from its lesser end, is identified with edge `other` from its greater end.
+    /// Whether edge `one`, from its smaller end, is identified with edge `other` from its greater end.
     fn joins_reverse(&self, one: u32, other: u32) -> bool
         requires one_in_range { one < 6 * length self.now.rows }
         requires other_in_range { other < 6 * length self.now.rows }

@@ -58,7 +58,7 @@ fn judge(alloc: Global, last: &Table) -> Result<(), Failure<CheckFault>>
     }
 }
 
-/// As `check`, but takes ownership of `table` and plays the moves on it instead of a copy.
+/// As `check`, with the same errors, but takes ownership of `table` and plays the moves on it instead of a copy.
 pub fn check_owned(
     alloc: Global,
     mut table: Table,

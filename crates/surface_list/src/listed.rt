@@ -64,7 +64,7 @@ pub fn surfaces_by(
     vertex_list(alloc, system, test, columns_each(coords), &pivots, terms)
 }
 
-/// As `surfaces_by`, but computes the equations of `table` itself.
+/// As `surfaces_by`, with the same error, but computes the equations of `table` itself.
 pub fn surfaces_of_table(
     alloc: Global,
     table: &Table,

@@ -1,4 +1,7 @@
 //! The normal discs of a surface, and the connected components that they form across their common arcs.
+//!
+//! - `Pieces::build`: the components of a surface of at most 100,000 discs
+//! - `vector`, `two_sided`, `orientable`: the vector of a component, and whether it is two-sided and orientable
 #![tactic(auto)]
 
 mod arcs;

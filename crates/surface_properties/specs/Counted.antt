@@ -5,7 +5,7 @@ use Rattle.table_definitions.specs.Table.{Row, Face, glue}
 use Rattle.skeleton_definitions.specs.Links.{is_first_side}
 use Rattle.surface_definitions.specs.Characteristic.{arcs_in}
 
--- the number of arcs in a face, if it is a boundary face or the lesser of two glued ones, and else 0
+-- the number of arcs in a face, if it is a boundary face or the first of two glued ones, and else 0
 abbrev pub counted : List Row → Coords → List ℕ → Face → ℕ
 counted rows coords xs x = if is_first_side x (glue rows x) then arcs_in coords xs x else 0
 

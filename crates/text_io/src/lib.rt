@@ -1,4 +1,15 @@
 //! Sources and sinks of bytes, the lexer of the text formats, and functions that append bytes and decimals to a text.
+//!
+//! - `Source`, `Sink`: the traits. `StdSource` and `StdSink` wrap readers and writers of the standard library;
+//!   `SteadySource` and `NullSink` never fail.
+//! - `read_all`, `write_all`: all bytes of a source up to a limit, and all bytes to a sink
+//! - `Lexer`: a cursor over lines, words and decimals, whose errors have a line and a column
+//! - `append`, `append_decimal`, `append_signed`: text at the end of a vector, which is unchanged if memory runs out
+//!
+//! Contracts state what happens to the bytes of a source or a sink if they are visible, and count failures. What a
+//! lexer reads is a function of the bytes.
+//!
+//! Not proved: what a reader or a writer of the standard library does with its bytes.
 #![tactic(auto)]
 
 mod decimals;

@@ -1,4 +1,10 @@
 //! The top of the workbench, with one call that does all that the program does.
+//!
+//! - `run`: from words, a source and a sink to a status; its contract is all that the program promises
+//! - `outcome_of`: the outcome for words and an input in memory
+//! - `exit_code`: the exit status of the program
+//!
+//! Not proved: time, memory, and that standard input and output are a source and a sink as their traits state.
 #![tactic(auto)]
 
 mod at_hand;

@@ -15,7 +15,7 @@ use std::process::Abort;
 use std::test::Fail;
 use support_bits::Support;
 
-// Without clashing pairs: the list, or what passes the limit, and the order of the rows up to there.
+/// Without clashing pairs: the list, or what exceeds the limit, and the order of the rows up to there.
 fn rays_are(
     rt: &impl Abort,
     alloc: Global,
@@ -142,7 +142,7 @@ fn is_clash_free(clashes: &[(u32, u32)], a: &Support, b: &Support) -> bool
     true
 }
 
-// The six rows of a table in standard coordinates, with its three clashing pairs; how often the test was asked.
+/// The six rows of a table in standard coordinates, with its three clashing pairs; how often the test is called.
 fn surfaces_are<G: Fn(&System, &[u32]) -> usize>(
     rt: &impl Abort,
     alloc: Global,

@@ -1,4 +1,4 @@
-// The calls of `cone_core`, each once with its type. One that reads or gives out a borrow is named where it is called.
+//! The calls of `cone_core`, each once with its type. Calls that take or return a borrow are named as they are called.
 use bench_io::NoMemory;
 use cone_core::{CombineFault, Ray, SolutionFault, SparseRow, System, combine, gcd, is_solution};
 use std::alloc::Global;

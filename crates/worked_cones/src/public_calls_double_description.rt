@@ -1,4 +1,4 @@
-// The calls of `double_description` that take no closure, each once with its type.
+//! The calls of `double_description` that take no closure, each once with its type.
 use cone_core::System;
 use double_description::{Order, choice};
 

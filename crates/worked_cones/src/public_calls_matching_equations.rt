@@ -1,4 +1,4 @@
-// The calls of `matching_equations`, each once with its type.
+//! The calls of `matching_equations`, each once with its type.
 use cone_core::System;
 use matching_equations::{Coords, Piece, column, columns, equations};
 use no_memory::NoMemory;

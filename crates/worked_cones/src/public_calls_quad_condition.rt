@@ -1,4 +1,4 @@
-// The calls of `quad_condition`, each once with its type.
+//! The calls of `quad_condition`, each once with its type.
 use cone_core::System;
 use matching_equations::Coords;
 use no_memory::NoMemory;

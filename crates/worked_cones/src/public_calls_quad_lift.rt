@@ -1,4 +1,4 @@
-// The calls of `quad_lift`, each once with its type.
+//! The calls of `quad_lift`, each once with its type.
 use no_memory::{Failure, NoMemory};
 use quad_lift::{LiftFault, lift, project};
 use skeleton::Skeleton;

@@ -1,4 +1,4 @@
-// The calls of `ray_decompose`, each once with its type.
+//! The calls of `ray_decompose`, each once with its type.
 use cone_core::{Ray, System};
 use ray_decompose::{AddFault, Given, Sum, SumFault, add_up, decompose};
 use std::alloc::Global;

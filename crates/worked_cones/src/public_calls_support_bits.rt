@@ -1,5 +1,5 @@
-// The calls of `support_bits`, each once with its type. One that reads or gives out a borrow is named where it is
-// called.
+//! The calls of `support_bits`, each once with its type. Calls that take or return a borrow are named as they are
+//! called.
 use no_memory::NoMemory;
 use std::alloc::Global;
 use support_bits::Support;

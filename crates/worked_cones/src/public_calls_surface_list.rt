@@ -1,4 +1,4 @@
-// The calls of `surface_list`, each once with its type.
+//! The calls of `surface_list`, each once with its type.
 use cone_core::Ray;
 use double_description::{EnumFault, Order};
 use matching_equations::Coords;

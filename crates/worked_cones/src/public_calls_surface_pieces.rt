@@ -1,5 +1,5 @@
-// The calls of `surface_pieces`, each once with its type. One that reads or gives out a borrow is named where it is
-// called.
+//! The calls of `surface_pieces`, each once with its type. Calls that take or return a borrow are named as they are
+//! called.
 use matching_equations::Coords;
 use skeleton::Skeleton;
 use std::alloc::Global;

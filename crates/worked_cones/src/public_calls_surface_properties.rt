@@ -1,4 +1,4 @@
-// The calls of `surface_properties`, each once with its type.
+//! The calls of `surface_properties`, each once with its type.
 use matching_equations::Coords;
 use skeleton::Skeleton;
 use surface_properties::{Properties, PropertyFault, Sum, properties_of};

@@ -3,7 +3,8 @@ use residual_pairs::{RayTable, minimal_places};
 use support_bits::Support;
 use support_table::SupportTable;
 
-// Beside the first ray, the second and third have one column more each, the fourth both of these, and the last clashes.
+/// Besides the columns of the first ray, the second and third have one more each, the fourth has both, and the last
+/// clashes.
 #[test]
 fn smallest_beside_the_first(rt: HostRuntime) -> Result<(), NoMemory> {
     let alloc = rt.alloc();
@@ -22,8 +23,8 @@ fn smallest_beside_the_first(rt: HostRuntime) -> Result<(), NoMemory> {
     Ok(())
 }
 
-// Beside the first ray, the second and third have the same column more, which spoils both. The fourth is far where
-// three columns are the most.
+/// Besides the columns of the first ray, the second and third have one equal column, so neither is minimal. The union
+/// with the fourth has more than three columns.
 #[test]
 fn equal_ones_spoil_each_other(rt: HostRuntime) -> Result<(), NoMemory> {
     let alloc = rt.alloc();

@@ -1,4 +1,4 @@
-//! The cones, and the tables of small signatures, that several calls are tried on.
+//! The cones, and the tables of small signatures, of several calls.
 ghost use Rattle.std.specs.Prelude.{◌≤◌, length};
 ghost use Rattle.text_definitions.specs.Text.{max_text};
 
@@ -14,7 +14,7 @@ use text_io::Lexer;
 /// The sphere of one tetrahedron.
 pub const SPHERE: &[u8] = b"bkaagj";
 
-/// The system of a text.
+/// The system that `text` describes.
 pub fn cone(rt: &impl Abort, alloc: Global, text: &[u8]) -> Result<System, Fail>
     requires { length text.now ≤ max_text }
 {
@@ -23,18 +23,18 @@ pub fn cone(rt: &impl Abort, alloc: Global, text: &[u8]) -> Result<System, Fail>
     Ok(read_cone(alloc, &mut lexer).ok().ok_or("no cone")?)
 }
 
-/// The table of a signature.
+/// The table of `signature`.
 pub fn read_table(alloc: Global, signature: &[u8]) -> Result<Table, Fail> {
     Ok(read_signature(alloc, signature).ok().ok_or("no signature")?)
 }
 
-/// The skeleton of the table of a signature.
+/// The skeleton of the table of `signature`.
 pub fn skeleton_of(alloc: Global, signature: &[u8]) -> Result<Skeleton, Fail> {
     let table = read_table(alloc, signature)?;
     Ok(Skeleton::of(alloc, &table)?)
 }
 
-/// The entries of a row, and none where there is no such row.
+/// The entries of row `i`, or none if there is no such row.
 pub fn entries(system: &System, i: u32) -> &[(u32, i32)] {
     if i < system.len() {
         system.row(i).entries()
@@ -43,7 +43,7 @@ pub fn entries(system: &System, i: u32) -> &[(u32, i32)] {
     }
 }
 
-/// A system has these rows.
+/// Asserts that `system` has the rows `rows`.
 pub fn are_rows(rt: &impl Abort, system: &System, rows: &[&[(u32, i32)]]) {
     assert_eq!(rt; system.len() as usize, rows.len());
     let mut i = 0;
@@ -53,12 +53,12 @@ pub fn are_rows(rt: &impl Abort, system: &System, rows: &[&[(u32, i32)]]) {
     }
 }
 
-/// A ray has these entries.
+/// Asserts that `ray` has the entries `vector`.
 pub fn is_ray(rt: &impl Abort, ray: &Ray, vector: &[u128]) {
     assert_eq!(rt; ray.entries(), vector);
 }
 
-/// Rays are these vectors.
+/// Asserts that `rays` are `vectors`.
 pub fn are_rays(rt: &impl Abort, rays: &[Ray], vectors: &[&[u128]]) {
     assert_eq!(rt; rays.len(), vectors.len());
     for (ray, vector) in rays.iter().zip(vectors) {

@@ -25,7 +25,7 @@ fn solves_rows(rt: HostRuntime) -> Result<(), Fail> {
 }
 
 /// The equations of the sphere of one tetrahedron, whose columns 0 to 3 are the triangles. The rows with column 4,
-/// which the row of quads hasn't, come last.
+/// which the row of quads lacks, come last.
 #[test]
 fn solves_a_sphere(rt: HostRuntime) -> Result<(), Fail> {
     let alloc = rt.alloc();

@@ -12,7 +12,7 @@ use surface_answers::check;
 use surface_definitions::Coords;
 use surface_pieces::Pieces;
 
-// A triangle and two quads of a tetrahedron of which no face is glued: no two of them meet.
+/// A triangle and two quads of a tetrahedron without glued faces: no two of them have a common arc.
 #[test]
 fn pieces_that_meet_none_are_components(rt: HostRuntime) -> Result<(), Fail> {
     let alloc = rt.alloc();
@@ -30,7 +30,7 @@ fn pieces_that_meet_none_are_components(rt: HostRuntime) -> Result<(), Fail> {
     Ok(())
 }
 
-// The pieces of a vector, where it is a surface.
+/// The components of `x`, if it is a surface.
 fn pieces_of(alloc: Global, skeleton: &Skeleton, x: &[u128]) -> Result<Pieces, Fail>
     requires { sum x.now ≤ limit }
 {
@@ -45,13 +45,13 @@ fn pieces_of(alloc: Global, skeleton: &Skeleton, x: &[u128]) -> Result<Pieces, F
     }
 }
 
-// Whether a surface of one component is two-sided, and whether it is orientable.
+/// Whether a surface of one component is two-sided, and whether it is orientable.
 fn sides_of_one(rt: &impl Abort, pieces: &Pieces) -> (bool, bool) {
     assert_eq!(rt; pieces.components(), 1);
     (pieces.two_sided(0), pieces.orientable(0))
 }
 
-// One quad of this table has one side, and two have two sides, as have the triangles round its vertex.
+/// One quad of this table is one-sided; two quads are two-sided, and so are the triangles around its vertex.
 #[test]
 fn pieces_of_a_closed_table_are_joined(rt: HostRuntime) -> Result<(), Fail> {
     let skeleton = skeleton_of(rt.alloc(), b"bkaajj")?;

@@ -1,4 +1,4 @@
-// Rows of `addup`.
+//! Rows of `addup`.
 use crate::running::{Row, are_answered};
 use std::test::Fail;
 use workbench::Status;

@@ -1,4 +1,4 @@
-// Calls that take memory and have no test in a crate of their own: each gives its ordinary answer.
+//! Calls that allocate and have no test in a crate of their own: each returns its ordinary result.
 use no_memory::NoMemory;
 use text_io::{Words, append, append_decimal, append_signed};
 use workbench::{Status, outcome_of, run_steadily};

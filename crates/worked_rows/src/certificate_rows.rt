@@ -1,4 +1,4 @@
-// Rows of `check` and `descend`.
+//! Rows of `check` and `descend`.
 use crate::running::{Row, are_answered};
 use std::test::Fail;
 use workbench::Status;

@@ -1,4 +1,4 @@
-// Rows of `cover` and `pi1`.
+//! Rows of `cover` and `pi1`.
 use crate::running::{Row, STEADY, answered, are_answered};
 use std::test::Fail;
 use workbench::Status;
@@ -65,7 +65,7 @@ fn covering_rows_are_answered(rt: HostRuntime) -> Result<(), Fail> {
     are_answered(&rt, rt.alloc(), &ROWS)
 }
 
-// Twice 501 tetrahedra are more than a table may have.
+/// Twice 501 tetrahedra are more than a table may have.
 #[test]
 fn a_cover_that_is_too_large_is_refused(rt: HostRuntime) -> Result<(), Fail> {
     let mut input = Vec::new(rt.alloc());

@@ -1,4 +1,4 @@
-// Rows of `crush`.
+//! Rows of `crush`.
 use crate::running::{Row, are_answered};
 use std::test::Fail;
 use workbench::Status;

@@ -1,4 +1,4 @@
-// Rows of `decompose`.
+//! Rows of `decompose`.
 use crate::running::{Row, are_answered};
 use std::test::Fail;
 use workbench::Status;

@@ -1,4 +1,4 @@
-// Rows of `describe`.
+//! Rows of `describe`.
 use crate::running::{Row, are_answered};
 use std::test::Fail;
 use workbench::Status;

@@ -1,11 +1,11 @@
-// Of each command each read and each write fails in turn, until none is left to fail.
+//! Each read and each write of each command fails in turn, until none is left to fail.
 use crate::running::{Row, STEADY, answered};
 use std::alloc::Global;
 use std::process::Abort;
 use std::test::Fail;
 use workbench::Status;
 
-// A row of each command, with an answer.
+/// A row of each command, with an answer.
 const ROWS: [Row; 21] = [
     Row {
         words: &["surfaces"],
@@ -135,8 +135,8 @@ const ROWS: [Row; 21] = [
     },
 ];
 
-/// Runs a row over a source that gives 7 bytes a call and fails at the first call, at the second, and so on, until a
-/// run is answered. Each run before is told as a failed read.
+/// Runs `row` over a source that returns 7 bytes a call and fails at the first call, at the second, and further, until
+/// a run succeeds. Each earlier run reports a failed read.
 fn each_read_fails(rt: &impl Abort, alloc: Global, row: &Row) -> Result<(), Fail> {
     let mut is_answered = false;
     for call in 1..100 {
@@ -153,7 +153,7 @@ fn each_read_fails(rt: &impl Abort, alloc: Global, row: &Row) -> Result<(), Fail
     Ok(())
 }
 
-/// Runs a row over a sink that takes 5 bytes a call and fails at the call that would go on from so many bytes.
+/// Runs `row` over a sink that takes 5 bytes a call and fails at the call that would exceed a number of bytes.
 fn each_write_fails(rt: &impl Abort, alloc: Global, row: &Row) -> Result<(), Fail> {
     for held in 0..row.text.len() {
         if held % 5 == 0 {

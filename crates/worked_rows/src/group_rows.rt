@@ -1,4 +1,4 @@
-// Rows of `group`.
+//! Rows of `group`.
 use crate::running::{Row, are_answered};
 use std::test::Fail;
 use workbench::Status;

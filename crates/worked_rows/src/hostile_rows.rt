@@ -1,4 +1,4 @@
-// A sink and a source that both fail, and inputs that are cut off or too long.
+//! A sink and a source that both fail, and inputs that are cut off or too long.
 use crate::running::{STEADY, answered};
 use std::alloc::Global;
 use std::test::Fail;
@@ -41,7 +41,7 @@ fn long_inputs_are_refused(rt: HostRuntime) -> Result<(), Fail> {
     Ok(())
 }
 
-// The line that is wanted for the first bytes of a table of one row, up to each length.
+/// The expected line for the first bytes of a table of one row, for each length.
 const CUTS: [(usize, usize, &[u8]); 17] = [
     (0, 0, b"refused: input 1 1 missing-word\n"),
     (1, 2, b"refused: input 1 1 bad-word\n"),

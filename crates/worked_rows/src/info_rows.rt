@@ -1,4 +1,4 @@
-// Rows of `info`.
+//! Rows of `info`.
 use crate::running::{Row, are_answered};
 use std::test::Fail;
 use workbench::Status;

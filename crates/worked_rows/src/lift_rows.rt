@@ -1,4 +1,4 @@
-// Rows of `lift`.
+//! Rows of `lift`.
 use crate::running::{Row, are_answered};
 use std::test::Fail;
 use workbench::Status;

@@ -1,9 +1,9 @@
-// Rows of `make` and `bulk`.
+//! Rows of `make` and `bulk`.
 use crate::running::{Row, STEADY, answered, are_answered};
 use std::test::Fail;
 use workbench::Status;
 
-// Each seed makes this by one move.
+/// The table that each seed makes by one move.
 const FOUR: &[u8] =
     b"tri 4\n1:0123 2:1023 3:1203 1:0123\n0:0123 2:0123 3:0213 0:0123\n0:1023 1:0123 3:0123 3:1203\n0:2013 1:0213 2:0123 2:2013\n41 0 3\n";
 
@@ -69,7 +69,7 @@ fn making_rows_are_answered(rt: HostRuntime) -> Result<(), Fail> {
     are_answered(&rt, rt.alloc(), &ROWS)
 }
 
-// What is made is a document of `check`, which accepts it.
+/// The output of `make` is an input of `check`, which accepts it.
 #[test]
 fn made_tables_are_accepted(rt: HostRuntime) -> Result<(), Fail> {
     let alloc = rt.alloc();
@@ -82,7 +82,7 @@ fn made_tables_are_accepted(rt: HostRuntime) -> Result<(), Fail> {
     Ok(())
 }
 
-// Makings of five moves go on to their end, and the same words have the same answer.
+/// `make` with five moves finishes, and the same words give the same output.
 #[test]
 fn bulk_answers_alike(rt: HostRuntime) -> Result<(), Fail> {
     let alloc = rt.alloc();

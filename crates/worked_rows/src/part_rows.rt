@@ -1,4 +1,4 @@
-// Rows of `csig` and `csame`.
+//! Rows of `csig` and `csame`.
 use crate::running::{Row, are_answered};
 use std::test::Fail;
 use workbench::Status;

@@ -1,4 +1,4 @@
-// Rows of `play`.
+//! Rows of `play`.
 use crate::running::{Row, STEADY, answered, are_answered};
 use std::alloc::Global;
 use std::process::Abort;
@@ -151,7 +151,7 @@ fn play_rows_are_answered(rt: HostRuntime) -> Result<(), Fail> {
     are_answered(&rt, rt.alloc(), &ROWS)
 }
 
-/// Appends the rows of tetrahedra without glued faces.
+/// Appends the rows of `count` tetrahedra without glued faces.
 fn push_loose(text: &mut Vec<u8>, count: u32) -> Result<(), Fail> {
     for _tet in 0..count {
         text.extend_from_slice(b"- - - -\n")?;
@@ -159,7 +159,7 @@ fn push_loose(text: &mut Vec<u8>, count: u32) -> Result<(), Fail> {
     Ok(())
 }
 
-/// What is wanted for the move `14 0` on so many tetrahedra without glued faces.
+/// Asserts the output of the move `14 0` on a number of tetrahedra without glued faces.
 fn is_played_on_loose(
     rt: &impl Abort,
     alloc: Global,

@@ -1,4 +1,4 @@
-// Rows of `rays`.
+//! Rows of `rays`.
 use crate::running::{Row, are_answered};
 use std::test::Fail;
 use workbench::Status;

@@ -1,4 +1,4 @@
-// A run over memory.
+//! A run in memory.
 ghost use Rattle.std.specs.Prelude.{◌<◌};
 
 use memory_streams::{MemorySink, MemorySource};
@@ -8,7 +8,7 @@ use std::test::Fail;
 use text_io::Words;
 use workbench::{Status, run};
 
-/// Words and an input, with the status and the text that are wanted.
+/// Words and an input, with the expected status and text.
 #[derive(Clone, Copy)]
 pub struct Row {
     pub words: &'static [&'static str],
@@ -17,18 +17,18 @@ pub struct Row {
     pub text: &'static [u8],
 }
 
-/// How a run ended, and what its sink holds.
+/// The status of a run, and what its sink holds.
 #[derive(Drop)]
 pub struct Ended {
     pub status: Status,
     pub text: Vec<u8>,
 }
 
-// No call fails, and each takes what it can.
+/// No call fails, and each transfers as much as possible.
 pub const STEADY: u64 = 0;
 
-/// Runs words over an input, with room for the answer. The source fails at one call and the sink at another, from 1,
-/// or at none; a call gives or takes so many bytes.
+/// Runs words over an input, with room for the answer. The source fails at one call and the sink at another, counted
+/// from 1, or at none; the last numbers limit the bytes of each call.
 pub fn answered(
     alloc: Global,
     words: &[&str],
@@ -52,7 +52,7 @@ pub fn answered(
     })
 }
 
-/// Each row is answered with its status and its text.
+/// Asserts that each of `rows` has its status and its text.
 pub fn are_answered(rt: &impl Abort, alloc: Global, rows: &[Row]) -> Result<(), Fail> {
     for row in rows {
         let answer = answered(alloc, row.words, row.input, STEADY, STEADY, 1 << 16)?;

@@ -1,4 +1,4 @@
-// Rows of `same`.
+//! Rows of `same`.
 use crate::running::{Row, are_answered};
 use std::test::Fail;
 use workbench::Status;

@@ -1,4 +1,4 @@
-// Rows of `sig`.
+//! Rows of `sig`.
 use crate::running::{Row, are_answered};
 use std::test::Fail;
 use workbench::Status;

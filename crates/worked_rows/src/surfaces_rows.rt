@@ -1,4 +1,4 @@
-// Rows of `surfaces`.
+//! Rows of `surfaces`.
 use crate::running::{Row, are_answered};
 use std::test::Fail;
 use workbench::Status;

@@ -1,4 +1,4 @@
-// Words that are accepted, and words that are not.
+//! Words that are accepted, and words that are not.
 use crate::running::{Row, are_answered};
 use std::test::Fail;
 use workbench::Status;

@@ -1,4 +1,4 @@
-// Rows of `verify`.
+//! Rows of `verify`.
 use crate::running::{Row, are_answered};
 use std::test::Fail;
 use workbench::Status;

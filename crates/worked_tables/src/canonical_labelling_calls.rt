@@ -76,7 +76,7 @@ fn loose_tables_are_refused(rt: HostRuntime) -> Result<(), Fail> {
 
 #[test]
 fn walks_are_compared_with_a_bound(rt: HostRuntime) -> Result<(), Fail> {
-    // the table, the bound, whether the text stands before it, and the most faces that may be read
+    // the table, the bound, whether the text is less than it, and the greatest number of faces read
     let compared: [(&[u8], &[u8], bool, u64); 9] = [
         (b"bkaagn", b"bkaagj", false, 4),
         (b"bkaagn", b"bkaagn", false, 4),

@@ -16,7 +16,7 @@ const DIGITS_45: &str = "000000000000000000000000000000000000000000007";
 
 const DIGITS_46: &str = "0000000000000000000000000000000000000000000007";
 
-// Words, and what they ask for.
+/// Words, and the request that they are.
 const ACCEPTED: [(&[&str], Request); 15] = [
     (&["verify"], Request::Verify(Coords::Standard)),
     (
@@ -86,7 +86,7 @@ const ACCEPTED: [(&[&str], Request); 15] = [
     ),
 ];
 
-// Words that are no command with its options.
+/// Words that are no command with its options.
 const REFUSED: [&[&str]; 21] = [
     &[],
     &["help"],

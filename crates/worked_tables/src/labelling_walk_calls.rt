@@ -1,4 +1,4 @@
-//! Walks through small tables. The expected texts were found by trying all relabellings.
+//! Canonical traversals of small tables. The expected texts were found by trying all relabellings.
 
 use crate::sample_tables::{BALL, read_table, table_of};
 use canonical_labelling::{NotConnected, Start, walk};
@@ -8,7 +8,7 @@ use signature_codec::spell;
 use std::alloc::Global;
 use std::test::Fail;
 
-/// The text of the table that a walk leads to, and nothing where the word isn't a permutation.
+/// The text of the table to which a traversal leads, or `None` if `word` is no permutation.
 fn walked(alloc: Global, text: &[u8], tet: u32, word: &[u8]) -> Result<Vec<u8>, Fail> {
     let table = read_table(alloc, text)?;
     let mut walked = Vec::new(alloc);

@@ -32,7 +32,7 @@ fn four() -> [Row; 4] {
     ]
 }
 
-/// The first fault of a move at tetrahedron 0.
+/// The first error of the move at tetrahedron 0 with the core of `mask`.
 fn refusal(rt: &impl Abort, table: &Table, mask: u8) -> Option<MoveFault> {
     legal(table, move_at(rt, 0, mask)).err()
 }
@@ -109,7 +109,7 @@ fn a_sphere_is_parted_and_joined(rt: HostRuntime) {
     );
 }
 
-/// Plays a move and takes it back; answers whether it was legal.
+/// Plays `m` and takes it back, and returns whether it was legal.
 fn is_taken_back(table: &mut Table, m: Move) -> bool {
     match apply(table, m) {
         Ok(undo) => {

@@ -1,4 +1,4 @@
-// The calls of `bench_io`, each once with its type. One that reads or gives out a borrow is named where it is called.
+//! The calls of `bench_io`, each once with its type. Calls that take or return a borrow are named as they are called.
 use bench_io::{
     LexFault, LexKind, Lexer, MemorySink, MemorySource, NoMemory, NullSink, Place, SteadySource,
     Words, read_all, write_all,

@@ -1,5 +1,5 @@
-// The calls of `canonical_labelling`, each once with its type. One that reads or gives out a borrow is named where it
-// is called.
+//! The calls of `canonical_labelling`, each once with its type. Calls that take or return a borrow are named as they
+//! are called.
 use canonical_labelling::{SameFault, Start, WalkFault, Walked, same, signature, walk};
 use gluing_table::{Relabelling, Table};
 use std::alloc::Global;

@@ -1,4 +1,4 @@
-// The calls of `command_words`, each once with its type.
+//! The calls of `command_words`, each once with its type.
 use bench_io::Words;
 use command_words::{Request, WordsFault, read_words};
 use std::alloc::Global;

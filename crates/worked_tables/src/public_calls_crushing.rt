@@ -1,4 +1,4 @@
-// The calls of `crushing`, each once with its type.
+//! The calls of `crushing`, each once with its type.
 use crushing::crush;
 use gluing_table::Table;
 use no_memory::NoMemory;

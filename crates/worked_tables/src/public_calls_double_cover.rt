@@ -1,5 +1,5 @@
-// The calls of `double_cover`, each once with its type. One that reads or gives out a borrow is named where it is
-// called.
+//! The calls of `double_cover`, each once with its type. Calls that take or return a borrow are named as they are
+//! called.
 use double_cover::{Cover, CoverFault};
 use gluing_table::Relabelling;
 use no_memory::NoMemory;

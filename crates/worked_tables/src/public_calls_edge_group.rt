@@ -1,4 +1,4 @@
-// The calls of `edge_group`, each once with its type. One that reads or gives out a borrow is named where it is called.
+//! The calls of `edge_group`, each once with its type. Calls that take or return a borrow are named as they are called.
 use edge_group::{Group, GroupFault};
 use gluing_table::Face;
 use no_memory::Failure;

@@ -1,5 +1,5 @@
-// The calls of `gluing_table`, each once with its type. One that reads or gives out a borrow is named where it is
-// called.
+//! The calls of `gluing_table`, each once with its type. Calls that take or return a borrow are named as they are
+//! called.
 use bench_io::NoMemory;
 use gluing_table::{
     Face, Glue, MAX_TETS, Relabelling, RelabellingFault, Row, Table, TableFault, write_table,

@@ -1,4 +1,4 @@
-// The calls of `move_undo`, each once with its type. One that reads or gives out a borrow is named where it is called.
+//! The calls of `move_undo`, each once with its type. Calls that take or return a borrow are named as they are called.
 use bench_io::NoMemory;
 use gluing_table::Table;
 use move_undo::{PlayFault, Session, write_move};

@@ -1,4 +1,4 @@
-// The calls of `pachner_moves`, each once with its type.
+//! The calls of `pachner_moves`, each once with its type.
 use gluing_table::Table;
 use pachner_moves::{Core, Move, MoveFault, Pattern, Undo, apply, inverse_move, legal, take_back};
 

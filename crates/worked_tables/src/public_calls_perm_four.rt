@@ -1,4 +1,4 @@
-// The calls of `perm_four`, each once with its type.
+//! The calls of `perm_four`, each once with its type.
 use perm_four::Perm4;
 
 #[test]

@@ -1,5 +1,5 @@
-// The calls of `signature_census`, each once with its type. One that reads or gives out a borrow is named where it is
-// called.
+//! The calls of `signature_census`, each once with its type. Calls that take or return a borrow are named as they are
+//! called.
 use gluing_table::Table;
 use signature_census::{Census, WalkFault};
 use std::alloc::Global;

@@ -1,4 +1,4 @@
-// The calls of `skeleton`, each once with its type. One that reads or gives out a borrow is named where it is called.
+//! The calls of `skeleton`, each once with its type. Calls that take or return a borrow are named as they are called.
 use gluing_table::Table;
 use no_memory::NoMemory;
 use skeleton::Skeleton;

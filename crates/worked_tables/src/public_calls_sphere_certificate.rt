@@ -1,4 +1,4 @@
-// The calls of `sphere_certificate`, each once with its type.
+//! The calls of `sphere_certificate`, each once with its type.
 use gluing_table::Table;
 use no_memory::{Failure, NoMemory};
 use pachner_moves::Move;

@@ -1,4 +1,4 @@
-// The calls of `tri_build`, each once with its type.
+//! The calls of `tri_build`, each once with its type.
 use no_memory::NoMemory;
 use std::alloc::Global;
 use tri_build::{Made, make};

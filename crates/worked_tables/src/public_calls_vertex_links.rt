@@ -1,4 +1,4 @@
-// The calls of `vertex_links`, each once with its type.
+//! The calls of `vertex_links`, each once with its type.
 use no_memory::NoMemory;
 use skeleton::Skeleton;
 use std::alloc::Global;

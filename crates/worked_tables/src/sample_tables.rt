@@ -1,4 +1,4 @@
-//! The tables and moves that several calls are tried on.
+//! The tables and moves of several calls.
 use gluing_table::{Glue, Row, Table, write_table};
 use no_memory::NoMemory;
 use pachner_moves::{Core, Move};
@@ -9,7 +9,7 @@ use std::alloc::Global;
 use std::process::Abort;
 use std::test::Fail;
 
-/// The gluing to a tetrahedron by the permutation of a word.
+/// The gluing to tetrahedron `tet` by the permutation `word`.
 pub fn by(tet: u32, word: &[u8]) -> Option<Glue> {
     match Perm4::from_word(word) {
         Some(perm) => Some(Glue { tet, perm }),
@@ -17,10 +17,10 @@ pub fn by(tet: u32, word: &[u8]) -> Option<Glue> {
     }
 }
 
-/// The row of a tetrahedron with no face glued.
+/// The row of a tetrahedron without glued faces.
 pub const BALL: Row = [None, None, None, None];
 
-/// A row of the sphere of one tetrahedron, whose gluings lead to this one.
+/// A row of the sphere of one tetrahedron, with gluings to tetrahedron `tet`.
 pub fn sphere_row(tet: u32) -> Row {
     [
         by(tet, b"1023"),
@@ -30,7 +30,7 @@ pub fn sphere_row(tet: u32) -> Row {
     ]
 }
 
-/// A row of the Gieseking manifold, which isn't orientable; its gluings lead to this tetrahedron.
+/// A row of the Gieseking manifold, which is non-orientable, with gluings to tetrahedron `tet`.
 pub fn turned_row(tet: u32) -> Row {
     [
         by(tet, b"1203"),
@@ -40,12 +40,12 @@ pub fn turned_row(tet: u32) -> Row {
     ]
 }
 
-/// The row of one tetrahedron with an edge that meets its reverse.
+/// The row of one tetrahedron with an edge that is identified with its reverse.
 pub fn reversed_row() -> Row {
     [by(0, b"1032"), by(0, b"1032"), None, None]
 }
 
-/// The complement of the figure eight knot.
+/// The complement of the figure-eight knot.
 pub fn figure_eight() -> [Row; 2] {
     [
         [
@@ -63,35 +63,35 @@ pub fn figure_eight() -> [Row; 2] {
     ]
 }
 
-/// The table of these rows.
+/// The table of `rows`.
 pub fn table_of(rt: &impl Abort, alloc: Global, rows: &[Row]) -> Table {
     Table::from_rows(alloc, rows).ok().expect(rt, "a table")
 }
 
-/// The table of a signature.
+/// The table of the signature `text`.
 pub fn read_table(alloc: Global, text: &[u8]) -> Result<Table, Fail> {
     Ok(read_signature(alloc, text).ok().ok_or("no signature")?)
 }
 
-/// The skeleton of the table of these rows.
+/// The skeleton of the table of `rows`.
 pub fn skeleton_of(rt: &impl Abort, alloc: Global, rows: &[Row]) -> Skeleton {
     Skeleton::of(alloc, &table_of(rt, alloc, rows)).expect(rt, "memory")
 }
 
-/// A table as it is written.
+/// The text of `table`.
 pub fn text_of(alloc: Global, table: &Table) -> Result<Vec<u8>, NoMemory> {
     let mut text = Vec::new(alloc);
     write_table(alloc, table, &mut text)?;
     Ok(text)
 }
 
-/// The move at a tetrahedron whose core's vertices are the bits of a mask.
+/// The move at tetrahedron `tet` whose core's vertices are the bits of `mask`.
 pub fn move_at(rt: &impl Abort, tet: u32, mask: u8) -> Move {
     let core = Core::new(mask).expect(rt, "a core");
     Move { tet, core }
 }
 
-/// A move by its tetrahedron, and by which vertices are in its core.
+/// A move by its tetrahedron, and for each vertex whether it is in the core.
 pub fn tet_and_core(m: Move) -> (u32, [bool; 4]) {
     let core = m.core;
     (m.tet, [core.has(0), core.has(1), core.has(2), core.has(3)])

@@ -12,7 +12,7 @@ const INPUT: &[u8] = b"sig bkaagj\n";
 
 const ANSWER: &[u8] = b"# surfaces 2\nvec 1 1 0 0 1 0 0\nvec 1 1 1 1 0 0 0\n";
 
-// The lexer at the first line of these bytes that has words.
+/// The lexer at the first line of `bytes` that has words.
 fn at_first_line(bytes: &[u8]) -> Lexer<'_>
     requires { length bytes.now < 1000 }
 {
@@ -55,12 +55,12 @@ fn lines_follow_each_other(rt: HostRuntime) {
     assert!(rt; fault == Some((5, 2, LexKind::MissingWord)));
 }
 
-// The line and the column of a fault, and its kind.
+/// The line and the column of an error, and its kind.
 fn place_and_kind(fault: LexFault) -> (u32, u32, LexKind) {
     (fault.place.line, fault.place.column, fault.kind)
 }
 
-// What is asked of the first line of an input.
+/// The read of the first line of an input.
 #[derive(Clone, Copy)]
 enum Wanted {
     Line,
@@ -70,7 +70,7 @@ enum Wanted {
     End,
 }
 
-// The fault of what is asked of the first line.
+/// The error of the read of the first line.
 fn fault_of(bytes: &[u8], wanted: Wanted) -> Option<(u32, u32, LexKind)> {
     if bytes.len() > 1000 {
         return None;
@@ -170,7 +170,7 @@ fn each_fault_has_its_place(rt: HostRuntime) {
     }
 }
 
-// What is read of a source whose listed calls fail.
+/// The result of reading a source whose listed calls fail.
 fn read_of(alloc: Global, failing: &[u64], limit: u64) -> Result<Result<Vec<u8>, ReadEnd>, Fail>
     requires { limit < 1000 }
 {
