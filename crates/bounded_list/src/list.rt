@@ -59,7 +59,7 @@ fn list_by_elimination<C: Compatible>(
     eliminate(alloc, system, clashes, &picker, limit)
 }
 
-/// The list from solved rows if all numbers are bounded, otherwise by elimination in the given order.
+/// The list from solved rows if all numbers are bounded, otherwise by elimination in the order of `terms`.
 fn quickest_list<C: Compatible>(
     alloc: Global,
     system: &System,

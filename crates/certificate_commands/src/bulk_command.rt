@@ -28,7 +28,7 @@ fn accept(alloc: Global, made: &Made) -> Result<(), NoMemory>
     }
 }
 
-/// The outcome for the table that was made.
+/// The outcome for `table`, which was made with the numbers `numbers`.
 fn outcome_of_making(alloc: Global, numbers: Numbers, table: &Table) -> Result<Outcome, NoMemory>
     ensures { IfOk result (IsSummary numbers table.now) }
 {

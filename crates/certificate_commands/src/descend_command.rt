@@ -16,14 +16,14 @@ use sphere_certificate::{Descent, descend as descend_from};
 use std::alloc::Global;
 use text_io::{append, append_decimal};
 
-/// The word for whether the standard sphere was reached.
+/// The word for whether the standard sphere was reached (`reached`).
 fn descent_word(reached: bool) -> &'static [u8]
     ensures { result.now ≡ certificates.descent_word reached }
 {
     if reached { b"reached " } else { b"stuck " }
 }
 
-/// Appends the line of whether the standard sphere was reached, with the number of moves.
+/// Appends the line of whether the standard sphere was `reached`, with the number of `moves`.
 fn append_head(
     alloc: Global,
     out: &mut Vec<u8>,
@@ -38,7 +38,7 @@ fn append_head(
     Ok(())
 }
 
-/// The text of a descent.
+/// The text of `descent`.
 #[tactic(auto, unfolding(outcome_definitions::specs::Certificates::moves_text))]
 fn descent_text(alloc: Global, descent: &Descent) -> Result<Vec<u8>, NoMemory>
     ensures { IfOk result (λ text. text.items ≡ certificates.descent_text (record { reached = descent.now.reached; moves = descent.now.moves.items; table = descent.now.table })) }
@@ -50,7 +50,7 @@ fn descent_text(alloc: Global, descent: &Descent) -> Result<Vec<u8>, NoMemory>
     Ok(text)
 }
 
-/// The outcome of a descent.
+/// The outcome of `descent`.
 fn outcome_of(alloc: Global, descent: &Descent) -> Result<Outcome, NoMemory>
     ensures { IfOk result (λ o. o ≡ certificates.descend_outcome (Ok (record { reached = descent.now.reached; moves = descent.now.moves.items; table = descent.now.table }))) }
 {

@@ -39,7 +39,7 @@ fn not_standard_outcome(alloc: Global, signature: &[u8]) -> Result<Outcome, NoMe
     Ok(Outcome::with_text(Status::Refused, text))
 }
 
-/// The outcome if the last table is disconnected.
+/// The outcome if the last table is disconnected; `tet` is its least tetrahedron not reached from tetrahedron 0.
 #[tactic(auto, unfolding(outcome_definitions::specs::Certificates::check_line))]
 fn loose_outcome(alloc: Global, tet: u32) -> Result<Outcome, NoMemory>
     ensures { IfOk result (λ o. o ≡ check_outcome (Err (check_faults.NotConnected tet))) }

@@ -11,7 +11,7 @@ use outcome_definitions::Status;
 use std::alloc::Global;
 use tri_build::Made;
 
-/// The text of a table and the moves of its certificate.
+/// The text of `made`: the table, and the moves of its certificate.
 #[tactic(auto, unfolding(outcome_definitions::specs::Certificates::moves_text))]
 fn text_of(alloc: Global, made: &Made) -> Result<Vec<u8>, NoMemory>
     ensures { IfOk result (λ text. text.items ≡ table_then_moves made.now.table made.now.certificate.items) }

@@ -68,7 +68,7 @@ impl Model for Numbers {
     ghost inverse = { λ n. record { seed = n.seed; moves = n.moves; tetrahedra = n.tetrahedra } };
 }
 
-/// The text of `bulk`: the numbers of the table, and the counts of its surfaces.
+/// The text of `bulk`: the numbers of the table, and the counts of its surfaces `list`.
 fn summary_text(alloc: Global, numbers: Numbers, list: &[Ray]) -> Result<Vec<u8>, NoMemory>
     ensures { IfOk result (λ text. (greatest : ℕ) × IsGreatestEntry list.now greatest × (text.items ≡ summary_text numbers list.now greatest)) }
 {

@@ -25,7 +25,7 @@ fn kind_word(kind: LexKind) -> &'static [u8]
     }
 }
 
-/// The line of the first error in the words of an input: its place and its kind.
+/// The line of `fault`, the first error in the words of an input: its place and its kind.
 #[tactic(auto, unfolding(outcome_definitions::specs::Lines::lex_line))]
 fn lex_fault_line(alloc: Global, fault: LexFault) -> Result<Vec<u8>, NoMemory>
     ensures { IfOk result (λ text. text.items ≡ lines.lex_line fault) }
@@ -56,7 +56,7 @@ fn face_fault_line(alloc: Global, kind: &[u8], tet: u32, face: u8) -> Result<Vec
     Ok(text)
 }
 
-/// The line of the error that rows are no table.
+/// The line of `fault`, the error that rows are no table.
 #[tactic(auto, unfolding(outcome_definitions::specs::Lines::table_line))]
 fn table_line(alloc: Global, fault: TableFault) -> Result<Vec<u8>, NoMemory>
     ensures { IfOk result (λ text. text.items ≡ lines.table_line fault) }
@@ -91,7 +91,7 @@ fn fixed_line(alloc: Global, line: &[u8]) -> Result<Vec<u8>, NoMemory>
     Ok(text)
 }
 
-/// The line of the error that a text is no signature.
+/// The line of `fault`, the error that a text is no signature.
 #[tactic(auto, unfolding(outcome_definitions::specs::Lines::signature_line))]
 fn signature_line(alloc: Global, fault: SigFault) -> Result<Vec<u8>, NoMemory>
     ensures { IfOk result (λ text. text.items ≡ lines.signature_line fault) }
@@ -112,7 +112,7 @@ fn signature_line(alloc: Global, fault: SigFault) -> Result<Vec<u8>, NoMemory>
     }
 }
 
-/// The line of an error in a table in the form `tri`.
+/// The line of `fault`, an error in a table in the form `tri`.
 fn text_line(alloc: Global, fault: TextFault) -> Result<Vec<u8>, NoMemory>
     ensures { IfOk result (λ text. text.items ≡ lines.text_line fault) }
 {
@@ -134,7 +134,8 @@ fn input_line(alloc: Global, fault: InputFault) -> Result<Vec<u8>, NoMemory>
     }
 }
 
-/// The line of a disconnected table: its number, and its least tetrahedron not reached from tetrahedron 0.
+/// The line of a disconnected table: its number `table`, and its least tetrahedron `tet` not reached from tetrahedron
+/// 0.
 #[tactic(auto, unfolding(outcome_definitions::specs::Canonical::not_connected_line))]
 fn not_connected_line(alloc: Global, table: u32, tet: u32) -> Result<Vec<u8>, NoMemory>
     ensures { IfOk result (λ text. text.items ≡ canonical.not_connected_line table tet) }

@@ -9,7 +9,7 @@ use std::alloc::Global;
 use surface_definitions::VectorFault;
 use text_io::{append, append_decimal};
 
-/// Appends the line of a clash.
+/// Appends the line of a clash of the columns `first` and `second`.
 fn append_clash(alloc: Global, out: &mut Vec<u8>, first: u32, second: u32) -> Result<(), NoMemory>
     ensures { OnOk result (out.new.items ≡ out.old.items ++ line (codes "clash " ++ decimal first ++ codes " " ++ decimal second)) }
 {

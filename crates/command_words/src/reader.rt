@@ -21,7 +21,7 @@ use command_definitions::Request;
 use std::alloc::{AllocError, Global};
 use text_io::Words;
 
-/// The values of the options.
+/// The values of the options in `matches`.
 fn values_in<'a>(matches: &ArgMatches<'a>) -> Values<'a>
     ensures { texts_of result ≡ values_in (rows_of (found_of matches.now)) }
 {
@@ -54,7 +54,7 @@ fn request_or_usage(command: Request, matches: &ArgMatches<'_>) -> Result<Reques
     }
 }
 
-/// The words as texts.
+/// The texts of `words`.
 fn texts_of(alloc: Global, words: &Words) -> Result<Vec<&str>, AllocError>
     ensures texts { IfOk result (λ v. texts v.items ≡ words.now) }
     ensures utf8 { OnOk result (AreTexts words.now) }
@@ -66,14 +66,14 @@ fn texts_of(alloc: Global, words: &Words) -> Result<Vec<&str>, AllocError>
     Ok(texts)
 }
 
-/// Whether one of the words is `--`.
+/// Whether one of `words` is `--`.
 fn has_dashes(words: &[&str]) -> bool
     ensures { result ≡ list_any (λ w. bytes_eq w.now (codes "--")) words.now }
 {
     words.iter().any(|word| *word == "--")
 }
 
-/// Whether nothing, or a value after `=`, follows an option in its word.
+/// Whether nothing, or a value after `=`, follows an option in its word; `rest` is what follows.
 fn ends_option(rest: &[u8]) -> bool
     ensures { result ≡ ends_option rest.now }
 {
@@ -107,7 +107,7 @@ fn is_repeated(words: &[&str], option: &str) -> bool
     times_named(option, words) > 1
 }
 
-/// Whether an option is named by more than one word. Decided here, so that it does not depend on the parser.
+/// Whether more than one of `words` names an option. Decided here, so that it does not depend on the parser.
 fn has_repeats(words: &[&str]) -> bool
     ensures { result ≡ has_repeats (texts words.now) }
 {
@@ -118,7 +118,7 @@ fn has_repeats(words: &[&str]) -> bool
         || is_repeated(words, "--moves")
 }
 
-/// `NoMemory` if the parser ran out of memory, otherwise `Usage`.
+/// `NoMemory` if the parser's `error` is out of memory, otherwise `Usage`.
 fn fault_of(error: &Error) -> WordsFault
     ensures { result ≡ parse_fault (kind_of error.now) }
 {

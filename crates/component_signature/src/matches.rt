@@ -71,7 +71,7 @@ fn write_place(
     Ok(())
 }
 
-/// The images of the tetrahedra of all components.
+/// The images of all `tets` tetrahedra.
 fn draft_of_parts(
     alloc: Global,
     tets: u32,

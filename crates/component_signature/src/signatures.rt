@@ -11,7 +11,7 @@ use no_memory::NoMemory;
 use std::alloc::Global;
 use text_io::append;
 
-/// The signatures with a full stop between each two; `a` if there are none.
+/// The signatures of `signed` with a full stop between each two; `a` if there are none.
 fn join_signatures(alloc: Global, signed: &[PartSignature]) -> Result<Vec<u8>, NoMemory>
     ensures { IfOk result (λ text. text.items ≡ component_text (texts_of (entries_of signed.now))) }
 {

@@ -146,7 +146,7 @@ impl PackedRay {
     }
 }
 
-/// The lexicographic order of two rays, entry by entry.
+/// The lexicographic order of `a` and `b`, entry by entry.
 fn compare_each(a: &PackedRay, b: &PackedRay) -> Ordering
     ensures { result ≡ slice_cmp nat_cmp a.now b.now }
 {
@@ -198,7 +198,7 @@ fn small_sums(
     )
 }
 
-/// As `combine`, for packed rays.
+/// As `combine`, for packed rays `u` and `w`.
 fn combine_wide(
     alloc: Global,
     u: &PackedRay,

@@ -54,7 +54,7 @@ impl<T: Drop> From<AllocFailed<T>> for ConeFault {
     }
 }
 
-/// Appends a coefficient, unless it is 0.
+/// Appends `coefficient` in `column`, unless it is 0.
 fn push_coefficient(
     entries: &mut SmallVec<(u32, i32), 8>,
     column: u32,

@@ -16,7 +16,7 @@ use skeleton::Skeleton;
 use std::alloc::Global;
 use text_io::append;
 
-/// The outcome for a cover.
+/// The outcome for `cover`.
 fn outcome_of(alloc: Global, cover: &Cover) -> Result<Outcome, NoMemory>
     ensures { IfOk result (IsCoverAnswered cover.now) }
 {

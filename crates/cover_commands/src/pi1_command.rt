@@ -19,7 +19,7 @@ use outcome_definitions::Status;
 use skeleton::Skeleton;
 use std::alloc::Global;
 
-/// The outcome for a presentation.
+/// The outcome for the presentation `group`.
 fn outcome_of(alloc: Global, group: &Group) -> Result<Outcome, NoMemory>
     ensures { IfOk result (λ o. o ≡ done (presented.presentation_text group.now.presentation)) }
 {

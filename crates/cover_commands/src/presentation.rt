@@ -38,7 +38,7 @@ fn append_generator(
     Ok(())
 }
 
-/// Appends the lines of the generators.
+/// Appends the lines of the generators of `group`.
 fn append_generators(alloc: Global, text: &mut Vec<u8>, group: &Group) -> Result<(), NoMemory>
     ensures { OnOk result (text.new.items ≡ text.old.items ++ classes_text (generator_text group.now.presentation) (length group.now.presentation.generators)) }
 {
@@ -55,7 +55,7 @@ fn append_generators(alloc: Global, text: &mut Vec<u8>, group: &Group) -> Result
     Ok(())
 }
 
-/// Appends a letter.
+/// Appends `letter`.
 fn append_letter(alloc: Global, text: &mut Vec<u8>, letter: Letter) -> Result<(), NoMemory>
     ensures { OnOk result (text.new.items ≡ text.old.items ++ letter_text letter) }
 {
@@ -64,7 +64,7 @@ fn append_letter(alloc: Global, text: &mut Vec<u8>, letter: Letter) -> Result<()
     Ok(())
 }
 
-/// Appends the letters of a relator.
+/// Appends the `letters` of a relator.
 fn append_letters(alloc: Global, text: &mut Vec<u8>, letters: &[Letter]) -> Result<(), NoMemory>
     ensures { OnOk result (text.new.items ≡ text.old.items ++ flat_map letter_text letters.now) }
 {
@@ -74,7 +74,7 @@ fn append_letters(alloc: Global, text: &mut Vec<u8>, letters: &[Letter]) -> Resu
     Ok(())
 }
 
-/// Appends the line of a relator.
+/// Appends the line of the relator around edge class `class`.
 fn append_relator(
     alloc: Global,
     text: &mut Vec<u8>,
@@ -90,7 +90,7 @@ fn append_relator(
     Ok(())
 }
 
-/// Appends the lines of the relators.
+/// Appends the lines of the relators of `group`.
 fn append_relators(alloc: Global, text: &mut Vec<u8>, group: &Group) -> Result<(), NoMemory>
     ensures { OnOk result (text.new.items ≡ text.old.items ++ classes_text (relator_text group.now.presentation) (length group.now.presentation.relators)) }
 {

@@ -27,7 +27,7 @@ fn append_sheet(alloc: Global, text: &mut Vec<u8>, cover: &Cover, tet: u32) -> R
     Ok(())
 }
 
-/// Appends the lines of the tetrahedra of the cover.
+/// Appends the lines of the tetrahedra of `cover`.
 fn append_sheets(alloc: Global, text: &mut Vec<u8>, cover: &Cover) -> Result<(), NoMemory>
     ensures { OnOk result (text.new.items ≡ text.old.items ++ classes_text (sheet_line (length cover.now)) (2 * length cover.now)) }
 {

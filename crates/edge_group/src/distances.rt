@@ -79,7 +79,7 @@ fn first_marks(alloc: Global, count: usize) -> Result<Vec<Option<u32>>, AllocErr
     Ok(marks)
 }
 
-/// As `distances`, for a table that is not empty.
+/// As `distances`, for a `table` that is not empty.
 fn search(alloc: Global, table: &Table) -> Result<Vec<Option<u32>>, AllocError>
     requires { 0 < length table.now }
     ensures { IfOk result (λ marks. AreDistances table.now marks.items) }

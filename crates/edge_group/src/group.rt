@@ -47,7 +47,7 @@ impl Model for Group {
     ghost invariant = { λ g. IsKept g.tree.items g.generators.items g.turning.items g.edges.items (map letters_of g.relators.items) };
 }
 
-/// The maximal tree and the presentation of a connected table.
+/// The maximal tree and the presentation of the table of `skeleton`, which is connected.
 fn presentation_of(alloc: Global, skeleton: &Skeleton) -> Result<Group, NoMemory>
     requires { IsConnected skeleton.now.rows }
     ensures { IfOk result (IsGroup skeleton.now) }

@@ -47,7 +47,7 @@ fn closer_face(table: &Table, distances: &[Option<u32>], face: Face) -> Option<F
     }
 }
 
-/// The lesser of two faces, or the one that there is.
+/// The lesser of `first` and `second`, or the one that there is.
 fn lesser(first: Option<Face>, second: Option<Face>) -> Option<Face>
     ensures { IsLeastOf first second result }
 {
@@ -77,7 +77,7 @@ fn tree_face(table: &Table, distances: &[Option<u32>], tet: u32) -> Option<Face>
     least
 }
 
-/// The tree face of each tetrahedron.
+/// The tree face of each tetrahedron of `table`.
 fn tree_faces(
     alloc: Global,
     table: &Table,

@@ -32,7 +32,7 @@ fn read_cone_document(alloc: Global, bytes: &[u8]) -> Result<System, ConeFault>
     Ok(system)
 }
 
-/// The outcome for a cone.
+/// The outcome for the cone of `system`.
 fn answer(
     alloc: Global,
     system: &System,

@@ -15,7 +15,7 @@ use no_memory::{Failure, NoMemory};
 use std::alloc::Global;
 use surface_answers::large_outcome;
 
-/// The outcome for a table.
+/// The outcome for `table` in the coordinates `coords`.
 fn answer(
     alloc: Global,
     table: &Table,

@@ -52,7 +52,7 @@ fn verdicts(
     Ok(text)
 }
 
-/// The outcome for a table and vectors.
+/// The outcome for `table` and `vectors`.
 fn answer(
     alloc: Global,
     coords: Coords,

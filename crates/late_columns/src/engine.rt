@@ -100,7 +100,7 @@ fn next_late<C: Compatible>(
     }
 }
 
-/// The vertex surfaces of all rows, in any order.
+/// The vertex surfaces of all rows of `system`, in any order.
 fn all_rows<C: Compatible>(
     alloc: Global,
     system: &System,
@@ -122,7 +122,7 @@ fn all_rows<C: Compatible>(
     Ok(ray_list)
 }
 
-/// The rays in lexicographic order, without their supports.
+/// The rays of `ray_list` in lexicographic order, without their supports.
 fn ascending(alloc: Global, mut ray_list: Vec<RayWithSupport>) -> Result<Vec<Ray>, NoMemory>
     ensures { IfOk result (λ rays. (columns : ℕ) (rows : List Row) (pairs : List Clash) → HasSurfaces columns rows pairs (rays_of ray_list.items) → IsSurfaceList columns rows pairs rays.items) }
 {

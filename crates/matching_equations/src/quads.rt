@@ -28,7 +28,7 @@ fn quad_along(tet: u32, vertex: u8, other: u8) -> u32
     quad_column(Coords::Quad, tet, keeping(vertex, other))
 }
 
-/// For each corner the column of the quads that have its vertices a and c on one side.
+/// For each of `corners` the column of the quads that have its vertices a and c on one side.
 fn first_columns(alloc: Global, corners: &[Corner]) -> Result<Vec<u32>, NoMemory>
     requires { AreCornersIn max_tets corners.now }
     ensures { IfOk result (λ columns. columns.items ≡ (quad_equation corners.now).left) }
@@ -40,7 +40,7 @@ fn first_columns(alloc: Global, corners: &[Corner]) -> Result<Vec<u32>, NoMemory
     Ok(columns)
 }
 
-/// For each corner the column of the quads that have its vertices a and d on one side.
+/// For each of `corners` the column of the quads that have its vertices a and d on one side.
 fn second_columns(alloc: Global, corners: &[Corner]) -> Result<Vec<u32>, NoMemory>
     requires { AreCornersIn max_tets corners.now }
     ensures { IfOk result (λ columns. columns.items ≡ (quad_equation corners.now).right) }
@@ -52,7 +52,7 @@ fn second_columns(alloc: Global, corners: &[Corner]) -> Result<Vec<u32>, NoMemor
     Ok(columns)
 }
 
-/// Appends the equation of the corners around an edge.
+/// Appends the equation of the `corners` around an edge.
 fn push_round(alloc: Global, corners: &[Corner], system: &mut System) -> Result<(), NoMemory>
     requires corners { AreCornersIn max_tets corners.now }
     requires few { length corners.now ≤ 1000000 }

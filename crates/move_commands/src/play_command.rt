@@ -15,7 +15,7 @@ use no_memory::NoMemory;
 use outcome_definitions::Status;
 use std::alloc::Global;
 
-/// The outcome for a table and steps.
+/// The outcome for `table` and `steps`.
 fn answer(alloc: Global, table: Table, steps: &[Step]) -> Result<Outcome, NoMemory>
     ensures { IfOk result (IsScriptAnswer (table, all_steps steps.now)) }
 {

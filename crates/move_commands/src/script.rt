@@ -19,7 +19,7 @@ fn append_word(out: &mut Vec<u8>, word: &[u8]) -> Result<(), NoMemory>
     Ok(())
 }
 
-/// Appends the line of an illegal move.
+/// Appends the line of an illegal move, with the reason `fault`.
 fn append_illegal(alloc: Global, out: &mut Vec<u8>, fault: MoveFault) -> Result<(), NoMemory>
     ensures { OnOk result (out.new.items ≡ out.old.items ++ line (codes "illegal " ++ move_fault_text fault)) }
 {
@@ -29,7 +29,7 @@ fn append_illegal(alloc: Global, out: &mut Vec<u8>, fault: MoveFault) -> Result<
     Ok(())
 }
 
-/// Plays a move, and appends the line of its result.
+/// Plays `m` on `session`, and appends the line of the result.
 fn play_move(
     alloc: Global,
     out: &mut Vec<u8>,
@@ -45,7 +45,7 @@ fn play_move(
     }
 }
 
-/// Takes the last move back, and appends the line of the result.
+/// Takes the last move of `session` back, and appends the line of the result.
 fn undo_move(out: &mut Vec<u8>, session: &mut Session) -> Result<(), NoMemory>
     ensures { OnOk result (Steps session.old text.undo session.new out.old.items out.new.items) }
 {
@@ -56,7 +56,7 @@ fn undo_move(out: &mut Vec<u8>, session: &mut Session) -> Result<(), NoMemory>
     }
 }
 
-/// Plays again the last move taken back, and appends the line of the result.
+/// Plays again the last move that `session` took back, and appends the line of the result.
 fn redo_move(out: &mut Vec<u8>, session: &mut Session) -> Result<(), NoMemory>
     ensures { OnOk result (Steps session.old text.redo session.new out.old.items out.new.items) }
 {
@@ -67,7 +67,7 @@ fn redo_move(out: &mut Vec<u8>, session: &mut Session) -> Result<(), NoMemory>
     }
 }
 
-/// Runs a step, and appends the line of its result.
+/// Runs `step` on `session`, and appends the line of its result.
 fn take_step(
     alloc: Global,
     out: &mut Vec<u8>,

@@ -8,7 +8,7 @@ use pachner_moves::MoveFault;
 use std::alloc::Global;
 use text_io::{append, append_decimal};
 
-/// Appends `not-matched` and two labels.
+/// Appends `not-matched` and the labels `first` and `second`.
 fn append_labels(alloc: Global, out: &mut Vec<u8>, first: u8, second: u8) -> Result<(), NoMemory>
     ensures { OnOk result (out.new.items ≡ out.old.items ++ codes "not-matched " ++ decimal first ++ codes " " ++ decimal second) }
 {

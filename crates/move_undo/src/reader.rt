@@ -196,7 +196,7 @@ fn read_played(lexer: &mut Lexer<'_>, word: &[u8]) -> Result<Step, LexFault>
     Ok(Step::Play(m))
 }
 
-/// Reads the end of the line after `undo` or `redo`.
+/// Reads the end of the line of `lexer` after `undo` or `redo`.
 #[tactic(auto, unfolding(move_definitions::specs::MoveText::named_step_at))]
 fn end_step(lexer: &mut Lexer<'_>, word: &[u8], step: Step) -> Result<Step, LexFault>
     ensures { Gives step_value result lexer.new (text.named_step_at (Some (step_value step)) word.now lexer.old) }

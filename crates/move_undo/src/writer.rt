@@ -33,7 +33,7 @@ fn append_vertices(out: &mut Vec<u8>, core: Core, inside: bool) -> Result<(), No
     Ok(())
 }
 
-/// Appends what follows the number of the tetrahedron.
+/// Appends what follows the number of the tetrahedron in the line of a move with core `core`.
 #[tactic(auto, unfolding(crate::specs::Written::core_tail))]
 fn append_core(out: &mut Vec<u8>, core: Core) -> Result<(), NoMemory>
     ensures { OnOk result (out.new.items ≡ out.old.items ++ core_tail core) }
@@ -59,7 +59,7 @@ fn kind_word(size: u8) -> &'static [u8]
     }
 }
 
-/// Appends the kind of a move and its tetrahedron.
+/// Appends the kind of a move, by the `size` of its core, and its tetrahedron `tet`.
 #[tactic(auto, unfolding(crate::specs::Written::head_text))]
 fn append_head(alloc: Global, out: &mut Vec<u8>, size: u8, tet: u32) -> Result<(), NoMemory>
     ensures { OnOk result (out.new.items ≡ out.old.items ++ head_text size tet) }

@@ -21,7 +21,7 @@ fn cap_of(squares: &[u64], group: usize) -> u64
     first.max(second).max(third).max(1)
 }
 
-/// The product of the caps of all groups; `None` if it exceeds 2^128 - 1.
+/// The product of the caps of all groups of `squares`; `None` if it exceeds 2^128 - 1.
 fn product_of_triples(squares: &[u64]) -> Option<u128>
     ensures some { IfSome result (λ product. product ≡ caps_product (triple_cap squares.now) (length squares.now / 3)) }
     ensures none { IfNone result (2 ^ 128 ≤ caps_product (triple_cap squares.now) (length squares.now / 3)) }

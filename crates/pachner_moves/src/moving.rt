@@ -60,7 +60,7 @@ fn outer_glue(taken: TakenOut<'_>, old: Facet, label: Label) -> Option<Glue>
     )
 }
 
-/// The gluing of a face between two new facets.
+/// The gluing of the face opposite `label` of the new facet that lacks `own`, which leads to another new facet.
 fn inner_glue(table: &Table, m: &Move, own: Label, label: Label) -> Glue
     ensures { result ≡ moves.facet_gluing table.now m.now (moves.new_facet table.now m.now own.number) label.number }
 {
@@ -92,7 +92,7 @@ fn fresh_row(taken: TakenOut<'_>, own: Label) -> Row
     ]
 }
 
-/// The rows of the new facets, with their numbers.
+/// The rows of the new facets of the move `taken.m`, with their numbers.
 fn fresh_rows(taken: TakenOut<'_>) -> ArrayVec<(u32, Row), 4>
     ensures { result.items ≡ put_rows taken.entry.table.now taken.entry.m.now }
 {
@@ -108,7 +108,7 @@ fn fresh_rows(taken: TakenOut<'_>) -> ArrayVec<(u32, Row), 4>
     rows
 }
 
-/// The numbers of the removed tetrahedra, ascending.
+/// The numbers of the tetrahedra of `taken.facets`, ascending.
 fn taken_numbers(taken: TakenOut<'_>) -> ArrayVec<u32, 4>
     ensures { result.items ≡ undos.taken_numbers taken.entry.table.now taken.entry.m.now }
 {
@@ -151,7 +151,7 @@ struct Exchange {
     undo: Undo,
 }
 
-/// What a move removes and adds.
+/// What the move `taken.m` removes and adds.
 fn exchange_of(taken: TakenOut<'_>) -> Exchange
     ensures removed { result.removed.items ≡ undos.taken_numbers taken.entry.table.now taken.entry.m.now }
     ensures fresh { result.fresh.items ≡ put_rows taken.entry.table.now taken.entry.m.now }
@@ -225,7 +225,7 @@ pub fn inverse_move(undo: &Undo) -> Move
     inverse_on(undo.tets, undo.played)
 }
 
-/// The numbers of the tetrahedra that the recorded move added.
+/// The numbers of the tetrahedra that the move recorded in `undo` added.
 fn put_numbers(undo: &Undo) -> ArrayVec<u32, 4>
     ensures { result.items ≡ (undos.back_exchange undo.now).removed }
 {

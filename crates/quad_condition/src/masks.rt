@@ -70,7 +70,7 @@ fn mask(
     Ok(words)
 }
 
-/// The masks of the distances within a tetrahedron, from 1 on.
+/// The masks for `tets` tetrahedra of the distances within a tetrahedron, from 1 on.
 fn near_masks(alloc: Global, coords: Coords, tets: u32) -> Result<Vec<Vec<u64>>, NoMemory>
     requires { tets ≤ max_tets }
     ensures { IfOk result (λ near. AreDistanceMasks coords tets near.items) }

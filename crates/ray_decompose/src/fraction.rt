@@ -15,8 +15,8 @@ pub struct Fraction {
     pub denominator: u128,
 }
 
-/// Whether a / b is at most c / d. Compares the integer parts, and if they are equal the reciprocals of what remains,
-/// as Euclid's algorithm does, so that no product can overflow.
+/// Whether `a` / `b` is at most `c` / `d`. Compares the integer parts, and if they are equal the reciprocals of what
+/// remains, as Euclid's algorithm does, so that no product can overflow.
 fn is_at_most(a: u128, b: u128, c: u128, d: u128) -> bool
     requires first { 1 ≤ b }
     requires second { 1 ≤ d }

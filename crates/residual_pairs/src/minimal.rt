@@ -51,7 +51,7 @@ fn sort_by_size(rivals: &mut Vec<Rival>)
     rivals.sort_unstable_by_key(|rival| rival.size);
 }
 
-/// The indices of the rays of minimal residual that no other candidate has.
+/// The indices of the rays in `least` whose residual no other candidate has.
 fn alone(alloc: Global, least: &Least) -> Result<Vec<usize>, NoMemory>
     requires { length least.now.doubled.items ≡ length least.now.rivals.items }
     ensures { IfOk result (λ places. AreUnrepeated least.now (length least.now.rivals.items) places.items) }

@@ -49,7 +49,7 @@ fn holder_of(
     Ok(places)
 }
 
-/// For each column the indices of the rays that contain it.
+/// For each column of `table` the indices of the rays that contain it.
 fn holders_of(alloc: Global, table: &SupportTable, count: u32) -> Result<Vec<Support>, NoMemory>
     requires { count ≡ length table.now.supports }
     ensures { IfOk result (λ holders. AreHolders table.now count holders.items) }

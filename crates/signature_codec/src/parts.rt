@@ -11,7 +11,7 @@ use crate::numbers::{Numbers, Segment, numbers_in};
 use crate::read::{Head, Parts, TypesRead};
 use std::alloc::Global;
 
-/// The number of types that are 2.
+/// The number of `types` that are 2.
 fn twos_of(types: &[u8]) -> usize
     ensures value { result ≡ times_in types.now 2 }
     ensures in_range { result ≤ length types.now }

@@ -11,7 +11,7 @@ use crate::numbers::value_at;
 use crate::read::{Head, Types, TypesRead};
 use std::alloc::Global;
 
-/// The number of faces that a type accounts for: 1 for boundary, otherwise 2.
+/// The number of faces that type `kind` accounts for: 1 for boundary, otherwise 2.
 fn faces_of_type(kind: u8) -> u32
     ensures { result ≡ signatures.faces_of_type kind }
 {

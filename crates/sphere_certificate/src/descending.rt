@@ -38,7 +38,7 @@ fn is_standard(alloc: Global, table: &Table) -> Result<bool, NoMemory>
     }
 }
 
-/// The first accepted 4-1 move, otherwise the first accepted 3-2 move.
+/// The first accepted 4-1 move of `table`, otherwise its first accepted 3-2 move.
 fn descent_move(table: &Table) -> Option<AcceptedMove>
     ensures first { option_map (λ a. a.played) result ≡ certificates.descent_move table.now }
     ensures pattern { IfSome result (λ a. IsPattern table.now a.played a.pattern.facets.items) }
@@ -49,7 +49,7 @@ fn descent_move(table: &Table) -> Option<AcceptedMove>
     }
 }
 
-/// The next move of a descent, or `None` if the table is standard or has none.
+/// The next move of a descent at `table`, or `None` if it is `standard` or has none.
 fn next_move(table: &Table, standard: bool) -> Option<AcceptedMove>
     requires { IsTrue standard ↔ IsStandard table.now }
     ensures next { MatchOption result (IsStandard table.now ⊎ (certificates.descent_move table.now ≡ None)) (λ a. (IsStandard table.now → ⊥) × (certificates.descent_move table.now ≡ Some a.played)) }

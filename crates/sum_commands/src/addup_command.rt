@@ -22,7 +22,8 @@ use ray_decompose::add_up;
 use std::alloc::Global;
 use surface_answers::check;
 
-/// Fails with what is wrong first: the block's vector or a term is no admissible solution, or the terms do not add up.
+/// Checks `block`. Fails with what is wrong first: its vector or a term is no admissible solution, or the terms do not
+/// add up.
 fn check_block(
     coords: Coords,
     table: &Table,
@@ -47,7 +48,7 @@ fn check_block(
     }
 }
 
-/// Fails at the first block that is not accepted.
+/// Fails at the first of `blocks` that is not accepted.
 fn check_blocks(
     coords: Coords,
     table: &Table,
@@ -66,7 +67,7 @@ fn check_blocks(
     Ok(())
 }
 
-/// The outcome for blocks, by the equations of their table.
+/// The outcome for `blocks`, by the equations `system` of `table`.
 fn answer_by(
     alloc: Global,
     coords: Coords,
@@ -84,7 +85,7 @@ fn answer_by(
     }
 }
 
-/// The outcome for a table and blocks.
+/// The outcome for `table` and `blocks`.
 fn answer(
     alloc: Global,
     coords: Coords,

@@ -39,7 +39,7 @@ struct Times {
     terms: Vec<Given>,
 }
 
-/// Reads a line `term K` with entries.
+/// Reads a line `term K` with entries from `lexer`.
 #[tactic(auto, unfolding(text_document_definitions::specs::Blocks::term_at, text_definitions::specs::Reading::exactly_at))]
 fn read_term(alloc: Global, lexer: &mut Lexer<'_>) -> Result<Given, TextFault>
     ensures { ReadsFrom TextFault.NoMemory term_of result lexer.new (lexed (term_at lexer.old)) }
@@ -66,7 +66,7 @@ fn read_terms(alloc: Global, lexer: &mut Lexer<'_>, count: u32) -> Result<Vec<Gi
     Ok(terms)
 }
 
-/// Reads a line `times S T` and T terms.
+/// Reads a line `times S T` and T terms from `lexer`.
 #[tactic(auto, unfolding(text_document_definitions::specs::Blocks::times_at, text_definitions::specs::Reading::exactly_at))]
 fn read_times(alloc: Global, lexer: &mut Lexer<'_>) -> Result<Times, TextFault>
     ensures { ReadsFrom TextFault.NoMemory sum_of result lexer.new (lexed (times_at lexer.old)) }
@@ -83,7 +83,7 @@ fn read_times(alloc: Global, lexer: &mut Lexer<'_>) -> Result<Times, TextFault>
     Ok(Times { times, terms })
 }
 
-/// Reads a block from the current line on, of which no word is read yet.
+/// Reads a block from the current line of `lexer` on, of which no word is read yet.
 #[tactic(auto, unfolding(text_document_definitions::specs::Blocks::block_at))]
 fn read_block(alloc: Global, lexer: &mut Lexer<'_>) -> Result<Block, TextFault>
     ensures { ReadsFrom TextFault.NoMemory block_of result lexer.new (lexed (block_at lexer.old)) }
@@ -97,7 +97,7 @@ fn read_block(alloc: Global, lexer: &mut Lexer<'_>) -> Result<Block, TextFault>
     })
 }
 
-/// Reads the blocks up to the end of the input.
+/// Reads the blocks up to the end of the input of `lexer`.
 fn read_blocks(alloc: Global, lexer: &mut Lexer<'_>) -> Result<Vec<Block>, TextFault>
     ensures { ReadsFrom TextFault.NoMemory blocks_of result lexer.new (lexed (blocks_from lexer.old.later lexer.old)) }
 {

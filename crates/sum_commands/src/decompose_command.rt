@@ -46,7 +46,7 @@ fn append_sum(
     Ok(())
 }
 
-/// The text of the table and the blocks of all vectors. Fails at the first vector whose sum exceeds the limit.
+/// The text of `table` and the blocks of `vectors`. Fails at the first vector whose sum exceeds `limit`.
 fn sums(
     alloc: Global,
     table: &Table,
@@ -76,7 +76,7 @@ fn sums(
     Ok(text)
 }
 
-/// The outcome for a table and admissible solutions, by the list of its vertex surfaces.
+/// The outcome for `table` and admissible solutions `vectors`, by the list of its vertex surfaces.
 fn outcome_of(
     alloc: Global,
     table: &Table,
@@ -101,7 +101,7 @@ fn outcome_of(
     }
 }
 
-/// The outcome for a table and vectors, by the equations of the table.
+/// The outcome for `table` and `vectors`, by the equations `system` of the table.
 fn answer_by(
     alloc: Global,
     coords: Coords,
@@ -131,7 +131,7 @@ fn answer_by(
     }
 }
 
-/// The outcome for a table and vectors.
+/// The outcome for `table` and `vectors`.
 fn answer(
     alloc: Global,
     coords: Coords,

@@ -26,7 +26,7 @@ fn append_term(
     append_checked(alloc, out, Err(fault))
 }
 
-/// Appends the step and the column at which a sum exceeds the limit.
+/// Appends the step `turn` and the `column` at which a sum exceeds the limit.
 fn append_large_times(
     alloc: Global,
     out: &mut Vec<u8>,
@@ -50,7 +50,7 @@ fn append_zero_times(out: &mut Vec<u8>) -> Result<(), NoMemory>
     Ok(())
 }
 
-/// Appends why terms do not add up.
+/// Appends why terms do not add up, by `fault`.
 fn append_no_sum(alloc: Global, out: &mut Vec<u8>, fault: AddFault) -> Result<(), NoMemory>
     ensures { OnOk result (out.new.items ≡ out.old.items ++ sums.sum_refusal_text (SumRefusal.NoSum fault)) }
 {
@@ -71,7 +71,7 @@ fn append_no_sum(alloc: Global, out: &mut Vec<u8>, fault: AddFault) -> Result<()
     }
 }
 
-/// Appends why a vector is refused.
+/// Appends why a vector is refused, by `refusal`.
 fn append_cause(alloc: Global, out: &mut Vec<u8>, refusal: SumRefusal) -> Result<(), NoMemory>
     ensures { OnOk result (out.new.items ≡ out.old.items ++ sums.sum_refusal_text refusal) }
 {

@@ -32,7 +32,7 @@ fn append_term(alloc: Global, out: &mut Vec<u8>, term: &Term) -> Result<(), NoMe
     Ok(())
 }
 
-/// Appends a line for each term.
+/// Appends a line for each of `terms`.
 fn append_terms(alloc: Global, out: &mut Vec<u8>, terms: &[Term]) -> Result<(), NoMemory>
     ensures { OnOk result (out.new.items ≡ out.old.items ++ flat_map blocks.term_text terms.now) }
 {

@@ -10,7 +10,7 @@ use std::alloc::Global;
 use text_io::{append, append_decimal};
 use vector_text::write_entries;
 
-/// Appends a ray or a pair of rays.
+/// Appends the ray or the pair of rays of `kind`.
 fn append_kind(alloc: Global, text: &mut Vec<u8>, kind: &LargeKind) -> Result<(), NoMemory>
     ensures { OnOk result (text.new.items ≡ text.old.items ++ kind_text kind.now) }
 {

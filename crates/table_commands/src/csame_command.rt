@@ -13,7 +13,7 @@ use gluing_table::Table;
 use no_memory::NoMemory;
 use std::alloc::Global;
 
-/// The outcome for two tables.
+/// The outcome for the tables `first` and `second`.
 fn answer(alloc: Global, first: &Table, second: &Table) -> Result<Outcome, NoMemory>
     ensures { IfOk result (IsSamePartsAnswer (first.now, second.now)) }
 {

@@ -47,7 +47,7 @@ fn append_signature(
     Ok(())
 }
 
-/// Appends the classes of all tables.
+/// Appends the class of each table, by `classes`.
 fn append_classes(alloc: Global, text: &mut Vec<u8>, classes: &[u32]) -> Result<(), NoMemory>
     ensures { OnOk result (text.new.items ≡ text.old.items ++ classes_text (λ k. canonical.class_line k (slice_index classes.now k)) (length classes.now)) }
 {
@@ -57,7 +57,7 @@ fn append_classes(alloc: Global, text: &mut Vec<u8>, classes: &[u32]) -> Result<
     Ok(())
 }
 
-/// Appends the signatures of all classes.
+/// Appends the signature of each class of `census`.
 fn append_signatures(alloc: Global, text: &mut Vec<u8>, census: &Census) -> Result<(), NoMemory>
     ensures { OnOk result (text.new.items ≡ text.old.items ++ classes_text (λ c. canonical.class_signature_line c (signature_in census.now c)) (length census.now)) }
 {
@@ -67,7 +67,7 @@ fn append_signatures(alloc: Global, text: &mut Vec<u8>, census: &Census) -> Resu
     Ok(())
 }
 
-/// The text of the classes and their signatures.
+/// The text of `classes` and the signatures in `census`.
 fn census_text(alloc: Global, classes: &[u32], census: &Census) -> Result<Vec<u8>, NoMemory>
     ensures { IfOk result (λ text. text.items ≡ canonical.census_text classes.now census.now) }
 {
@@ -77,7 +77,7 @@ fn census_text(alloc: Global, classes: &[u32], census: &Census) -> Result<Vec<u8
     Ok(text)
 }
 
-/// The outcome for classes and their census.
+/// The outcome for `classes` and their `census`.
 fn outcome_of(alloc: Global, classes: &[u32], census: &Census) -> Result<Outcome, NoMemory>
     ensures { IfOk result (λ o. o ≡ done (canonical.census_text classes.now census.now)) }
 {
@@ -85,7 +85,7 @@ fn outcome_of(alloc: Global, classes: &[u32], census: &Census) -> Result<Outcome
     Ok(Outcome::with_text(Status::Done, text))
 }
 
-/// The outcome for the tables that were read.
+/// The outcome for the tables of `groups`.
 fn answer(alloc: Global, groups: &Groups) -> Result<Outcome, NoMemory>
     ensures { IfOk result (λ o. (tables : List (List Row)) → AreGrouped tables groups.now → IsGroupAnswer tables o) }
 {

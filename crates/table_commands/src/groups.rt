@@ -40,7 +40,7 @@ fn no_groups(alloc: Global) -> Groups
     }
 }
 
-/// Adds a table after connected ones.
+/// Adds `table` to `groups`, in which all tables so far are connected.
 fn classify(groups: &mut Groups, table: &Table) -> Result<(), NoMemory>
     requires few_classes { length groups.old.classes.items + 1 < 2 ^ 32 }
     requires few_signatures { length groups.old.census + 1 < 2 ^ 32 }
@@ -62,7 +62,7 @@ fn classify(groups: &mut Groups, table: &Table) -> Result<(), NoMemory>
     }
 }
 
-/// Adds a table, unless an earlier one is disconnected.
+/// Adds `table` to `groups`, unless an earlier one is disconnected.
 fn add(groups: &mut Groups, table: &Table) -> Result<(), NoMemory>
     requires few_classes { length groups.old.classes.items + 1 < 2 ^ 32 }
     requires few_signatures { length groups.old.census + 1 < 2 ^ 32 }
@@ -74,7 +74,7 @@ fn add(groups: &mut Groups, table: &Table) -> Result<(), NoMemory>
     }
 }
 
-/// Reads a table from the current line on, and adds it.
+/// Reads a table from the current line of `lexer` on, and adds it to `groups`.
 fn group_table(alloc: Global, lexer: &mut Lexer<'_>, groups: &mut Groups) -> Result<(), InputFault>
     requires few_classes { length groups.old.classes.items + 1 < 2 ^ 32 }
     requires few_signatures { length groups.old.census + 1 < 2 ^ 32 }
@@ -87,7 +87,7 @@ fn group_table(alloc: Global, lexer: &mut Lexer<'_>, groups: &mut Groups) -> Res
     }
 }
 
-/// Reads the tables up to the end of the input.
+/// Reads the tables up to the end of the input of `lexer`.
 fn read_groups(alloc: Global, lexer: &mut Lexer<'_>) -> Result<Groups, InputFault>
     requires few { length lexer.old.later + 1 < 2 ^ 32 }
     ensures { GivesGroups result lexer.new (tables_from lexer.old.later lexer.old) }

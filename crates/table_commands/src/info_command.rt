@@ -16,7 +16,7 @@ use skeleton::Skeleton;
 use std::alloc::Global;
 use vertex_links::{Link, links};
 
-/// For each edge class whether it is valid.
+/// For each edge class of `skeleton` whether it is valid.
 fn valid_edges(alloc: Global, skeleton: &Skeleton) -> Result<Vec<bool>, NoMemory>
     ensures one_each { IfOk result (λ valid. length valid.items ≡ skeleton.now.edges.count) }
     ensures valid { IfOk result (λ valid. AreValid skeleton.now skeleton.now.edges.count valid.items) }
@@ -28,14 +28,14 @@ fn valid_edges(alloc: Global, skeleton: &Skeleton) -> Result<Vec<bool>, NoMemory
     Ok(valid)
 }
 
-/// Whether the table has an orientation.
+/// Whether the table of `skeleton` has an orientation.
 fn is_orientable(skeleton: &Skeleton) -> bool
     ensures { IsTrue result ↔ IsOrientable skeleton.now.rows }
 {
     skeleton.orientation().is_some()
 }
 
-/// The outcome from what is known of the table.
+/// The outcome for the table of `skeleton`, with its vertex links `links`; `valid` says which edge classes are valid.
 fn outcome_of(
     alloc: Global,
     skeleton: &Skeleton,

@@ -77,7 +77,7 @@ fn append_edge(
     Ok(())
 }
 
-/// Appends the lines of the vertex classes.
+/// Appends the lines of the vertex classes of `skeleton`.
 fn append_vertices(
     alloc: Global,
     text: &mut Vec<u8>,
@@ -99,7 +99,7 @@ fn append_vertices(
     Ok(())
 }
 
-/// Appends the lines of the edge classes.
+/// Appends the lines of the edge classes of `skeleton`.
 fn append_edges(
     alloc: Global,
     text: &mut Vec<u8>,
@@ -128,7 +128,7 @@ fn tetrahedra(skeleton: &Skeleton) -> u32
     skeleton.table().len()
 }
 
-/// Appends the number of tetrahedra, and whether the table is connected, orientable and closed.
+/// Appends the number of tetrahedra, and whether the table is `connected`, `orientable` and closed.
 fn append_flags(
     alloc: Global,
     text: &mut Vec<u8>,
@@ -150,7 +150,7 @@ fn append_flags(
     Ok(())
 }
 
-/// Appends the numbers of classes, and the Euler characteristic.
+/// Appends the numbers of classes of `skeleton`, and the Euler characteristic.
 fn append_counts(alloc: Global, text: &mut Vec<u8>, skeleton: &Skeleton) -> Result<(), NoMemory>
     ensures { OnOk result (text.new.items ≡ text.old.items ++ information.counts_text skeleton.now) }
 {
@@ -170,7 +170,7 @@ fn append_euler(alloc: Global, text: &mut Vec<u8>, euler: i64) -> Result<(), NoM
     Ok(())
 }
 
-/// The Euler characteristic: vertices less edges plus faces less tetrahedra.
+/// The Euler characteristic of `skeleton`: vertices less edges plus faces less tetrahedra.
 fn characteristic(skeleton: &Skeleton) -> i64
     ensures { result ≡ information.characteristic skeleton.now }
 {

@@ -17,7 +17,7 @@ use perm_four::Perm4;
 use std::alloc::Global;
 use text_io::{append, append_decimal};
 
-/// Appends the line of a tetrahedron: its number, its number in the second table, and the images of its vertices.
+/// Appends the line of tetrahedron `tet`: its number, its number in the second table, and the images of its vertices.
 fn append_image(
     alloc: Global,
     text: &mut Vec<u8>,
@@ -36,7 +36,7 @@ fn append_image(
     Ok(())
 }
 
-/// Appends the lines of all tetrahedra.
+/// Appends the lines of all `tets` tetrahedra.
 fn append_images(
     alloc: Global,
     text: &mut Vec<u8>,
@@ -52,7 +52,7 @@ fn append_images(
     Ok(())
 }
 
-/// The text of a relabelling.
+/// The text of the relabelling `by`.
 fn relabelling_text(alloc: Global, tets: u32, by: &Relabelling) -> Result<Vec<u8>, NoMemory>
     requires { tets ≡ length by.now.images }
     ensures { IfOk result (λ text. text.items ≡ canonical.relabelling_text by.now) }
@@ -72,7 +72,7 @@ pub fn relabelling_outcome(alloc: Global, tets: u32, by: &Relabelling) -> Result
     Ok(Outcome::with_text(Status::Done, text))
 }
 
-/// The outcome for two tables.
+/// The outcome for the tables `first` and `second`.
 fn answer(alloc: Global, first: &Table, second: &Table) -> Result<Outcome, NoMemory>
     ensures { IfOk result (IsSameAnswer (first.now, second.now)) }
 {

@@ -40,7 +40,7 @@ pub fn first_line(bytes: &[u8], number: u32) -> Option<FoundLine<'_>>
     None
 }
 
-/// The bytes before the first LF, and the bytes after it.
+/// The bytes of `bytes` before the first LF, and the bytes after it.
 fn split_line(bytes: &[u8]) -> (&[u8], &[u8])
     ensures line { result.0.now ≡ before_first is_line_feed bytes.now }
     ensures behind { result.1.now ≡ after_first is_line_feed bytes.now }
@@ -54,7 +54,7 @@ fn split_line(bytes: &[u8]) -> (&[u8], &[u8])
     }
 }
 
-/// The number of bytes before the first LF.
+/// The number of bytes of `bytes` before the first LF.
 fn line_len(bytes: &[u8]) -> usize
     ensures { result ≡ position_or_len is_line_feed bytes.now }
 {
@@ -93,7 +93,7 @@ pub fn end_place(bytes: &[u8]) -> Place
     }
 }
 
-/// The number of LF bytes.
+/// The number of LF bytes in `bytes`.
 fn line_feeds(bytes: &[u8]) -> usize
     ensures number { result ≡ count_by is_line_feed bytes.now }
     ensures within { result ≤ length bytes.now }
@@ -101,7 +101,7 @@ fn line_feeds(bytes: &[u8]) -> usize
     bytes.iter().filter(|b| **b == b'\n').count()
 }
 
-/// The number of bytes after the last LF.
+/// The number of bytes of `bytes` after the last LF.
 fn last_line_len(bytes: &[u8]) -> usize
     ensures number { result ≡ suffix_len (λ b. not (is_line_feed b)) bytes.now }
     ensures within { result ≤ length bytes.now }

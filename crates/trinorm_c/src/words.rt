@@ -11,7 +11,7 @@ use std::alloc::{AllocError, Global};
 use text_io::Words;
 use workbench::outcome_of;
 
-/// The words as slices of the text.
+/// The words of `text` as slices.
 fn parts(alloc: Global, text: &str) -> Result<Vec<&str>, AllocError>
     ensures { IfOk result (λ v. map (λ x. x.now) v.items ≡ slice_split (λ b. b == 0) text.now) }
 {

@@ -31,7 +31,7 @@ fn outcome_of(alloc: Global, table: &Table, x: &[u128]) -> Result<Outcome, NoMem
     Ok(Outcome::with_text(Status::Done, text))
 }
 
-/// The outcome for a table and a vector, by the equations of the table.
+/// The outcome for `table` and `x`, by the equations `system` of the table.
 fn answer_by(alloc: Global, table: &Table, system: &System, x: &[u128]) -> Result<Outcome, NoMemory>
     requires columns { system.now.columns ≡ columns Standard (length table.now) }
     requires equations { AreEquations Standard table.now system.now.rows }
@@ -43,7 +43,7 @@ fn answer_by(alloc: Global, table: &Table, system: &System, x: &[u128]) -> Resul
     }
 }
 
-/// The outcome for a table and a vector.
+/// The outcome for `table` and `x`.
 fn answer(alloc: Global, table: &Table, x: &[u128]) -> Result<Outcome, NoMemory>
     ensures { IfOk result (IsCrushAnswer (table.now, x.now)) }
 {

@@ -111,7 +111,7 @@ fn append_vector(
     Ok(())
 }
 
-/// The lines of all vectors. Fails at the first vector that is refused.
+/// The lines of all `vectors`. Fails at the first vector that is refused.
 fn descriptions(
     alloc: Global,
     skeleton: &Skeleton,
@@ -137,7 +137,7 @@ fn descriptions(
     Ok(text)
 }
 
-/// The outcome for vectors, by the skeleton and the equations of a table.
+/// The outcome for `vectors`, by the skeleton and the equations of a table.
 fn describe_each(
     alloc: Global,
     skeleton: &Skeleton,
@@ -157,7 +157,7 @@ fn describe_each(
     }
 }
 
-/// The outcome for vectors, by the skeleton of a table without invalid edges.
+/// The outcome for `vectors`, by the skeleton of a table without invalid edges.
 fn describe_where_valid(
     alloc: Global,
     skeleton: &Skeleton,
@@ -171,7 +171,7 @@ fn describe_where_valid(
     describe_each(alloc, skeleton, &system, coords, vectors)
 }
 
-/// The outcome for vectors, by the skeleton of a table.
+/// The outcome for `vectors`, by the skeleton of a table.
 fn answer_by(
     alloc: Global,
     skeleton: &Skeleton,
@@ -187,7 +187,7 @@ fn answer_by(
     }
 }
 
-/// The outcome for a table and vectors.
+/// The outcome for `table` and `vectors`.
 fn answer(
     alloc: Global,
     table: &Table,

@@ -36,7 +36,7 @@ fn append_euler(alloc: Global, out: &mut Vec<u8>, word: &[u8], euler: i128) -> R
     Ok(())
 }
 
-/// Appends the line of a vector's properties, with the number of its components.
+/// Appends the line of the `properties` of a vector, with the number of its components.
 fn append_properties(
     alloc: Global,
     out: &mut Vec<u8>,
@@ -56,7 +56,7 @@ fn append_properties(
     Ok(())
 }
 
-/// The Euler characteristic of a vector all of whose sums are within the limit.
+/// The Euler characteristic of the surface of `x`, none of whose sums exceeds the limit.
 fn characteristic(skeleton: &Skeleton, coords: DiscCoords, x: &[u128]) -> i128
     requires width { length x.now ≡ columns coords.system (length skeleton.now.rows) }
     requires small { first_large limit skeleton.now coords.system x.now ≡ None }
@@ -93,7 +93,7 @@ fn append_component(
     Ok(())
 }
 
-/// Appends the lines of all components.
+/// Appends the lines of all components in `pieces`.
 fn append_components(
     alloc: Global,
     out: &mut Vec<u8>,

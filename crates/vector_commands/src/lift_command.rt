@@ -81,7 +81,7 @@ fn append_lift(
     Ok(())
 }
 
-/// The lines of all lifts. Fails at the first vector that is refused.
+/// The lines of the lifts of `vectors`. Fails at the first vector that is refused.
 fn lifts(
     alloc: Global,
     skeleton: &Skeleton,
@@ -104,7 +104,7 @@ fn lifts(
     Ok(text)
 }
 
-/// The outcome for quad vectors, by the skeleton and the equations of a table.
+/// The outcome for quad vectors `vectors`, by the skeleton and the equations of a table.
 fn answer_by(
     alloc: Global,
     skeleton: &Skeleton,
@@ -123,7 +123,7 @@ fn answer_by(
     }
 }
 
-/// The outcome for a table and quad vectors.
+/// The outcome for `table` and quad vectors `vectors`.
 fn answer(alloc: Global, table: &Table, vectors: &[Vec<u128>]) -> Result<Outcome, NoMemory>
     ensures { IfOk result (IsLiftsAnswer (table.now, all_entries vectors.now)) }
 {

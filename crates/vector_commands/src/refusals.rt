@@ -29,7 +29,7 @@ fn word_of_sum(sum: SurfaceSum) -> &'static [u8]
     }
 }
 
-/// Appends a line of two words.
+/// Appends a line of the words `first` and `second`.
 fn append_words(out: &mut Vec<u8>, first: &[u8], second: &[u8]) -> Result<(), NoMemory>
     ensures { OnOk result (out.new.items ≡ out.old.items ++ line (first.now ++ second.now)) }
 {
@@ -39,7 +39,7 @@ fn append_words(out: &mut Vec<u8>, first: &[u8], second: &[u8]) -> Result<(), No
     Ok(())
 }
 
-/// Appends why a vector is refused.
+/// Appends why a vector is refused, by `refusal`.
 fn append_cause(alloc: Global, out: &mut Vec<u8>, refusal: Refusal) -> Result<(), NoMemory>
     ensures { OnOk result (out.new.items ≡ out.old.items ++ fault_text refusal) }
 {

@@ -31,7 +31,7 @@ fn push_each(alloc: Global, text: &mut Vec<u8>, x: &[u128]) -> Result<(), NoMemo
     Ok(())
 }
 
-/// Appends four digits, each after a space.
+/// Appends the digits `a`, `b`, `c` and `d`, each after a space.
 fn push_digits(text: &mut Vec<u8>, a: u8, b: u8, c: u8, d: u8) -> Result<(), NoMemory>
     requires { (a < 10) × (b < 10) × (c < 10) × (d < 10) }
     ensures { OnOk result (text.new.items ≡ text.old.items ++ entries_text (a ∷ b ∷ c ∷ d ∷ [])) }

@@ -13,7 +13,7 @@ use skeleton::{Kind, Numbering, Skeleton, classes_of};
 use skeleton_definitions::{Link, LinkKind};
 use std::alloc::Global;
 
-/// The kind of a link, from whether it is closed, its Euler characteristic and whether it is orientable.
+/// The kind of a link, from whether it is `closed`, its Euler characteristic `euler`, and whether it is `orientable`.
 fn kind_of(closed: bool, euler: i64, orientable: bool) -> LinkKind
     ensures { result ≡ definition.kind_of closed euler orientable }
 {
@@ -26,7 +26,7 @@ fn kind_of(closed: bool, euler: i64, orientable: bool) -> LinkKind
     }
 }
 
-/// A link with its Euler characteristic and its kind.
+/// A link with these numbers of `triangles`, `edges` and `vertices`, with its Euler characteristic and its kind.
 fn link_of(triangles: u32, edges: u32, vertices: u32, closed: bool, orientable: bool) -> Link
     ensures triangles { result.triangles ≡ triangles }
     ensures edges { result.edges ≡ edges }
@@ -48,8 +48,8 @@ fn link_of(triangles: u32, edges: u32, vertices: u32, closed: bool, orientable: 
     }
 }
 
-/// For each vertex class the number of members that are identified with themselves with the other sign: 0 if and only
-/// if the link is orientable.
+/// For each vertex class of `skeleton` the number of members that are identified with themselves with the other sign: 0
+/// if and only if the link is orientable.
 fn turned_tally(alloc: Global, skeleton: &Skeleton) -> Result<Vec<u32>, NoMemory>
     ensures size { IfOk result (λ t. length t.items ≡ skeleton.now.vertices.count) }
     ensures orientable { IfOk result (λ t. (c : ℕ) → c < skeleton.now.vertices.count → IsTrue (slice_index t.items c == 0) ↔ definition.IsOrientableLink skeleton.now.rows skeleton.now.vertices.classes c) }
@@ -85,7 +85,7 @@ struct Corners<'a> {
     ghost owned: { (j : ℕ) → j < 12 * length skeleton.now.rows → slice_index owners.now j ≡ slice_index skeleton.now.vertices.classes (j / 3) },
 }
 
-/// The number of edges of the link of each vertex class.
+/// The number of edges of the link of each vertex class, by `corners`.
 fn edge_tally(alloc: Global, corners: Corners<'_>) -> Result<Vec<u32>, NoMemory>
     ensures size { IfOk result (λ t. length t.items ≡ corners.entry.skeleton.now.vertices.count) }
     ensures edges { IfOk result (λ t. (c : ℕ) → c < corners.entry.skeleton.now.vertices.count → slice_index t.items c ≡ definition.link_edges corners.entry.skeleton.now.rows corners.entry.skeleton.now.vertices.classes c) }
@@ -96,7 +96,7 @@ fn edge_tally(alloc: Global, corners: Corners<'_>) -> Result<Vec<u32>, NoMemory>
     Ok(tallies)
 }
 
-/// The number of sides of link triangles in boundary faces, for each vertex class.
+/// The number of sides of link triangles in boundary faces, for each vertex class, by `corners`.
 fn open_tally(alloc: Global, corners: Corners<'_>) -> Result<Vec<u32>, NoMemory>
     ensures size { IfOk result (λ t. length t.items ≡ corners.entry.skeleton.now.vertices.count) }
     ensures closed { IfOk result (λ t. (c : ℕ) → c < corners.entry.skeleton.now.vertices.count → (slice_index t.items c == 0) ≡ definition.is_closed_link corners.entry.skeleton.now.rows corners.entry.skeleton.now.vertices.classes c) }

@@ -11,7 +11,7 @@ use no_memory::NoMemory;
 use std::alloc::Global;
 use text_io::Words;
 
-/// The outcome of a command for an input that may be too long.
+/// The outcome of `request` for `input`, which may be too long.
 fn answer_at_hand(alloc: Global, request: Request, input: &[u8]) -> Result<Outcome, NoMemory>
     requires { HoldsRange request }
     ensures outcome { IfOk result (λ o. IsRequestOutcome request input.now o) }

@@ -85,7 +85,7 @@ pub fn reads_input(request: Request) -> bool
     }
 }
 
-/// The outcome of a command that reads the source.
+/// The outcome of `request`, which reads `source`.
 #[tactic(auto, using(outcome_definitions::proofs::OwnStatus::answer_own))]
 fn respond_to_input<S: Source>(
     alloc: Global,
@@ -105,7 +105,7 @@ fn respond_to_input<S: Source>(
     }
 }
 
-/// The outcome of a command; one that reads no input leaves the source unchanged.
+/// The outcome of `request`; a command that reads no input leaves `source` unchanged.
 fn respond<S: Source>(alloc: Global, request: Request, source: &mut S) -> Result<Outcome, NoMemory>
     requires { HoldsRange request }
     ensures response { IfOk result (IsResponse request (S.left source.old) (S.left source.new) (S.faults source.old) (S.faults source.new)) }
@@ -118,7 +118,7 @@ fn respond<S: Source>(alloc: Global, request: Request, source: &mut S) -> Result
     answer(alloc, request, &[])
 }
 
-/// Writes an outcome, and returns the status.
+/// Writes `outcome` to `sink`, and returns the status.
 fn deliver<K: Sink>(outcome: &Outcome, sink: &mut K) -> Status
     ensures { IsDelivered outcome.now result (K.held sink.old) (K.held sink.new) (K.faults sink.old) (K.faults sink.new) }
 {
@@ -128,7 +128,7 @@ fn deliver<K: Sink>(outcome: &Outcome, sink: &mut K) -> Status
     }
 }
 
-/// Reads the words, then the input, and writes the answer or the one line of a refusal.
+/// Reads `words`, then the input from `source`, and writes the answer or the one line of a refusal to `sink`.
 fn carry_out<S: Source, K: Sink>(
     alloc: Global,
     words: &Words,
