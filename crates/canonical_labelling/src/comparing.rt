@@ -93,8 +93,8 @@ fn new_gluing(comparison: &Comparison, from: Start, glue: Glue) -> Glue
 }
 
 /// Records the gluing `glue` of the new face with index `place` (4 times tetrahedron plus face). The face on its other
-/// side is marked as crossed; the type is 2 if the target was visited before (`met`), and then `glue` is kept too, and
-/// 1 otherwise.
+/// side is marked as crossed; the type is 2 if the target was visited before (`met`), and then `glue` is recorded too,
+/// and 1 otherwise.
 fn cross(comparison: &mut Comparison, place: u32, glue: Glue, met: bool) -> Result<(), AllocError>
     requires { glue.tet < length comparison.old.numbers.items }
     ensures { OnOk result (comparison_view comparison.new ≡ comparisons.crossed met place glue (comparison_view comparison.old)) }

@@ -145,8 +145,8 @@ fn begin(trace: &mut Trace, start: Start) -> Result<(), AllocError>
     Ok(())
 }
 
-/// Whether the canonical traversal of `table` from `start` may lead to `target`. Returns `false` at the first face that
-/// differs. Reads each face of `table` at most once, and allocates nothing if `trace` has room for its tetrahedra.
+/// Whether the canonical traversal of `table` from `start` may result in `target`. Returns `false` at the first face
+/// that differs. Reads each face of `table` at most once, and allocates nothing if `trace` has room for its tetrahedra.
 pub fn may_reach(
     trace: &mut Trace,
     target: &Table,

@@ -23,7 +23,7 @@ pub fn exchange_images(alloc: Global, sheets: Sheets) -> Result<Vec<u32>, AllocE
     Ok(images)
 }
 
-/// The copy of the base to which tetrahedron `tet` of the cover goes.
+/// The copy of the base to which tetrahedron `tet` of the cover is mapped.
 fn copy_of(sheets: Sheets, signs: &[bool], tet: u32) -> Sheet
     requires one_each { length signs.now ≡ sheets.tets }
     requires in_range { tet < 2 * sheets.tets }

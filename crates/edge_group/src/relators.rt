@@ -32,7 +32,7 @@ pub fn inner_edges(alloc: Global, skeleton: &Skeleton) -> Result<Vec<u32>, Alloc
 }
 
 impl Generators<'_> {
-    /// The letter of `face`: the generator if it is the lesser face of its class, its inverse if it is the greater one,
+    /// The letter of `face`: the generator if it is the first face of its class, its inverse if it is the second,
     /// `None` if the class is no generator.
     fn letter(&self, face: Face) -> Option<Letter>
         requires { face.tet < length self.now.skeleton.rows }

@@ -47,7 +47,7 @@ fn closer_face(table: &Table, distances: &[Option<u32>], face: Face) -> Option<F
     }
 }
 
-/// The lesser of `first` and `second`, or the one that there is.
+/// The first, by tetrahedron and number, of `first` and `second`, or the one that there is.
 fn lesser(first: Option<Face>, second: Option<Face>) -> Option<Face>
     ensures { IsLeastOf first second result }
 {

@@ -1,4 +1,4 @@
-//! Replaces rows of a table by fresh ones, renumbering the rows that are kept.
+//! Replaces rows of a table by fresh ones, renumbering the rows that are retained.
 
 ghost use Rattle.std.specs.Prelude.{◌≡◌, false, ◌==◌, ◌+◌, ◌<◌, ◌≤◌, ◌^◌, [], length, vec_capacity, if◌then◌else◌, Some, None, option_and_then};
 ghost use Rattle.std.specs.List.Sorted.{IsStrictlyIncreasing};
@@ -99,7 +99,7 @@ fn fresh_row(fresh: &[(u32, Row)], number: u32) -> Option<Row>
     None
 }
 
-/// The gluing of `target` back to `from`, if `glue`, the gluing of `from`, leads to `target`.
+/// The gluing of `target` back to `from`, if `glue`, the gluing of `from`, is to `target`.
 fn back_to_face(from: Face, glue: Option<Glue>, target: Face) -> Option<Glue>
     ensures { result ≡ option_and_then (exchange.leads_to target from) glue }
 {
@@ -111,7 +111,7 @@ fn back_to_face(from: Face, glue: Option<Glue>, target: Face) -> Option<Glue>
     }
 }
 
-/// The gluing of `target` back to row `number`, if a gluing of that row (`row`) leads to `target`.
+/// The gluing of `target` back to row `number`, if a gluing of that row (`row`) is to `target`.
 fn back_to_row(number: u32, row: &Row, target: Face) -> Option<Glue>
     ensures { result ≡ row_back target (number, row.now) }
 {
@@ -125,7 +125,7 @@ fn back_to_row(number: u32, row: &Row, target: Face) -> Option<Glue>
     None
 }
 
-/// The gluing of `target` back to a fresh row, if a gluing of one leads to `target`.
+/// The gluing of `target` back to a fresh row, if a gluing of one is to `target`.
 fn back_to_fresh(fresh: &[(u32, Row)], target: Face) -> Option<Glue>
     ensures { result ≡ first_some (row_back target) fresh.now }
 {
@@ -138,7 +138,7 @@ fn back_to_fresh(fresh: &[(u32, Row)], target: Face) -> Option<Glue>
     None
 }
 
-/// The gluing of `face` in the new table, in a kept row whose old number is `tet`.
+/// The gluing of `face` in the new table, in a retained row whose old number is `tet`.
 fn retained_glue(swap: &Exchange<'_>, tet: u32, face: Face) -> Option<Glue>
     requires { tet < length swap.now.rows }
     ensures { result ≡ exchange.kept_gluing swap.now.rows swap.now.by face (gluings.glue swap.now.rows (record { tet = tet; face = face.face })) }
@@ -158,7 +158,7 @@ fn retained_glue(swap: &Exchange<'_>, tet: u32, face: Face) -> Option<Glue>
     Some(Glue { tet, perm })
 }
 
-/// Row `number` of the new table, a kept row whose old number is `tet`.
+/// Row `number` of the new table, a retained row whose old number is `tet`.
 fn retained_row(swap: &Exchange<'_>, tet: u32, number: u32) -> Row
     requires { tet < length swap.now.rows }
     ensures { result ≡ exchange.kept_row swap.now.rows swap.now.by tet number }

@@ -75,7 +75,7 @@ fn push_glued(
     Ok(())
 }
 
-/// Appends the equations of `face`, if it is glued and the lesser one of the pair.
+/// Appends the equations of `face`, if it is glued and the first one of the pair.
 fn push_face(
     alloc: Global,
     coords: DiscCoords,

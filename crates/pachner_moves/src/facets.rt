@@ -166,7 +166,7 @@ fn glue_under(s: Glue, r: Glue, glue: Glue) -> Glue
     }
 }
 
-/// The gluing `glue` of face `x` after the move, where `s` is the image of the tetrahedron of `x`.
+/// The gluing `glue` of face `x` after the move; `s` is the image of the tetrahedron of `x`.
 pub fn moved_glue(taken: TakenOut<'_>, x: Face, s: Glue, glue: Glue) -> Option<Glue>
     ensures { result ≡ moves.moved_gluing taken.entry.table.now taken.entry.m.now x s glue }
 {

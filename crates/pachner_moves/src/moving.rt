@@ -60,7 +60,7 @@ fn outer_glue(taken: TakenOut<'_>, old: Facet, label: Label) -> Option<Glue>
     )
 }
 
-/// The gluing of the face opposite `label` of the new facet that lacks `own`, which leads to another new facet.
+/// The gluing of the face opposite `label` of the new facet that lacks `own`, which is glued to another new facet.
 fn inner_glue(table: &Table, m: &Move, own: Label, label: Label) -> Glue
     ensures { result ≡ moves.facet_gluing table.now m.now (moves.new_facet table.now m.now own.number) label.number }
 {

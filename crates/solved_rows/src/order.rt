@@ -156,7 +156,7 @@ fn start_count(rows: usize) -> usize {
     if rows <= MOST_STARTS { rows } else { 1 }
 }
 
-/// The order that leaves rows where they are, with a cost that any other order beats.
+/// The order that leaves all rows in place, with a cost that any other order beats.
 fn as_they_stand(alloc: Global) -> RowOrder {
     RowOrder {
         positions: Vec::new(alloc),

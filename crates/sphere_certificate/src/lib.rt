@@ -5,8 +5,8 @@
 //! - `descend`: simplifies a table by 4-1 and 3-2 moves, and says whether it reached the standard sphere
 //! - `standard`: the standard sphere, of one tetrahedron
 //!
-//! Contracts state that the moves are legal and where they lead. That moves keep the manifold is topology and is not
-//! proved. A descent that does not reach the sphere shows nothing.
+//! Contracts state that the moves are legal and which table results. That moves keep the manifold is topology and is
+//! not proved. A descent that does not reach the sphere shows nothing.
 #![tactic(auto)]
 
 mod accepted;

@@ -27,7 +27,7 @@ fn corner(face: Face, number: usize) -> u8
     CORNERS[face.face as usize][number]
 }
 
-/// Whether `face` is a boundary face, or the lesser of two faces glued to each other: true once for each face class.
+/// Whether `face` is a boundary face, or the first of two faces glued to each other: true once for each face class.
 fn is_first_side(table: &Table, face: Face) -> bool
     requires { face.tet < length table.now }
     ensures { result ≡ is_first face (gluings.glue table.now face) }

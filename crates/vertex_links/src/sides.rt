@@ -55,7 +55,7 @@ fn side(place: u32) -> Face
     }
 }
 
-/// Whether `face` is a boundary face, or the lesser of two faces that are glued.
+/// Whether `face` is a boundary face, or the first of two faces that are glued.
 fn is_first(table: &Table, face: Face) -> bool
     requires { face.tet < length table.now }
     ensures { result ≡ is_first_side face (gluings.glue table.now face) }
@@ -67,7 +67,7 @@ fn is_first(table: &Table, face: Face) -> bool
     face.tet < other.tet || (face.tet == other.tet && face.face < other.face)
 }
 
-/// For each of the 12n sides of link triangles of `table`, whether it lies in a boundary face or in the lesser of two
+/// For each of the 12n sides of link triangles of `table`, whether it lies in a boundary face or in the first of two
 /// faces that are glued.
 pub fn first_sides(alloc: Global, table: &Table) -> Result<Vec<bool>, NoMemory>
     ensures size { IfOk result (λ passes. length passes.items ≡ 12 * length table.now) }

@@ -242,7 +242,7 @@ pub fn run<S: Source, K: Sink>(alloc: Global, words: &Words, source: &mut S, sin
     // `decompose` writes fit vectors, which are admissible solutions of which no part of an equation is large, as sums
     // of vertex surfaces; otherwise it names the first vector that is not fit, or the first number that exceeds the
     // limit. `addup` accepts sums of fit terms to fit vectors if and only if they are true. `cover` writes the
-    // orientable double cover, and `play` the table to which the moves lead.
+    // orientable double cover, and `play` the table after the moves.
     ensures decompose { (coords : Coords) → (most : ℕ) → accepted_request words.now ≡ Some (Request.Decompose coords most)
         → WritesOf vectors_document (IsDecomposition coords most) (S.left source.old) result (K.held sink.old) (K.held sink.new) }
     ensures addup { (coords : Coords) → accepted_request words.now ≡ Some (Request.Addup coords)

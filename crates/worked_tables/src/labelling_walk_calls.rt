@@ -8,7 +8,7 @@ use signature_codec::spell;
 use std::alloc::Global;
 use std::test::Fail;
 
-/// The text of the table to which a traversal leads, or `None` if `word` is no permutation.
+/// The text of the table of a traversal, or `None` if `word` is no permutation.
 fn walked(alloc: Global, text: &[u8], tet: u32, word: &[u8]) -> Result<Vec<u8>, Fail> {
     let table = read_table(alloc, text)?;
     let mut walked = Vec::new(alloc);
