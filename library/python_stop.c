@@ -8,19 +8,35 @@ extern void PyGILState_Release(int) __attribute__((weak));
 extern int PyErr_CheckSignals(void) __attribute__((weak));
 extern void PyErr_Fetch(struct object **, struct object **, struct object **) __attribute__((weak));
 extern void PyErr_Restore(struct object *, struct object *, struct object *) __attribute__((weak));
+extern void PyErr_Clear(void) __attribute__((weak));
 
 /* the exception that ended the call of this thread */
 static _Thread_local struct object *type, *value, *traceback;
 
-/* as `stop` of limits */
+/* Releases an older exception that nobody has raised; the caller holds Python's lock. */
+static void drop(void) {
+    if (type) {
+        PyErr_Restore(type, value, traceback);
+        PyErr_Clear();
+    }
+    type = value = traceback = 0;
+}
+
+/* As `stop` of limits. */
 int trinorm_python_stops(void *unused) {
     (void)unused;
-    if (!PyGILState_Ensure || !PyGILState_Release || !PyErr_CheckSignals || !PyErr_Fetch || !PyErr_Restore)
+    if (!PyGILState_Ensure || !PyGILState_Release || !PyErr_CheckSignals || !PyErr_Fetch || !PyErr_Restore || !PyErr_Clear)
         return 0;
     int state = PyGILState_Ensure();
     int raised = PyErr_CheckSignals() != 0;
-    if (raised)
-        PyErr_Fetch(&type, &value, &traceback);
+    if (raised) {
+        struct object *new_type, *new_value, *new_traceback;
+        PyErr_Fetch(&new_type, &new_value, &new_traceback);
+        drop();
+        type = new_type;
+        value = new_value;
+        traceback = new_traceback;
+    }
     PyGILState_Release(state);
     return raised;
 }

@@ -1,5 +1,6 @@
-"""The library in this process, and the server: the program's answers, limits, and bad use."""
+"""The library in this process: the program's answers, limits, and bad use."""
 import ctypes
+import gc
 import os
 import shutil
 import signal
@@ -10,10 +11,11 @@ import threading
 import time
 import unittest
 import unittest.mock
+import weakref
 from pathlib import Path
 
 import trinorm
-from trinorm import library, server
+from trinorm import library
 from trinorm.program import REPOSITORY
 
 from .programs import script
@@ -145,20 +147,83 @@ class Library(unittest.TestCase):
             said.add((status, answer))
         self.assertEqual(said, {(8, b""), by_process(["surfaces"], INPUTS[5])})
 
-    def test_a_handler_of_signals_ends_a_call(self):
-        def stop(*_):
-            raise InterruptedError("enough")
-
-        before = signal.signal(signal.SIGALRM, stop)
+    def by_alarm(self, handler, seconds=0.05):
+        """The long list, asked again and again, while the handler is called once."""
+        before = signal.signal(signal.SIGALRM, handler)
         try:
-            signal.setitimer(signal.ITIMER_REAL, 0.05)
-            with self.assertRaisesRegex(InterruptedError, "enough"):
-                while True:
-                    self.library.run(["surfaces"], LONG)
+            signal.setitimer(signal.ITIMER_REAL, seconds)
+            last = time.monotonic() + 20
+            while time.monotonic() < last:
+                self.library.answer(["surfaces"], LONG)
         finally:
             signal.setitimer(signal.ITIMER_REAL, 0)
             signal.signal(signal.SIGALRM, before)
-        self.assertEqual(self.library.run(["sig"], "sig bkaagj\n"), "bkaagj\n")
+
+    def test_a_handler_of_signals_ends_a_call(self):
+        for kind in (InterruptedError, KeyboardInterrupt, TimeoutError, trinorm.Failed):
+            def stop(*_):
+                raise kind("enough")
+
+            with self.assertRaisesRegex(kind, "enough"):
+                self.by_alarm(stop)
+            self.assertEqual(self.library.run(["sig"], "sig bkaagj\n"), "bkaagj\n")
+
+    def test_ctrl_c_ends_a_call(self):
+        text = ("import os, signal, threading\nfrom trinorm import library\nit = library.at(%r)\n"
+                "threading.Timer(0.3, os.kill, (os.getpid(), signal.SIGINT)).start()\n"
+                "try:\n    while True:\n        it.answer(['surfaces'], %r)\nexcept KeyboardInterrupt:\n    print('ended', it.run(['sig'], 'sig bkaagj'))\n")
+        done = subprocess.run([sys.executable, "-c", text % (named(), LONG)], env=dict(os.environ, PYTHONPATH=str(REPOSITORY / "python")),
+                              stdout=subprocess.PIPE, text=True, timeout=60, check=False)
+        self.assertEqual((done.returncode, done.stdout), (0, "ended bkaagj\n\n"))
+
+    def test_exceptions_of_handlers_are_released(self):
+        faults = []
+
+        def stop(*_):
+            fault = InterruptedError("enough")
+            faults.append(weakref.ref(fault))
+            raise fault
+
+        for _ in range(5):
+            with self.assertRaises(InterruptedError):
+                self.by_alarm(stop)
+        gc.collect()
+        self.assertEqual([it() for it in faults], [None] * 5)
+
+    def test_a_handler_may_call_too(self):
+        """Its answer is its own, and the call around it has its limit and its answer."""
+        inside = []
+        small = self.library.answer(["sig"], "sig bkaagj\n")
+        long = self.library.answer(["surfaces", "--coords", "quad"], LONG)
+
+        def ask(*_):
+            inside.append(self.library.answer(["sig"], "sig bkaagj\n", memory=1 << 20, timeout=100))
+            inside.append(self.library.answer(["surfaces", "--coords", "quad"], LONG))
+
+        before = signal.signal(signal.SIGALRM, ask)
+        try:
+            signal.setitimer(signal.ITIMER_REAL, 0.02, 0.2)
+            for _ in range(5):
+                self.assertEqual(self.library.answer(["surfaces", "--coords", "quad"], LONG), long)
+            last = time.monotonic() + 20
+            while not inside and time.monotonic() < last:
+                self.library.answer(["surfaces"], LONG)
+        finally:
+            signal.setitimer(signal.ITIMER_REAL, 0)
+            signal.signal(signal.SIGALRM, before)
+        self.assertTrue(inside)
+        self.assertEqual(inside[::2] + inside[1::2], [small] * len(inside[::2]) + [long] * len(inside[1::2]))
+
+    def test_limits_that_are_none(self):
+        for timeout in (0, -1, float("nan"), float("inf"), "1", True):
+            with self.assertRaisesRegex(trinorm.BadArgument, "timeout is a positive number"):
+                self.library.answer(["sig"], "sig bkaagj\n", timeout=timeout)
+        for memory in (0, -1, 1.5, "1", True, 1 << 64):
+            with self.assertRaisesRegex(trinorm.BadArgument, "memory is a positive number"):
+                self.library.answer(["sig"], "sig bkaagj\n", memory=memory)
+        for words, text in (("sig", ""), ([7], ""), (["sig"], b"sig bkaagj"), (["sig"], "\ud800"), (["sig"], None)):
+            with self.assertRaises(trinorm.BadArgument):
+                self.library.answer(words, text)
 
     def test_it_is_taken_where_no_program_is_named(self):
         others = {name: value for name, value in os.environ.items() if name != "TRINORM"}
@@ -227,47 +292,6 @@ class Areas(unittest.TestCase):
         self.assertEqual(self.run_in(self.room, 64, ctypes.addressof(self.room) + 32), 10)
         self.assertEqual(self.call(self.words, 3, self.words, 3, self.room, 64, None), 3)
         self.assertEqual((self.words.raw, self.input.raw, self.room.raw[:11]), (b"sig", b"sig bkaagj\n", b"refused: in"))
-
-
-@unittest.skipUnless(named() and server.Server.find(), "the server isn't built")
-class Servers(unittest.TestCase):
-    def test_answers_are_the_program_s(self):
-        with server.Server() as it:
-            for text in INPUTS:
-                for words in ASKED + NO_WORDS:
-                    self.assertEqual(it.ask(words, text), by_process(words, text), (words, text))
-            text = "tri 1\n0:1023 0:1023 0:1230 0:3012\n".ljust(5_000_000)
-            self.assertEqual(it.ask(["sig"], text), (3, b"refused: input too-long\n"))
-            self.assertEqual(it.run(["surfaces"], LONG), trinorm.program.run_process(["surfaces"], LONG))
-
-    def test_it_takes_the_place_of_a_program(self):
-        with server.Server() as it:
-            self.assertEqual(trinorm.sig("bkaagj", program=it), "bkaagj")
-            with self.assertRaises(trinorm.Refused):
-                trinorm.sig("bkaagjx", program=it)
-
-    def test_a_limit_of_time(self):
-        with server.Server() as it:
-            begun = time.monotonic()
-            with self.assertRaises(trinorm.TimedOut):
-                it.run(["surfaces"], LONG, timeout=0.01)
-            self.assertLess(time.monotonic() - begun, 2)
-            self.assertEqual(it.run(["sig"], "sig bkaagj\n", timeout=60), "bkaagj\n")
-
-    def test_it_is_started_again(self):
-        with server.Server() as it:
-            self.assertEqual(it.run(["sig"], "sig bkaagj\n"), "bkaagj\n")
-            it._process.run.kill()
-            it._process.run.wait()
-            with self.assertRaisesRegex(trinorm.Failed, "signal 9"):
-                it.run(["sig"], "sig bkaagj\n")
-            self.assertEqual(it.run(["sig"], "sig bkaagj\n"), "bkaagj\n")
-
-    def test_requests_that_are_cut_short(self):
-        for given in (b"\1", b"\3\0\0\0\0\0\0\0si", b"\3\0\0\0\xff\0\0\0sig"):
-            done = subprocess.run([server.Server.find()], input=given, stdout=subprocess.PIPE, check=False)
-            self.assertEqual((done.returncode, done.stdout), (6, b""))
-        self.assertEqual(subprocess.run([server.Server.find()], input=b"", check=False).returncode, 0)
 
 
 ARCHIVE = Path(named() or "").parent / "libtrinorm_c.a"

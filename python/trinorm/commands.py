@@ -17,7 +17,7 @@ from . import answers, hints
 from .answers import (Bulk, Cover, Descent, Grouping, Info, Isomorphism, Made, Played, Presentation, Sum, Surface,
                       Vector, Verdict, vector_line)
 from .options import words
-from .program import Failed, Refused, Runner, run
+from .program import Failed, Program as Program, Refused, run
 from .regina_surfaces import ReginaSurface, is_surface, vector_of
 from .tables import BadArgument, Table, Triangulation, document
 
@@ -25,7 +25,6 @@ Answer = TypeVar("Answer")
 Item = TypeVar("Item")
 GivenVector = Union[Sequence[int], ReginaSurface]
 Vectors = Iterable[GivenVector]
-Program = Union[str, Runner, None]
 
 
 def _ask(asked: Sequence[str], text: str, read: Callable[[List[str]], Answer],

@@ -10,9 +10,11 @@ import mmap
 import os
 import threading
 from pathlib import Path
-from typing import Any, Dict, Optional, Sequence, Tuple
+from typing import Any, Dict, List, Optional, Sequence, Tuple
 
-from .program import Failed, TimedOut, read_outcome
+from .arguments import as_bytes, checked_memory, checked_timeout, joined
+from .errors import Failed, TimedOut
+from .program import read_outcome
 
 NAME = "libtrinorm.so"
 # of a call: no room, no memory; of what ended it: memory, time, a handler of a signal
@@ -29,8 +31,8 @@ class _Limits(ctypes.Structure):
                 ("stop_argument", ctypes.c_void_p), ("reached", ctypes.c_uint8)]
 
 
-class _Room(threading.local):
-    """Each thread's own room for answers, and what else a call needs."""
+class _Room:
+    """Room for an answer, and what else a call needs."""
 
     def __init__(self, stop: Any) -> None:
         self.needed = ctypes.c_size_t()
@@ -42,25 +44,24 @@ class _Room(threading.local):
             self.grow(LONG)
 
     def grow(self, size: int) -> None:
-        # a forked child gets pages of its own
+        """Takes pages of this size in place of the ones before; a forked child gets pages of its own."""
         self.pages = mmap.mmap(-1, size, flags=mmap.MAP_PRIVATE | mmap.MAP_ANONYMOUS)
         self.at = ctypes.addressof(ctypes.c_char.from_buffer(self.pages))
         self.size = size
 
     def answer(self) -> bytes:
-        """What stands in it."""
-        told = ctypes.string_at(self.at, self.needed.value)
-        if len(told) > LONG:
+        """The answer that was written into it."""
+        text = ctypes.string_at(self.at, self.needed.value)
+        if len(text) > LONG:
             self.pages.madvise(mmap.MADV_DONTNEED)
-        return told
+        return text
 
 
-def joined(words: Sequence[str]) -> bytes:
-    """The words with a zero byte between each two."""
-    text = "\0".join(words)
-    if text.count("\0") > max(0, len(words) - 1):
-        raise ValueError("embedded null byte")
-    return text.encode("utf8", "surrogateescape")
+class _Rooms(threading.local):
+    """The rooms of a thread that no call uses. A handler of signals that calls the library during a call takes another."""
+
+    def __init__(self) -> None:
+        self.unused: List[_Room] = []
 
 
 class Library:
@@ -74,7 +75,8 @@ class Library:
             self._call.restype = ctypes.c_uint8
             self._call.argtypes = [ctypes.c_void_p, *area, *area, ctypes.c_void_p, ctypes.c_size_t, ctypes.c_void_p]
             # asked some ten times a second: in the main thread Python runs its handlers of signals
-            self._room = _Room(_Stop(("trinorm_python_stops", library)))
+            self._stop = _Stop(("trinorm_python_stops", library))
+            self._rooms = _Rooms()
             # by a second look at the same library, which keeps Python's lock and raises what is raised in it
             self._raise = ctypes.PyDLL(path).trinorm_python_raises
             self._raise.restype = None
@@ -86,17 +88,28 @@ class Library:
                memory: Optional[int] = None) -> Tuple[int, bytes, int]:
         """The status, the bytes of the answer, and the limit that ended the call, or 0.
 
+        An exception that a handler of signals raises during the call, as KeyboardInterrupt, is raised here.
+
         timeout: seconds after which it is to end; memory: bytes that it may hold at a time
         """
-        said, given, room = joined(words), text.encode("utf8", "surrogateescape"), self._room
-        limits = room.limits
-        limits.most_bytes = memory or 0
-        limits.most_nanoseconds = 0 if timeout is None else max(1, int(timeout * 1e9))
+        said, given, rooms = joined(words), as_bytes(text), self._rooms.unused
+        seconds, most_bytes = checked_timeout(timeout), checked_memory(memory)
+        room = rooms.pop() if rooms else _Room(self._stop)
+        try:
+            room.limits.most_bytes = most_bytes
+            room.limits.most_nanoseconds = 0 if seconds is None else max(1, int(seconds * 1e9))
+            return self._answer_in(room, said, given)
+        finally:
+            rooms.append(room)
+
+    def _answer_in(self, room: _Room, said: bytes, given: bytes) -> Tuple[int, bytes, int]:
         at_limits, at_needed = room.places
         while True:
             status = self._call(at_limits, said, len(said), given, len(given), room.at, room.size, at_needed)
+            if room.limits.reached == STOPPED:
+                self._raise()
             if status != TOO_LITTLE_ROOM:
-                return status, room.answer(), limits.reached
+                return status, room.answer(), room.limits.reached
             try:
                 room.grow(room.needed.value)
             except OSError:
@@ -106,8 +119,6 @@ class Library:
             memory: Optional[int] = None) -> str:
         """As `program.run`: what the program writes; a refusal or a call that was ended is raised."""
         status, said, reached = self.answer(words, text, timeout, memory)
-        if reached == STOPPED:
-            self._raise()
         if reached == MOST_TIME:
             raise TimedOut(f"{' '.join(words)}: no answer in {timeout} s")
         if reached == MOST_MEMORY:
@@ -127,8 +138,8 @@ def at(path: str) -> Library:
         return _known[path]
 
 
-def beside(program: str) -> Optional[Library]:
-    """The library that was built with a program and stands beside it, if there is one that can be loaded here."""
+def next_to(program: str) -> Optional[Library]:
+    """The library that was built with a program and is in its folder, if there is one that can be loaded here."""
     path = Path(os.path.realpath(program)).parent / NAME
     try:
         return at(str(path)) if path.is_file() else None

@@ -10,66 +10,14 @@ import threading
 from pathlib import Path
 from typing import TYPE_CHECKING, Dict, Optional, Protocol, Sequence, Tuple, Union
 
+from .arguments import as_bytes, checked_timeout, joined, shown
+from .errors import BadArgument as BadArgument, Error as Error, Failed as Failed, Place as Place, Refused as Refused
+from .errors import REFUSED, TimedOut as TimedOut, how_it_ended as how_it_ended, kind_and_places as kind_and_places
+
 if TYPE_CHECKING:
     from .library import Library
 
 REPOSITORY = Path(__file__).resolve().parents[2]
-# statuses of a refusal: words, input, checks, a number past the limit
-REFUSED = (2, 3, 4, 5)
-FAILURES = {6: "reading failed", 7: "writing failed", 8: "no memory", 9: "the words are not UTF-8"}
-
-Place = Union[int, str, Tuple[int, ...]]
-
-
-class Error(Exception):
-    """What this package raises: `Refused` or `Failed`."""
-
-
-class Refused(Error):
-    """The program's own refusal.
-
-    status: 2 words, 3 input, 4 checks, 5 a number past the limit
-    line: the line that the program wrote
-    kind: its words without the places, as `input bad-word`, `vector clash`, `large pair`
-    places: its numbers in their order; behind `large` the step, the row and the rays; behind `check not-standard`
-        the signature
-    hint: what it most likely means, in a sentence; empty where nothing is known
-    """
-
-    def __init__(self, status: int, line: str, hint: str = "") -> None:
-        super().__init__(line)
-        self.status = status
-        self.line = line
-        self.hint = hint
-        self.kind, self.places = kind_and_places(line)
-
-    def __str__(self) -> str:
-        return f"{self.line} ({self.hint})" if self.hint else self.line
-
-    def __reduce__(self):  # an exception with two arguments is not pickled by itself
-        return Refused, (self.status, self.line, self.hint)
-
-
-class Failed(Error):
-    """The program isn't there, didn't end by itself, or answered what it never answers."""
-
-
-class TimedOut(Failed):
-    """The run was ended, since it took longer than it may."""
-
-
-def kind_and_places(line: str) -> Tuple[str, Tuple[Place, ...]]:
-    """A refusal's words and its numbers."""
-    text = line.partition("refused: ")[2]
-    words = text.split()
-    if words[:2] == ["large", "step"]:
-        rays = text.split(" value " if "value" in words else " pair ")[1].split(" and ")
-        vectors = [tuple(int(it) for it in ray.split()) for ray in rays]
-        return ("large value" if "value" in words else "large pair"), (int(words[2]), int(words[4]), *vectors)
-    if words[:2] == ["check", "not-standard"]:
-        return "check not-standard", tuple(words[2:])
-    return " ".join(it for it in words if not it.isdigit()), tuple(int(it) for it in words if it.isdigit())
-
 
 _build = threading.Lock()
 _is_built = False
@@ -89,11 +37,19 @@ def _built_in_repository() -> str:
     return str(program)
 
 
-def find(program: Optional[str] = None) -> str:
+def _path_of(program: Union[str, "os.PathLike[str]"]) -> str:
+    """A path as a text."""
+    path = os.fspath(program) if isinstance(program, (str, os.PathLike)) else None
+    if not isinstance(path, str) or not path or "\0" in path:
+        raise BadArgument(f"program is the path of a program, a trinorm.server.Server or None, and not {shown(program)}")
+    return path
+
+
+def find(program: Union[str, "os.PathLike[str]", None] = None) -> str:
     """The path of the program: the one named, else by TRINORM in the environment, else the one of the repository that
     this package lies in (which is built on first use), else the one that was installed with it, else the first on the
     path."""
-    named = program or os.environ.get("TRINORM")
+    named = os.environ.get("TRINORM") if program is None else _path_of(program)
     if named:
         path = shutil.which(os.path.expanduser(named))
         if path is None:
@@ -118,12 +74,15 @@ class Runner(Protocol):
         """As `run` below."""
 
 
+# what runs the commands: a path, what runs in its place, or None for the library or the program that are found
+Program = Union[str, "os.PathLike[str]", Runner, None]
+
 _libraries: Dict[Tuple[Optional[str], Optional[str], Path], Optional[Library]] = {}
 
 
 def find_library() -> Optional[Library]:
-    """The library that answers in this process: the one that TRINORM_LIBRARY names; else, where TRINORM names no program,
-    the one beside the program that is found. None where there is none."""
+    """The library that answers in this process: the one that TRINORM_LIBRARY names; else, if TRINORM names no program, the
+    one in the folder of the program that is found. None if there is none."""
     named, program = os.environ.get("TRINORM_LIBRARY"), os.environ.get("TRINORM")
     known = named, program, REPOSITORY
     if known not in _libraries:
@@ -131,16 +90,15 @@ def find_library() -> Optional[Library]:
         if named:
             _libraries[known] = library.at(os.path.realpath(os.path.expanduser(named)))
         else:
-            _libraries[known] = None if program else library.beside(find())
+            _libraries[known] = None if program else library.next_to(find())
     return _libraries[known]
 
 
-def run(words: Sequence[str], text: str = "", timeout: Optional[float] = None,
-        program: Union[str, Runner, None] = None) -> str:
+def run(words: Sequence[str], text: str = "", timeout: Optional[float] = None, program: Program = None) -> str:
     """What the program writes to standard output for these words and this standard input.
 
-    It is asked of the library in this process, where there is one; a program that is named, or a limit of time, takes a
-    process.
+    It is asked of the library in this process, if there is one; a program that is named, or a limit of time, takes a
+    process. Raises `Refused`, `BadArgument` or `Failed`.
 
     timeout: seconds after which the run is ended and `TimedOut` is raised
     program: the path of a program, or what runs in its place
@@ -149,20 +107,29 @@ def run(words: Sequence[str], text: str = "", timeout: Optional[float] = None,
         library = find_library()
         if library is not None:
             return library.run(words, text)
-    if program is None or isinstance(program, str):
+    if program is None or isinstance(program, (str, os.PathLike)):
         return run_process(words, text, timeout, program)
-    return program.run(words, text, timeout)
+    if isinstance(program, type) or not callable(getattr(program, "run", None)):
+        raise BadArgument(f"program is the path of a program, a trinorm.server.Server or None, and not {shown(program)}")
+    answer = program.run(words, text, timeout)
+    if not isinstance(answer, str):
+        raise Failed(f"{' '.join(words)}: {shown(program)} answered {shown(answer)}, which is no text")
+    return answer
 
 
-def run_process(words: Sequence[str], text: str = "", timeout: Optional[float] = None, program: Optional[str] = None) -> str:
-    """The same by a process of its own."""
-    path = find(program)
+def run_process(words: Sequence[str], text: str = "", timeout: Optional[float] = None,
+                program: Union[str, "os.PathLike[str]", None] = None) -> str:
+    """As `run`, by a process of its own."""
+    joined(words)  # raises what is wrong with them
+    given, seconds, path = as_bytes(text), checked_timeout(timeout), find(program)
     try:
-        done = subprocess.run([path, *words], input=text.encode("utf8", "surrogateescape"), stdout=subprocess.PIPE,
-                              stderr=subprocess.PIPE, timeout=timeout, check=False)
+        done = subprocess.run([path, *words], input=given, stdout=subprocess.PIPE, stderr=subprocess.PIPE, timeout=seconds,
+                              check=False)
     except subprocess.TimeoutExpired:
         raise TimedOut(f"{' '.join(words)}: no answer in {timeout} s") from None
     except OSError as fault:
+        if fault.errno is None:  # of a handler of signals
+            raise
         raise Failed(f"{path}: {fault.strerror}") from None
     return read_outcome(words, done.returncode, done.stdout)
 
@@ -175,9 +142,3 @@ def read_outcome(words: Sequence[str], status: int, said: bytes) -> str:
     if status in REFUSED and answer.startswith("refused: "):
         raise Refused(status, answer.rstrip("\n"))
     raise Failed(f"{' '.join(words)}: {how_it_ended(status)}")
-
-
-def how_it_ended(status: int) -> str:
-    if status < 0:
-        return f"killed by signal {-status}"
-    return FAILURES.get(status, f"status {status}")

@@ -1,120 +1,283 @@
-"""One process that answers many requests over pipes: as quick as the library, and a process of its own, which is ended at a
-time limit and takes nothing with it where it dies."""
+"""Processes that answer many requests over pipes: as quick as the library, and processes of their own, which are ended at a
+time limit and take nothing with them when they die."""
 from __future__ import annotations
 
 import contextlib
+import math
 import os
 import select
 import struct
 import subprocess
 import time
+import weakref
+from collections import deque
 from pathlib import Path
-from typing import IO, NamedTuple, Optional, Sequence, Tuple
+from typing import Any, Deque, Dict, Optional, Sequence, Set, Tuple
 
-from . import library, program
+from .arguments import as_bytes, checked_timeout, joined
+from .errors import Failed, TimedOut, how_it_ended
+from .program import find, read_outcome
 
 NAME = "trinorm-server"
-# the lengths of words and input; the status and the length of the answer
-_ASKED, _TOLD = struct.Struct("=II"), struct.Struct("=BI")
+# a request: its number, the lengths of words and input; an answer: that number, the status, the length of the text
+_REQUEST, _ANSWER = struct.Struct("=QII"), struct.Struct("=QBI")
+_LONGEST = (1 << 32) - 1
+# how much is read at a time, and the longest wait that the system takes, in milliseconds
+_PART, _LONGEST_WAIT = 1 << 20, (1 << 31) - 1
+# in seconds: a process that answered before, and is gone so soon after a request, most likely was gone before it
+_SOON = 1.0
 
 
-class _Process(NamedTuple):
-    """The process, and the pipes to it and from it."""
-    run: subprocess.Popen[bytes]
-    to: IO[bytes]
-    come: IO[bytes]
+class _Late(Exception):
+    """The answer didn't come in time."""
+
+
+class _Ended(Exception):
+    """The process ended in place of its answer."""
+
+
+class _OtherAnswer(Exception):
+    """What came is no answer to this request."""
+
+
+class _Process:
+    """A server process with its pipes, which are never waited for past a deadline. One thread asks it at a time."""
+
+    def __init__(self, path: str, own_session: bool, all_of_server: Set[_Process]) -> None:
+        self._all = all_of_server
+        self.run = subprocess.Popen([path], bufsize=0, stdin=subprocess.PIPE, stdout=subprocess.PIPE,
+                                    start_new_session=own_session)
+        assert self.run.stdin is not None and self.run.stdout is not None
+        self.pipes = self.run.stdin, self.run.stdout
+        self._requests, self._answers = (pipe.fileno() for pipe in self.pipes)
+        for file in (self._requests, self._answers):
+            os.set_blocking(file, False)
+        all_of_server.add(self)
+        # the first number is 0, which a server without numbers takes for two lengths, and refuses at once
+        self._number = 0
+
+    @property
+    def has_answered(self) -> bool:
+        """Whether it has answered a request before."""
+        return self._number != 0
+
+    def ask(self, words: bytes, text: bytes, deadline: Optional[float]) -> Tuple[int, bytes]:
+        """The status and the text of an answer. Raises `_Late`, `_Ended` or `_OtherAnswer`."""
+        self._send(_REQUEST.pack(self._number, len(words), len(text)) + words + text, deadline)
+        received = bytearray()
+        self._receive(received, _ANSWER.size, deadline)
+        number, status, length = _ANSWER.unpack_from(received)
+        if number != self._number:
+            raise _OtherAnswer
+        self._receive(received, _ANSWER.size + length, deadline)
+        if len(received) != _ANSWER.size + length:
+            raise _OtherAnswer
+        # no other process that may have these pipes draws the same number
+        self._number = int.from_bytes(os.urandom(8), "little") | 1
+        return status, bytes(received[_ANSWER.size:])
+
+    def end(self) -> int:
+        """Ends the process, and returns the status with which it ended."""
+        self._all.discard(self)
+        self.run.kill()
+        for pipe in self.pipes:
+            with contextlib.suppress(OSError):
+                pipe.close()
+        return self.run.wait()
+
+    def status(self) -> int:
+        """The status with which it ended by itself; where it goes on without its pipes it is killed."""
+        with contextlib.suppress(subprocess.TimeoutExpired):
+            self.run.wait(0.1)
+        return self.end()
+
+    def forget(self) -> None:
+        """Leaves the process to the parent of this one, which was forked from it."""
+        self.run.returncode = 0
+        for pipe in self.pipes:
+            with contextlib.suppress(OSError):
+                pipe.close()
+
+    def _send(self, request: bytes, deadline: Optional[float]) -> None:
+        rest = memoryview(request)
+        while rest:
+            try:
+                rest = rest[os.write(self._requests, rest):]
+            except BlockingIOError:
+                _wait(self._requests, select.POLLOUT, deadline)
+            except BrokenPipeError:
+                raise _Ended from None
+
+    def _receive(self, received: bytearray, size: int, deadline: Optional[float]) -> None:
+        """Appends what comes until there are so many bytes."""
+        while len(received) < size:
+            _wait(self._answers, select.POLLIN, deadline)
+            with contextlib.suppress(BlockingIOError):
+                part = os.read(self._answers, _PART)
+                if not part:
+                    raise _Ended
+                received += part
+
+
+def _wait(file: int, event: int, deadline: Optional[float]) -> None:
+    """Waits until something can be read or written, or the other end is closed. Raises `_Late` at the deadline."""
+    poll = select.poll()
+    poll.register(file, event)
+    while True:
+        left = None if deadline is None else max(0.0, deadline - time.monotonic())
+        if poll.poll(None if left is None else min(_LONGEST_WAIT, math.ceil(left * 1000))):
+            return
+        if left == 0:
+            raise _Late
 
 
 class Server:
-    """A process that answers words and inputs one after another. It is started where one is asked, and again after it was
-    ended or died. Not for several threads at a time.
+    """Processes that answer words and inputs in place of a program, each for one call at a time. They are started when they
+    are needed, also in a child that was forked, and ended by `close` or with Python.
 
-    program: the program beside which the server stands, where it isn't the one that `program.find` finds
+    Any threads may share a server: calls at the same time have a process each.
+
+    program: the program whose server is taken; the one that `program.find` finds if it is None
+    own_session: whether Ctrl-C on a terminal, and what else is sent to the group of this process, leaves them alone
     """
 
-    def __init__(self, beside: Optional[str] = None) -> None:
-        path = self.find(beside)
+    def __init__(self, program: Optional[str] = None, *, own_session: bool = True) -> None:
+        path = self.find(program)
         if path is None:
-            raise program.Failed(f"there is no {NAME} beside the program")
+            raise Failed(f"there is no {NAME} next to the program")
         self.path = path
-        self._process: Optional[_Process] = None
+        self._own_session = own_session
+        self._closed = False
+        self._begin()
+
+    def _begin(self) -> None:
+        """Begins without processes, as in a child that was forked: those of its parent are not its own."""
+        self._owner = os.getpid()
+        self._idle: Deque[_Process] = deque()
+        self._all: Set[_Process] = set()
+        weakref.finalize(self, _end_all, self._idle, self._all, self._owner)
+        _servers.add(self)
+
+    def __getstate__(self) -> Dict[str, Any]:
+        return {"path": self.path, "_own_session": self._own_session, "_closed": self._closed}
+
+    def __setstate__(self, state: Dict[str, Any]) -> None:
+        self.__dict__.update(state)
+        self._begin()
 
     @staticmethod
-    def find(beside: Optional[str] = None) -> Optional[str]:
-        """The path of the server that was built with a program and stands beside it, if there is one."""
-        path = Path(os.path.realpath(program.find(beside))).parent / NAME
+    def find(program: Optional[str] = None) -> Optional[str]:
+        """The path of the server that was built with a program and is in its folder, if there is one."""
+        path = Path(os.path.realpath(find(program))).parent / NAME
         return str(path) if os.access(path, os.X_OK) else None
 
     def run(self, words: Sequence[str], text: str = "", timeout: Optional[float] = None) -> str:
         """As `program.run`: what the program writes; a refusal, a failure or a run past its limit is raised."""
         status, said = self.ask(words, text, timeout)
-        return program.read_outcome(words, status, said)
+        return read_outcome(words, status, said)
 
     def ask(self, words: Sequence[str], text: str = "", timeout: Optional[float] = None) -> Tuple[int, bytes]:
-        """The status and the bytes of the answer. Where they don't come the process is ended."""
-        said, given = library.joined(words), text.encode("utf8", "surrogateescape")
-        end = None if timeout is None else time.monotonic() + timeout
-        try:
-            process = self._process or self._start()
-            process.to.write(_ASKED.pack(len(said), len(given)) + said + given)
-            process.to.flush()
-            status, length = _TOLD.unpack(self._take(process, _TOLD.size, end))
-            return status, self._take(process, length, end)
-        except TimeoutError:
-            self.close()
-            raise program.TimedOut(f"{' '.join(words)}: no answer in {timeout} s") from None
-        except OSError:
-            raise program.Failed(f"{' '.join(words)}: {self._how_it_ended()}") from None
-        except BaseException:  # as KeyboardInterrupt: the answer may still come, and is none of the next request
-            self.close()
-            raise
+        """The status and the bytes of the answer. A process that doesn't answer in time is ended, and `TimedOut` raised."""
+        request, given, seconds = joined(words), as_bytes(text), checked_timeout(timeout)
+        if len(given) > _LONGEST:
+            raise Failed(f"{' '.join(words)}: an input of {len(given)} bytes is too long for the server")
+        deadline = None if seconds is None else time.monotonic() + seconds
+        while True:
+            process, begun = self._take(), time.monotonic()
+            try:
+                answer = process.ask(request, given, deadline)
+            except _Ended:
+                was_idle = process.has_answered and time.monotonic() < begun + _SOON
+                status = process.status()
+                self._check_open()
+                if not was_idle:
+                    raise Failed(f"{' '.join(words)}: {how_it_ended(status)}") from None
+            except BaseException as fault:  # as KeyboardInterrupt: the answer may still come, to no other request
+                process.end()
+                raise self._failure(fault, words, timeout) from None
+            else:
+                self._give_back(process)
+                return answer
+
+    def _failure(self, fault: BaseException, words: Sequence[str], timeout: Optional[float]) -> BaseException:
+        """What is raised of a request that went wrong; exceptions of handlers of signals stay what they are."""
+        asked = " ".join(words)
+        if isinstance(fault, _Late):
+            return TimedOut(f"{asked}: no answer in {timeout} s")
+        if isinstance(fault, _OtherAnswer):
+            return Failed(f"{asked}: {self.path} answered another request; is it of this version?")
+        if isinstance(fault, OSError) and fault.errno is not None:  # as where all files of this process were closed
+            return Failed(f"{asked}: {self.path}: {fault.strerror}")
+        return fault
 
     def close(self) -> None:
-        """Ends the process."""
-        if self._process is not None:
-            self._process.run.kill()
-            self._end()
+        """Ends the processes. Calls that are running fail, and so do later ones."""
+        self._closed = True
+        _end_all(self._idle, self._all, self._owner)
 
     def __enter__(self) -> Server:
+        self._check_open()
         return self
 
     def __exit__(self, *_: object) -> None:
         self.close()
 
+    def _check_open(self) -> None:
+        if self._closed:
+            raise Failed("this server is closed")
+
+    def _take(self) -> _Process:
+        """A process that answers nobody: one that is idle, else a new one."""
+        self._check_open()
+        if self._owner != os.getpid():
+            self._forget()
+        with contextlib.suppress(IndexError):
+            while True:
+                process = self._idle.pop()
+                if process.run.poll() is None:
+                    return process
+                process.end()
+        return self._start()
+
     def _start(self) -> _Process:
-        run = subprocess.Popen([self.path], stdin=subprocess.PIPE, stdout=subprocess.PIPE)
-        assert run.stdin is not None and run.stdout is not None
-        self._process = _Process(run, run.stdin, run.stdout)
-        return self._process
-
-    @staticmethod
-    def _take(process: _Process, size: int, end: Optional[float]) -> bytes:
-        """So many bytes of the answer, or TimeoutError, or OSError where the process ended."""
-        file, taken = process.come.fileno(), bytearray()
-        while len(taken) < size:
-            if end is not None and not select.select([file], [], [], max(0.0, end - time.monotonic()))[0]:
-                raise TimeoutError
-            more = os.read(file, min(size - len(taken), 1 << 20))
-            if not more:
-                raise ConnectionError
-            taken += more
-        return bytes(taken)
-
-    def _end(self) -> int:
-        """Waits for the process, which ends, and says with which status."""
-        assert self._process is not None
-        process, self._process = self._process, None
-        status = process.run.wait()
-        for pipe in (process.to, process.come):
-            with contextlib.suppress(OSError):  # what it didn't take is lost
-                pipe.close()
-        return status
-
-    def _how_it_ended(self) -> str:
-        if self._process is None:
-            return f"{self.path} can't be started"
         try:
-            self._process.run.wait(1)
-        except subprocess.TimeoutExpired:
-            self._process.run.kill()
-        return program.how_it_ended(self._end())
+            return _Process(self.path, self._own_session, self._all)
+        except OSError as fault:
+            if fault.errno is None:  # of a handler of signals
+                raise
+            raise Failed(f"{self.path} can't be started: {fault.strerror}") from None
+
+    def _give_back(self, process: _Process) -> None:
+        """Keeps a process for the next call, if there are not more than processors."""
+        self._idle.append(process)
+        if self._closed or len(self._idle) > (os.cpu_count() or 1):
+            with contextlib.suppress(IndexError):
+                self._idle.popleft().end()
+
+    def _forget(self) -> None:
+        """Leaves all processes to the parent of this one."""
+        for process in list(self._all):
+            process.forget()
+        self._begin()
+
+
+def _end_all(idle: Deque[_Process], processes: Set[_Process], owner: int) -> None:
+    """Ends the processes of a server that is closed or gone, if this process started them."""
+    if owner != os.getpid():
+        return
+    with contextlib.suppress(IndexError):
+        while True:
+            idle.pop().end()
+    for process in list(processes):  # the others have a call, which takes notice and closes their pipes
+        process.run.kill()
+
+
+_servers: "weakref.WeakSet[Server]" = weakref.WeakSet()
+
+
+def _forget_all() -> None:
+    for server in list(_servers):
+        server._forget()
+
+
+os.register_at_fork(after_in_child=_forget_all)

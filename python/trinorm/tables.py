@@ -6,16 +6,12 @@ import string
 from dataclasses import dataclass
 from typing import Any, Iterable, List, Optional, Protocol, Sequence, Tuple, Union
 
-from .program import Error
+from .errors import BadArgument as BadArgument
 
 Images = Tuple[int, int, int, int]
 
 # what the values 0 to 63 are in a signature
 CHARACTERS = string.ascii_lowercase + string.ascii_uppercase + string.digits + "+-"
-
-
-class BadArgument(Error, ValueError):
-    """An argument of a function that is none of those that it takes; the program wasn't asked."""
 
 
 @dataclass(frozen=True)

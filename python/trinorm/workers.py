@@ -201,7 +201,7 @@ def by_server(task: Task) -> Iterator[Task]:
     if Server.find(beside) is None:
         yield task
     else:
-        with Server(beside) as server:
+        with Server(beside, own_session=False) as server:  # so that it ends with the group of this process
             yield dataclasses.replace(task, program=server)
 
 
