@@ -140,7 +140,7 @@ class Build:
 
     def is_taken(self, kit: Optional[Kit]) -> bool:
         """Whether such a program was kept, and is installed now."""
-        place = None if self.given.anew else self.programs.find(self.sources.sum(), kit and kit.name)
+        place = None if self.given.anew else self.programs.find(self.sources.sum(), kit.name if kit else None)
         if place is None:
             return False
         try:

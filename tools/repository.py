@@ -92,7 +92,8 @@ def products(crates: Dict[str, Crate]) -> List[str]:
 
 def crates_of_build(top: Path) -> Dict[str, Crate]:
     """The products and all that they stand on, each behind those below it."""
-    crates, found = read_crates(top), {}
+    crates = read_crates(top)
+    found: Dict[str, Crate] = {}
     for name in products(crates):
         found.update(standing_below(crates, name, found))
     return found
