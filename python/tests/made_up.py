@@ -27,7 +27,13 @@ echo "logic=proved functions=1 of=$name"
 case $out in
   *.o | *.a)
     for word; do
-      case $word in dependency=*/libraries) cat "${word#dependency=}"/*/code/text >"$out" ;; esac
+      case $word in
+        dependency=*/libraries)
+          for library in "${word#dependency=}"/*.rlib; do
+            # no product stands on that one
+            case $library in */beside.rlib) ;; *) cat "$library/code/text" ;; esac
+          done >"$out" ;;
+      esac
     done
     grep -hv '^//' src/*.rt >>"$out" ;;
   *)
