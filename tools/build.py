@@ -6,7 +6,8 @@
     tools/build.py --take FILE
     tools/build.py --no-proof
 
-Only what the program stands on is proved: the laws beside it and the tests are the gate's work (`rt ci`).
+A first build proves what program and library stand on. --anew, --measure and --compare prove all crates, with the laws on which
+no program stands, and MANIFEST has the verdict of each; tests and must-fail edits are the gate's work (`rt ci`).
 It goes by the sum of the sources: a program that was built from the same ones by the same kit, here or in another clone,
 is taken from the user's cache, where the last ten are kept. Else the work goes on in a copy of the sources in that
 cache, so it harms no other command, is interrupted at any time and goes on where it stopped, and a second one waits for
@@ -40,8 +41,8 @@ from installed import Installed
 from kept import Libraries, Programs, Unusable
 from manifest import FILES, Manifest, NoManifest, read_manifest
 from prove import Kit, NotProved, Workspace
-from repository import (PARTS, PROGRAM, TOP, Crate, Sources, cache_folder, changed, commit, crates_of_build,
-                        products, read_sources, sum_of, sum_of_file, version)
+from repository import (PARTS, PROGRAM, TOP, Crate, Sources, cache_folder, changed, commit, crates_of_build, every_crate,
+                        products, read_crates, read_other_sources, read_sources, sum_of, sum_of_file, version)
 
 TIMES = TOP / "build_times.txt"
 # a proof takes 0.5 to 2 GB
@@ -115,10 +116,12 @@ def refuse_what_does_not_fit(to: Path, times: Times) -> None:
         sys.exit(f"{PROGRAM}: building needs {largest / 1e9:.1f} GB of memory, and there are {memory() / 1e9:.1f} GB")
 
 
-def say_what_comes(plan: Plan, times: Times, to: Path, kept: bool) -> None:
-    minutes = max(1, round(plan.length() / 60))
-    say(f"proves and builds the program once: {'at most' if kept else 'about'} {minutes} min, by {plan.processors} jobs at a time, "
-        f"and {times.disk / 1000:.1f} GB of disk in {to}, dropped afterwards; until then `rt try -- WORDS` in "
+def say_what_comes(plan: Plan, times: Times, to: Path, kept: bool, count: int) -> None:
+    minutes, every = max(1, round(plan.length() / 60)), len(read_crates(TOP))
+    what = (f"all {every} crates" if count == every else
+            f"the {count} of {every} crates that program and library stand on (tools/build.py --anew proves all)")
+    say(f"proves {what} and builds the program once: {'at most' if kept else 'about'} {minutes} min, by {plan.processors} jobs at a "
+        f"time, and {times.disk / 1000:.1f} GB of disk in {to}, dropped afterwards; until then `rt try -- WORDS` in "
         f"{TOP}/crates/{PROGRAM} answers in a minute or two, with nothing proved")
 
 
@@ -127,8 +130,9 @@ class Build:
 
     def __init__(self, given: argparse.Namespace) -> None:
         self.given, self.begun = given, time.time()
-        self.crates = crates_of_build(TOP)
-        self.sources = read_sources(TOP, self.crates)
+        self.crates = every_crate(TOP) if given.anew else crates_of_build(TOP)
+        self.sources = read_sources(TOP, crates_of_build(TOP))
+        self.others = read_other_sources(TOP, self.crates)
         self.to, self.programs, self.installed = folder_of_build(), Programs(), Installed(TOP)
 
     def is_installed(self) -> bool:
@@ -140,7 +144,7 @@ class Build:
 
     def is_taken(self, kit: Optional[Kit]) -> bool:
         """Whether such a program was kept, and is installed now."""
-        place = None if self.given.anew else self.programs.find(self.sources.sum(), kit and kit.name)
+        place = None if self.given.anew else self.programs.find(self.sources.sum(), kit.name if kit else None)
         if place is None:
             return False
         try:
@@ -191,14 +195,15 @@ class Build:
         if self.given.anew:
             shutil.rmtree(self.to, ignore_errors=True)
         copy_sources(self.crates, self.to)
-        self.sources = read_sources(self.to, self.crates)._replace(linked=self.sources.linked)
+        self.sources = read_sources(self.to, crates_of_build(TOP))._replace(linked=self.sources.linked)
+        self.others = read_sources(self.to, {name: crate for name, crate in self.crates.items() if name not in crates_of_build(TOP)})
         libraries = Libraries()
         workspace = Workspace(kit, self.crates, self.to, lock, None if self.given.anew else libraries)
         workspace.drop_what_is_gone()
         left = workspace.left()
         plan = Plan({name: self.crates[name].below for name in left}, times, self.given.jobs)
         if left:
-            say_what_comes(plan, times, self.to, len(left) < len(self.crates))
+            say_what_comes(plan, times, self.to, len(left) < len(self.crates), len(self.crates))
         progress = Progress(plan, len(self.crates), len(self.crates) - len(left))
         try:
             workspace.prove(plan.order(), self.given.jobs, progress.finish)
@@ -221,7 +226,8 @@ class Build:
         return self.linked(kit, files)
 
     def finish(self, kit: Kit, files: Dict[str, bytes], workspace: Workspace) -> None:
-        told = Manifest(version(TOP), commit(TOP), kit.line, self.sources_of(files), sums_of(files), workspace.anew, workspace.verdicts)
+        told = Manifest(version(TOP), commit(TOP), kit.line, self.sources_of(files), sums_of(files), workspace.anew,
+                        workspace.verdicts, others=self.others)
         self.installed.install(files, told, self.begun, "here")
         self.keep(self.programs.place(self.sources.sum(), kit.name), files, told)
         say(f"built in {round(time.time() - self.begun)} s: version {told.version}, commit {told.commit}, {told.kit}, "
@@ -289,6 +295,8 @@ def compare(given: argparse.Namespace, kit: Kit) -> None:
         sys.exit(f"{PROGRAM}: {given.compare}: {fault}")
     build = Build(given)
     refuse_other_sources(told.sources, build.sources, given.compare)
+    if told.others.files:
+        refuse_other_sources(told.others, build.others, given.compare)
     if told.kit != kit.line:
         say(f"that program was proved by {told.kit}, and here is {kit.line}")
     build_with(given, kit)
@@ -297,6 +305,7 @@ def compare(given: argparse.Namespace, kit: Kit) -> None:
         if mine != told.files[name]:
             sys.exit(f"{PROGRAM}: another {name}: proved here it has sha256 {mine}, there {told.files[name]}")
         print(f"{PROGRAM}: the same {name}, bit for bit: sha256 {mine}")
+    print(f"{PROGRAM}: all {len(build.crates)} crates were proved here")
 
 
 def read_words() -> argparse.Namespace:

@@ -9,7 +9,7 @@ import tarfile
 import tempfile
 from contextlib import contextmanager
 from pathlib import Path
-from typing import IO, Dict, Iterator, List, Optional, Tuple
+from typing import IO, Any, Dict, Iterator, List, Optional, Tuple, cast
 
 from manifest import FILES, Manifest, NoManifest, read_manifest
 from repository import cache_folder, sum_of, sum_of_file
@@ -123,10 +123,9 @@ class Libraries:
         fresh.mkdir()
         try:
             with self.unpacking(self.pack(stamp)) as data, tarfile.open(fileobj=data, mode="r|") as files:
-                if hasattr(tarfile, "data_filter"):
-                    files.extractall(fresh, filter="data")
-                else:
-                    files.extractall(fresh)
+                # since Python 3.12, and in later releases of older ones
+                safely: Dict[str, Any] = {"filter": "data"} if hasattr(tarfile, "data_filter") else {}
+                files.extractall(fresh, **safely)
         except (OSError, EOFError, tarfile.TarError, subprocess.CalledProcessError) as fault:
             self.drop(stamp)
             raise Unusable(f"what was kept of {library.stem} can't be unpacked, and was dropped: {fault}") from None
@@ -150,7 +149,7 @@ class Libraries:
     def packing(self, path: Path) -> Iterator[IO[bytes]]:
         if self.ending == ".tar.gz":
             with gzip.open(path, "wb", compresslevel=1) as out:
-                yield out
+                yield cast(IO[bytes], out)
             return
         command = ["zstd", "-q", "-3", "-f", "-o", str(path)]
         with subprocess.Popen(command, stdin=subprocess.PIPE) as process:
@@ -163,7 +162,7 @@ class Libraries:
     def unpacking(self, path: Path) -> Iterator[IO[bytes]]:
         if self.ending == ".tar.gz":
             with gzip.open(path, "rb") as data:
-                yield data
+                yield cast(IO[bytes], data)
             return
         command = ["zstd", "-q", "-dc", str(path)]
         with subprocess.Popen(command, stdout=subprocess.PIPE, stderr=subprocess.DEVNULL) as process:

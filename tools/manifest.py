@@ -18,8 +18,9 @@ class Manifest(NamedTuple):
     """The file MANIFEST, which stands beside each kept program and in each release.
 
     version, commit, kit: of the clone and of the kit that proved it; files: the sum of each file that was made, by its
-    name in FILES; anew: whether all crates were proved by that one build; verdicts: the prover's last line for each crate;
-    gate: the last line of the gate, where it is told
+    name in FILES; anew: whether all that the program stands on was proved by that one build; verdicts: the prover's last line
+    for each crate that was proved; gate: the last line of the gate, where it is told; others: the sources of the crates that
+    were proved too, and on which no product stands
     """
 
     version: str
@@ -30,6 +31,7 @@ class Manifest(NamedTuple):
     anew: bool
     verdicts: Dict[str, str]
     gate: str = ""
+    others: Sources = Sources([], {}, {})
 
     def head(self) -> List[str]:
         """The lines on the whole, which are what a launcher tells of its program."""
@@ -41,7 +43,8 @@ class Manifest(NamedTuple):
         lines = [*self.head(), f"anew {'yes' if self.anew else 'no'}"]
         lines += [f"verdict {name} {line}" for name, line in self.verdicts.items()]
         lines += [f"gate {self.gate}"] if self.gate else []
-        return "".join(f"{line}\n" for line in lines + self.sources.lines_of_linked() + self.sources.lines())
+        lines += [*self.sources.lines_of_linked(), *self.sources.lines(), *(f"other {line}" for line in self.others.lines())]
+        return "".join(f"{line}\n" for line in lines)
 
 
 def parts(text: str) -> Iterator[Tuple[str, str]]:
@@ -50,19 +53,28 @@ def parts(text: str) -> Iterator[Tuple[str, str]]:
         yield name, rest
 
 
+def add_source(sources: Sources, name: str, rest: str) -> None:
+    """Adds what a line `crate`, `source` or `linked` says to sources."""
+    first, _, second = rest.partition(" ")
+    if name == "crate":
+        sources.crates.append(rest)
+    elif name == "source":
+        sources.files[second] = first
+    else:
+        sources.linked[second] = first
+
+
 def read_manifest(text: str) -> Manifest:
     """Reads what `Manifest.text` wrote. The sum of the sources has to be that of its own lines."""
     told: Dict[str, str] = {}
     verdicts: Dict[str, str] = {}
-    sources = Sources([], {}, {})
+    sources, others = Sources([], {}, {}), Sources([], {}, {})
     for name, rest in parts(text):
         first, _, second = rest.partition(" ")
-        if name == "crate":
-            sources.crates.append(rest)
-        elif name == "source":
-            sources.files[second] = first
-        elif name == "linked":
-            sources.linked[second] = first
+        if name in ("crate", "source", "linked"):
+            add_source(sources, name, rest)
+        elif name == "other":
+            add_source(others, first, second)
         elif name == "verdict":
             verdicts[first] = second
         else:
@@ -74,4 +86,4 @@ def read_manifest(text: str) -> Manifest:
         raise NoManifest("its lines `crate` and `source` haven't the sum that it tells")
     files = {name: told[name] for name in FILES if name in told}
     return Manifest(told["version"], told["commit"], told["kit"], sources, files, told["anew"] == "yes", verdicts,
-                    told.get("gate", ""))
+                    told.get("gate", ""), others)

@@ -3,8 +3,8 @@
 
     tools/release.py [--gate FILE] [--out FOLDER]
 
-It wants a clean checkout, and a program that was proved from nothing by one build (`tools/build.py --anew`) from these
-very sources. --gate names what the gate said (`rt ci`): its last line goes into MANIFEST. Made of that build again, each file is the
+It needs a clean checkout, and a program of these very sources from one build that proved all crates from scratch
+(`tools/build.py --anew`). --gate names what the gate said (`rt ci`): its last line goes into MANIFEST. Made of that build again, each file is the
 same bit for bit.
 """
 from __future__ import annotations
@@ -20,7 +20,7 @@ import packages
 from kept import Programs
 from manifest import Manifest
 from prove import Kit
-from repository import TOP, changed, commit, crates_of_build, read_sources, sum_of, version
+from repository import TOP, changed, commit, crates_of_build, every_crate, read_other_sources, read_sources, sum_of, version
 
 
 def refuse(why: str) -> NoReturn:
@@ -36,9 +36,20 @@ def proved() -> Tuple[Dict[str, bytes], Manifest]:
     files, told = programs.read(place)
     if not told.anew:
         refuse("the program was built over libraries that were proved before: tools/build.py --anew proves all at once")
+    refuse_without_verdict(told)
     if told.sources.linked != sources.linked:
         refuse("the library was linked from other sources: tools/build.py links it again")
     return files, told
+
+
+def refuse_without_verdict(told: Manifest) -> None:
+    """Ends unless the build proved each crate of this commit, also those on which no program stands."""
+    crates = every_crate(TOP)
+    missing = [name for name in crates if not told.verdicts.get(name, "").startswith("logic=proved ")]
+    if missing:
+        refuse(f"the build has no verdict of {missing[0]}, and of {len(missing)} crates in all: tools/build.py --anew proves all crates")
+    if told.others.sum() != read_other_sources(TOP, crates).sum():
+        refuse("crates on which no program stands have changed since the build: tools/build.py --anew proves all crates")
 
 
 def last_line(path: str) -> str:

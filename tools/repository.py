@@ -92,8 +92,18 @@ def products(crates: Dict[str, Crate]) -> List[str]:
 
 def crates_of_build(top: Path) -> Dict[str, Crate]:
     """The products and all that they stand on, each behind those below it."""
-    crates, found = read_crates(top), {}
+    crates = read_crates(top)
+    found: Dict[str, Crate] = {}
     for name in products(crates):
+        found.update(standing_below(crates, name, found))
+    return found
+
+
+def every_crate(top: Path) -> Dict[str, Crate]:
+    """All crates: the products and all that they stand on, then the others, each behind those below it."""
+    crates = read_crates(top)
+    found = crates_of_build(top)
+    for name in crates:
         found.update(standing_below(crates, name, found))
     return found
 
@@ -106,7 +116,14 @@ def files_of_crate(folder: Path) -> Iterator[Path]:
             yield from (Path(place, name) for name in sorted(files))
 
 
+def read_other_sources(top: Path, crates: Dict[str, Crate]) -> Sources:
+    """The sources of those crates on which no product stands, such as laws that no program cites."""
+    needed = crates_of_build(top)
+    return read_sources(top, {name: crate for name, crate in crates.items() if name not in needed})._replace(linked={})
+
+
 def read_sources(top: Path, crates: Dict[str, Crate]) -> Sources:
+    """The sources of some crates, and those that are linked to what is proved."""
     lines = [" ".join([f"{name}:", *crate.below, *crate.of_kit]) for name, crate in sorted(crates.items())]
     paths = [path for name in crates for path in files_of_crate(top / "crates" / name)]
     linked = [path for path in [top / "tools" / "library.py", *(top / "library").glob("*.*")] if path.is_file()]

@@ -12,6 +12,7 @@ from tests.made_up import CRATES, MadeUp
 from trinorm.program import REPOSITORY
 
 ALL = sorted(set(CRATES) - {"beside"})
+EVERY = sorted(CRATES)
 ANSWER = "ground\nleft\nright\ntrinorm\n"
 
 
@@ -107,9 +108,9 @@ class Build(unittest.TestCase):
                 elif shutil.which("zstd") is None:
                     continue
                 self.clone.build("--anew", "--keep")
-                self.assertEqual(self.clone.proved(), ALL)
+                self.assertEqual(self.clone.proved(), EVERY)
                 packs = os.listdir(self.folder / "cache" / "trinorm" / "libraries")
-                self.assertEqual(sum(it.endswith(ending) for it in packs), 4, packs)
+                self.assertEqual(sum(it.endswith(ending) for it in packs), len(EVERY), packs)
                 # a comment leaves the library as it was, so what stands above it stays
                 self.clone.write("ground", f"// {ending}\necho ground\n")
                 self.assert_answers(self.clone, ANSWER, ["ground"])
@@ -202,6 +203,39 @@ class Build(unittest.TestCase):
         self.assert_answers(self.clone, ANSWER, [])
         self.assertFalse((out / "libtrinorm.so").exists())
 
+    def verdicts(self):
+        """The crates of which the last kept program has a verdict."""
+        kept = max((self.folder / "cache" / "trinorm" / "programs").glob("*-*/MANIFEST"), key=lambda path: path.stat().st_mtime_ns)
+        return sorted(line.split()[1] for line in kept.read_text().splitlines() if line.startswith("verdict "))
+
+    def test_a_first_build_says_what_it_proves(self):
+        said = self.clone.run(["./trinorm"]).stderr
+        self.assertIn("proves the 4 of 5 crates that program and library stand on (tools/build.py --anew proves all)", said)
+        self.assertEqual((self.clone.proved(), self.verdicts()), (ALL, ALL))
+
+    def test_anew_proves_every_crate(self):
+        said = self.clone.build("--anew").stderr
+        self.assertIn("proves all 5 crates", said)
+        self.assertEqual((self.clone.proved(), self.verdicts()), (EVERY, EVERY))
+        self.assert_answers(self.clone, ANSWER, [])
+        # a law that isn't proved leaves no program behind, and the one that was there before stays
+        self.clone.write("beside", "echo wrong\n")
+        done = self.clone.build("--anew")
+        self.assertEqual(done.returncode, 9)
+        self.assertIn("the crate beside did not build", done.stderr)
+        self.clone.proved()
+        self.assert_answers(self.clone, ANSWER, [])
+
+    def test_compare_looks_at_laws_too(self):
+        self.clone.build("--anew")
+        kept = next((self.folder / "cache" / "trinorm" / "programs").glob("*-*/MANIFEST"))
+        manifest = shutil.copy(kept, self.folder / "MANIFEST")
+        self.clone.proved()
+        self.clone.write("beside", "echo other\n")
+        done = self.clone.build("--compare", str(manifest))
+        self.assertEqual((done.returncode, self.clone.proved()), (1, []))
+        self.assertIn("was made from other sources than those of this clone: 1 differ, first crates/beside/src/lib.rt", done.stderr)
+
     def test_compare(self):
         self.clone.launch()
         kept = next((self.folder / "cache" / "trinorm" / "programs").glob("*-*/MANIFEST"))
@@ -210,7 +244,8 @@ class Build(unittest.TestCase):
         self.clone.proved()
         done = self.clone.build("--compare", str(manifest))
         self.assertIn("the same program, bit for bit", done.stdout)
-        self.assertEqual((done.returncode, self.clone.proved()), (0, ALL))
+        self.assertIn("all 5 crates were proved here", done.stdout)
+        self.assertEqual((done.returncode, self.clone.proved()), (0, EVERY))
         text = manifest.read_text()
         told = next(line for line in text.splitlines() if line.startswith("program "))
         manifest.write_text(text.replace(told, "program " + "0" * 64))

@@ -10,7 +10,11 @@ from trinorm.program import REPOSITORY
 sys.path.insert(0, str(REPOSITORY / "tools"))
 
 from build_times import Plan, Times, Took  # noqa: E402
-from refusals import kind, refusals  # noqa: E402
+from refusals import functions_of, kind, refusals  # noqa: E402
+
+
+LAW = "pub fn law()\n    ensures { Holds }\n{}\n"
+CODE = "fn sign(x: u8) -> u8\n    requires { x.now ≤\n        200 }\n    ensures value { result ≡ 1 }\n{\n    1\n}\n"
 
 
 class Refusals(unittest.TestCase):
@@ -20,12 +24,14 @@ class Refusals(unittest.TestCase):
         self.top = Path(folder.name)
         self.crates = {}
         self.add("word_definitions", [], "// words")
-        self.add("word_laws", ["word_definitions"], "ghost use Rattle.word_definitions.specs.Words;")
-        self.add("reader", ["word_definitions", "clap"], "use word_definitions::Word;\nuse clap::Arg;")
+        self.add("word_laws", ["word_definitions"], "ghost use Rattle.word_definitions.specs.Words;\n" + LAW)
+        self.add("reader", ["word_definitions", "clap"], "use word_definitions::Word;\nuse clap::Arg;\n" + CODE)
 
-    def add(self, name, below, text):
-        (self.top / "crates" / name / "src").mkdir(parents=True)
+    def add(self, name, below, text, specs=""):
+        for part in ("src", "specs"):
+            (self.top / "crates" / name / part).mkdir(parents=True)
         (self.top / "crates" / name / "src" / "lib.rt").write_text(text)
+        (self.top / "crates" / name / "specs" / "Laws.antt").write_text(specs)
         self.crates[name] = below
 
     def told(self, subjects=None):
@@ -35,12 +41,12 @@ class Refusals(unittest.TestCase):
         self.assertEqual(self.told(), [])
 
     def test_laws_on_code(self):
-        self.add("reader_laws", ["reader"], "use reader::Reader;")
+        self.add("reader_laws", ["reader"], "use reader::Reader;\n" + LAW)
         self.add("more_definitions", ["word_laws"], "use word_laws::Law;")
         self.assertEqual(self.told(), ["refused: reader_laws, of the laws, names reader", "refused: more_definitions, of the definitions, names word_laws"])
 
     def test_too_much_and_too_little(self):
-        self.add("writer", ["word_definitions"], "use reader::Reader;")
+        self.add("writer", ["word_definitions"], "// use word_definitions::Word;\nuse reader::Reader;\n" + CODE, "-- Rattle.word_laws.specs.Laws\n")
         self.assertEqual(self.told(), [
             "refused: writer lists word_definitions, and no file of it names that",
             "refused: writer doesn't list reader, which a file of it names",
@@ -50,6 +56,52 @@ class Refusals(unittest.TestCase):
         self.assertEqual(self.told(["word_laws", "reader", "gone"]), [
             "refused: word_definitions has no subject in tools/floors.py", "refused: gone has a subject in tools/floors.py, and no line in crates.txt",
         ])
+
+    def test_code_where_there_should_be_none(self):
+        self.add("sum_definitions", [], "impl From<Full> for Fault {\n" + CODE.replace("sign", "from") + "}\n" + CODE)
+        self.add("sum_laws", [], LAW.replace("{}", "{\n    add(1)\n}"))
+        self.add("no_laws", [], "//! Laws.")
+        self.add("adder", [], LAW)
+        self.assertEqual(self.told(), [
+            "refused: sum_definitions, of the definitions, has the function sign with a body",
+            "refused: sum_laws, of the laws, has the function law with a body",
+            "refused: no_laws, of the laws, has no law",
+            "refused: adder has no code, only laws, and its name does not end in _laws",
+        ])
+
+    def test_statements_that_nothing_cites(self):
+        specs = """\
+use Rattle.std.specs.Prelude.{ℕ}
+-- a number
+pub record Number : Type 0 where
+  pub value : ℕ
+
+-- Theorem: it is cited.
+abbrev pub Holds : Type 0
+Holds = Within → Number
+
+abbrev pub Within : Type 0
+Within = ℕ
+
+-- Uncited
+abbrev pub IsAlone : Type 0
+IsAlone = Holds
+
+pub IsSmall : ℕ → Type 0
+IsSmall n = n < 2
+"""
+        self.add("sum_laws", [], LAW, specs)
+        self.assertEqual(self.told(), ["refused: sum_laws states IsAlone, and no contract cites it"])
+
+    def test_what_stands_below_all_names_none(self):
+        self.add("plain_facts", ["word_definitions"], "ghost use Rattle.word_definitions.specs.Words;")
+        self.assertEqual(self.told(), ["refused: plain_facts, of the laws, names word_definitions"])
+
+    def test_functions(self):
+        """Contracts with several lines and braces, results that hold a `;`, and methods without a body are read."""
+        text = "trait T {\n    fn none(&self) -> u8\n        ensures { x ≡ {} };\n}\n" + CODE.replace("u8", "[u8; 4]") + LAW
+        self.assertEqual([(it.name, it.body, it.converts) for it in functions_of(text)], [("sign", "1", False), ("law", "", False)])
+        self.assertEqual(next(functions_of(CODE)).contract, "requires { x.now ≤\n        200 }ensures value { result ≡ 1 }")
 
     def test_kinds(self):
         for name, wanted in (("a_definitions", "definitions"), ("a_laws", "laws"), ("plain_facts", "laws"), ("trinorm", "program"), ("reader", "code")):

@@ -26,6 +26,8 @@ class Release(unittest.TestCase):
         cls.clone.lay_out_rest()
         cls.early = cls.clone.run(["tools/release.py"])
         cls.clone.build()
+        cls.partial = cls.clone.run(["tools/release.py"])
+        cls.clone.build("--anew")
         (cls.folder / "gate").write_text("one\nall passed\n\n")
         cls.done = cls.clone.run(["tools/release.py", "--gate", str(cls.folder / "gate")])
         cls.files = {path.name.partition("-py3")[0]: path for path in (cls.clone.top / "dist").iterdir()}
@@ -59,6 +61,8 @@ class Release(unittest.TestCase):
     def test_only_what_was_proved_is_released(self):
         self.assertEqual(self.early.returncode, 1)
         self.assertIn("no program of these sources is kept here", self.early.stderr)
+        self.assertEqual(self.partial.returncode, 1)
+        self.assertIn("the build has no verdict of beside, and of 1 crates in all", self.partial.stderr)
         (self.clone.top / "other").write_text("")
         self.addCleanup((self.clone.top / "other").unlink)
         self.assertIn("differs from its commit", self.clone.run(["tools/release.py"]).stderr)
@@ -75,7 +79,7 @@ class Release(unittest.TestCase):
     def test_manifest(self):
         lines = self.file("MANIFEST").read_text().splitlines()
         head = subprocess.run(["git", "rev-parse", "HEAD"], cwd=self.clone.top, capture_output=True, text=True, check=True).stdout.strip()
-        for line in (f"commit {head}", "kit made-up-kit-1", "anew yes", "gate all passed", "verdict left logic=proved functions=1 of=left"):
+        for line in (f"commit {head}", "kit made-up-kit-1", "anew yes", "gate all passed", "verdict left logic=proved functions=1 of=left", "verdict beside logic=proved functions=1 of=beside"):
             self.assertIn(line, lines)
         told = "\n".join(it for it in lines if it.startswith(("crate ", "source "))) + "\n"
         done = subprocess.run(["sha256sum"], input=told, capture_output=True, text=True, check=True)

@@ -1,0 +1,147 @@
+"""tools/test.py: each part prints its line, a part that fails ends the whole with status 1, and what comes after the gate tries
+what the gate has built."""
+import contextlib
+import importlib.util
+import io
+import os
+import re
+import sys
+import tempfile
+import time
+import unittest
+from pathlib import Path
+
+from tests.made_up import MadeUp
+from trinorm.program import REPOSITORY
+
+sys.path.insert(0, str(REPOSITORY / "tools"))
+spec = importlib.util.spec_from_file_location("test_tool", REPOSITORY / "tools" / "test.py")
+tool = importlib.util.module_from_spec(spec)
+sys.modules["test_tool"] = tool
+spec.loader.exec_module(tool)
+
+ANSWER = "ground\nleft\nright\ntrinorm\n"
+INSTALL = """
+import sys
+sys.path.insert(0, 'tools')
+from pathlib import Path
+from gate import Gate, NotBuilt, run_gate
+gate = Gate()
+status = run_gate(Path('gate.log'))
+if status:
+    sys.exit(f'the gate ended with {status}')
+try:
+    print(gate.install())
+except NotBuilt as fault:
+    sys.exit(str(fault))
+"""
+
+
+class Parts(unittest.TestCase):
+    def printed(self, parts, only=()):
+        tests, out = tool.Tests(list(only)), io.StringIO()
+        with contextlib.redirect_stdout(out):
+            tests.run_all(parts)
+            status = tests.report()
+        return status, re.sub(r"\b\d+ s$", "N s", out.getvalue(), flags=re.M).splitlines()
+
+    def test_lines_and_statuses(self):
+        good, bad = tool.Part("good", ["true"]), tool.Part("bad", ["sh", "-c", "echo out; echo err >&2; exit 3"])
+        self.assertEqual(self.printed([good]), (0, ["test: good: ok, N s", "test: all passed"]))
+        self.assertEqual(self.printed([bad, good]), (1, ["test: bad: FAILED", "out", "err", "test: good: ok, N s", "test: FAILED: bad"]))
+        self.assertEqual(self.printed([bad, good], ["good"])[0], 0)
+
+    def test_what_is_not_there_is_left_out(self):
+        parts = [tool.Part("one", ["false"], needs="no-such-command"), tool.Part("two", ["false"], needs="/no/such/file")]
+        self.assertEqual(self.printed(parts), (0, ["test: one: left out, since no-such-command is not there",
+                                                   "test: two: left out, since file is not there", "test: all passed"]))
+
+    def test_counts(self):
+        self.assertEqual(tool.note_of("..s\nRan 3 tests in 0.1s\n\nOK (skipped=1)\n"), ", 3 tests, 1 of them skipped")
+        self.assertEqual(tool.note_of("3 examples ran\n"), "")
+
+    def test_a_part_that_does_not_end(self):
+        """It is ended with all that it started, and fails."""
+        with tempfile.TemporaryDirectory() as folder:
+            mark = Path(folder, "mark")
+            script = f"(sleep 3; echo late >'{mark}') & sleep 1000"
+            result = tool.run(tool.Part("slow", ["sh", "-c", script]), 0.5)
+            self.assertFalse(result.passed)
+            self.assertIn("it had not ended after", result.wrote)
+            time.sleep(4)
+            self.assertFalse(mark.exists())
+
+    def test_each_test_module_is_in_one_group(self):
+        there = {f"tests.{path.stem}" for path in (REPOSITORY / "python" / "tests").glob("test_*.py")}
+        found = [name for group in [*tool.TESTS, "python"] for name in tool.tests_of(group)]
+        self.assertEqual((set(found), len(found)), (there, len(there)))
+
+
+class Gate(unittest.TestCase):
+    def setUp(self):
+        folder = tempfile.TemporaryDirectory()
+        self.addCleanup(folder.cleanup)
+        self.clone = MadeUp(Path(folder.name))
+        self.clone.add_library()
+        self.out = self.clone.top / "crates" / "trinorm" / "out"
+
+    def gate(self, script="", words=("python3", "-c", INSTALL)):
+        return self.clone.run(list(words), MADE_UP_GATE=script)
+
+    def test_what_the_gate_built_is_installed(self):
+        done = self.gate()
+        self.assertEqual(done.returncode, 0, done.stderr)
+        self.assertIn("4 passed, 0 failed\nthe program of rt ci, and its library: sha256 ", done.stdout)
+        self.assertEqual(self.clone.proved(), ["for_c", "ground", "left", "right"])
+        self.assertEqual((self.clone.launch(), self.clone.proved()), (ANSWER, []))
+        self.assertEqual((self.out / "libtrinorm.so").read_text(), "libtrinorm.so by one")
+        self.assertIn("echo for_c", (self.out / "libtrinorm_c.a").read_text())
+        self.assertIn("echo left", (self.out / "libtrinorm_c.a").read_text())
+
+    def test_libraries_of_earlier_checks(self):
+        """They may be of other sources, so a build makes what is tried."""
+        (self.clone.top / "crates" / "left" / "out" / "rlib").mkdir(parents=True)
+        done = self.gate()
+        self.assertIn("the program of tools/build.py, since libraries of earlier checks are in the clone", done.stdout)
+        self.assertEqual((self.clone.launch(), (self.out / "libtrinorm.so").read_text()), (ANSWER, "libtrinorm.so by one"))
+
+    def test_an_archive_that_is_not_proved(self):
+        self.clone.write("for_c", "echo wrong\n")
+        done = self.gate()
+        self.assertEqual(done.returncode, 1)
+        self.assertIn("the crate for_c did not build", done.stderr)
+
+    def test_a_gate_that_fails(self):
+        done = self.gate("exit 7")
+        self.assertEqual((done.returncode, done.stderr), (1, "the gate ended with 7\n"))
+        self.assertFalse((self.out / ".version").exists())
+
+    def test_a_gate_without_a_program(self):
+        self.assertIn("rt ci left no program", self.gate("rm crates/trinorm/out/trinorm").stderr)
+
+    def test_sources_that_change_meanwhile(self):
+        self.assertIn("sources changed during the run", self.gate("echo '# more' >>crates/left/src/lib.rt").stderr)
+
+    def test_the_whole(self):
+        """In the made-up repository the checks of tools fail, and the whole with them; the gate is run once, and its output is on
+        standard output."""
+        (self.clone.top / "crates" / "left" / "must-fail").mkdir()
+        done = self.gate("echo a line of the gate", ["python3", "tools/test.py"])
+        lines = done.stdout.splitlines()
+        self.assertEqual(done.returncode, 1, done.stderr)
+        self.assertEqual(lines.count("a line of the gate"), 1)
+        for line in ("test: edits apply: FAILED", "test: edits refused: FAILED"):
+            self.assertIn(line, lines)
+        self.assertTrue(any(line.startswith("test: program: the program of rt ci") for line in lines), lines)
+        self.assertTrue(lines[-1].startswith("test: FAILED: edits apply, "), lines[-1])
+        done = self.gate("exit 1", ["python3", "tools/test.py"])
+        self.assertEqual(done.returncode, 1)
+        self.assertIn("test: the parts after the gate were not run", done.stdout)
+
+    def test_the_script_of_the_merge_gate(self):
+        self.assertTrue(os.access(REPOSITORY / ".ci" / "run", os.X_OK))
+        self.assertIn("\nexec python3 tools/test.py\n", (REPOSITORY / ".ci" / "run").read_text())
+
+
+if __name__ == "__main__":
+    unittest.main()

@@ -1,0 +1,175 @@
+#!/usr/bin/env python3
+"""Measures the comments of the crates by four rules.
+
+    tools/language.py [--check] [--list] [CRATE ..]
+
+parameters: the comment of a function names at least one parameter in backticks; a sole parameter may be named as a word
+errors: the comment of a function that may fail, other than by running out of memory, says when or with what
+words: a comment uses the words of the subject, none of those in HOUSE
+width: a comment line has at most 120 columns
+
+Printed are, for each crate that breaks a rule, how often its public items break each rule, and then its private ones. --list
+prints each place. With --check the exit status is 1 if a public item of a crate in tools/language_done.txt breaks a rule, and
+only these places are printed.
+"""
+from __future__ import annotations
+
+import argparse
+import re
+import sys
+from collections import Counter
+from pathlib import Path
+from typing import Iterator, List, NamedTuple, Sequence
+
+from refusals import end_of_block
+from repository import TOP, files_of_crate
+
+DONE = TOP / "tools" / "language_done.txt"
+RULES = ("parameters", "errors", "words", "width")
+WIDTH = 120
+# words that have another meaning here than to a reader of the subject, or none to him
+HOUSE = re.compile(
+    r"\b(so many|told|tells?|met|behind|beside|wanted|want of|without memory|past|round|stands?|goes (?:to|on)|leads? to"
+    r"|way back|inner edges?|loose|rivals?|in front|lesser|hands? on|at hand|from nothing|due|is gone|way round|few)\b", re.I)
+# parameters that each reader knows, and errors of which the comment needn't speak
+KNOWN = ("self", "alloc", "rt")
+OF_MEMORY = ("NoMemory", "AllocError", "Fail")
+FAILS = re.compile(r"\b[Ff]ail|\b[Ee]rror|`[A-Z]\w*`|\bwhy\b|\bWhy\b")
+COMMENT = re.compile(r"\s*(?:///|//!|//|--)(?:\s|$)")
+PUBLIC = re.compile(r"\s*(?:(?:abbrev|unfoldable|opaque) )*pub(?:\([a-z]+\))?\s")
+
+
+class Comment(NamedTuple):
+    """A comment: the line at which it begins, its lines, and the text of the file after it."""
+
+    line: int
+    lines: Sequence[str]
+    after: str
+
+    def text(self) -> str:
+        """What the comment says, on one line."""
+        return " ".join(re.sub(r"^\s*(?:///|//!|//|--) ?", "", line) for line in self.lines)
+
+    def is_public(self) -> bool:
+        """Whether the comment is of a public item, or is the head of a file."""
+        return self.lines[0].lstrip().startswith("//!") or PUBLIC.match(self.after) is not None
+
+
+class Place(NamedTuple):
+    """A place where a rule is broken: the rule, the file and the line, whether the item is public, and what breaks the rule."""
+
+    rule: str
+    path: str
+    line: int
+    public: bool
+    what: str
+
+
+def comments_of(text: str) -> Iterator[Comment]:
+    """The comments of a source that take whole lines, each followed by the item that it is of."""
+    lines = text.split("\n")
+    at = 0
+    while at < len(lines):
+        end = at
+        while end < len(lines) and COMMENT.match(lines[end]):
+            end += 1
+        if end > at:
+            item = end
+            while item < len(lines) and re.match(r"\s*#!?\[.*\]\s*$", lines[item]):
+                item += 1
+            yield Comment(at + 1, lines[at:end], "\n".join(lines[item:item + 40]))
+        at = max(end, at + 1)
+
+
+def parameters_of(head: str) -> List[str]:
+    """The names of the parameters in a function's head, without those that each reader knows."""
+    opened = head.index("(", head.index("fn "))
+    listed = head[opened + 1:end_of_block(head, opened) - 1]
+    names = re.findall(r"(?:^|[,\n])\s*(?:mut )?(\w+)\s*:", listed)
+    return [name for name in names if name.lstrip("_") not in KNOWN]
+
+
+def error_of(head: str) -> str:
+    """The type of a function's error, or "" if it returns none or can only run out of memory."""
+    result = re.match(r"\s*->\s*Result<([^{]*?)>\s*(?:\{|requires\b|ensures\b|where\b)", head[end_of_block(head, head.index("(", head.index("fn "))):])
+    error = result[1].rpartition(", ")[2].strip() if result else ""
+    return "" if error in OF_MEMORY else error
+
+
+def is_named(name: str, text: str, alone: bool) -> bool:
+    """Whether a comment names a parameter, in backticks or, if it is the only one, as a word."""
+    return re.search(rf"`[^`]*\b{name}\b[^`]*`", text) is not None or (alone and re.search(rf"\b{name}", text, re.I) is not None)
+
+
+def broken_by(comment: Comment) -> Iterator[Sequence[str]]:
+    """The rules that a comment breaks, each with what breaks it."""
+    text = comment.text()
+    prose = re.sub(r"`[^`]*`", "``", text)
+    yield from (("words", found[0].lower()) for found in HOUSE.finditer(prose))
+    yield from (("width", f"{len(line)} columns") for line in comment.lines if len(line) > WIDTH)
+    head = re.match(r"\s*(?:pub(?:\([a-z]+\))? )?(?:const )?fn (\w+)", comment.after)
+    if head is None or not comment.lines[0].lstrip().startswith("///"):
+        return
+    names = parameters_of(comment.after)
+    if names and not any(is_named(name, text, len(names) == 1) for name in names):
+        yield "parameters", f"{head[1]} names none of {', '.join(names)}"
+    error = error_of(comment.after)
+    if error and not FAILS.search(text):
+        yield "errors", f"{head[1]} does not say when it fails with {error}"
+
+
+def places_of(top: Path, crate: str) -> Iterator[Place]:
+    """The places in a crate where a rule is broken."""
+    for path in files_of_crate(top / "crates" / crate):
+        if path.suffix in (".rt", ".antt") and "proofs" not in path.relative_to(top / "crates" / crate).parts:
+            for comment in comments_of(path.read_text("utf8")):
+                for rule, what in broken_by(comment):
+                    yield Place(rule, path.relative_to(top).as_posix(), comment.line, comment.is_public(), what)
+
+
+def crates_done() -> List[str]:
+    """The crates whose public items break no rule."""
+    return [line.strip() for line in DONE.read_text("utf8").split("\n") if line.strip() and not line.startswith("#")]
+
+
+def counts(places: Sequence[Place], public: bool) -> str:
+    """How often the items break each rule."""
+    found = Counter(place.rule for place in places if place.public == public)
+    return ", ".join(f"{rule} {found[rule]}" for rule in RULES)
+
+
+def report(crates: Sequence[str], listing: bool) -> None:
+    """Prints the counts of each crate, and of all."""
+    every: List[Place] = []
+    for crate in crates:
+        places = list(places_of(TOP, crate))
+        every += places
+        if places:
+            print(f"{crate}: public {counts(places, True)}; private {counts(places, False)}")
+        for place in places if listing else ():
+            print(f"  {place.path}:{place.line}: {place.rule}{'' if place.public else ' (private)'}: {place.what}")
+    print(f"{len(crates)} crates: public {counts(every, True)}; private {counts(every, False)}")
+
+
+def main() -> int:
+    """Prints the counts, or with --check what a crate that is done breaks, and returns the exit status."""
+    parser = argparse.ArgumentParser(description="Measures the comments of the crates.")
+    parser.add_argument("crates", nargs="*", metavar="CRATE", help="these alone")
+    parser.add_argument("--check", action="store_true", help="end with 1 if a public item of a crate that is done breaks a rule")
+    parser.add_argument("--list", action="store_true", help="print each place")
+    given = parser.parse_args()
+    crates = given.crates or sorted(path.name for path in (TOP / "crates").iterdir() if (path / "src").is_dir())
+    unknown = [name for name in [*given.crates, *crates_done()] if not (TOP / "crates" / name / "src").is_dir()]
+    if unknown:
+        sys.exit(f"there is no crate {unknown[0]}")
+    if not given.check:
+        report(crates, given.list)
+        return 0
+    broken = [place for crate in crates_done() if crate in crates for place in places_of(TOP, crate) if place.public]
+    for place in broken:
+        print(f"{place.path}:{place.line}: {place.rule}: {place.what}")
+    return 1 if broken else 0
+
+
+if __name__ == "__main__":
+    sys.exit(main())

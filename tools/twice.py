@@ -1,0 +1,161 @@
+#!/usr/bin/env python3
+"""Lists lemmas, definitions and functions that are written more than once.
+
+    tools/twice.py [--changed BASE]
+
+Lemmas are compared by their whole statement, definitions by statement and clauses, functions by parameters, result and body.
+Names that an item binds itself do not count. A word that is imported, or defined in the file, counts by where it comes from, so
+two items are in one group only if their words mean the same; words that are copies of each other count as equal. --changed
+prints only the groups with a file that differs from the commit BASE. A group is a place to look at: two statements may be the
+same today for reasons of their own.
+"""
+from __future__ import annotations
+
+import argparse
+import re
+from collections import defaultdict
+from pathlib import Path
+from typing import Dict, Iterator, List, NamedTuple, Sequence, Set, Tuple
+
+from refusals import code_of, end_of_block, functions_of
+from repository import TOP, git
+
+WORD = re.compile(r"[A-Za-z_][A-Za-z_0-9'\-]*(?<!-)|\d+|\S")
+HEAD = re.compile(r"(?:(?:abbrev|unfoldable|opaque|pub|record|data) )*([^\s:(){}]+)")
+# answers to goals have the names and the statements that the prover asks for
+ANSWERS = ("Answers.antt", "Invariants.antt")
+LEAST_WORDS = 12
+# how a result begins or what it holds if it is a proposition, whose proof does not matter
+PROPOSITION = re.compile(r"[≡≤<∣∈↔⊎×¬⊥+∥]|^\(?(?:Is|Are|Has|Can|All|Any|Contains|If|On)")
+Place = Tuple[str, str]
+
+
+class Item(NamedTuple):
+    """A lemma, a definition or a function: its file, its name, the kind of its file, and its words, in which those that it binds
+    are numbered by their first occurrence. `origins` says where the other words come from."""
+
+    path: str
+    name: str
+    kind: str
+    words: Sequence[str]
+    origins: Dict[str, str]
+
+    def place(self) -> Place:
+        return self.path, self.name
+
+
+def numbered(text: str, bound: Set[str], name: str) -> List[str]:
+    """The words of a text, with numbers for those that are bound."""
+    order: Dict[str, str] = {name: "ITSELF"}
+    return [order.setdefault(word, f"%{len(order)}") if word in bound or word == name else word for word in WORD.findall(text)]
+
+
+def split_names(listed: str) -> Iterator[Tuple[str, str]]:
+    """The names of a list like `a, b as c`: each with the name under which it is used."""
+    for part in listed.split(","):
+        name, _, used = part.strip().partition(" as ")
+        if name:
+            yield name.strip(), (used or name).strip()
+
+
+def origins_of(text: str, path: str) -> Dict[str, str]:
+    """Where the words that a file imports come from, by the name under which it uses them."""
+    crate = path.split("/")[1]
+    found: Dict[str, str] = {}
+    for place, listed in re.findall(r"(?m)^(?:ghost |pub )*use ([\w.:]+?)(?:\.|::)\{([^}]*)\}", text):
+        home = re.sub(r"^(?:crate|self)\b", crate, place).replace("::", ".")
+        found.update({used: f"{home}.{name}" for name, used in split_names(listed)})
+    for place, name in re.findall(r"(?m)^(?:ghost |pub )*use ([\w.:]+?)(?:\.|::)(\w+);?$", text):
+        found[name] = re.sub(r"^(?:crate|self)\b", crate, place).replace("::", ".") + f".{name}"
+    for name in re.findall(r"(?m)^(?:abbrev |unfoldable |opaque |pub |record |data |const |static |fn |struct |enum |type )*([^\s:(){}<]+)", text):
+        found.setdefault(name, f"{module_of(path)}.{name}")
+    return found
+
+
+def module_of(path: str) -> str:
+    """The module of a file of specs/ or proofs/, as an import names it, or the path of a file of src/."""
+    return "Rattle." + path[len("crates/"):-len(".antt")].replace("/", ".") if path.endswith(".antt") else path
+
+
+def is_definition(statement: str, path: str) -> bool:
+    """Whether an item is compared by its clauses too: it is one of specs/, or its result is no proposition."""
+    return "/specs/" in path or not PROPOSITION.search(statement.rpartition("→")[2].strip())
+
+
+def items_of_theory(text: str, path: str) -> Iterator[Item]:
+    """The lemmas or definitions of a file of specs/ or proofs/."""
+    origins, blocks = origins_of(text, path), re.split(r"\n(?=\S)", text)
+    for at, block in enumerate(blocks):
+        head = HEAD.match(block)
+        if head is None or head[1] == "use" or not re.match(r"[^=]*?\s:\s", block):
+            continue
+        name, statement = head[1], block[head.end():]
+        for clause in blocks[at + 1:] if is_definition(statement, path) else []:
+            if not clause.startswith(f"{name} "):
+                break
+            statement += f" ; {clause}"
+        groups = re.findall(r"[({]([^(){}:]+?)\s*:|λ ([^.]+)\.", statement)
+        bound = {word for group in groups for word in " ".join(group).split()}
+        for clause in re.findall(rf"; {re.escape(name)} ([^=]*)=", statement):
+            bound.update(re.findall(r"\b[a-z]\w*'?", clause))
+        yield Item(path, name, block[:head.start(1)] + path.split("/")[2], numbered(statement, bound, name), origins)
+
+
+def functions(text: str, path: str) -> Iterator[Item]:
+    """The functions of a file of src/."""
+    origins = origins_of(text, path)
+    for function in functions_of(text):
+        if not function.body:
+            continue
+        begin = re.search(rf"\bfn {function.name}\b", text)
+        assert begin is not None
+        opened = text.index("(", begin.end())
+        signature = text[opened:end_of_block(text, opened)]
+        binders = r"[(,]\s*(?:mut )?(\w+)\s*:|\blet (?:mut )?(\w+)|\bfor (\w+) in|\|(\w+)\||\b(?:Some|Ok|Err)\((\w+)\)"
+        bound = {word for found in re.findall(binders, signature + function.body) for word in found if word}
+        calls_itself = re.search(rf"(?<![.:\w]){function.name}\(", function.body)
+        yield Item(path, function.name, "src", numbered(f"{signature} {function.body}", bound, function.name if calls_itself else ""), origins)
+
+
+def items_of(top: Path, paths: Sequence[str]) -> List[Item]:
+    """The items of the sources among some paths."""
+    found: List[Item] = []
+    for path in paths:
+        if re.fullmatch(r"crates/\w+/(?:specs|proofs)/.*\.antt", path) and not path.endswith(ANSWERS):
+            found += items_of_theory(code_of(top / path), path)
+        elif re.fullmatch(r"crates/\w+/src/.*\.rt", path):
+            found += functions(code_of(top / path), path)
+    return [item for item in found if len(item.words) >= LEAST_WORDS]
+
+
+def groups_of(items: Sequence[Item]) -> List[List[Item]]:
+    """The items in groups of those that are the same. A word that names an item of a group counts by its group, so copies that
+    name copies are in one group too."""
+    copies: Dict[str, str] = {}
+    count = -1
+    while True:
+        groups: Dict[Tuple[str, ...], List[Item]] = defaultdict(list)
+        for item in items:
+            told = [item.origins.get(word, word) for word in item.words]
+            groups[(item.kind, *(copies.get(word, word) for word in told))].append(item)
+        if len(groups) == count:
+            return sorted((group for group in groups.values() if len(group) > 1), key=lambda group: (-len(group), group[0].place()))
+        count = len(groups)
+        repeated = [group for group in groups.values() if len(group) > 1]
+        copies = {f"{module_of(item.path)}.{item.name}": f"&{number}" for number, group in enumerate(repeated) for item in group}
+
+
+def main() -> None:
+    parser = argparse.ArgumentParser(description="Lists what is written more than once.")
+    parser.add_argument("--changed", metavar="BASE", help="only groups with a file that differs from this commit")
+    base = parser.parse_args().changed
+    paths = (git(TOP, "ls-files", "crates") or "").split("\n")
+    touched = set((git(TOP, "diff", "--name-only", base) or "").split("\n")) if base else set(paths)
+    groups = [group for group in groups_of(items_of(TOP, paths)) if any(item.path in touched for item in group)]
+    for group in groups:
+        print(f"{len(group)} times the same: {', '.join(f'{item.path}: {item.name}' for item in group)}")
+    print(f"{len(groups)} groups, {sum(len(group) - 1 for group in groups)} copies")
+
+
+if __name__ == "__main__":
+    main()
