@@ -1,4 +1,4 @@
--- Words that differ by the name of a command alone are read.
+-- The words of each command, option and value are read.
 use Rattle.std.proofs.Common.{refl}
 use Rattle.command_definitions.specs.Options.{options_from}
 use Rattle.command_laws.specs.WorkedWords.{WorkedWords}
@@ -23,4 +23,16 @@ worked = record {
   addup = refl;
   make = refl;
   bulk = refl;
+  surfaces = refl;
+  rays = refl;
+  describe = refl;
+  decompose = refl;
+  first_values = refl;
+  surfaces_alone = refl;
+  rays_alone = refl;
+  describe_alone = refl;
+  decompose_alone = refl;
+  verify_alone = refl;
+  addup_alone = refl;
+  describe_quad = refl;
 }

@@ -1,14 +1,16 @@
--- Words that differ by the name of a command alone, and what they ask for.
-use Rattle.std.specs.Prelude.{◌≡◌, ℕ, List, [], ◌∷◌, Some, codes}
-use Rattle.surface_definitions.specs.declared.Coords.TheVariants.{Quad}
+-- The words of each command, of each option and of each value that is a word, and the requests that they ask for.
+use Rattle.std.specs.Prelude.{◌≡◌, ℕ, List, [], ◌∷◌, Some, None, codes}
+use Rattle.cone_definitions.specs.declared.Order.TheVariants as orders
+use Rattle.surface_definitions.specs.declared.Coords.TheVariants.{Standard, Quad, Octagon}
 use Rattle.command_definitions.specs.declared.Request.{Request}
-use Rattle.command_definitions.specs.declared.Request.TheVariants.{Verify, Info, Lift, Crush, Play, Sig, Same, Group, Check, Descend, Make, Bulk, Addup, Cover, Pi1, Csig, Csame}
+use Rattle.command_definitions.specs.declared.Request.TheVariants.{Verify, Info, Surfaces, Rays, Describe, Lift, Crush, Play, Sig, Same, Group, Check, Descend, Make, Bulk, Decompose, Addup, Cover, Pi1, Csig, Csame}
 use Rattle.command_definitions.specs.Words.{accepted_request}
 
+-- the words are accepted for the request
 abbrev pub Asks : List (List ℕ) → Request → Type 0
 Asks words r = accepted_request words ≡ Some r
 
--- commands that take the same options ask for different requests, each for its own
+-- each of the 21 commands asks for its own request, and each option and word of a value means its own
 pub record WorkedWords : Type 0 where
   pub info : Asks (codes "info" ∷ []) Info
   pub lift : Asks (codes "lift" ∷ []) Lift
@@ -27,3 +29,17 @@ pub record WorkedWords : Type 0 where
   pub addup : Asks (codes "addup" ∷ codes "--coords=quad" ∷ []) (Addup Quad)
   pub make : Asks (codes "make" ∷ codes "--moves=2" ∷ codes "--seed=3" ∷ []) (Make 3 2)
   pub bulk : Asks (codes "bulk" ∷ codes "--seed" ∷ codes "3" ∷ codes "--moves" ∷ codes "2" ∷ []) (Bulk 3 2)
+  pub surfaces : Asks (codes "surfaces" ∷ codes "--coords=octagon" ∷ codes "--order=short" ∷ codes "--max-entry=7" ∷ []) (Surfaces Octagon orders.Short 7)
+  pub rays : Asks (codes "rays" ∷ codes "--max-entry" ∷ codes "9" ∷ codes "--order" ∷ codes "zeros" ∷ []) (Rays orders.Zeros 9)
+  pub describe : Asks (codes "describe" ∷ codes "--coords=octagon" ∷ []) (Describe Octagon)
+  pub decompose : Asks (codes "decompose" ∷ codes "--max-entry=5" ∷ codes "--coords" ∷ codes "octagon" ∷ []) (Decompose Octagon 5)
+  -- the first words of values, and what is meant if an option is left out
+  pub first_values : Asks (codes "surfaces" ∷ codes "--coords=standard" ∷ codes "--order=given" ∷ codes "--max-entry=1" ∷ []) (Surfaces Standard orders.Given 1)
+  pub surfaces_alone : Asks (codes "surfaces" ∷ []) (Surfaces Standard orders.Given 170141183460469231731687303715884105727)
+  pub rays_alone : Asks (codes "rays" ∷ []) (Rays orders.Given 170141183460469231731687303715884105727)
+  pub describe_alone : Asks (codes "describe" ∷ []) (Describe Standard)
+  pub decompose_alone : Asks (codes "decompose" ∷ []) (Decompose Standard 170141183460469231731687303715884105727)
+  pub verify_alone : Asks (codes "verify" ∷ []) (Verify Standard)
+  pub addup_alone : Asks (codes "addup" ∷ []) (Addup Standard)
+  -- surfaces in quad coordinates have no pieces
+  pub describe_quad : accepted_request (codes "describe" ∷ codes "--coords=quad" ∷ []) ≡ None

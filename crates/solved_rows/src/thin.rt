@@ -5,7 +5,8 @@ ghost use Rattle.std.specs.List.{All};
 ghost use Rattle.cone_arithmetic.specs.Sparse.{IsInRange};
 ghost use Rattle.cone_row_laws.specs.Solutions.{HaveSameZeros};
 ghost use Rattle.solved_rows.specs.Merging.{IsCoefficientSum};
-ghost use Rattle.solved_rows.specs.Passing.{TakesTerm, IsDerived, HasPassedSum, IfPassed};
+ghost use Rattle.solved_rows.specs.Eliminating.{Thins, AreThinned};
+ghost use Rattle.solved_rows.specs.Passing.{PassesThinned, IfPassed};
 
 use crate::clear::{add_at, copy};
 use crate::fault::SolveFault;
@@ -51,8 +52,8 @@ fn with_column(shared: SharedColumns, one: i32, other: i32) -> SharedColumns
 
 /// Counts the columns that `row` and `other` have in common.
 fn shared_columns(row: &[(u32, i32)], other: &[(u32, i32)]) -> SharedColumns
-    ensures same { 0 < result.same → TakesTerm row.now (negsuc 0) other.now }
-    ensures opposite { 0 < result.opposite → TakesTerm row.now (pos 1) other.now }
+    ensures same { 0 < result.same → Thins row.now (negsuc 0) other.now }
+    ensures opposite { 0 < result.opposite → Thins row.now (pos 1) other.now }
 {
     let mut shared = SharedColumns {
         same: 0,
@@ -71,7 +72,7 @@ fn shared_columns(row: &[(u32, i32)], other: &[(u32, i32)]) -> SharedColumns
 
 /// The factor, 1 or -1, with which adding `other` leaves `row` with fewer terms; `None` if neither does.
 fn thinning_factor(row: &[(u32, i32)], other: &[(u32, i32)]) -> Option<i32>
-    ensures { IfSome result (λ factor. TakesTerm row.now factor other.now) }
+    ensures { IfSome result (λ factor. Thins row.now factor other.now) }
 {
     let shared = shared_columns(row, other);
     let taken = shared.opposite.max(shared.same);
@@ -99,8 +100,8 @@ fn thin_by(
     ensures count { OnOk result (length rows.new.items ≡ length rows.old.items) }
     ensures same { OnOk result (HaveSameZeros rows.old.items rows.new.items) }
     ensures in_range { OnOk result (All (IsInRange columns) rows.new.items) }
-    ensures derived { OnOk result (All (IsDerived rows.old.items) rows.new.items) }
-    ensures passed { IfErr result (IfPassed (HasPassedSum rows.old.items)) }
+    ensures thinned { OnOk result (AreThinned rows.old.items rows.new.items) }
+    ensures passed { IfErr result (IfPassed (PassesThinned rows.old.items)) }
 {
     match thinning_factor(rows[i].entries(), rows[j].entries()) {
         Some(factor) => {
@@ -144,8 +145,8 @@ fn thin_pair(
     ensures count { OnOk result (length rows.new.items ≡ length rows.old.items) }
     ensures same { OnOk result (HaveSameZeros rows.old.items rows.new.items) }
     ensures in_range { OnOk result (All (IsInRange columns) rows.new.items) }
-    ensures derived { OnOk result (All (IsDerived rows.old.items) rows.new.items) }
-    ensures passed { IfErr result (IfPassed (HasPassedSum rows.old.items)) }
+    ensures thinned { OnOk result (AreThinned rows.old.items rows.new.items) }
+    ensures passed { IfErr result (IfPassed (PassesThinned rows.old.items)) }
 {
     if !is_recent(rounds, i, round) && !is_recent(rounds, j, round) {
         return Ok(false);
@@ -171,8 +172,8 @@ fn thin_row(
     ensures count { OnOk result (length rows.new.items ≡ length rows.old.items) }
     ensures same { OnOk result (HaveSameZeros rows.old.items rows.new.items) }
     ensures in_range { OnOk result (All (IsInRange columns) rows.new.items) }
-    ensures derived { OnOk result (All (IsDerived rows.old.items) rows.new.items) }
-    ensures passed { IfErr result (IfPassed (HasPassedSum rows.old.items)) }
+    ensures thinned { OnOk result (AreThinned rows.old.items rows.new.items) }
+    ensures passed { IfErr result (IfPassed (PassesThinned rows.old.items)) }
 {
     let mut thinner = false;
     for j in 0..rows.len() {
@@ -194,8 +195,8 @@ fn thin_once(
     requires in_range { All (IsInRange columns) rows.old.items }
     ensures same { OnOk result (HaveSameZeros rows.old.items rows.new.items) }
     ensures in_range { OnOk result (All (IsInRange columns) rows.new.items) }
-    ensures derived { OnOk result (All (IsDerived rows.old.items) rows.new.items) }
-    ensures passed { IfErr result (IfPassed (HasPassedSum rows.old.items)) }
+    ensures thinned { OnOk result (AreThinned rows.old.items rows.new.items) }
+    ensures passed { IfErr result (IfPassed (PassesThinned rows.old.items)) }
 {
     let mut thinner = false;
     for i in 0..rows.len() {
@@ -213,8 +214,8 @@ pub(crate) fn thin_rows(
     requires in_range { All (IsInRange columns) rows.old.items }
     ensures same { OnOk result (HaveSameZeros rows.old.items rows.new.items) }
     ensures in_range { OnOk result (All (IsInRange columns) rows.new.items) }
-    ensures derived { OnOk result (All (IsDerived rows.old.items) rows.new.items) }
-    ensures passed { IfErr result (IfPassed (HasPassedSum rows.old.items)) }
+    ensures thinned { OnOk result (AreThinned rows.old.items rows.new.items) }
+    ensures passed { IfErr result (IfPassed (PassesThinned rows.old.items)) }
 {
     let mut rounds = vec![in alloc; 0u32; rows.len()]?;
     for round in 0..ROUNDS {

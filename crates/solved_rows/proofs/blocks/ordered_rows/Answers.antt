@@ -1,7 +1,7 @@
 -- Each step keeps where the rows are 0.
 use Rattle.std.proofs.lemmas.List.Sorted.{All-permutation}
 use Rattle.std.proofs.lemmas.Result.{err_from_is_err_and}
-use Rattle.solved_rows.proofs.PassingLemmas.{rows_stand, fault_again}
+use Rattle.solved_rows.proofs.EliminatingLemmas.{passes_among}
 use Rattle.cone_arithmetic.specs.Sparse.{IsInRange}
 use Rattle.solved_rows.proofs.RowLemmas.{all_of_these, zeros_follow, zeros_reordered}
 use Rattle.solved_rows.proofs.blocks.ordered_rows.Goals as goal
@@ -20,4 +20,4 @@ returns-clause-in_range c = All-permutation (IsInRange c.args.columns) _ _ c.in_
 pub returns-in_err-thin_rows-clause-passed : goal.returns-in_err-thin_rows-clause-passed
 returns-in_err-thin_rows-clause-passed c =
     let p = err_from_is_err_and c.from_residual-in_err-thin_rows.result c.from_residual-in_err-thin_rows.ensures.1 in
-    rw (p.1, p.2) (fault_again _ _ (rows_stand c.args.unsolved.items _ c.in_ok-rows.ensures.stand) _ c.in_err-thin_rows.ensures.passed)
+    rw (p.1, p.2) (passes_among c.args.unsolved.items c.in_ok-rows.rows.items c.in_ok-rows.ensures.kept _ c.in_err-thin_rows.ensures.passed)

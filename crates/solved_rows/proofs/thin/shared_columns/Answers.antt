@@ -2,7 +2,7 @@
 use Rattle.std.proofs.Common.{rules, pos, negsuc, inl, inr, refl, w32, FitsSigned}
 use Rattle.std.proofs.lemmas.Int.{to_z-of_z}
 use Rattle.solved_rows.specs.Merging.{term_at}
-use Rattle.solved_rows.proofs.DerivedLemmas.{takes_shared}
+use Rattle.solved_rows.proofs.CoefficientLemmas.{thins_shared}
 use Rattle.solved_rows.proofs.thin.shared_columns.Goals as goal
 use Rattle.solved_rows.proofs.thin.shared_columns.Goals.{then-place-other+then-other-place, else-place-other}
 
@@ -19,11 +19,11 @@ loop-column-preserved c = elim c.if-place-other.branch [
         within = c.place_from-place.ensures;
         same = λ more. elim (w.with_column-shared.ensures.same more) [
           | inl h ↦ c.loop-column.invariant.same h
-          | inr s ↦ takes_shared row other i j (negsuc 0) c.loop-column-test.true w.if-place-other.true w.if-other-place.true (inr refl) (simp to_z-of_z at s)
+          | inr s ↦ thins_shared row other i j (negsuc 0) c.loop-column-test.true w.if-place-other.true w.if-other-place.true (inr refl) (simp to_z-of_z at s)
         ];
         opposite = λ more. elim (w.with_column-shared.ensures.opposite more) [
           | inl h ↦ c.loop-column.invariant.opposite h
-          | inr s ↦ takes_shared row other i j (pos 1) c.loop-column-test.true w.if-place-other.true w.if-other-place.true (inl refl) (simp to_z-of_z at s)
+          | inr s ↦ thins_shared row other i j (pos 1) c.loop-column-test.true w.if-place-other.true w.if-other-place.true (inl refl) (simp to_z-of_z at s)
         ];
       })
   | else-place-other w ↦ rw w.shared-is (record {

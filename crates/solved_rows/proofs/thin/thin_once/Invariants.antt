@@ -3,7 +3,7 @@ use Rattle.std.proofs.Common.{◌≡◌, length}
 use Rattle.std.specs.List.{All}
 use Rattle.cone_arithmetic.specs.Sparse.{IsInRange}
 use Rattle.cone_row_laws.specs.Solutions.{HaveSameZeros}
-use Rattle.solved_rows.specs.Passing.{IsDerived}
+use Rattle.solved_rows.specs.Eliminating.{AreThinned}
 use Rattle.solved_rows.proofs.thin.thin_once.Given as goal
 
 abbrev pub invariant-loop-i : goal.invariant-loop-i
@@ -11,5 +11,5 @@ invariant-loop-i l = record {
   count : length l.rows.items ≡ length l.fn.rows.items;
   same : HaveSameZeros l.fn.rows.items l.rows.items;
   in_range : All (IsInRange l.columns) l.rows.items;
-  derived : All (IsDerived l.fn.rows.items) l.rows.items;
+  thinned : AreThinned l.fn.rows.items l.rows.items;
 }

@@ -1,6 +1,7 @@
 -- One round more.
 use Rattle.std.proofs.lemmas.Result.{err_from_is_err_and}
-use Rattle.solved_rows.proofs.PassingLemmas.{all_stand, all_again, fault_again}
+use Rattle.solved_rows.specs.Eliminating.{as_they_are}
+use Rattle.solved_rows.proofs.EliminatingLemmas.{thinned_again, passes_again}
 use Rattle.solved_rows.proofs.RowLemmas.{zeros_follow}
 use Rattle.solved_rows.proofs.thin.thin_rows.Goals as goal
 use Rattle.solved_rows.proofs.thin.thin_rows.Goals.{else-loop-round-test, then-loop-round-test+in_ok-thin_once+then-not-branch}
@@ -9,7 +10,7 @@ pub loop-round-preserved : goal.loop-round-preserved
 loop-round-preserved c = record {
   same = zeros_follow _ _ _ c.loop-round.invariant.same c.in_ok-thin_once.ensures.same;
   in_range = c.in_ok-thin_once.ensures.in_range;
-  derived = all_again _ _ _ c.loop-round.invariant.derived c.in_ok-thin_once.ensures.derived;
+  thinned = thinned_again _ _ _ c.loop-round.invariant.thinned c.in_ok-thin_once.ensures.thinned;
 }
 
 pub returns-clause-same : goal.returns-clause-same
@@ -28,16 +29,16 @@ pub loop-round-init : goal.loop-round-init
 loop-round-init c = record {
   same = λ x. (λ z. z, λ z. z);
   in_range = c.requires.in_range;
-  derived = all_stand c.args.rows.now.items;
+  thinned = as_they_are;
 }
 
-pub returns-clause-derived : goal.returns-clause-derived
-returns-clause-derived c = elim c.loop-round-test.branch [
-  | else-loop-round-test w ↦ rw w.rows-is c.loop-round.invariant.derived
-  | then-loop-round-test+in_ok-thin_once+then-not-branch w ↦ rw w.rows-is (all_again _ _ _ c.loop-round.invariant.derived w.in_ok-thin_once.ensures.derived)
+pub returns-clause-thinned : goal.returns-clause-thinned
+returns-clause-thinned c = elim c.loop-round-test.branch [
+  | else-loop-round-test w ↦ rw w.rows-is c.loop-round.invariant.thinned
+  | then-loop-round-test+in_ok-thin_once+then-not-branch w ↦ rw w.rows-is (thinned_again _ _ _ c.loop-round.invariant.thinned w.in_ok-thin_once.ensures.thinned)
 ]
 
 pub returns-in_err-thin_once-clause-passed : goal.returns-in_err-thin_once-clause-passed
 returns-in_err-thin_once-clause-passed c =
     let p = err_from_is_err_and c.from_residual-in_err-thin_once.result c.from_residual-in_err-thin_once.ensures.1 in
-    rw (p.1, p.2) (fault_again _ _ c.loop-round.invariant.derived _ c.in_err-thin_once.ensures.passed)
+    rw (p.1, p.2) (passes_again _ _ c.loop-round.invariant.thinned _ c.in_err-thin_once.ensures.passed)

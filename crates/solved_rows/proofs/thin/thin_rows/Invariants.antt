@@ -2,12 +2,12 @@
 use Rattle.std.specs.List.{All}
 use Rattle.cone_arithmetic.specs.Sparse.{IsInRange}
 use Rattle.cone_row_laws.specs.Solutions.{HaveSameZeros}
-use Rattle.solved_rows.specs.Passing.{IsDerived}
+use Rattle.solved_rows.specs.Eliminating.{AreThinned}
 use Rattle.solved_rows.proofs.thin.thin_rows.Given as goal
 
 abbrev pub invariant-loop-round : goal.invariant-loop-round
 invariant-loop-round l = record {
   same : HaveSameZeros l.fn.rows.items l.rows.items;
   in_range : All (IsInRange l.columns) l.rows.items;
-  derived : All (IsDerived l.fn.rows.items) l.rows.items;
+  thinned : AreThinned l.fn.rows.items l.rows.items;
 }
