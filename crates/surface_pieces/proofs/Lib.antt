@@ -2,6 +2,7 @@ pub mod ArcsOfPieces
 pub mod Counted
 pub mod Held
 pub mod MetArcs
+pub mod SlotsOfArcs
 pub mod RowsOfPieces
 pub mod Freeing
 pub mod Tallies

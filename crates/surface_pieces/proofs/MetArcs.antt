@@ -1,5 +1,5 @@
 -- Arcs that meet, and what they join.
-use Rattle.std.proofs.Common.{◌≡◌, ℕ, ◌/◌, ◌%◌, ◌<◌, Bool, true, false, not, List, length, Option, Some, None, refl, sym, ap, ◌∙◌, subst, arith}
+use Rattle.std.proofs.Common.{◌≡◌, ℕ, ◌/◌, ◌<◌, Bool, true, false, not, List, length, Option, Some, None, refl, sym, ap, ◌∙◌, subst, arith}
 use Rattle.std.specs.Prelude.{sum, if◌then◌else◌}
 use mathlib.Core.Bool.{beq}
 use Rattle.table_definitions.specs.Permutation.{is_odd}
@@ -74,10 +74,10 @@ beq_is true false = refl
 beq_is false true = refl
 beq_is false false = refl
 
-pub joined_is : (rows : List Row) (coords : Coords) (xs : List ℕ) (p : NormalDisc) (slot f v : ℕ) (a b : Arc) (odd la lb : Bool) (j : Across) → f ≡ slot / 4 → v ≡ slot % 4 → IsMeetingAt rows coords xs p f v a b odd
+pub joined_is : (rows : List Row) (coords : Coords) (xs : List ℕ) (p : NormalDisc) (g w f v : ℕ) (a b : Arc) (odd la lb : Bool) (j : Across) → f ≡ g → v ≡ w → IsMeetingAt rows coords xs p f v a b odd
     → la ≡ looks_positive coords xs a → lb ≡ looks_positive coords xs b → j.piece ≡ disc_number xs (disc_of coords xs b)
-    → j.keeps_sides ≡ beq la lb → j.keeps_orientation ≡ beq odd (beq la lb) → IsJoinedAt rows coords xs p slot j
-joined_is rows coords xs p slot f v a b odd la lb j ef ev m ea eb en es eo = record {
+    → j.keeps_sides ≡ beq la lb → j.keeps_orientation ≡ beq odd (beq la lb) → IsJoinedAt rows coords xs p g w j
+joined_is rows coords xs p g w f v a b odd la lb j ef ev m ea eb en es eo = record {
   arc = a;
   gluing = m.gluing;
   meets = m.meets;

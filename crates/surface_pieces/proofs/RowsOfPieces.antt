@@ -1,5 +1,5 @@
 -- Rows of what pieces are joined to, and those of numbers that are read off from them.
-use Rattle.std.proofs.Common.{◌≡◌, ℕ, suc, ◌+◌, ◌*◌, ◌/◌, ◌%◌, ◌<◌, ◌≤◌, inl, inr, List, [], ◌∷◌, length, Option, Some, None, IfSome, IfNone, set, ◌++◌, refl, sym, ap, ◌∙◌, subst, arith}
+use Rattle.std.proofs.Common.{◌≡◌, ℕ, suc, ◌+◌, ◌*◌, ◌%◌, ◌<◌, ◌≤◌, inl, inr, List, [], ◌∷◌, length, Option, Some, None, IfSome, IfNone, set, ◌++◌, refl, sym, ap, ◌∙◌, subst, arith}
 use Rattle.std.specs.List.{slice_index_or}
 use Rattle.std.proofs.lemmas.Bool.{cases_eq}
 use Rattle.std.proofs.lemmas.List.{length-set, get_or-set_same, get_or-set_other, get_or_append_left, get_or_push, get_or_default}
@@ -20,7 +20,8 @@ use Rattle.surface_pieces.specs.Meetings.{HasNoMeeting}
 use Rattle.surface_pieces.specs.Joinings.{IsJoinedAt, IsJoinedUpTo, IsJoinedRow, AreJoined}
 use Rattle.surface_pieces.specs.Searches.{numbers, piece_in, number_across, LeadsTo, IsRow, AreRows}
 use Rattle.surface_pieces.specs.Readings.{read_across, read_at, IsReadRow, AreReadRows}
-use Rattle.surface_pieces.proofs.MetArcs.{a_face}
+use Rattle.surface_pieces.specs.Slots.{slots_each, vertex_of_slot}
+use Rattle.surface_pieces.proofs.SlotsOfArcs.{HasSlot, slot_of_arc}
 
 -- a number that is there stands at a place
 present_place : (row : List (Option ℕ)) (l : ℕ) → Among l (present row) → (s : ℕ) × (s < length row) × (slice_index_or row s None ≡ Some l)
@@ -32,25 +33,25 @@ present_place (Some m ∷ row) l (inr h) = let p = present_place row l h in (suc
 module _ (rows : List Row) (coords : Coords) (xs : List ℕ) (p : NormalDisc) where
   -- what is said of one slot
   abbrev pub IsSlot : ℕ → Option Across → Type 0
-  IsSlot slot o = IfSome o (IsJoinedAt rows coords xs p slot) × IfNone o (HasNoMeeting rows coords xs p (slot / 4) (slot % 4))
+  IsSlot slot o = IfSome o (IsJoinedAt rows coords xs p (slot % 4) (vertex_of_slot coords p slot)) × IfNone o (HasNoMeeting rows coords xs p (slot % 4) (vertex_of_slot coords p slot))
 
-  slot_some : (slot : ℕ) (j : Across) (o : Option Across) → IsSlot slot o → o ≡ Some j → IsJoinedAt rows coords xs p slot j
+  slot_some : (slot : ℕ) (j : Across) (o : Option Across) → IsSlot slot o → o ≡ Some j → IsJoinedAt rows coords xs p (slot % 4) (vertex_of_slot coords p slot) j
   slot_some slot j None h e = absurd (let q : None ≡ Some j = e in cc)
-  slot_some slot j (Some k) h e = subst (IsJoinedAt rows coords xs p slot) (let q : Some k ≡ Some j = e in cc) h.0
+  slot_some slot j (Some k) h e = subst (IsJoinedAt rows coords xs p (slot % 4) (vertex_of_slot coords p slot)) (let q : Some k ≡ Some j = e in cc) h.0
 
-  slot_none : (slot : ℕ) (o : Option Across) → IsSlot slot o → o ≡ None → HasNoMeeting rows coords xs p (slot / 4) (slot % 4)
+  slot_none : (slot : ℕ) (o : Option Across) → IsSlot slot o → o ≡ None → HasNoMeeting rows coords xs p (slot % 4) (vertex_of_slot coords p slot)
   slot_none slot None h e = h.1
   slot_none slot (Some k) h e = absurd (let q : Some k ≡ None = e in cc)
 
-  pub slot_next : (slot : ℕ) (row : List (Option Across)) (o : Option Across) → slot < 16 → IsJoinedUpTo rows coords xs p slot row → IsSlot slot o → IsJoinedUpTo rows coords xs p (slot + 1) (set row slot o)
+  pub slot_next : (slot : ℕ) (row : List (Option Across)) (o : Option Across) → slot < slots_each coords → IsJoinedUpTo rows coords xs p slot row → IsSlot slot o → IsJoinedUpTo rows coords xs p (slot + 1) (set row slot o)
   slot_next slot row o l u h = record {
     size = length-set row slot o ∙ u.size;
     some = λ s j ls e. elim (cases_eq s slot) [
-      | inl same ↦ subst (λ t. IsJoinedAt rows coords xs p t j) (sym same) (slot_some slot j o h (here s same ∙ e))
+      | inl same ↦ subst (λ t. IsJoinedAt rows coords xs p (t % 4) (vertex_of_slot coords p t) j) (sym same) (slot_some slot j o h (here s same ∙ e))
       | inr apart ↦ u.some s j (omega arith) (sym (get_or-set_other row slot s o None apart) ∙ e)
     ];
     none = λ s ls e. elim (cases_eq s slot) [
-      | inl same ↦ subst (λ t. HasNoMeeting rows coords xs p (t / 4) (t % 4)) (sym same) (slot_none slot o h (here s same ∙ e))
+      | inl same ↦ subst (λ t. HasNoMeeting rows coords xs p (t % 4) (vertex_of_slot coords p t)) (sym same) (slot_none slot o h (here s same ∙ e))
       | inr apart ↦ u.none s (omega arith) (sym (get_or-set_other row slot s o None apart) ∙ e)
     ];
   }
@@ -63,38 +64,35 @@ module _ (rows : List Row) (coords : Coords) (xs : List ℕ) (p : NormalDisc) wh
     abbrev number_by : Arc → Gluing → ℕ
     number_by a g = number_across kind coords xs a g k (disc_number xs (disc_of coords xs (arc_across g a)))
 
-    across_is : (slot : ℕ) (j : Across) (i : IsJoinedAt rows coords xs p slot j) → number_by i.arc i.gluing ≡ read_across kind k j
-    across_is slot j i = by_kind kind i
+    across_is : (f v : ℕ) (j : Across) (i : IsJoinedAt rows coords xs p f v j) → number_by i.arc i.gluing ≡ read_across kind k j
+    across_is f v j i = by_kind kind i
       where
-        by_kind : (kind : SearchKind) (i : IsJoinedAt rows coords xs p slot j) → number_across kind coords xs i.arc i.gluing k (disc_number xs (disc_of coords xs (arc_across i.gluing i.arc))) ≡ read_across kind k j
+        by_kind : (kind : SearchKind) (i : IsJoinedAt rows coords xs p f v j) → number_across kind coords xs i.arc i.gluing k (disc_number xs (disc_of coords xs (arc_across i.gluing i.arc))) ≡ read_across kind k j
         by_kind Pieces i = sym i.piece
         by_kind (Signed Sides) i = λ t. 2 * sym i.piece t + turned_if (sym i.sides t) (k % 2)
         by_kind (Signed Orientation) i = λ t. 2 * sym i.piece t + turned_if (sym i.orientation t) (k % 2)
 
-    leads_from : (slot m : ℕ) (row : List (Option Across)) (o : Option Across) → IsJoinedRow rows coords xs p row → slot < 16 → slice_index_or row slot None ≡ o → read_at kind k o ≡ Some m → LeadsTo kind rows coords xs p k m
+    leads_from : (slot m : ℕ) (row : List (Option Across)) (o : Option Across) → IsJoinedRow rows coords xs p row → slot < slots_each coords → slice_index_or row slot None ≡ o → read_at kind k o ≡ Some m → LeadsTo kind rows coords xs p k m
     leads_from slot m row None u l e n = absurd (let q : None ≡ Some m = n in cc)
     leads_from slot m row (Some j) u l e n =
-        let i : IsJoinedAt rows coords xs p slot j = u.some slot j l e in
-        record { arc = i.arc; gluing = i.gluing; meets = i.meets; one = i.one; other = across_is slot j i ∙ (let q : Some (read_across kind k j) ≡ Some m = n in cc) }
+        let i : IsJoinedAt rows coords xs p (slot % 4) (vertex_of_slot coords p slot) j = u.some slot j l e in
+        record { arc = i.arc; gluing = i.gluing; meets = i.meets; one = i.one; other = across_is (slot % 4) (vertex_of_slot coords p slot) j i ∙ (let q : Some (read_across kind k j) ≡ Some m = n in cc) }
 
-    leads_to : (slot m : ℕ) (row : List (Option Across)) (o : Option Across) → IsJoinedRow rows coords xs p row → slot < 16 → slice_index_or row slot None ≡ o
-        → (d : LeadsTo kind rows coords xs p k m) → (d.arc).face ≡ slot / 4 → (d.arc).vertex ≡ slot % 4 → read_at kind k o ≡ Some m
+    leads_to : (slot m : ℕ) (row : List (Option Across)) (o : Option Across) → IsJoinedRow rows coords xs p row → slot < slots_each coords → slice_index_or row slot None ≡ o
+        → (d : LeadsTo kind rows coords xs p k m) → (d.arc).face ≡ slot % 4 → (d.arc).vertex ≡ vertex_of_slot coords p slot → read_at kind k o ≡ Some m
     leads_to slot m row None u l e d ef ev = absurd (u.none slot l e d.arc d.gluing d.meets ef ev d.one)
     leads_to slot m row (Some j) u l e d ef ev =
-        let i : IsJoinedAt rows coords xs p slot j = u.some slot j l e in
+        let i : IsJoinedAt rows coords xs p (slot % 4) (vertex_of_slot coords p slot) j = u.some slot j l e in
         let o : (d.arc ≡ i.arc) × (d.gluing ≡ i.gluing) = i.only d.arc d.gluing d.meets ef ev d.one in
-        ap Some (sym (across_is slot j i) ∙ (λ t. number_by (sym o.0 t) (sym o.1 t)) ∙ d.other)
+        ap Some (sym (across_is (slot % 4) (vertex_of_slot coords p slot) j i) ∙ (λ t. number_by (sym o.0 t) (sym o.1 t)) ∙ d.other)
 
     row_read : IsSurface rows coords xs → (joined : List (Option Across)) (row : List (Option ℕ)) → IsJoinedRow rows coords xs p joined → IsReadRow kind k joined row → IsRow kind rows coords xs p k row
     row_read s joined row u r m = (
       (λ c. (let q : (t : ℕ) × (t < length row) × (slice_index_or row t None ≡ Some m) = present_place row m (among_contains m (present row) c) in
-          let l : q.0 < 16 = (let b = q.1 in omega (arith, r.size)) in
-          leads_from q.0 m joined (slice_index_or joined q.0 None) u l refl (sym (r.each q.0 l) ∙ q.2))),
-      (λ d. (let f : (d.arc).face < 4 = a_face rows coords xs s d.arc d.gluing d.meets in
-          let v : (d.arc).vertex < 4 = (d.meets).is_vertex in
-          let slot : ℕ = 4 * (d.arc).face + (d.arc).vertex in
-          let l : slot < 16 = omega arith in
-          present_contains row slot m (r.each slot l ∙ leads_to slot m joined (slice_index_or joined slot None) u l refl d (omega arith) (omega arith)))),
+          let l : q.0 < slots_each coords = (let b = q.1 in omega (arith, r.size, u.size)) in
+          leads_from q.0 m joined (slice_index_or joined q.0 None) u l refl (sym (r.each q.0 (omega (arith, u.size))) ∙ q.2))),
+      (λ d. (let h : HasSlot coords (d.arc).face (d.arc).vertex p = slot_of_arc rows coords xs s p d.arc d.gluing d.meets d.one in
+          present_contains row h.slot m (r.each h.slot (let l = h.in_range in omega (arith, u.size)) ∙ leads_to h.slot m joined (slice_index_or joined h.slot None) u h.in_range refl d (sym h.face) (sym h.vertex)))),
     )
 
 pub piece_low : (kind : SearchKind) (i n : ℕ) → i < numbers kind n → piece_in kind i < n

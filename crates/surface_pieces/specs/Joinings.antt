@@ -1,5 +1,5 @@
 -- What a piece is joined to by its arcs.
-use Rattle.std.specs.Prelude.{◌≡◌, ℕ, ◌/◌, ◌%◌, ◌<◌, List, [], length, Option, Some, None}
+use Rattle.std.specs.Prelude.{◌≡◌, ℕ, ◌%◌, ◌<◌, List, [], length, Option, Some, None}
 use Rattle.std.specs.List.{slice_index_or}
 use Rattle.table_definitions.specs.Table.{Gluing, Row}
 use Rattle.surface_definitions.specs.declared.Coords.{Coords}
@@ -8,29 +8,30 @@ use Rattle.surface_pieces.specs.Across.{Across}
 use Rattle.surface_pieces.specs.declared.joined.SignKind.TheVariants.{Sides, Orientation}
 use Rattle.surface_pieces.specs.Meetings.{IsOnlyMeeting, HasNoMeeting}
 use Rattle.surface_pieces.specs.Searches.{stays_at}
+use Rattle.surface_pieces.specs.Slots.{slots_each, vertex_of_slot}
 
--- so piece p is joined by its arc at a slot, which is 4 times the face plus the vertex
-pub record IsJoinedAt (rows : List Row) (coords : Coords) (xs : List ℕ) (p : NormalDisc) (slot : ℕ) (j : Across) : Type 0 where
+-- piece p is joined to j by its arc around vertex v of face f
+pub record IsJoinedAt (rows : List Row) (coords : Coords) (xs : List ℕ) (p : NormalDisc) (f v : ℕ) (j : Across) : Type 0 where
   pub arc : Arc
   pub gluing : Gluing
   pub meets : Meets rows coords xs arc gluing
   pub one : disc_of coords xs arc ≡ p
-  pub only : IsOnlyMeeting rows coords xs p (slot / 4) (slot % 4) arc gluing
+  pub only : IsOnlyMeeting rows coords xs p f v arc gluing
   pub piece : j.piece ≡ disc_number xs (disc_of coords xs (arc_across gluing arc))
   pub sides : j.keeps_sides ≡ stays_at Sides coords xs arc gluing
   pub orientation : j.keeps_orientation ≡ stays_at Orientation coords xs arc gluing
 
--- what piece p is joined to at the slots before this one
+-- a row holds what piece p is joined to by its arcs of the slots before this one
 pub record IsJoinedUpTo (rows : List Row) (coords : Coords) (xs : List ℕ) (p : NormalDisc) (slot : ℕ) (row : List (Option Across)) : Type 0 where
-  pub size : length row ≡ 16
-  pub some : (s : ℕ) (j : Across) → s < slot → slice_index_or row s None ≡ Some j → IsJoinedAt rows coords xs p s j
-  pub none : (s : ℕ) → s < slot → slice_index_or row s None ≡ None → HasNoMeeting rows coords xs p (s / 4) (s % 4)
+  pub size : length row ≡ slots_each coords
+  pub some : (s : ℕ) (j : Across) → s < slot → slice_index_or row s None ≡ Some j → IsJoinedAt rows coords xs p (s % 4) (vertex_of_slot coords p s) j
+  pub none : (s : ℕ) → s < slot → slice_index_or row s None ≡ None → HasNoMeeting rows coords xs p (s % 4) (vertex_of_slot coords p s)
 
--- and at all
+-- a row holds what piece p is joined to by all its arcs
 abbrev pub IsJoinedRow : List Row → Coords → List ℕ → NormalDisc → List (Option Across) → Type 0
-IsJoinedRow rows coords xs p row = IsJoinedUpTo rows coords xs p 16 row
+IsJoinedRow rows coords xs p row = IsJoinedUpTo rows coords xs p (slots_each coords) row
 
--- so of each piece
+-- the rows of all pieces, in their order
 pub record AreJoined (rows : List Row) (coords : Coords) (xs : List ℕ) (joined : List (List (Option Across))) : Type 0 where
   pub size : length joined ≡ length (discs_of xs)
   pub each : (i : ℕ) → i < length (discs_of xs) → IsJoinedRow rows coords xs (slice_index_or (discs_of xs) i (record { column = 0; number = 0 })) (slice_index_or joined i [])

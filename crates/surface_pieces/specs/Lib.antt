@@ -4,6 +4,7 @@ pub mod Searches
 pub mod Vectors
 pub mod Meetings
 pub mod Across
+pub mod Slots
 pub mod Joinings
 pub mod Readings
 pub mod ComponentLists

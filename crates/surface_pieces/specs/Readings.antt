@@ -26,11 +26,11 @@ read_at kind k (Some j) = Some (read_across kind k j)
 
 -- the row of number k, up to a slot, by that of its piece
 pub record IsReadUpTo (kind : SearchKind) (k slot : ℕ) (joined : List (Option Across)) (row : List (Option ℕ)) : Type 0 where
-  pub size : length row ≡ 16
+  pub size : length row ≡ length joined
   pub each : (s : ℕ) → s < slot → slice_index_or row s None ≡ read_at kind k (slice_index_or joined s None)
 
 abbrev pub IsReadRow : SearchKind → ℕ → List (Option Across) → List (Option ℕ) → Type 0
-IsReadRow kind k joined row = IsReadUpTo kind k 16 joined row
+IsReadRow kind k joined row = IsReadUpTo kind k (length joined) joined row
 
 -- the rows of all numbers
 pub record AreReadRows (kind : SearchKind) (joined : List (List (Option Across))) (rows : List (List (Option ℕ))) : Type 0 where

@@ -1,8 +1,10 @@
-//! The arcs round a vertex of a face, and the column of those behind the triangles.
+//! Arcs around a vertex of a face: the slots of a disc for them, and the column of those past the triangles.
 
-ghost use Rattle.std.specs.Prelude.{◌≡◌, ◌≢◌, ◌<◌, All, IfSome, IfNone, ◌/◌, ◌%◌, length};
+ghost use Rattle.std.specs.Prelude.{◌≡◌, ◌≢◌, ◌<◌, All, IfSome, IfNone, ◌%◌, length};
 ghost use Rattle.surface_laws.specs.PieceLaws.{first_nonzero};
+ghost use Rattle.surface_pieces.specs.Slots as slots;
 
+use normal_discs::partner;
 use std::marker::Model;
 
 /// A vertex of a face. Invariant: `vertex` is not the one opposite `face`.
@@ -15,14 +17,38 @@ pub struct Corner {
     pub ghost off: { vertex ≢ face },
 }
 
-/// The vertex of a face at a slot, which is 4 times the face plus the vertex, unless the face lies across from it.
-pub fn corner_at(slot: u32) -> Option<Corner>
-    requires { slot < 16 }
-    ensures some { IfSome result (λ corner. corner.face ≡ slot / 4 × corner.vertex ≡ slot % 4) }
-    ensures none { IfNone result (slot % 4 ≡ slot / 4) }
+/// The vertex around which a disc has arc number `slot / 4` in face `slot % 4`, by the index of its column among those
+/// of its tetrahedron, or the face itself if the disc has no such arc. A triangle and a quad have at most one arc in a
+/// face, and an octagon has two.
+fn slot_vertex(place: u32, slot: u32) -> u8
+    requires place { place < 10 }
+    requires slot { slot < 8 }
+    ensures value { result ≡ slots.slot_vertex place slot }
+    ensures in_range { result < 4 }
 {
-    let face = (slot / 4) as u8;
-    let vertex = (slot % 4) as u8;
+    let face = (slot % 4) as u8;
+    if place >= 7 {
+        return partner(((place - 6 + slot / 4) % 3) as u8, face);
+    }
+    if slot >= 4 {
+        return face;
+    }
+    if place < 4 {
+        return place as u8;
+    }
+    partner((place - 4) as u8, face)
+}
+
+/// The face and the vertex of `slot` for a disc, by the index of its column among those of its tetrahedron, or `None`
+/// if the disc has no such arc.
+pub fn corner_at(place: u32, slot: u32) -> Option<Corner>
+    requires place { place < 10 }
+    requires slot { slot < 8 }
+    ensures some { IfSome result (λ corner. corner.face ≡ slot % 4 × corner.vertex ≡ slots.slot_vertex place slot) }
+    ensures none { IfNone result (slots.slot_vertex place slot ≡ slot % 4) }
+{
+    let face = (slot % 4) as u8;
+    let vertex = slot_vertex(place, slot);
     if vertex == face {
         return None;
     }

@@ -7,9 +7,10 @@ ghost use Rattle.text_definitions.specs.Written.{limit};
 ghost use Rattle.surface_vector_definitions.specs.Components.{AreListedComponents, IsPiecesAnswer};
 ghost use Rattle.surface_laws.specs.PieceLaws.{IsSurface};
 ghost use Rattle.surface_pieces.specs.ComponentLists.{no_component};
+ghost use Rattle.surface_pieces.specs.Slots.{slots_each};
 
 use crate::counts::{entries_of, total};
-use crate::joined::{SearchKind, SignKind};
+use crate::joined::{Joined, SearchKind, SignKind};
 use crate::numbers::{all_pieces, starts_of};
 use crate::rows::joined_rows;
 use crate::signs::signs_of;
@@ -51,8 +52,9 @@ pub type PiecesFault = Failure<ManyPieces>;
 /// The greatest number of discs.
 const MOST_PIECES: u128 = 100_000;
 
-/// The components of a surface.
-fn find_components(alloc: Global, surface: &Surface) -> Result<Pieces, AllocError>
+/// The components of a surface, by rows of `N` slots.
+fn find_components<const N: usize>(alloc: Global, surface: &Surface) -> Result<Pieces, AllocError>
+    requires { N ≡ slots_each surface.now.coords.system }
     ensures { IfOk result (AreListedComponents surface.now.table.now surface.now.coords.system surface.now.entries.now) }
 {
     let starts = starts_of(alloc, surface)?;
@@ -62,7 +64,7 @@ fn find_components(alloc: Global, surface: &Surface) -> Result<Pieces, AllocErro
         listed: &listed,
         starts: &starts,
     };
-    let rows = joined_rows(alloc, &pieces)?;
+    let rows: Vec<[Option<Joined>; N]> = joined_rows(alloc, &pieces)?;
     let joined = JoinedPieces {
         surface: *surface,
         rows: &rows,
@@ -76,6 +78,16 @@ fn find_components(alloc: Global, surface: &Surface) -> Result<Pieces, AllocErro
         two_sided,
         orientable,
     })
+}
+
+/// The components of a surface, by rows that are as short as its coordinates allow.
+fn components_of(alloc: Global, surface: &Surface) -> Result<Pieces, AllocError>
+    ensures { IfOk result (AreListedComponents surface.now.table.now surface.now.coords.system surface.now.entries.now) }
+{
+    match surface.coords.system {
+        Coords::Octagon => find_components::<8>(alloc, surface),
+        _ => find_components::<4>(alloc, surface),
+    }
 }
 
 impl Pieces {
@@ -104,7 +116,7 @@ impl Pieces {
             coords,
             entries: &entries,
         };
-        let pieces = find_components(alloc, &surface)?;
+        let pieces = components_of(alloc, &surface)?;
         Ok(pieces)
     }
 

@@ -1,8 +1,9 @@
 //! The neighbours of each disc.
 
-ghost use Rattle.std.specs.Prelude.{IfOk};
+ghost use Rattle.std.specs.Prelude.{◌≡◌, IfOk};
 ghost use Rattle.surface_laws.specs.PieceLaws.{IsPieceOf};
 ghost use Rattle.surface_pieces.specs.Joinings.{IsJoinedRow, AreJoined};
+ghost use Rattle.surface_pieces.specs.Slots.{slots_each};
 
 use crate::counts::Piece;
 use crate::joined::Joined;
@@ -10,22 +11,24 @@ use crate::surface::NumberedPieces;
 use std::alloc::{AllocError, Global};
 
 /// What a piece is joined to by each of its arcs.
-fn joined_row(pieces: &NumberedPieces, piece: Piece) -> [Option<Joined>; 16]
-    requires { IsPieceOf pieces.now.surface.entries.now piece }
+fn joined_row<const N: usize>(pieces: &NumberedPieces, piece: Piece) -> [Option<Joined>; N]
+    requires slots { N ≡ slots_each pieces.now.surface.coords.system }
+    requires piece { IsPieceOf pieces.now.surface.entries.now piece }
     ensures { IsJoinedRow pieces.now.surface.table.now pieces.now.surface.coords.system pieces.now.surface.entries.now piece result }
 {
-    let mut row = [None; 16];
-    for slot in 0..16 {
-        row[slot as usize] = pieces.joined_at(piece, slot);
+    let mut row = [None; N];
+    for slot in 0..N {
+        row[slot] = pieces.joined_at(piece, slot as u32);
     }
     row
 }
 
 /// What each piece is joined to.
-pub fn joined_rows(
+pub fn joined_rows<const N: usize>(
     alloc: Global,
     pieces: &NumberedPieces,
-) -> Result<Vec<[Option<Joined>; 16]>, AllocError>
+) -> Result<Vec<[Option<Joined>; N]>, AllocError>
+    requires { N ≡ slots_each pieces.now.surface.coords.system }
     ensures { IfOk result (λ joined. AreJoined pieces.now.surface.table.now pieces.now.surface.coords.system pieces.now.surface.entries.now joined.items) }
 {
     let mut joined = Vec::with_capacity(alloc, pieces.listed.len())?;

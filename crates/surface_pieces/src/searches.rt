@@ -46,11 +46,15 @@ fn number_at(kind: SearchKind, number: u32, joined: Option<Joined>) -> Option<u3
 }
 
 /// What is joined to a number, by the row of its piece.
-fn row_of(joined: &[Option<Joined>; 16], kind: SearchKind, number: u32) -> [Option<u32>; 16]
+fn row_of<const N: usize>(
+    joined: &[Option<Joined>; N],
+    kind: SearchKind,
+    number: u32,
+) -> [Option<u32>; N]
     ensures { IsReadRow kind number joined.now result }
 {
-    let mut row = [None; 16];
-    for slot in 0..16 {
+    let mut row = [None; N];
+    for slot in 0..N {
         row[slot] = number_at(kind, number, joined[slot]);
     }
     row
@@ -66,7 +70,7 @@ fn piece_in(kind: SearchKind, number: usize) -> usize
     }
 }
 
-impl<'a> JoinedPieces<'a> {
+impl<'a, const N: usize> JoinedPieces<'a, N> {
     /// How many numbers there are.
     fn numbers(&self, kind: SearchKind) -> usize
         ensures value { result ≡ searches.numbers kind (length self.now.rows.now) }
@@ -79,7 +83,7 @@ impl<'a> JoinedPieces<'a> {
     }
 
     /// What is joined to each number.
-    fn rows_of(&self, alloc: Global, kind: SearchKind) -> Result<Vec<[Option<u32>; 16]>, AllocError>
+    fn rows_of(&self, alloc: Global, kind: SearchKind) -> Result<Vec<[Option<u32>; N]>, AllocError>
         ensures { IfOk result (λ rows. AreReadRows kind self.now.rows.now rows.items) }
     {
         let numbers = self.numbers(kind);

@@ -41,9 +41,9 @@ fn free_components(
 }
 
 /// Whether signs exist on each component.
-pub fn signs_of(
+pub fn signs_of<const N: usize>(
     alloc: Global,
-    joined: &JoinedPieces,
+    joined: &JoinedPieces<N>,
     components: &Numbering,
     signs: SignKind,
 ) -> Result<Vec<bool>, AllocError>

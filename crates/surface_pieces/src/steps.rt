@@ -1,16 +1,18 @@
 //! What is across an arc of a disc.
 
-ghost use Rattle.std.specs.Prelude.{◌≡◌, ◌<◌, ◌/◌, ◌%◌, IfSome, IfNone};
+ghost use Rattle.std.specs.Prelude.{◌≡◌, ◌<◌, ◌%◌, IfSome, IfNone};
 ghost use Rattle.surface_definitions.specs.Pieces as pieces;
 ghost use Rattle.surface_laws.specs.PieceLaws.{IsPieceOf};
 ghost use Rattle.surface_pieces.specs.Meetings.{IsMeetingAt, HasNoMeeting};
 ghost use Rattle.surface_pieces.specs.Joinings.{IsJoinedAt};
+ghost use Rattle.surface_pieces.specs.Slots.{vertex_of_slot};
 
 use crate::columns::{Corner, SurfaceArc, corner_at};
 use crate::counts::Piece;
 use crate::joined::Joined;
 use crate::surface::{NumberedPieces, Surface};
 use gluing_table::{Face, Glue};
+use normal_discs::place_of;
 
 /// The arc to which `glue` maps `arc`.
 fn across(glue: Glue, arc: SurfaceArc) -> SurfaceArc
@@ -53,14 +55,15 @@ impl<'a> Surface<'a> {
 }
 
 impl<'a> NumberedPieces<'a> {
-    /// What a piece is joined to by its arc round a vertex of a face; the slot is 4 times the face plus the vertex.
+    /// What `piece` is joined to by its arc of `slot`, or `None` if it has none, or the arc is in a boundary face.
     pub fn joined_at(&self, piece: Piece, slot: u32) -> Option<Joined>
         requires piece { IsPieceOf self.now.surface.entries.now piece }
-        requires a_slot { slot < 16 }
-        ensures some { IfSome result (IsJoinedAt self.now.surface.table.now self.now.surface.coords.system self.now.surface.entries.now piece slot) }
-        ensures none { IfNone result (HasNoMeeting self.now.surface.table.now self.now.surface.coords.system self.now.surface.entries.now piece (slot / 4) (slot % 4)) }
+        requires a_slot { slot < 8 }
+        ensures some { IfSome result (IsJoinedAt self.now.surface.table.now self.now.surface.coords.system self.now.surface.entries.now piece (slot % 4) (vertex_of_slot self.now.surface.coords.system piece slot)) }
+        ensures none { IfNone result (HasNoMeeting self.now.surface.table.now self.now.surface.coords.system self.now.surface.entries.now piece (slot % 4) (vertex_of_slot self.now.surface.coords.system piece slot)) }
     {
-        let corner = corner_at(slot)?;
+        let place = place_of(self.surface.coords.system, piece.column);
+        let corner = corner_at(place, slot)?;
         let meeting = self.surface.meeting_at(piece, corner)?;
         let other = self.surface.piece_of(meeting.other);
         let from = self.surface.looks_positive(meeting.arc);

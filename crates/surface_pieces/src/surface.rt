@@ -35,10 +35,11 @@ pub struct NumberedPieces<'a> {
     pub ghost counted: { AreStarts surface.entries.now starts.now },
 }
 
-/// What each piece of a surface is joined to, by the vertex of a face round which its arc stands.
+/// What each piece of a surface is joined to, by the slots of its arcs.
 #[derive(Clone, Copy)]
-pub struct JoinedPieces<'a> {
+pub struct JoinedPieces<'a, const N: usize> {
     pub surface: Surface<'a>,
-    pub rows: &'a [[Option<Joined>; 16]],
+    pub rows: &'a [[Option<Joined>; N]],
     pub ghost few: { length rows.now ≤ most_pieces },
+    pub ghost few_slots: { N ≤ 8 },
 }

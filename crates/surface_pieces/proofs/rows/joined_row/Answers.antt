@@ -1,18 +1,20 @@
 -- One slot more.
-use Rattle.std.proofs.Common.{◌≡◌, refl, subst, arith}
+use Rattle.std.proofs.Common.{◌≡◌, None, ◌∙◌, subst, arith}
+use Rattle.std.proofs.lemmas.List.{length-replicate}
 use Rattle.surface_pieces.specs.Joinings.{IsJoinedUpTo}
+use Rattle.surface_pieces.specs.Slots.{slots_each}
 use Rattle.surface_pieces.proofs.RowsOfPieces.{slot_next}
 use Rattle.surface_pieces.proofs.rows.joined_row.Goals as goal
 
 pub loop-slot-init : goal.loop-slot-init
-loop-slot-init c = record { size = refl; some = λ s j l e. absurd (omega arith); none = λ s l e. absurd (omega arith) }
+loop-slot-init g c = record { size = length-replicate g.row.N None ∙ c.requires.slots; some = λ s j l e. absurd (omega arith); none = λ s l e. absurd (omega arith) }
 
 pub loop-slot-preserved : goal.loop-slot-preserved
-loop-slot-preserved c =
-    slot_next c.args.pieces.now.surface.table.now c.args.pieces.now.surface.coords.system c.args.pieces.now.surface.entries.now c.args.piece c.loop-slot.slot c.loop-slot.row c.joined_at.result c.loop-slot-test.true
+loop-slot-preserved g c =
+    slot_next c.args.pieces.now.surface.table.now c.args.pieces.now.surface.coords.system c.args.pieces.now.surface.entries.now c.args.piece c.loop-slot.slot c.loop-slot.row c.joined_at.result (omega (arith, c.loop-slot-test.true, c.requires.slots))
     c.loop-slot.invariant (c.joined_at.ensures.some, c.joined_at.ensures.none)
 
 pub returns : goal.returns
-returns c =
-    let whole : c.loop-slot.slot ≡ 16 = omega (arith, c.loop-slot-test.false) in
+returns g c =
+    let whole : c.loop-slot.slot ≡ slots_each c.args.pieces.now.surface.coords.system = omega (arith, c.loop-slot-test.false, c.requires.slots) in
     subst (λ n. IsJoinedUpTo c.args.pieces.now.surface.table.now c.args.pieces.now.surface.coords.system c.args.pieces.now.surface.entries.now c.args.piece n c.loop-slot.row) whole c.loop-slot.invariant

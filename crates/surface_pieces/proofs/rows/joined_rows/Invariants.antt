@@ -7,7 +7,7 @@ use Rattle.surface_pieces.specs.Joinings.{IsJoinedRow}
 use Rattle.surface_pieces.proofs.rows.joined_rows.Given as goal
 
 abbrev pub invariant-loop-piece : goal.invariant-loop-piece
-invariant-loop-piece l = record {
+invariant-loop-piece g l = record {
   size : length l.joined.items ≡ l.piece-index;
   each : (i : ℕ) → i < l.piece-index
       → IsJoinedRow l.pieces.surface.table.now l.pieces.surface.coords.system l.pieces.surface.entries.now (slice_index_or (discs_of l.pieces.surface.entries.now) i no_piece) (slice_index_or l.joined.items i []);

@@ -10,12 +10,12 @@ use Rattle.surface_pieces.proofs.SignsFound.{free_is}
 use Rattle.surface_pieces.proofs.signs.signs_of.Goals as goal
 
 pub free_components-requires-clause-signed : goal.free_components-requires-clause-signed
-free_components-requires-clause-signed c =
+free_components-requires-clause-signed g c =
     let h : HasClasses (Signed c.args.signs) c.args.joined.now.surface.table.now c.args.joined.now.surface.coords.system c.args.joined.now.surface.entries.now c.in_ok-signed.signed.classes.items c.in_ok-signed.signed.count = c.in_ok-signed.ensures in
     omega (arith, ap (λ (ks : List ℕ). length ks) c.deref.ensures.value, (h.numbered).one_each, (h.are).size, (c.requires.components).one_each)
 
 pub returns : goal.returns
-returns c = record {
+returns g c = record {
   size = c.in_ok-free.ensures.size;
   each = λ i l. (
     (λ t. (told i l).0 (subst (λ (ks : List ℕ). IsFree ks c.args.components.now.classes.items i) c.deref.ensures.value ((c.in_ok-free.ensures.each i l).0 t))),

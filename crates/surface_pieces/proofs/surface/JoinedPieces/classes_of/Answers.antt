@@ -9,8 +9,8 @@ use Rattle.surface_pieces.proofs.Searched.{rows_below, rows_symmetric}
 use Rattle.surface_pieces.proofs.surface.JoinedPieces.classes_of.Goals as goal
 
 pub classes-requires : goal.classes-requires
-classes-requires c = (
-  omega arith,
+classes-requires g c = (
+  omega (arith, c.args.self.now.few_slots),
   (
     omega (arith, ap (λ (rs : List (List (Option ℕ))). length rs) c.deref.ensures.value, c.in_ok-rows.ensures.size, numbers_low c.args.kind (length c.args.self.now.rows.now), c.args.self.now.few),
     (
@@ -24,7 +24,7 @@ classes-requires c = (
     are = rows_read c.args.self.now.surface.table.now c.args.self.now.surface.coords.system c.args.self.now.surface.entries.now (held c.args.self.now.surface.table.now c.args.self.now.surface.coords.system c.args.self.now.surface.entries.now c.args.self.now.surface.normal) c.args.kind c.args.self.now.rows.now c.in_ok-rows.rows.items c.requires c.in_ok-rows.ensures
 
 pub returns : goal.returns
-returns c = record {
+returns g c = record {
   listed = c.in_ok-rows.rows.items;
   are = rows_read c.args.self.now.surface.table.now c.args.self.now.surface.coords.system c.args.self.now.surface.entries.now (held c.args.self.now.surface.table.now c.args.self.now.surface.coords.system c.args.self.now.surface.entries.now c.args.self.now.surface.normal) c.args.kind c.args.self.now.rows.now c.in_ok-rows.rows.items c.requires c.in_ok-rows.ensures;
   numbered = subst (λ (rs : List (List (Option ℕ))). IsNumbering (length rs) (IsJoined (neighbours_of rs)) c.in_ok-found.found.classes.items c.in_ok-found.found.count) c.deref.ensures.value c.in_ok-found.ensures;

@@ -8,8 +8,11 @@ use Rattle.surface_pieces.specs.Readings.{IsReadRow}
 use Rattle.surface_pieces.proofs.RowsOfPieces.{rows_push, piece_low}
 use Rattle.surface_pieces.proofs.surface.JoinedPieces.rows_of.Goals as goal
 
+pub row_of-requires : goal.row_of-requires
+row_of-requires g c = omega (arith, c.args.self.now.few_slots)
+
 pub loop-number-preserved : goal.loop-number-preserved
-loop-number-preserved c = record {
+loop-number-preserved g c = record {
   size = ap (λ (rs : List (List (Option ℕ))). length rs) c.in_ok-push.ensures.items ∙ length_push c.loop-number.rows.items c.row_of.result ∙ (let s = c.loop-number.invariant.size in omega arith);
   each = rows_push (λ i row. IsReadRow c.args.kind i (slice_index_or c.args.self.now.rows.now (piece_in c.args.kind i) []) row) c.loop-number.rows.items c.push.new.self.items c.row_of.result
       c.loop-number.number c.loop-number.invariant.size c.loop-number.invariant.each

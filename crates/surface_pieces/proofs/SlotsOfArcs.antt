@@ -1,0 +1,127 @@
+-- Each arc of a piece has a slot: by the type of the piece, the vertex around which it has an arc of the face is this one.
+use Rattle.std.proofs.Common.{◌≡◌, ℕ, zero, suc, ◌+◌, ◌-◌, ◌%◌, ◌<◌, ◌≤◌, Bool, true, false, not, List, map, filter, inl, inr, refl, sym, subst, arith}
+use Rattle.std.specs.Prelude.{◌==◌, ◌&&◌, ◌||◌, nat_lt, if◌then◌else◌}
+use Rattle.std.specs.List.{AllByRecursion}
+use Rattle.std.proofs.lemmas.Bool.{eqb-true, ltb-true, and_parts, or_cases}
+use Rattle.table_definitions.specs.Table.{Gluing, Row}
+use Rattle.surface_definitions.specs.Coordinates.{columns_each, tri_column, quad_column, oct_column, keeping, three, octagon_arcs}
+use Rattle.surface_definitions.specs.declared.Coords.{Coords}
+use Rattle.surface_definitions.specs.declared.Coords.TheVariants.{Standard, Quad, Octagon}
+use Rattle.surface_definitions.specs.Pieces.{NormalDisc, Arc, disc_of, is_triangle_arc, triangles_around, further_column, further_piece, keeps_by_zero, type_in, Meets}
+use Rattle.surface_laws.specs.MatchingLaws.{HasTriangles}
+use Rattle.surface_laws.specs.PieceLaws.{IsSurface, first_nonzero}
+use Rattle.surface_laws.proofs.ColumnKinds.{first_is}
+use Rattle.surface_laws.proofs.Turns.{by_two, keeping_below}
+use Rattle.surface_pieces.specs.Slots.{slots_each, slot_vertex}
+use Rattle.surface_pieces.proofs.MetArcs.{a_face}
+
+-- a disc whose column has this index among those of its tetrahedron has a slot for an arc around vertex v of face f
+pub record HasPlaceSlot (most place f v : ℕ) : Type 0 where
+  pub slot : ℕ
+  pub in_range : slot < most
+  pub face : slot % 4 ≡ f
+  pub vertex : slot_vertex place slot ≡ v
+
+abbrev pub HasSlot : Coords → ℕ → ℕ → NormalDisc → Type 0
+HasSlot coords f v p = HasPlaceSlot (slots_each coords) (p.column % columns_each coords) f v
+
+pub slots_few : (coords : Coords) → slots_each coords ≤ 8
+slots_few Standard = omega arith
+slots_few Quad = omega arith
+slots_few Octagon = omega arith
+
+pub place_low : (coords : Coords) (c : ℕ) → c % columns_each coords < 10
+place_low Standard c = omega arith
+place_low Quad c = omega arith
+place_low Octagon c = omega arith
+
+-- the arcs of a triangle
+tri_fits : ℕ → ℕ → Bool
+tri_fits v f = slot_vertex v f == v
+
+-- those of a quad
+quad_fits : ℕ → ℕ → Bool
+quad_fits v f = (v == f) || (slot_vertex (4 + keeping v f) f == v)
+
+-- those of an octagon of type k
+oct_slot : ℕ → ℕ → ℕ → ℕ
+oct_slot k v f = if (k + 1) % 3 == keeping v f then f else 4 + f
+
+oct_fits : ℕ → ℕ → ℕ → Bool
+oct_fits k v f = (v == f) || ((k == keeping v f) || ((slot_vertex (7 + k) (oct_slot k v f) == v) && ((oct_slot k v f % 4 == f) && nat_lt (oct_slot k v f) 8)))
+
+module _ (f v : ℕ) (lf : f < 4) (lv : v < 4) (off : v ≡ f → ⊥) where
+  one_slot : (most place : ℕ) → 4 ≤ most → slot_vertex place f ≡ v → HasPlaceSlot most place f v
+  one_slot most place l e = record { slot = f; in_range = omega arith; face = omega arith; vertex = e }
+
+  triangle_vertex : slot_vertex v f ≡ v
+  unfolding tri_fits
+  triangle_vertex = eqb-true (slot_vertex v f) v (by_two tri_fits 4 4 refl v f lv lf)
+
+  quad_vertex : slot_vertex (4 + keeping v f) f ≡ v
+  unfolding quad_fits
+  quad_vertex = elim (or_cases (v == f) (slot_vertex (4 + keeping v f) f == v) (by_two quad_fits 4 4 refl v f lv lf)) [
+    | inl same ↦ absurd (off (eqb-true v f same))
+    | inr is ↦ eqb-true (slot_vertex (4 + keeping v f) f) v is
+  ]
+
+  oct_by_test : (k : ℕ) → (k ≡ keeping v f → ⊥) → oct_fits k v f ≡ true → HasPlaceSlot 8 (7 + k) f v
+  unfolding oct_fits
+  oct_by_test k other t = elim (or_cases (v == f) ((k == keeping v f) || ((slot_vertex (7 + k) (oct_slot k v f) == v) && ((oct_slot k v f % 4 == f) && nat_lt (oct_slot k v f) 8))) t) [
+    | inl same ↦ absurd (off (eqb-true v f same))
+    | inr more ↦ elim (or_cases (k == keeping v f) ((slot_vertex (7 + k) (oct_slot k v f) == v) && ((oct_slot k v f % 4 == f) && nat_lt (oct_slot k v f) 8)) more) [
+      | inl same ↦ absurd (other (eqb-true k (keeping v f) same))
+      | inr is ↦ (let a : ((slot_vertex (7 + k) (oct_slot k v f) == v) ≡ true) × (((oct_slot k v f % 4 == f) && nat_lt (oct_slot k v f) 8) ≡ true) = and_parts (slot_vertex (7 + k) (oct_slot k v f) == v) ((oct_slot k v f % 4 == f) && nat_lt (oct_slot k v f) 8) is in
+          let b : ((oct_slot k v f % 4 == f) ≡ true) × (nat_lt (oct_slot k v f) 8 ≡ true) = and_parts (oct_slot k v f % 4 == f) (nat_lt (oct_slot k v f) 8) a.1 in
+          record { slot = oct_slot k v f; in_range = ltb-true (oct_slot k v f) 8 b.1; face = eqb-true (oct_slot k v f % 4) f b.0; vertex = eqb-true (slot_vertex (7 + k) (oct_slot k v f)) v a.0 })
+    ]
+  ]
+
+  octagon_place : (k : ℕ) → k < 3 → (k ≡ keeping v f → ⊥) → HasPlaceSlot 8 (7 + k) f v
+  unfolding oct_fits oct_slot
+  octagon_place zero l other = oct_by_test 0 other (by_two (oct_fits 0) 4 4 refl v f lv lf)
+  octagon_place (suc zero) l other = oct_by_test 1 other (by_two (oct_fits 1) 4 4 refl v f lv lf)
+  octagon_place (suc (suc zero)) l other = oct_by_test 2 other (by_two (oct_fits 2) 4 4 refl v f lv lf)
+  octagon_place (suc (suc (suc k))) l other = absurd (omega arith)
+
+  at_place : (most place c : ℕ) → c ≡ place → HasPlaceSlot most place f v → HasPlaceSlot most c f v
+  at_place most place c e h = subst (λ k. HasPlaceSlot most k f v) (sym e) h
+
+  octagon_at : (t k : ℕ) → k < 3 → (k ≡ keeping v f → ⊥) → HasPlaceSlot 8 (oct_column Octagon t k % 10) f v
+  octagon_at t k l other = at_place 8 (7 + k) (oct_column Octagon t k % 10) (omega arith) (octagon_place k l other)
+
+  octagons_at : (t k : ℕ) → k < 3 → keeping v f ≡ k → AllByRecursion (λ c. HasPlaceSlot 8 (c % 10) f v) (map (oct_column Octagon t) (filter (λ j. not (j == k)) three))
+  octagons_at t zero l e = (octagon_at t 1 (omega arith) (λ d. omega arith), (octagon_at t 2 (omega arith) (λ d. omega arith), tt))
+  octagons_at t (suc zero) l e = (octagon_at t 0 (omega arith) (λ d. omega arith), (octagon_at t 2 (omega arith) (λ d. omega arith), tt))
+  octagons_at t (suc (suc zero)) l e = (octagon_at t 0 (omega arith) (λ d. omega arith), (octagon_at t 1 (omega arith) (λ d. omega arith), tt))
+  octagons_at t (suc (suc (suc k))) l e = absurd (omega arith)
+
+  -- the column of the triangle
+  triangle_slot : (coords : Coords) → HasTriangles coords → (t : ℕ) → HasPlaceSlot (slots_each coords) (tri_column coords t v % columns_each coords) f v
+  triangle_slot Standard h t = at_place 4 v (tri_column Standard t v % 7) (omega arith) (one_slot 4 v (omega arith) triangle_vertex)
+  triangle_slot Quad h t = absurd h
+  triangle_slot Octagon h t = at_place 8 v (tri_column Octagon t v % 10) (omega arith) (one_slot 8 v (omega arith) triangle_vertex)
+
+  -- the column past the triangles
+  further_slot : (coords : Coords) → HasTriangles coords → (xs : List ℕ) (t : ℕ) → HasPlaceSlot (slots_each coords) (first_nonzero xs (octagon_arcs coords t f v) (quad_column coords t (keeping v f)) % columns_each coords) f v
+  further_slot Standard h xs t =
+      let l : keeping v f < 3 = keeping_below v f lv lf off in
+      at_place 4 (4 + keeping v f) (quad_column Standard t (keeping v f) % 7) (omega arith) (one_slot 4 (4 + keeping v f) (omega arith) quad_vertex)
+  further_slot Quad h xs t = absurd h
+  further_slot Octagon h xs t =
+      let l : keeping v f < 3 = keeping_below v f lv lf off in
+      first_is (λ c. HasPlaceSlot 8 (c % 10) f v) xs (octagon_arcs Octagon t f v) (quad_column Octagon t (keeping v f))
+      (at_place 8 (4 + keeping v f) (quad_column Octagon t (keeping v f) % 10) (omega arith) (one_slot 8 (4 + keeping v f) (omega arith) quad_vertex))
+      (octagons_at t (keeping v f) l refl)
+
+-- an arc that meets another has a slot of its piece
+pub slot_of_arc : (rows : List Row) (coords : Coords) (xs : List ℕ) → IsSurface rows coords xs → (p : NormalDisc) (a : Arc) (g : Gluing) → Meets rows coords xs a g → disc_of coords xs a ≡ p → HasSlot coords a.face a.vertex p
+slot_of_arc rows coords xs s p a g m e = subst (HasSlot coords a.face a.vertex) e (by_test (is_triangle_arc coords xs a))
+  where
+    lf : a.face < 4
+    lf = a_face rows coords xs s a g m
+
+    by_test : (b : Bool) → HasSlot coords a.face a.vertex (if b then record { column = tri_column coords a.tet a.vertex; number = a.place }
+        else further_piece xs (further_column coords xs a) (a.place - triangles_around coords xs a) (keeps_by_zero (type_in coords (further_column coords xs a)) a.vertex))
+    by_test true = triangle_slot a.face a.vertex lf m.is_vertex m.off_vertex coords s.triangles a.tet
+    by_test false = further_slot a.face a.vertex lf m.is_vertex m.off_vertex coords s.triangles xs a.tet
