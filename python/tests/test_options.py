@@ -1,9 +1,12 @@
 """The options of the commands: what the table says is what the functions take, and the program."""
+import contextlib
 import inspect
+import io
 import unittest
 
 import trinorm
-from trinorm.options import OPTIONS, Range, coordinates, words
+from trinorm.__main__ import main
+from trinorm.options import OPTIONS, Range, at_least_one, coordinates, nearest, seconds, words
 
 
 class Options(unittest.TestCase):
@@ -23,6 +26,30 @@ class Options(unittest.TestCase):
         self.assertEqual(words("surfaces", coords="quad", order=None, max_entry=2 ** 127 - 1), ["surfaces", "--coords", "quad", "--max-entry", str(2 ** 127 - 1)])
         self.assertEqual(words("bulk", seed=0, moves=5), ["bulk", "--seed", "0", "--moves", "5"])
         self.assertEqual(OPTIONS["bulk"]["moves"], Range(0, 5))
+
+
+class CommandLine(unittest.TestCase):
+    """Numbers on the command line of the package, which argparse refuses by a sentence and status 2."""
+
+    def said(self, *words):
+        with contextlib.redirect_stderr(io.StringIO()) as said, self.assertRaises(SystemExit) as caught:
+            main([*words])
+        self.assertEqual(caught.exception.code, 2)
+        return said.getvalue()
+
+    def test_jobs_and_limits_that_are_none(self):
+        for what in (["crosscheck", "bkaagj"], ["crosscheck", "--file", "f"], ["census", "f"]):
+            for jobs in ("0", "-1", "1.5", "x", "", "nan"):
+                self.assertIn("a whole number from 1 on is expected", self.said(*what, "--jobs", jobs))
+            for timeout in ("0", "-1", "nan", "inf", "-inf", "x", "", "1e999"):
+                self.assertIn("a positive number of seconds is expected", self.said(*what, "--timeout", timeout))
+
+    def test_those_that_are_some(self):
+        self.assertEqual([at_least_one(it) for it in ("1", "64")], [1, 64])
+        self.assertEqual([seconds(it) for it in ("0.5", "1e3", "7")], [0.5, 1000.0, 7.0])
+
+    def test_near_misses(self):
+        self.assertEqual([nearest(it, OPTIONS) for it in ("surface", "desribe", "cover", "x")], ["surfaces", "describe", "cover", None])
 
 
 if __name__ == "__main__":

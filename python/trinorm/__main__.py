@@ -63,7 +63,7 @@ def main(words: Optional[List[str]] = None) -> int:
     in_main_thread = threading.current_thread() is threading.main_thread()
     before = signal.signal(signal.SIGTERM, end_as_by_keyboard) if in_main_thread else None
     try:
-        return given.main(given)
+        return int(given.main(given))
     except Error as wrong:
         print(f"trinorm: {wrong}", file=sys.stderr)
         return 3

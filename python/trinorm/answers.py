@@ -9,7 +9,7 @@ from __future__ import annotations
 from dataclasses import dataclass
 from typing import Any, Dict, List, Optional, Sequence, Tuple
 
-from .tables import Table
+from .tables import Table, import_regina
 
 Vector = Tuple[int, ...]
 
@@ -81,7 +81,7 @@ class Isomorphism:
 
     def to_regina(self) -> Any:
         """The `regina.Isomorphism3`."""
-        import regina
+        regina = import_regina()
         made = regina.Isomorphism3(len(self.images))
         for tet, (there, images) in enumerate(self.images):
             made.setSimpImage(tet, there)
@@ -130,7 +130,7 @@ class Presentation:
 
     def to_regina(self) -> Any:
         """The `regina.GroupPresentation`, in which generators count from 0."""
-        import regina
+        regina = import_regina()
         words = [" ".join(f"g{abs(it) - 1}^{1 if it > 0 else -1}" for it in relator.letters) for relator in self.relators]
         return regina.GroupPresentation(len(self.generators), [word for word in words if word])
 

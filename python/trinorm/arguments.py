@@ -3,7 +3,8 @@ from __future__ import annotations
 
 import math
 import numbers
-from typing import Optional, Sequence
+from collections.abc import Mapping, Set
+from typing import Iterable, List, Optional, Sequence, Tuple
 
 from .errors import BadArgument
 
@@ -61,3 +62,57 @@ def as_bytes(text: str) -> bytes:
         return text.encode("utf8", "surrogateescape")
     except UnicodeEncodeError as fault:
         raise BadArgument(f"the text has half a character at place {fault.start}, {text[fault.start]!r}") from None
+
+
+def plain(value: object) -> object:
+    """An array of NumPy's, a column or a frame of pandas' as a list, or as a list of its rows; any other value as it is."""
+    if hasattr(value, "dtype") and hasattr(value, "tolist"):
+        return value.tolist()
+    if hasattr(value, "dtypes") and hasattr(value, "to_numpy"):
+        return plain(value.to_numpy())
+    return value
+
+
+def listed(values: object, expected: str) -> List[object]:
+    """The values of a list, a tuple, an array or any other iterable with an order.
+
+    expected: what is said of a value that is none of these
+    """
+    values = plain(values)
+    if isinstance(values, (str, bytes, bytearray, Mapping, Set)) or not isinstance(values, Iterable):
+        raise BadArgument(f"{expected}, and not {shown(values)}")
+    return list(values)
+
+
+def whole_numbers(values: object, expected: str) -> Tuple[int, ...]:
+    """The whole numbers of a list.
+
+    expected: what is said of a value that is no such list
+    """
+    entries = tuple(listed(values, expected))
+    if set(map(type, entries)) <= {int}:  # nearly always, and far quicker than to look at each
+        return entries  # type: ignore[return-value]
+    checked = tuple(map(whole_number, entries))
+    for entry, number in zip(entries, checked):
+        if number is None:
+            raise BadArgument(f"{expected}: {shown(entry)} is no whole number{_integral(entry)}")
+    return checked  # type: ignore[return-value]
+
+
+def _integral(entry: object) -> str:
+    """What is added about a number that is whole by its value alone."""
+    is_whole = isinstance(entry, float) and entry.is_integer()
+    return "; astype(int) makes whole numbers of an array's" if is_whole else ""
+
+
+def lines(values: object, name: str, example: str) -> str:
+    """The lines of moves or steps, each a text.
+
+    name: what they are called, as `moves`
+    """
+    expected = f"a list of {name} is expected, as [{example!r}]"
+    texts = listed(values, expected)
+    for text in texts:
+        if not isinstance(text, str) or "\n" in text:
+            raise BadArgument(f"{expected}: {shown(text)} is none")
+    return "".join(f"{text}\n" for text in texts)

@@ -16,7 +16,7 @@ import time
 from typing import Any, Dict, Iterable, Iterator, List, Set, TextIO
 
 from .answer_files import Line, Output, read_lines
-from .options import coordinates
+from .options import add_run_arguments, coordinates
 from .program import Failed, find
 from .tasks import COMMANDS, Entry, Task
 from .workers import Pool
@@ -142,11 +142,6 @@ def census(given: str, out: str, task: Task, jobs: int, retry: bool = False) -> 
     return Ran(len(wanted) - len(todo), len(todo), progress.kinds["failed"])
 
 
-def add_run_arguments(reader: argparse.ArgumentParser) -> None:
-    reader.add_argument("--jobs", type=int, help="runs at a time (default: as many as processors)")
-    reader.add_argument("--timeout", type=float, help="seconds after which a run is ended")
-
-
 def add_arguments(reader: argparse.ArgumentParser) -> None:
     reader.add_argument("signatures", help="a file of lines SIGNATURE or SIGNATURE NAME")
     reader.add_argument("--command", choices=sorted(COMMANDS.keys() - {"crosscheck"}), default="surfaces")
@@ -163,5 +158,5 @@ def main(given: argparse.Namespace) -> int:
     coords = (given.coords or "standard") if may_be else None
     task = Task(given.command, coords, given.timeout, find())
     out = given.out or f"{given.signatures}.{given.command}.jsonl"
-    ran = census(given.signatures, out, task, max(1, given.jobs or processors()), given.retry_failed)
+    ran = census(given.signatures, out, task, given.jobs or processors(), given.retry_failed)
     return 1 if ran.failed else 0

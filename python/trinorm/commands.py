@@ -14,15 +14,16 @@ from __future__ import annotations
 from typing import Callable, Iterable, List, Optional, Sequence, TypeVar, Union
 
 from . import answers, hints
-from .answers import (Bulk, Cover, Descent, Grouping, Info, Isomorphism, Made, Played, Presentation, Sum, Surface,
+from .answers import (Bulk, Cover, Descent, Grouping, Info, Isomorphism, Made, Played, Presentation, Sum, Surface, Term,
                       Vector, Verdict, vector_line)
+from .arguments import lines, listed, plain, shown, whole_number, whole_numbers
+from .errors import BadArgument
 from .options import words
 from .program import Failed, Program as Program, Refused, run
 from .regina_surfaces import ReginaSurface, is_surface, vector_of
-from .tables import BadArgument, Table, Triangulation, document
+from .tables import Table, Triangulation, document
 
 Answer = TypeVar("Answer")
-Item = TypeVar("Item")
 GivenVector = Union[Sequence[int], ReginaSurface]
 Vectors = Iterable[GivenVector]
 
@@ -30,47 +31,66 @@ Vectors = Iterable[GivenVector]
 def _ask(asked: Sequence[str], text: str, read: Callable[[List[str]], Answer],
          timeout: Optional[float], program: Program) -> Answer:
     try:
-        lines = run(asked, text, timeout, program).splitlines()
+        printed = run(asked, text, timeout, program).splitlines()
     except Refused as refused:
-        refused.hint = hints.hint(refused.kind, refused.places, text)
+        refused.hint = hints.hint(refused, asked, text)
         raise
     try:
-        return read(lines)
+        return read(printed)
     except (ValueError, IndexError, KeyError, TypeError, StopIteration) as fault:
-        raise Failed(f"{' '.join(asked)}: an answer that isn't understood, {lines[:2]}") from fault
+        raise Failed(f"{' '.join(asked)}: an answer that isn't understood, {printed[:2]}") from fault
 
 
-def _vector(vector: GivenVector, coords: str) -> str:
+def _vector(vector: object, coords: str) -> str:
     """The line of a vector; a `regina.NormalSurface` is taken for its own."""
     if is_surface(vector):
         return vector_line(vector_of(vector, coords)) + "\n"
-    if isinstance(vector, (str, bytes)) or not hasattr(vector, "__iter__") or _is_nested(vector):
-        raise BadArgument(f"a vector is a list of numbers or a regina.NormalSurface, and not {vector!r}")
-    return vector_line(vector) + "\n"
+    return vector_line(whole_numbers(vector, "a vector is a list of whole numbers, or a regina.NormalSurface")) + "\n"
 
 
-def _is_nested(values: Iterable[object]) -> bool:
-    return isinstance(values, (list, tuple)) and len(values) > 0 and hasattr(values[0], "__iter__")
-
-
-def _listed(values: Iterable[Item], of: str) -> List[Item]:
-    """Values that are to stand in a list, where they do."""
-    if isinstance(values, (str, bytes, Table)) or not hasattr(values, "__iter__"):
-        raise BadArgument(f"a list of {of} is wanted; one alone stands in a list too, as [{of[0]}]")
-    return list(values)
-
-
-def _with_vectors(t: Triangulation, vectors: Vectors, coords: str) -> str:
+def _with_vectors(t: Triangulation, vectors: object, coords: str) -> str:
     """A document of a triangulation with vectors."""
-    them = _listed(vectors, "vectors")
-    if them and all(hasattr(it, "__index__") for it in them):
-        raise BadArgument("a list of vectors is wanted; one alone stands in a list too, as [v]")
-    return document(t) + "".join(_vector(it, coords) for it in them)
+    given = [plain(vector) for vector in listed(vectors, "a list of vectors is expected (one alone is a list too, as [v])")]
+    if given and all(whole_number(vector) is not None for vector in given):
+        raise BadArgument("a list of vectors is expected, and not one alone: [v] is a list of one")
+    return document(t) + "".join(_vector(vector, coords) for vector in given)
 
 
-def _with_lines(t: Triangulation, lines: Iterable[str], of: str) -> str:
-    """A document of a triangulation with moves or steps."""
-    return document(t) + "".join(f"{it}\n" for it in _listed(lines, of))
+def _with_sums(t: Triangulation, sums: object) -> str:
+    """A document of a triangulation with blocks of sums."""
+    expected = "a list of Sums is expected, as `decompose` returns it"
+    given = listed(sums, expected)
+    for one in given:
+        if not isinstance(one, Sum):
+            raise BadArgument(f"{expected}: {shown(one)} is none")
+    return document(t) + "".join(_block(one) for one in given if isinstance(one, Sum))
+
+
+def _block(one: Sum) -> str:
+    """The text of a sum, whose fields may be lists or arrays too."""
+    expected = "the fields of a Sum are a vector, `times`, and Terms of a count and a vector"
+    terms = listed(one.terms, expected)
+    if whole_number(one.times) is None or not all(isinstance(term, Term) for term in terms):
+        raise BadArgument(f"{expected}, and not {shown(one)}")
+    checked = tuple(Term(whole_numbers([term.count], expected)[0], whole_numbers(term.vector, expected))
+                    for term in terms if isinstance(term, Term))
+    return str(Sum(whole_numbers(one.vector, expected), one.times, checked))
+
+
+def _cone(rows: object, columns: Optional[int]) -> str:
+    """The text of a cone."""
+    expected = "the rows of a cone are a list of lists of whole numbers"
+    given = [whole_numbers(row, expected) for row in listed(rows, expected)]
+    if columns is None and not given:
+        raise BadArgument("if there are no rows, columns must be given")
+    width = len(given[0]) if columns is None else whole_number(columns)
+    if width is None or not 0 <= width <= 10_000:
+        raise BadArgument(f"columns is a whole number from 0 to 10000, and not {shown(columns)}")
+    for at, row in enumerate(given):
+        if len(row) != width:
+            raise BadArgument(f"the rows of a cone have one width: row {at} has {len(row)} coefficients, and not {width}")
+    lines_of_rows = (" ".join(map(str, row)) for row in given if width)
+    return "".join(f"{line}\n" for line in [f"cone {width} {len(given)}", *lines_of_rows])
 
 
 def surfaces(t: Triangulation, coords: str = "standard", order: Optional[str] = None, max_entry: Optional[int] = None, *,
@@ -94,11 +114,7 @@ def rays(rows: Sequence[Sequence[int]], columns: Optional[int] = None, order: Op
     columns: that width; it must be said where there are no rows
     order, max_entry: as for `surfaces`
     """
-    if columns is None and not rows:
-        raise BadArgument("where there are no rows, columns must be said")
-    width = len(rows[0]) if columns is None else columns
-    text = "".join(" ".join(map(str, row)) + "\n" for row in [("cone", width, len(rows)), *rows])
-    return _ask(words("rays", order=order, max_entry=max_entry), text, answers.read_vectors, timeout, program)
+    return _ask(words("rays", order=order, max_entry=max_entry), _cone(rows, columns), answers.read_vectors, timeout, program)
 
 
 def verify(t: Triangulation, vectors: Vectors, coords: str = "standard", *,
@@ -137,7 +153,10 @@ def csame(one: Triangulation, other: Triangulation, *,
 
 def group(tables: Iterable[Triangulation], *, timeout: Optional[float] = None, program: Program = None) -> Grouping:
     """The isomorphism classes of connected triangulations, numbered as they are first met: one for each of `tables`."""
-    return _ask(["group"], "".join(map(document, _listed(tables, "triangulations"))), answers.read_grouping, timeout, program)
+    if isinstance(tables, Table):
+        raise BadArgument("a list of triangulations is expected, and not one alone: [t] is a list of one")
+    given = listed(tables, "a list of triangulations is expected (one alone is a list too, as [t])")
+    return _ask(["group"], "".join(map(document, given)), answers.read_grouping, timeout, program)  # type: ignore[arg-type]
 
 
 def cover(t: Triangulation, *, timeout: Optional[float] = None, program: Program = None) -> Cover:
@@ -179,19 +198,18 @@ def decompose(t: Triangulation, vectors: Vectors, coords: str = "standard", max_
 def addup(t: Triangulation, sums: Iterable[Sum], coords: str = "standard", *,
           timeout: Optional[float] = None, program: Program = None) -> bool:
     """True where all vectors and terms are admissible solutions and the terms add up; else `Refused` says what fails."""
-    text = document(t) + "".join(map(str, sums))
-    return _ask(words("addup", coords=coords), text, answers.read_accepted, timeout, program)
+    return _ask(words("addup", coords=coords), _with_sums(t, sums), answers.read_accepted, timeout, program)
 
 
 def play(t: Triangulation, steps: Iterable[str] = (), *, timeout: Optional[float] = None, program: Program = None) -> Played:
     """The triangulation after bistellar moves, as `14 0`, `23 1 0`, `32 0 01`, `41 2 3`, `undo` and `redo`, with an answer
     for each of them."""
-    return _ask(["play"], _with_lines(t, steps, "steps"), answers.read_played, timeout, program)
+    return _ask(["play"], document(t) + lines(steps, "steps", "14 0"), answers.read_played, timeout, program)
 
 
 def check(t: Triangulation, moves: Iterable[str], *, timeout: Optional[float] = None, program: Program = None) -> bool:
     """True where the moves are legal and lead to the standard 3-sphere; else `Refused` says what fails."""
-    return _ask(["check"], _with_lines(t, moves, "moves"), answers.read_accepted, timeout, program)
+    return _ask(["check"], document(t) + lines(moves, "moves", "14 0"), answers.read_accepted, timeout, program)
 
 
 def descend(t: Triangulation, *, timeout: Optional[float] = None, program: Program = None) -> Descent:

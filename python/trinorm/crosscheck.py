@@ -7,8 +7,10 @@ from typing import Any, Dict, Iterable, List, Tuple
 
 from . import census
 from .comparisons import Comparison
+from .options import add_run_arguments
 from .program import Failed, find
 from .regina_surfaces import COORDS
+from .tables import import_regina
 from .tasks import Entry, Task
 from .workers import Pool
 
@@ -44,14 +46,11 @@ def add_arguments(reader: argparse.ArgumentParser) -> None:
     reader.add_argument("--file", help="a file of lines SIGNATURE or SIGNATURE NAME, in their place")
     reader.add_argument("--coords", choices=tuple(COORDS), help="only these coordinates (default: all three)")
     reader.add_argument("--out", help="a file for a JSON line for each, gone on with as by census; only for --file")
-    census.add_run_arguments(reader)
+    add_run_arguments(reader)
 
 
 def main(given: argparse.Namespace) -> int:
-    try:
-        import regina  # noqa: F401
-    except ImportError:
-        raise Failed("this Python has no module regina; run it by the one that has, often /usr/bin/python3") from None
+    import_regina()
     if bool(given.signatures) == bool(given.file) or (given.out and not given.file) or given.out == "-":
         raise Failed("either signatures are given, or --file, with or without a file behind --out")
     task = Task("crosscheck", given.coords, given.timeout, find())

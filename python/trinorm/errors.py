@@ -5,6 +5,7 @@ from typing import Any, Tuple, Union
 
 # statuses of a refusal: command line, input, checks, a number that exceeds the limit
 REFUSED = (2, 3, 4, 5)
+USAGE = 2
 FAILURES = {6: "reading failed", 7: "writing failed", 8: "no memory", 9: "the words are not UTF-8"}
 
 Place = Union[int, str, Tuple[int, ...]]

@@ -1,10 +1,15 @@
 """The options of the program's commands, as the file commands.txt has them."""
 from __future__ import annotations
 
+import argparse
+import contextlib
+import difflib
+import math
 from pathlib import Path
-from typing import Dict, List, NamedTuple, Optional, Tuple, Union
+from typing import Dict, Iterable, List, NamedTuple, Optional, Tuple, Union
 
-from .tables import BadArgument
+from .arguments import shown, whole_number
+from .errors import BadArgument
 
 
 class Range(NamedTuple):
@@ -31,19 +36,38 @@ def _values(text: str) -> Values:
     return Range(int(least), int(most)) if dots else Words(text.split("|"))
 
 
-def _options(text: str) -> Dict[str, Values]:
-    """The options of one command: `name=VALUES` each, or `name!VALUES` where it has to be given, or `-` for none."""
-    parted = (word.replace("!", "=").partition("=") for word in text.split() if word != "-")
-    return {name: _values(values) for name, _, values in parted}
+class Command(NamedTuple):
+    """A row of the table of commands.
+
+    reads: the document that it reads, or `none`
+    options: the values of each option, by its name; required: the options that have to be given
+    answers: what it prints, in a few words
+    """
+    name: str
+    reads: str
+    options: Dict[str, Values]
+    required: Tuple[str, ...]
+    example: str
+    answers: str
 
 
-def _read() -> Dict[str, Dict[str, Values]]:
+def _command(line: str) -> Command:
+    """A line of the table. An option is `name=VALUES`, or `name!VALUES` if it has to be given; `-` is none."""
+    name, reads, spelled, example, answers = line.split("\t")
+    parted = [word.replace("!", "=").partition("=") for word in spelled.split() if word != "-"]
+    options = {option: _values(values) for option, _, values in parted}
+    required = tuple(word.partition("!")[0] for word in spelled.split() if "!" in word)
+    return Command(name, reads, options, required, example, answers)
+
+
+def _read() -> Dict[str, Command]:
     text = Path(__file__).with_name("commands.txt").read_text(encoding="utf8")
-    rows = (line.split("\t") for line in text.splitlines() if not line.startswith("#"))
-    return {name: _options(options) for name, _, options, *_ in rows}
+    rows = (_command(line) for line in text.splitlines() if not line.startswith("#"))
+    return {row.name: row for row in rows}
 
 
-OPTIONS = _read()
+COMMANDS = _read()
+OPTIONS = {name: command.options for name, command in COMMANDS.items()}
 
 
 def coordinates(command: str) -> Tuple[str, ...]:
@@ -53,21 +77,60 @@ def coordinates(command: str) -> Tuple[str, ...]:
 
 
 def words(command: str, **given: Union[str, int, None]) -> List[str]:
-    """The words of a command with the options that are given; BadArgument where one can't have its value."""
-    found = [command]
+    """The words of a command with the options that are given; BadArgument if one can't have its value."""
+    spelled = [command]
     for name, value in given.items():
         if value is not None:
             option = name.replace("_", "-")
-            found += [f"--{option}", _word(name, value, OPTIONS[command][option])]
-    return found
+            spelled += [f"--{option}", _word(name, value, OPTIONS[command][option])]
+    return spelled
 
 
-def _word(name: str, value: Union[str, int], values: Values) -> str:
-    number: Optional[int] = int(value) if hasattr(value, "__index__") else None
+def _word(name: str, value: object, values: Values) -> str:
+    """The word of a value of an option."""
     if isinstance(values, Range):
-        may_be = number is not None and values.least <= number <= values.most
-    else:
-        may_be = value in values
-    if not may_be:
-        raise BadArgument(f"{name} is {values}, and not {value!r}")
-    return str(value if number is None else number)
+        number = whole_number(value)
+        if number is not None and values.least <= number <= values.most:
+            return str(number)
+        raise BadArgument(f"{name} is {values}, and not {shown(value)}")
+    if isinstance(value, str) and value in values:
+        return str(value)
+    near = nearest(value, values) if isinstance(value, str) else None
+    raise BadArgument(f"{name} is {values}, and not {shown(value)}{f': is it {near!r}?' if near else ''}")
+
+
+def is_value(word: str, values: Values) -> bool:
+    """Whether a word of a command line is a value of an option."""
+    if isinstance(values, Words):
+        return word in values
+    return word.isascii() and word.isdecimal() and len(word) <= 45 and values.least <= int(word) <= values.most
+
+
+def nearest(word: str, known: Iterable[str]) -> Optional[str]:
+    """The one of these that a word is most likely meant to be, if any is near."""
+    near = difflib.get_close_matches(word, list(known), 1, 0.6)
+    return near[0] if near else None
+
+
+# The types of options for argparse, whose messages say what was expected.
+
+def at_least_one(text: str) -> int:
+    """A whole number from 1 on, as the number of jobs."""
+    with contextlib.suppress(ValueError):
+        if int(text) >= 1:
+            return int(text)
+    raise argparse.ArgumentTypeError(f"a whole number from 1 on is expected, and not {text}")
+
+
+def seconds(text: str) -> float:
+    """A finite positive number of seconds, as a limit of time."""
+    with contextlib.suppress(ValueError):
+        if math.isfinite(float(text)) and float(text) > 0:
+            return float(text)
+    raise argparse.ArgumentTypeError(f"a positive number of seconds is expected, and not {text}")
+
+
+def add_run_arguments(reader: argparse.ArgumentParser) -> None:
+    """The options of whatever runs many triangulations."""
+    reader.add_argument("--jobs", type=at_least_one, help="runs at a time (default: as many as processors)")
+    reader.add_argument("--timeout", type=seconds, help="seconds after which a run is ended")

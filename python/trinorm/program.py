@@ -12,7 +12,7 @@ from typing import TYPE_CHECKING, Dict, Optional, Protocol, Sequence, Tuple, Uni
 
 from .arguments import as_bytes, checked_timeout, joined, shown
 from .errors import BadArgument as BadArgument, Error as Error, Failed as Failed, Place as Place, Refused as Refused
-from .errors import REFUSED, TimedOut as TimedOut, how_it_ended as how_it_ended, kind_and_places as kind_and_places
+from .errors import REFUSED, USAGE, TimedOut as TimedOut, how_it_ended as how_it_ended, kind_and_places as kind_and_places
 
 if TYPE_CHECKING:
     from .library import Library
@@ -140,5 +140,9 @@ def read_outcome(words: Sequence[str], status: int, said: bytes) -> str:
     if status == 0:
         return answer
     if status in REFUSED and answer.startswith("refused: "):
-        raise Refused(status, answer.rstrip("\n"))
+        refused = Refused(status, answer.rstrip("\n"))
+        if status == USAGE:
+            from .hints import usage  # which loads tables that nothing else here needs
+            refused.hint = usage(words)
+        raise refused
     raise Failed(f"{' '.join(words)}: {how_it_ended(status)}")

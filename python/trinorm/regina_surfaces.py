@@ -1,10 +1,15 @@
 """Normal surfaces of Regina's and vectors of trinorm's. Regina is imported only where a value of its own is made."""
 from __future__ import annotations
 
-from typing import Any, List, Protocol, Sequence
+from typing import TYPE_CHECKING, Any, List, Protocol, Sequence
 
 from .answers import Vector
-from .tables import BadArgument, Table, Triangulation, is_of_regina
+from .arguments import shown, whole_numbers
+from .errors import BadArgument
+from .tables import Table, Triangulation, import_regina, is_of_regina
+
+if TYPE_CHECKING:
+    from typing_extensions import TypeGuard
 
 # Regina's names of the coordinates, for vertex surfaces and for vectors
 COORDS = {"standard": "NS_STANDARD", "quad": "NS_QUAD", "octagon": "NS_AN_STANDARD"}
@@ -26,17 +31,21 @@ class ReginaSurface(Protocol):
         """How many octagons it has there."""
 
 
+def checked_coordinates(coords: str) -> str:
+    """One of `standard`, `quad` and `octagon`."""
+    if not isinstance(coords, str) or coords not in COORDS:
+        raise BadArgument(f"coords is one of {', '.join(COORDS)}, and not {shown(coords)}")
+    return coords
+
+
 def in_regina(coords: str) -> Any:
     """Regina's value for these coordinates."""
-    import regina
-    if coords not in COORDS:
-        raise BadArgument(f"coords is one of {', '.join(COORDS)}, and not {coords!r}")
-    return getattr(regina, COORDS[coords])
+    return getattr(import_regina(), COORDS[checked_coordinates(coords)])
 
 
-def is_surface(value: object) -> bool:
+def is_surface(value: object) -> TypeGuard[ReginaSurface]:
     """Whether a value is a `regina.NormalSurface`."""
-    return hasattr(value, "triangles") and hasattr(value, "quads")
+    return callable(getattr(value, "triangles", None)) and callable(getattr(value, "quads", None)) and not isinstance(value, type)
 
 
 def vector_of(surface: ReginaSurface, coords: str = "standard") -> Vector:
@@ -44,6 +53,9 @@ def vector_of(surface: ReginaSurface, coords: str = "standard") -> Vector:
 
     surface: in quad coordinates it may be spun-normal; else it has finitely many triangles
     """
+    if not is_surface(surface):
+        raise BadArgument(f"a regina.NormalSurface is expected, and not {shown(surface)}")
+    checked_coordinates(coords)
     entries: List[object] = []
     for tet in range(surface.triangulation().size()):
         if coords != "quad":
@@ -51,7 +63,16 @@ def vector_of(surface: ReginaSurface, coords: str = "standard") -> Vector:
         entries += [surface.quads(tet, kind) for kind in range(3)]
         if coords == "octagon":
             entries += [surface.octs(tet, kind) for kind in range(3)]
-    return tuple(int(str(it)) for it in entries)
+    return tuple(map(_number, map(str, entries)))
+
+
+def _number(text: str) -> int:
+    """An entry of Regina's, which may be infinite."""
+    try:
+        return int(text)
+    except ValueError:
+        raise BadArgument("a surface with finitely many triangles is expected; a spun-normal one has a vector in quad "
+                          "coordinates alone") from None
 
 
 def normal_surface(t: Triangulation, vector: Sequence[int], coords: str = "standard") -> Any:
@@ -59,8 +80,13 @@ def normal_surface(t: Triangulation, vector: Sequence[int], coords: str = "stand
 
     t: a `regina.Triangulation3`, or a triangulation in any other form, which is made one first
     """
-    import regina
-    return regina.NormalSurface(to_regina(t), in_regina(coords), list(vector))
+    there = to_regina(t)
+    width = {"standard": 7, "quad": 3, "octagon": 10}[checked_coordinates(coords)] * there.size()
+    expected = f"a vector of {width} whole numbers, none negative, is expected"
+    entries = whole_numbers(vector, expected)
+    if len(entries) != width or min(entries, default=0) < 0:
+        raise BadArgument(f"{expected}, and not {shown(vector)}")
+    return import_regina().NormalSurface(there, in_regina(coords), list(entries))
 
 
 def to_regina(t: Triangulation) -> Any:
@@ -75,5 +101,5 @@ def to_regina(t: Triangulation) -> Any:
 
 def vertex_surfaces(t: Triangulation, coords: str = "standard") -> List[Vector]:
     """The vectors that Regina lists for `surfaces`, in lexicographic order."""
-    import regina
-    return sorted(vector_of(it, coords) for it in regina.NormalSurfaces(to_regina(t), in_regina(coords)))
+    found = import_regina().NormalSurfaces(to_regina(t), in_regina(coords))
+    return sorted(vector_of(surface, coords) for surface in found)

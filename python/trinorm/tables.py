@@ -1,12 +1,15 @@
 """Triangulations as gluing tables, and what is taken for one."""
 from __future__ import annotations
 
-import os
 import string
 from dataclasses import dataclass
-from typing import Any, Iterable, List, Optional, Protocol, Sequence, Tuple, Union
+from typing import TYPE_CHECKING, Any, Iterable, Iterator, List, Optional, Protocol, Sequence, Tuple, Union
 
-from .errors import BadArgument as BadArgument
+from .arguments import listed, shown, whole_number
+from .errors import BadArgument as BadArgument, Failed
+
+if TYPE_CHECKING:
+    from typing_extensions import TypeGuard
 
 Images = Tuple[int, int, int, int]
 
@@ -16,7 +19,7 @@ CHARACTERS = string.ascii_lowercase + string.ascii_uppercase + string.digits + "
 
 @dataclass(frozen=True)
 class Gluing:
-    """Where a face is glued: the tetrahedron behind it, and the vertices that its vertices 0 to 3 go to."""
+    """The gluing of a face: the tetrahedron across it, and the images of vertices 0 to 3."""
     tet: int
     images: Images
 
@@ -28,9 +31,9 @@ class Gluing:
         """An entry of a table, as `1:0132`, or `-` for a boundary face."""
         if word == "-":
             return None
-        tet, images = word.split(":")
-        if len(images) != 4:
-            raise ValueError(f"{word} is no entry of a gluing table")
+        tet, colon, images = word.partition(":") if isinstance(word, str) else ("", "", "")
+        if not (colon and tet.isdecimal() and images.isdecimal() and len(images) == 4):
+            raise BadArgument(f"an entry of a gluing table is expected, as 1:0132, or -, and not {shown(word)}")
         return cls(int(tet), (int(images[0]), int(images[1]), int(images[2]), int(images[3])))
 
 
@@ -55,14 +58,14 @@ class Table:
     @classmethod
     def parse(cls, text: str) -> Table:
         """A table as the program writes it."""
-        lines = text.splitlines()
+        lines = text.splitlines() if isinstance(text, str) else []
         if lines[:1] != [f"tri {len(lines) - 1}"]:
-            raise ValueError("this is no gluing table")
+            raise BadArgument(f"the text of a gluing table is expected, `tri N` and N rows, and not {shown(text)}")
         return cls(tuple(row_of(line) for line in lines[1:]))
 
     def to_regina(self) -> Any:
         """The `regina.Triangulation3` with the same numbers of tetrahedra, faces and vertices."""
-        import regina
+        regina = import_regina()
         made = regina.Triangulation3()
         tets = [made.newTetrahedron() for _ in self.rows]
         for tet, row in zip(tets, self.rows):
@@ -90,41 +93,70 @@ class SnapPyTriangulation(Protocol):
 Triangulation = Union[str, Table, Sequence[GivenRow], ReginaTriangulation, SnapPyTriangulation]
 
 
-def row_of(row: GivenRow) -> Row:
+def import_regina() -> Any:
+    """The module regina, which is needed only where a value of its own is made."""
+    try:
+        import regina
+    except ImportError:
+        raise Failed("this Python has no module regina; take the one that has, often /usr/bin/python3") from None
+    return regina
+
+
+def row_of(row: object) -> Row:
     """The gluings of faces 0 to 3, from the words of a line or from four entries.
 
     An entry is `1:0132`, `-`, None, a Gluing, or a pair of a tetrahedron and a permutation: a word or four numbers.
     """
-    entries: List[Optional[Gluing]] = [_entry(it) for it in (row.split() if isinstance(row, str) else row)]
+    expected = "a row of a gluing table is a list of four entries"
+    given: List[object] = [*row.split()] if isinstance(row, str) else listed(row, expected)
+    entries: List[Optional[Gluing]] = [_entry(entry) for entry in given]
     if len(entries) != 4:
-        raise ValueError(f"a row of a gluing table has four entries, and not {len(entries)}")
+        raise BadArgument(f"{expected}, and not of {len(entries)}")
     return (entries[0], entries[1], entries[2], entries[3])
 
 
-def _entry(entry: GivenEntry) -> Optional[Gluing]:
+def _entry(entry: object) -> Optional[Gluing]:
     if entry is None or isinstance(entry, Gluing):
         return entry
     if isinstance(entry, str):
         return Gluing.parse(entry)
-    tet, permutation = entry
-    word = permutation if isinstance(permutation, str) else "".join(str(int(it)) for it in permutation)
-    return Gluing.parse(f"{int(tet)}:{word}")
+    expected = "an entry of a gluing table is 1:0132, (1, '0132'), (1, (0, 1, 3, 2)), - or None"
+    pair = listed(entry, expected)
+    tet = whole_number(pair[0]) if len(pair) == 2 else None
+    if tet is None or tet < 0:
+        raise BadArgument(f"{expected}, and not {shown(entry)}")
+    images = pair[1] if isinstance(pair[1], str) else "".join(map(_digit, listed(pair[1], expected)))
+    return Gluing.parse(f"{tet}:{images}")
 
 
-def is_of_regina(value: object) -> bool:
+def _digit(image: object) -> str:
+    number = whole_number(image)
+    if number is None or not 0 <= number <= 3:
+        raise BadArgument(f"the images of vertices are numbers from 0 to 3, and not {shown(image)}")
+    return str(number)
+
+
+def is_of_regina(value: object) -> TypeGuard[ReginaTriangulation]:
     """Whether a value is a `regina.Triangulation3`; Regina need not be there to ask."""
-    return callable(getattr(value, "tetrahedra", None))
+    return callable(getattr(value, "tetrahedra", None)) and not hasattr(value, "pentachora") and not isinstance(value, type)
+
+
+def is_of_snappy(value: object) -> TypeGuard[SnapPyTriangulation]:
+    """Whether a value is a `snappy.Triangulation`; SnapPy need not be there to ask."""
+    return callable(getattr(value, "triangulation_isosig", None)) and not isinstance(value, type)
 
 
 def from_regina(triangulation: ReginaTriangulation) -> Table:
     """The table of a `regina.Triangulation3`; tetrahedra, faces and vertices keep their numbers."""
+    if not is_of_regina(triangulation):
+        raise BadArgument(f"a regina.Triangulation3 is expected, and not {shown(triangulation)}")
     rows = ([_gluing_in_regina(tet, face) for face in range(4)] for tet in triangulation.tetrahedra())
     return Table(tuple(map(row_of, rows)))
 
 
 def _gluing_in_regina(tet: Any, face: int) -> Optional[Gluing]:
-    behind = tet.adjacentTetrahedron(face)
-    return None if behind is None else Gluing.parse(f"{behind.index()}:{tet.adjacentGluing(face).str()}")
+    neighbour = tet.adjacentTetrahedron(face)
+    return None if neighbour is None else Gluing.parse(f"{neighbour.index()}:{tet.adjacentGluing(face).str()}")
 
 
 def document(triangulation: Triangulation) -> str:
@@ -136,19 +168,28 @@ def document(triangulation: Triangulation) -> str:
     if isinstance(triangulation, str):
         return _text_document(triangulation)
     if isinstance(triangulation, Table):
-        return str(triangulation)
+        return str(Table(tuple(map(row_of, listed(triangulation.rows, "the rows of a Table are a tuple")))))
     if is_of_regina(triangulation):
         return str(from_regina(triangulation))
-    if callable(getattr(triangulation, "triangulation_isosig", None)):
+    if is_of_snappy(triangulation):
         return f"sig {triangulation.triangulation_isosig(decorated=False)}\n"
-    if triangulation is None or isinstance(triangulation, (bytes, os.PathLike)) or not hasattr(triangulation, "__iter__"):
-        raise BadArgument(f"a triangulation is wanted, and not {_shown(triangulation)}: its signature, the text of a "
-                          "gluing table (of a file: Path(..).read_text()), rows, or one of Regina's or SnapPy's")
-    return str(Table(tuple(row_of(row) for row in triangulation)))
+    return _rows_document(triangulation)
 
 
-def _shown(value: object) -> str:
-    return "None" if value is None else f"of type {type(value).__name__}"
+def _rows_document(rows: object) -> str:
+    forms = ("it is a signature, the text of a gluing table (of a file: Path(..).read_text()), a list of rows, or one of "
+             "Regina's or SnapPy's")
+    try:
+        given = listed(rows, "a triangulation is expected")
+    except BadArgument as fault:
+        raise BadArgument(f"{fault}: {forms}") from None
+    if not given and isinstance(rows, Iterator):
+        raise BadArgument("a triangulation is expected, and not an iterator without rows: was it read before? Without "
+                          "tetrahedra it is []")
+    try:
+        return str(Table(tuple(map(row_of, given))))
+    except BadArgument as fault:
+        raise BadArgument(f"a triangulation is expected: {forms}; of a list of rows: {fault}") from None
 
 
 def _text_document(text: str) -> str:
