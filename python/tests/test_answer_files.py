@@ -6,27 +6,31 @@ import tempfile
 import threading
 import unittest
 
-from trinorm.answer_files import Output, read_lines
+from trinorm.answer_files import BadLine, Output, count_lines, digest, read_lines
 
 
 class Lines(unittest.TestCase):
     def read(self, content):
-        return [(it.text, it.whole) for it in read_lines(io.BytesIO(content), "file")]
+        return list(read_lines(io.BytesIO(content), "file"))
 
-    def test_ends(self):
-        self.assertEqual(self.read(b"one\r\ntwo\n\nthree"), [("one", True), ("two", True), ("", True), ("three", False)])
+    def test_lines_keep_their_ends(self):
+        self.assertEqual(self.read(b"one\r\ntwo\n\nthree"), [b"one\r\n", b"two\n", b"\n", b"three"])
 
     def test_byte_order_mark(self):
-        self.assertEqual(self.read("\ufeffone\n".encode()), [("one", True)])
+        self.assertEqual(self.read("\ufeffone\n".encode()), [b"one\n"])
 
     def test_other_encodings(self):
         with self.assertRaisesRegex(ValueError, "file is in UTF-16"):
             self.read("one\n".encode("utf-16"))
-        with self.assertRaisesRegex(ValueError, "file, line 2: byte 3 isn't UTF-8"):
-            self.read(b"one\nab\xff\n")
+        for content in (b"one\nab\xff\n", b"one\nab\xff"):
+            with self.assertRaisesRegex(BadLine, "file, line 2: byte 3 isn't UTF-8") as caught:
+                count_lines(io.BytesIO(content), "file")
+            self.assertEqual((caught.exception.number, caught.exception.text), (2, "ab\\xff"))
+        self.assertEqual(count_lines(io.BytesIO(b"one\nab\xff"), "file", accept_bad=True), 2)
 
-    def test_a_character_that_was_cut(self):
-        self.assertEqual(self.read("one\nä".encode()[:-1]), [("one", True), ("\ufffd", False)])
+    def test_digests_differ(self):
+        self.assertEqual(len({digest(str(number).encode()) for number in range(10000)}), 10000)
+        self.assertEqual(digest(b"one"), digest(b"one"))
 
 
 class Files(unittest.TestCase):
@@ -44,10 +48,10 @@ class Files(unittest.TestCase):
         with open(path, "w", encoding="utf8") as file:
             file.write(content)
 
-    def write(self, path, kept=lambda _: True):
+    def write(self, path, kept=lambda number, line: True):
         with Output(path) as output:
             output.keep(kept)
-            output.write("new")
+            output.write("new\n")
 
     def test_a_file_is_made_and_gone_on_with(self):
         self.write(self.out)
@@ -62,14 +66,14 @@ class Files(unittest.TestCase):
     def test_lines_are_dropped_and_rights_stay(self):
         self.put(self.out, "one\ntwo\nthree\n")
         os.chmod(self.out, 0o640)
-        self.write(self.out, lambda line: line.text != "two")
+        self.write(self.out, lambda number, line: line != b"two\n")
         self.assertEqual(self.content(self.out), "one\nthree\nnew\n")
         self.assertEqual(stat.S_IMODE(os.stat(self.out).st_mode), 0o640)
         self.assertEqual(os.listdir(self.folder), ["out"])
 
     def test_a_fault_leaves_the_file(self):
-        def fails(line):
-            raise ValueError(line.text)
+        def fails(_number, line):
+            raise ValueError(line)
         self.put(self.out, "one\ntwo")
         with self.assertRaises(ValueError):
             self.write(self.out, fails)
@@ -104,8 +108,8 @@ class Files(unittest.TestCase):
     def test_a_second_run_is_told(self):
         self.put(self.out, "one\ntwo")
         with Output(self.out) as output:
-            output.keep(lambda _: True)
-            output.write("new")
+            output.keep(lambda number, line: True)
+            output.write("new\n")
             with self.assertRaisesRegex(ValueError, "another run writes to"):
                 Output(self.out)
         self.write(self.out)

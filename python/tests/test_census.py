@@ -14,7 +14,7 @@ import unittest.mock
 import trinorm
 from tests.programs import script
 from trinorm.__main__ import main
-from trinorm.census import Ran, census, entries
+from trinorm.census import Ran, Source, by_processes, lines_of, run_census
 from trinorm.program import REPOSITORY, Failed
 from trinorm.tasks import Task
 
@@ -53,17 +53,30 @@ class Folder(unittest.TestCase):
 
 
 class Lines(unittest.TestCase):
+    def entries(self, *lines):
+        return [found.entry() for found in lines_of(Source("file", None, lines)) if found is not None]
+
     def test_entries(self):
-        told = list(entries(SIGNATURES.splitlines()))
-        self.assertEqual(told, [("bkaagj", "sphere"), ("bkaagb", "bkaagb"), ("bkaajj", "a name with spaces"), ("cPcbbbiht", "figure-eight"),
-                                ("bkaagjx", "not one")])
-        self.assertEqual(list(entries(["sig", "sig ", "sig bkaagj one", "\tbkaagj\tone"])), [("sig", "sig"), ("bkaagj", "one")])
+        told = self.entries(*SIGNATURES.encode().splitlines(keepends=True))
+        self.assertEqual(told, [("bkaagj", "sphere"), ("bkaagb", "bkaagb"), ("bkaajj", "a name with spaces"),
+                                ("cPcbbbiht", "figure-eight"), ("bkaagjx", "not one"), ("bkaagj", "sphere")])
+
+    def test_plain_lines_are_read_as_others(self):
+        """The quick way for plain characters is no other than the long one, which a tab or a missing end takes."""
+        for words in ("sig", "sig ", "sig a", "a", "a b  c ", "sig sig", "sig sig b", "sig #a", "#a", " a", "a #b", "sig a sig b", "a\\b",
+                      'a "b"', "", " "):
+            plain, other, third = (self.entries(words.encode() + end) for end in (b"\n", b"\t\n", b""))
+            self.assertEqual(plain, other, words)
+            self.assertEqual(plain, third, words)
+        self.assertEqual(self.entries(b"sig\n", b"sig \n", b"sig bkaagj one\r\n", b"\tbkaagj\tone\n"),
+                         [("sig", "sig"), ("sig", "sig"), ("bkaagj", "one"), ("bkaagj", "one")])
 
 
 class Census(Folder):
     def run_it(self, *words, task=None, **named):
         with contextlib.redirect_stderr(io.StringIO()) as said:
-            self.ran = census(self.given, self.out, task or Task("surfaces", "standard"), 2, **named)
+            with by_processes(2) as engine:
+                self.ran = run_census(self.given, self.out, task or Task("surfaces", "standard"), engine, **named)
         self.said = said.getvalue()
         return self.answers()
 
@@ -214,8 +227,10 @@ class Ends(Folder):
 
     def test_a_worker_that_can_not_start(self):
         self.put(self.given, "bkaagj\n")
-        with unittest.mock.patch("sys.executable", "/bin/false"), self.assertRaisesRegex(Failed, "could not start: status 1"):
-            census(self.given, self.out, Task("sig"), 1)
+        with unittest.mock.patch("sys.executable", "/bin/false"), contextlib.redirect_stderr(io.StringIO()) as said, \
+                self.assertRaisesRegex(Failed, "could not start: status 1"), by_processes(1) as engine:
+            run_census(self.given, self.out, Task("sig", program="/bin/true"), engine)
+        self.assertIn("stopped: 0 answered", said.getvalue())
 
 
 if __name__ == "__main__":

@@ -8,6 +8,7 @@ This package starts the program and reads what it writes; what is proved is said
 """
 from .answers import (Bulk, Component, Cover, Descent, Edge, Generator, Grouping, Info, Isomorphism, Made, Played,
                       Presentation, Relator, Sum, Surface, Term, Verdict, Vertex)
+from .census import census
 from .commands import (addup, bulk, check, cover, crush, csame, csig, decompose, descend, describe, group, info, lift,
                        make, pi1, play, rays, same, sig, surfaces, table, verify)
 from .program import Error, Failed, Refused, TimedOut, find
@@ -21,7 +22,7 @@ __version__ = version()
 __all__ = [
     "addup", "bulk", "check", "cover", "crush", "csame", "csig", "decompose", "descend", "describe", "group", "info",
     "lift", "make", "pi1", "play", "rays", "same", "sig", "surfaces", "table", "verify",
-    "count", "spheres", "tori", "zero_efficient",
+    "census", "count", "spheres", "tori", "zero_efficient",
     "Bulk", "Component", "Contrary", "Count", "Cover", "Descent", "Edge", "Generator", "Gluing", "Grouping", "Info",
     "Isomorphism", "Made", "Played", "Presentation", "Relator", "Sum", "Surface", "Table", "Term", "Verdict", "Vertex",
     "BadArgument", "Error", "Failed", "Refused", "TimedOut", "find", "from_regina", "normal_surface", "to_regina",

@@ -7,7 +7,8 @@ import sys
 import threading
 from typing import List, Optional
 
-from . import census, commands, crosscheck, pictures, versions
+from . import commands, crosscheck, pictures, versions
+from .census import add_arguments, main as run_census
 from .program import Error, Failed
 from .workers import Terminated, end_as_by_keyboard
 
@@ -38,8 +39,8 @@ def reader_of_words() -> argparse.ArgumentParser:
     one = kinds.add_parser("census", help="run a command on each signature of a file, and write a JSON line for each",
                            description="Started again with the same words it goes on where it stopped. "
                                        "Status 1: some runs failed.")
-    census.add_arguments(one)
-    one.set_defaults(main=census.main)
+    add_arguments(one)
+    one.set_defaults(main=run_census)
 
     one = kinds.add_parser("crosscheck", help="list vertex surfaces with Regina too, and print what differs",
                            description="Status 1: something differs, or was refused.")

@@ -1,7 +1,7 @@
-"""The files of a census: lines that are read with their places, and an output to which one run at a time writes.
+"""The files of a census: an input and an output that are read line by line.
 
-A regular file is gone on with: its whole lines stay, and where a run drops some, the file is replaced in one step. A device
-or a pipe is written to and never read. A link is followed to its target.
+A regular output is gone on with: its whole lines stay. A line that was cut is cut off; if a run drops others, the file is
+replaced in one step. A device or a pipe is written to and never read. A link is followed to its target.
 """
 from __future__ import annotations
 
@@ -11,30 +11,53 @@ import os
 import stat
 import sys
 import tempfile
-from typing import BinaryIO, Callable, Iterable, Iterator, NamedTuple, TextIO
+from hashlib import blake2b
+from typing import BinaryIO, Callable, Iterable, Iterator, TextIO
 
 UTF16 = (b"\xff\xfe", b"\xfe\xff")
+MARK = b"\xef\xbb\xbf"
 
 
-class Line(NamedTuple):
-    """A line of a file, with its number from 1; `whole` says that its end is there."""
-    number: int
-    text: str
-    whole: bool
+class BadLine(ValueError):
+    """A line that isn't UTF-8: its number, its text with these bytes as `\\xff`, and the sentence that names it."""
+
+    def __init__(self, name: str, number: int, line: bytes, at: int) -> None:
+        super().__init__(f"{name}, line {number}: byte {at + 1} isn't UTF-8")
+        self.number = number
+        self.text = line.decode("utf-8", "backslashreplace").rstrip("\r\n")
 
 
-def read_lines(file: BinaryIO, name: str) -> Iterator[Line]:
-    """The lines of a file in UTF-8; a byte order mark is left out. A line of other bytes is a ValueError that names it."""
+def decoded(line: bytes, name: str, number: int) -> str:
+    """The text of a line, without its end. `BadLine` if it isn't UTF-8."""
+    try:
+        return line.decode("utf-8").rstrip("\r\n")
+    except UnicodeDecodeError as fault:
+        raise BadLine(name, number, line, fault.start) from None
+
+
+def read_lines(file: Iterable[bytes], name: str) -> Iterator[bytes]:
+    """The lines of a file, with their ends, without a byte order mark. UTF-16 is a ValueError."""
     for number, line in enumerate(file, 1):
-        if number == 1 and line.startswith(UTF16):
-            raise ValueError(f"{name} is in UTF-16, and UTF-8 is wanted")
-        whole = line.endswith(b"\n")
-        try:
-            # a line that was cut may end within a character
-            text = line.decode("utf-8-sig" if number == 1 else "utf-8", "strict" if whole else "replace")
-        except UnicodeDecodeError as fault:
-            raise ValueError(f"{name}, line {number}: byte {fault.start + 1} isn't UTF-8") from None
-        yield Line(number, text.rstrip("\r\n"), whole)
+        if number == 1:
+            if line.startswith(UTF16):
+                raise ValueError(f"{name} is in UTF-16, and UTF-8 is wanted")
+            if line.startswith(MARK):
+                line = line[len(MARK):]
+        yield line
+
+
+def count_lines(file: BinaryIO, name: str, accept_bad: bool = False) -> int:
+    """The number of lines of a file. The first that isn't UTF-8 is a `BadLine`, unless such lines are accepted."""
+    number = 0
+    for number, line in enumerate(read_lines(file, name), 1):
+        if not line.isascii() and not accept_bad:
+            decoded(line, name, number)
+    return number
+
+
+def digest(text: bytes) -> int:
+    """The number by which a text is known again, of 16 bytes: two different ones among ten million have the same with a probability below 2^-80."""
+    return int.from_bytes(blake2b(text, digest_size=16).digest(), "little")
 
 
 class Output:
@@ -52,42 +75,51 @@ class Output:
         elif path != "-":
             self._file = os.fdopen(os.open(path, os.O_WRONLY), "w", encoding="utf8")
 
-    def lines(self) -> Iterator[Line]:
-        """What an earlier run wrote to a regular file."""
+    def lines(self) -> Iterator[bytes]:
+        """The lines that an earlier run wrote to a regular file, with their ends; the last one may have none."""
         if self.is_regular:
             with open(self.path, "rb") as file:
-                yield from read_lines(file, self.path)
+                yield from file
 
-    def keep(self, is_kept: Callable[[Line], bool]) -> None:
-        """Leaves the whole lines that are kept; each is asked for once."""
-        dropped = {it.number for it in self.lines() if not (it.whole and is_kept(it))}
+    def keep(self, is_kept: Callable[[int, bytes], bool]) -> None:
+        """Leaves the whole lines that are kept. Each is asked for with its number, a second time if any is dropped."""
+        dropped = whole = 0
+        cut = False
+        for number, line in enumerate(self.lines(), 1):
+            if not line.endswith(b"\n"):
+                cut = True
+            else:
+                whole += len(line)
+                dropped += not is_kept(number, line)
         if dropped:
-            self._replace(it.text for it in self.lines() if it.number not in dropped)
+            self._replace(line for number, line in enumerate(self.lines(), 1) if line.endswith(b"\n") and is_kept(number, line))
+        elif cut:
+            self._file.truncate(whole)
 
-    def _replace(self, lines: Iterable[str]) -> None:
-        """Writes a new file beside the old one, with its owner and rights; holds it, and gives it the old one's name."""
+    def _replace(self, lines: Iterable[bytes]) -> None:
+        """Writes a new file next to the old one, with its owner and rights; holds it, and gives it the old one's name."""
         target = os.path.realpath(self.path)
-        handle, beside = tempfile.mkstemp(prefix=f"{os.path.basename(target)}.", dir=os.path.dirname(target))
+        handle, path = tempfile.mkstemp(prefix=f"{os.path.basename(target)}.", dir=os.path.dirname(target))
         try:
             new = os.fdopen(handle, "w", encoding="utf8")
             _try_to_lock(new)
-            new.writelines(f"{it}\n" for it in lines)
+            new.buffer.writelines(lines)
             new.flush()
             old = os.fstat(self._file.fileno())
             os.fchmod(handle, stat.S_IMODE(old.st_mode))
             with contextlib.suppress(PermissionError):
                 os.fchown(handle, old.st_uid, old.st_gid)
             os.fsync(handle)
-            os.replace(beside, target)
+            os.replace(path, target)
         except BaseException:
-            os.unlink(beside)
+            os.unlink(path)
             raise
         self._file.close()
         self._file = new
 
-    def write(self, line: str) -> None:
-        """Appends a line, so that others see it at once."""
-        self._file.write(line + "\n")
+    def write(self, lines: str) -> None:
+        """Appends whole lines, so that others see them at once."""
+        self._file.write(lines)
         self._file.flush()
 
     def __enter__(self) -> Output:
@@ -107,7 +139,7 @@ def _is_regular(path: str) -> bool:
 
 
 def _held(path: str) -> TextIO:
-    """A regular file, locked, to append to. Where another run replaced it in between, the new one is taken."""
+    """A regular file, locked, to append to. If another run replaced it in between, the new one is taken."""
     while True:
         target = os.path.realpath(path)
         file = open(target, "a", encoding="utf8")
@@ -121,7 +153,7 @@ def _held(path: str) -> TextIO:
 
 
 def _try_to_lock(file: TextIO) -> bool:
-    """False where another holds it. Some file systems of clusters have no locks; there it is taken for held."""
+    """False if another holds it. Some file systems of clusters have no locks; there it is taken for held."""
     try:
         fcntl.flock(file, fcntl.LOCK_EX | fcntl.LOCK_NB)
     except BlockingIOError:

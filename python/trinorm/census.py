@@ -1,113 +1,179 @@
-"""Runs one command on many triangulations, on all processors, and writes one JSON line for each.
+"""Runs one command on many triangulations, on all processors or on many machines, and writes one JSON line for each.
 
 A line of the input is `SIGNATURE` or `SIGNATURE NAME`, with `sig` before it or not; blank lines and those that begin with
 `#` are passed over. A line of the output has `name`, `signature`, `command`, `seconds`, and one of `answer`, `refused`,
-`failed`.
+`failed`. Both are read line by line, and what was done is kept as digests, so that a file may have many millions.
 """
 from __future__ import annotations
 
-import argparse
 import contextlib
-import dataclasses
 import json
+import math
 import os
+import re
 import sys
-import time
-from typing import Any, Dict, Iterable, Iterator, List, Set, TextIO
+from concurrent.futures import Executor
+from dataclasses import dataclass
+from json import dumps as quoted
+from typing import TYPE_CHECKING, Any, BinaryIO, Callable, Dict, Iterable, Iterator, NamedTuple, Optional, Set, Union
 
-from .answer_files import Line, Output, read_lines
+from . import executors
+from .answer_files import BadLine, Output, count_lines, decoded, digest, read_lines
+from .executors import Done, Engine
 from .options import add_run_arguments, coordinates
 from .program import Failed, find
-from .tasks import COMMANDS, Entry, Task
-from .workers import Pool
+from .meter import Meter
+from .tables import BadArgument
+from .tasks import COMMANDS, Entry, Task, head_of
+from .workers import Workers
+
+if TYPE_CHECKING:
+    import argparse
 
 # the coordinates of the commands that take some
 COORDS = {"surfaces": coordinates("surfaces"), "describe": coordinates("describe"), "count": coordinates("describe")}
+# the commands of a census; `crosscheck` is a command of its own
+NAMES = tuple(sorted(COMMANDS.keys() - {"crosscheck"}))
+KINDS = {"answer": "answered", "refused": "refused", "failed": "failed"}
+# the path of a file, `-` for standard input, or the lines themselves
+Signatures = Union[str, "os.PathLike[str]", Iterable[str]]
 
 
 def processors() -> int:
+    """The number of processors that this process may use."""
     return len(os.sched_getaffinity(0))
 
 
-def entries(lines: Iterable[str]) -> Iterator[Entry]:
+# a line of plain characters, with blanks alone between its words: its signature and its name
+PLAIN = re.compile(rb"(?:sig +)?([!$-\[\]-~][!#-\[\]-~]*)(?: +([!#-\[\]-~](?:[ !#-\[\]-~]*[!#-\[\]-~])?))? *\n")
+
+
+class Found(NamedTuple):
+    """The triangulation of a line, and what the line of the output begins with."""
+    head: bytes
+    signature: bytes
+    name: bytes
+
+    def entry(self) -> Entry:
+        """The triangulation as text."""
+        return Entry(self.signature.decode(), self.name.decode())
+
+
+def found_in(text: str) -> Optional[Found]:
+    """The triangulation of a line, if it has one."""
+    words = text.split(None, 1)
+    if words[:1] == ["sig"] and words[1:]:
+        words = words[1].split(None, 1)
+    if not words or words[0].startswith("#"):
+        return None
+    signature, name = words[0], words[-1].strip()
+    return Found(head_of_answer(signature, name), signature.encode(), name.encode())
+
+
+def head_of_answer(signature: str, name: str) -> bytes:
+    """What the line of the output begins with."""
+    return f'{{"name": {quoted(name)}, "signature": {quoted(signature)}'.encode()
+
+
+class Source(NamedTuple):
+    """An input: its name, the number of its lines, if it is known, and the lines."""
+    name: str
+    total: Optional[int]
+    lines: Iterable[bytes]
+
+
+@contextlib.contextmanager
+def opened(signatures: Signatures, accept_bad: bool = False) -> Iterator[Source]:
+    """An input. The first line of a regular file that isn't UTF-8 is a `BadLine` at once, unless such lines are accepted."""
+    if isinstance(signatures, os.PathLike):
+        signatures = os.fspath(signatures)
+    if signatures == "-":
+        yield Source("standard input", None, read_lines(sys.stdin.buffer, "standard input"))
+    elif isinstance(signatures, str):
+        with open(signatures, "rb") as file:
+            yield Source(signatures, _counted(file, signatures, accept_bad), read_lines(file, signatures))
+    else:
+        yield Source("the signatures", None, (line.encode() for line in signatures))
+
+
+def _counted(file: BinaryIO, name: str, accept_bad: bool) -> Optional[int]:
+    """The number of lines of a file, from its begin on, if it can be read twice."""
+    if not file.seekable():
+        return None
+    total = count_lines(file, name, accept_bad)
+    file.seek(0)
+    return total
+
+
+def lines_of(source: Source, bad: Optional[Callable[[BadLine], None]] = None) -> Iterator[Optional[Found]]:
+    """The triangulation of each line, or None. A line that isn't UTF-8 is handed to `bad`, or raised."""
+    for number, line in enumerate(source.lines, 1):
+        plain = PLAIN.fullmatch(line)
+        if plain is not None and plain[1] != b"sig":
+            # most lines are such, and it takes a third of the time
+            signature, name = plain[1], plain[2] or plain[1]
+            yield Found(b'{"name": "%b", "signature": "%b"' % (name, signature), signature, name)
+            continue
+        try:
+            yield found_in(decoded(line, source.name, number))
+        except BadLine as fault:
+            if bad is None:
+                raise
+            bad(fault)
+            yield None
+
+
+def read_entries(path: str) -> Iterator[Entry]:
     """The triangulations of a file, each once."""
-    met: Set[Entry] = set()
-    for line in lines:
-        words = line.split(None, 1)
-        if words[:1] == ["sig"] and words[1:]:
-            words = words[1].split(None, 1)
-        if words and not words[0].startswith("#"):
-            entry = Entry(words[0], words[-1].strip())
-            if entry not in met:
-                met.add(entry)
-                yield entry
+    met: Set[int] = set()
+    with opened(path) as source:
+        for found in lines_of(source):
+            if found is not None and digest(found.head) not in met:
+                met.add(digest(found.head))
+                yield found.entry()
 
 
-def read_entries(path: str) -> List[Entry]:
-    with open(path, "rb") as file:
-        return list(entries(it.text for it in read_lines(file, path)))
-
-
-def read_answer(line: Line, path: str) -> Dict[str, Any]:
+def read_answer(line: bytes, path: str, number: int) -> Dict[str, Any]:
     """A line of the output of a census."""
     try:
-        told = json.loads(line.text)
+        answer = json.loads(decoded(line, path, number))
     except ValueError as fault:
-        raise ValueError(f"{path}, line {line.number}: {fault}") from None
-    if not (isinstance(told, dict) and all(isinstance(told.get(key), str) for key in ("name", "signature", "command"))):
-        raise ValueError(f"{path}, line {line.number}: this is no line of a census")
-    return told
+        raise fault if isinstance(fault, BadLine) else ValueError(f"{path}, line {number}: {fault}") from None
+    if not (isinstance(answer, dict) and all(isinstance(answer.get(part), str) for part in ("name", "signature", "command"))):
+        raise ValueError(f"{path}, line {number}: this is no line of a census")
+    return answer
 
 
-def started_again(out: Output, task: Task, retry: bool) -> Set[Entry]:
-    """Leaves in the output what stays of an earlier run, and says which triangulations are done: all of its whole lines,
-    and those of failed runs only where these aren't tried again."""
-    done: Set[Entry] = set()
+class Earlier:
+    """What an earlier run of a task wrote to an output: all of its whole lines, and those of failed runs only if these
+    aren't tried again."""
 
-    def is_kept(line: Line) -> bool:
-        told = read_answer(line, out.path)
-        if told["command"] != task.words:
-            raise ValueError(f"{out.path} has answers of `{told['command']}`, and `{task.words}` is asked for")
-        if retry and "failed" in told:
+    def __init__(self, path: str, task: Task, retry: bool) -> None:
+        self.path, self.task, self.retry = path, task, retry
+        # the digests of what the lines begin with
+        self.done: Set[int] = set()
+        words = re.escape(quoted(task.words).encode())
+        # a line as this package writes it; such a one is not read as JSON, which takes ten times as long
+        self._plain = re.compile(rb'(\{"name": "[ !#-\[\]-~]*", "signature": "[ !#-\[\]-~]*"), "command": ' + words
+                                 + rb', "seconds": [0-9.e+-]+, "(?:answer|refused|(failed))": ')
+
+    def is_kept(self, number: int, line: bytes) -> bool:
+        """Whether a line stays; if it does, its triangulation is done."""
+        plain = self._plain.match(line)
+        if plain is not None and line.endswith(b"}\n"):
+            head, has_failed = plain[1], plain[2] is not None
+        else:
+            answer = read_answer(line, self.path, number)
+            if answer["command"] != self.task.words:
+                raise ValueError(f"{self.path} has answers of `{answer['command']}`, and `{self.task.words}` is asked for")
+            head, has_failed = head_of_answer(answer["signature"], answer["name"]), "failed" in answer
+        if self.retry and has_failed:
             return False
-        done.add(Entry(told["signature"], told["name"]))
+        self.done.add(digest(head))
         return True
 
-    out.keep(is_kept)
-    return done
 
-
-class Progress:
-    """How many are done, on one line that is written over, where standard error is a terminal; a last line anywhere."""
-
-    def __init__(self, count: int, before: int, to: TextIO) -> None:
-        self.count, self.to = count, to
-        self.before = f"{before} done before; " if before else ""
-        self.begun = self.last = time.monotonic()
-        self.kinds = {"answer": 0, "refused": 0, "failed": 0}
-
-    def done(self) -> int:
-        return sum(self.kinds.values())
-
-    def counts(self) -> str:
-        kinds = self.kinds
-        return f"{self.before}{kinds['answer']} answered, {kinds['refused']} refused, {kinds['failed']} failed"
-
-    def add(self, kind: str) -> None:
-        self.kinds[kind] += 1
-        now = time.monotonic()
-        if self.to.isatty() and (now - self.last > 0.2 or self.done() == self.count):
-            left = (now - self.begun) / self.done() * (self.count - self.done())
-            told = f"{self.done()} of {self.count}: {self.counts()}; about {left:.0f} s left"
-            print(f"\r\033[K{told}", end="", file=self.to, flush=True)
-            self.last = now
-
-    def end(self, path: str) -> None:
-        start = "\r\033[K" if self.to.isatty() else ""
-        print(f"{start}{self.counts()} in {time.monotonic() - self.begun:.1f} s; {path}", file=self.to, flush=True)
-
-
-@dataclasses.dataclass(frozen=True)
+@dataclass(frozen=True)
 class Ran:
     """How many triangulations were done before, how many now, and how many of these failed."""
     before: int
@@ -126,37 +192,143 @@ def faults_of_files(path: str) -> Iterator[None]:
         raise Failed(str(fault)) from None
 
 
-def census(given: str, out: str, task: Task, jobs: int, retry: bool = False) -> Ran:
-    """Runs what of a file of signatures is missing in the output."""
-    with faults_of_files(out):
-        wanted = read_entries(given)
-        with Output(out) as output:
-            done = started_again(output, task, retry)
-            todo = [it for it in wanted if it not in done]
-            progress = Progress(len(todo), len(wanted) - len(todo), sys.stderr)
-            with Pool(task, jobs) as pool:
-                for answered in pool.answers(todo):
-                    output.write(answered.line)
-                    progress.add(answered.kind)
-    progress.end(out)
-    return Ran(len(wanted) - len(todo), len(todo), progress.kinds["failed"])
+@contextlib.contextmanager
+def by_processes(jobs: int) -> Iterator[Engine]:
+    """So many processes on this machine, which are ended with what they run at the end of the block."""
+    workers = Workers(jobs)
+    try:
+        yield Engine(workers, 2 * jobs)
+    finally:
+        workers.kill_workers()
+
+
+class Run:
+    """A census that goes on: what comes in, what is done, and what goes out."""
+
+    def __init__(self, source: Source, output: Output, earlier: Earlier, meter: Meter) -> None:
+        self.source, self.output, self.task, self.meter = source, output, earlier.task, meter
+        self._done = earlier.done
+        meter.before = len(earlier.done)
+
+    def entries(self, skip_bad: bool) -> Iterator[Entry]:
+        """The triangulations of the input that aren't done, each once."""
+        for found in lines_of(self.source, self._pass_over if skip_bad else None):
+            if found is not None and self._is_new(found):
+                yield found.entry()
+            elif self.meter.total is not None:
+                self.meter.total -= 1
+
+    def _is_new(self, found: Found) -> bool:
+        """Whether it isn't done. It is known from now on."""
+        known = digest(found.head)
+        if known in self._done:
+            return False
+        self._done.add(known)
+        return True
+
+    def _pass_over(self, bad: BadLine) -> None:
+        """A line of the output in the place of a bad one of the input."""
+        found = found_in(bad.text)
+        if found is not None and self._is_new(found):
+            if self.meter.total is not None:
+                self.meter.total += 1
+            self.take(executors.done_of([{**head_of(found.entry(), self.task, 0.0), "failed": str(bad)}]))
+
+    def take(self, done: Done) -> None:
+        """Writes lines of the output, and counts them."""
+        self.output.write(done.lines)
+        self.meter.add(done.kinds)
+
+    def how_to_go_on(self) -> str:
+        """What a user does after it was stopped."""
+        if self.output.is_regular:
+            return f"started again with the same words it goes on; {self.output.path}"
+        return f"it can go on only if --out names a file; {self.output.path}"
+
+
+def run_census(signatures: Signatures, out: str, task: Task, engine: Engine, *, retry: bool = False, skip_bad: bool = False,
+               meter: Optional[Meter] = None) -> Ran:
+    """Runs what of an input is missing in an output, by an engine."""
+    with faults_of_files(out), opened(signatures, skip_bad) as source, Output(out) as output:
+        earlier = Earlier(out, task, retry)
+        output.keep(earlier.is_kept)
+        with meter or Meter(source.total, KINDS) as shown:
+            run = Run(source, output, earlier, shown)
+            try:
+                for done in executors.answers(run.entries(skip_bad), task, *engine):
+                    run.take(done)
+            except BaseException:
+                shown.end(f"stopped: {shown.counts()} in {shown.seconds():.1f} s; {run.how_to_go_on()}")
+                raise
+            shown.end(f"{shown.counts()} in {shown.seconds():.1f} s; {out}")
+            return Ran(shown.before, shown.done(), shown.counted["failed"])
+
+
+def task_of(command: str, coords: Optional[str], timeout: Optional[float], program: Optional[str]) -> Task:
+    """What is asked of each triangulation, or `BadArgument`."""
+    if command not in NAMES:
+        raise BadArgument(f"command is one of {', '.join(NAMES)}, and not {command!r}")
+    may_be = COORDS.get(command, ())
+    if coords is not None and coords not in may_be:
+        raise BadArgument(f"{command} takes {' or '.join(may_be) or 'no'} coordinates")
+    if timeout is not None and not 0 < timeout < math.inf:
+        raise BadArgument(f"timeout is a number of seconds above 0, and not {timeout!r}")
+    return Task(command, (coords or "standard") if may_be else None, timeout, find(program))
+
+
+def census(signatures: Signatures, out: str, command: str = "surfaces", coords: Optional[str] = None, *,
+           timeout: Optional[float] = None, jobs: Optional[int] = None, retry_failed: bool = False, skip_bad: bool = False,
+           executor: Optional[Executor] = None, program: Optional[str] = None) -> Ran:
+    """Runs a command on each of many signatures, and writes a JSON line for each to a file. Called again with the same
+    arguments it goes on where it stopped.
+
+    signatures: the path of a file of lines `SIGNATURE` or `SIGNATURE NAME`, `-` for standard input, or such lines
+    command, coords: one of `census.NAMES`, in these coordinates, if it takes some
+    timeout: seconds after which the run of one triangulation is ended
+    jobs: the number of processes, or of handfuls that an executor has at a time; by the processors or its workers if None
+    retry_failed, skip_bad: whether failed runs are tried again; whether lines that aren't UTF-8 are passed over
+    executor: any executor of `concurrent.futures`, as Dask's or MPI's, in the place of processes of this machine
+    """
+    task = task_of(command, coords, timeout, program)
+    if jobs is not None and jobs < 1:
+        raise BadArgument(f"jobs is at least 1, and not {jobs!r}")
+    if executor is not None:
+        engine = Engine(executor, jobs or executors.hands_of(executor))
+        return run_census(signatures, os.fspath(out), task, engine, retry=retry_failed, skip_bad=skip_bad)
+    with by_processes(jobs or processors()) as engine:
+        return run_census(signatures, os.fspath(out), task, engine, retry=retry_failed, skip_bad=skip_bad)
 
 
 def add_arguments(reader: argparse.ArgumentParser) -> None:
-    reader.add_argument("signatures", help="a file of lines SIGNATURE or SIGNATURE NAME")
-    reader.add_argument("--command", choices=sorted(COMMANDS.keys() - {"crosscheck"}), default="surfaces")
+    """The arguments of a census."""
+    reader.add_argument("signatures", help="a file of lines SIGNATURE or SIGNATURE NAME, or - for standard input")
+    reader.add_argument("--command", choices=NAMES, default="surfaces")
     reader.add_argument("--coords", choices=COORDS["surfaces"], help="for surfaces; describe and count take no quad")
-    reader.add_argument("--out", help="the file of answers, or - (default: SIGNATURES.COMMAND.jsonl)")
+    reader.add_argument("--out", help="the file of answers, or - (default: SIGNATURES.COMMAND.jsonl, and - for -)")
     reader.add_argument("--retry-failed", action="store_true", help="run those again whose run failed")
+    reader.add_argument("--skip-bad", action="store_true", help="pass over lines that aren't UTF-8, as failed ones")
+    engines = reader.add_mutually_exclusive_group()
+    engines.add_argument("--dask", metavar="ADDRESS", help="run it by the workers of the Dask scheduler at this address")
+    engines.add_argument("--mpi", action="store_true",
+                         help="run it by MPI: mpiexec -n N python3 -m mpi4py.futures -m trinorm census .. --mpi")
     add_run_arguments(reader)
 
 
+def engine_of(given: argparse.Namespace) -> contextlib.AbstractContextManager[Engine]:
+    """The engine that the words ask for."""
+    if given.dask:
+        return executors.by_dask(given.dask)
+    if given.mpi:
+        return executors.by_mpi()
+    return by_processes(given.jobs or processors())
+
+
 def main(given: argparse.Namespace) -> int:
-    may_be = COORDS.get(given.command, ())
-    if given.coords and given.coords not in may_be:
-        raise Failed(f"{given.command} takes {' or '.join(may_be) or 'no'} coordinates")
-    coords = (given.coords or "standard") if may_be else None
-    task = Task(given.command, coords, given.timeout, find())
-    out = given.out or f"{given.signatures}.{given.command}.jsonl"
-    ran = census(given.signatures, out, task, given.jobs or processors(), given.retry_failed)
+    """Runs a census. The status: 1 if some runs failed."""
+    task = task_of(given.command, given.coords, given.timeout, None)
+    out = given.out or ("-" if given.signatures == "-" else f"{given.signatures}.{given.command}.jsonl")
+    with engine_of(given) as engine:
+        if given.jobs and (given.dask or given.mpi):
+            engine = Engine(engine.executor, given.jobs)
+        ran = run_census(given.signatures, out, task, engine, retry=given.retry_failed, skip_bad=given.skip_bad)
     return 1 if ran.failed else 0

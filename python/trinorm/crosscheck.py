@@ -5,14 +5,14 @@ import argparse
 import json
 from typing import Any, Dict, Iterable, List, Tuple
 
-from . import census
+from . import executors
+from .census import by_processes, faults_of_files, processors, read_entries, run_census
 from .comparisons import Comparison
 from .options import add_run_arguments
 from .program import Failed, find
 from .regina_surfaces import COORDS
 from .tables import import_regina
 from .tasks import Entry, Task
-from .workers import Pool
 
 
 def told(line: Dict[str, Any]) -> Tuple[bool, List[str]]:
@@ -27,17 +27,18 @@ def told(line: Dict[str, Any]) -> Tuple[bool, List[str]]:
 def print_all(entries: Iterable[Entry], task: Task, jobs: int) -> bool:
     """Prints what comes out, and says whether all is the same."""
     are_same = True
-    with Pool(task, jobs) as pool:
-        for done in pool.answers(entries):
-            is_same, lines = told(json.loads(done.line))
-            are_same = are_same and is_same
-            print("\n".join(lines), flush=True)
+    with by_processes(jobs) as engine:
+        for done in executors.answers(entries, task, *engine):
+            for answer in done.lines.splitlines():
+                is_same, lines = told(json.loads(answer))
+                are_same = are_same and is_same
+                print("\n".join(lines), flush=True)
     return are_same
 
 
 def all_are_same(path: str) -> bool:
     """Whether the lists are the same in each line of an output."""
-    with census.faults_of_files(path), open(path, "rb") as file:
+    with faults_of_files(path), open(path, "rb") as file:
         return all(told(json.loads(line))[0] for line in file)
 
 
@@ -55,9 +56,10 @@ def main(given: argparse.Namespace) -> int:
         raise Failed("either signatures are given, or --file, with or without a file behind --out")
     task = Task("crosscheck", given.coords, given.timeout, find())
     if given.out:
-        census.census(given.file, given.out, task, given.jobs or census.processors())
+        with by_processes(given.jobs or processors()) as engine:
+            run_census(given.file, given.out, task, engine)
         return 0 if all_are_same(given.out) else 1
-    with census.faults_of_files("standard output"):
-        entries = census.read_entries(given.file) if given.file else [Entry(it, it) for it in given.signatures]
-        jobs = given.jobs or (census.processors() if given.file else 1)
+    with faults_of_files("standard output"):
+        entries: Iterable[Entry] = read_entries(given.file) if given.file else [Entry(it, it) for it in given.signatures]
+        jobs = given.jobs or (processors() if given.file else 1)
         return 0 if print_all(entries, task, jobs) else 1

@@ -1,40 +1,34 @@
-"""Processes of Python that run a command on triangulations, side by side.
+"""Processes of this machine as an executor.
 
-Each gets a handful of triangulations at a time, as a line of JSON, and answers each as soon as it is done by a line: what
-came out in one word, a tab, and the line of the census.
+Python's own `ProcessPoolExecutor` can't take its place. If one of its processes is killed, as where memory runs out, all
+that the others have in hand is lost with it; and what a process runs goes on after Ctrl-C, or after the parent is killed.
+Here a process that dies takes one call with it and is replaced, and each ends with all that it runs.
 """
 from __future__ import annotations
 
-import collections
 import contextlib
 import ctypes
-import dataclasses
-import json
 import os
-import selectors
+import pickle
+import queue
 import signal
 import subprocess
 import sys
-import time
+import threading
+from concurrent.futures import BrokenExecutor, Executor, Future
 from pathlib import Path
 from types import FrameType
-from typing import BinaryIO, Deque, Iterable, Iterator, List, NamedTuple, NoReturn, Optional
+from typing import IO, Any, BinaryIO, List, NamedTuple, NoReturn, Optional, Set, Tuple
 
-from .program import Failed, how_it_ended
-from .server import Server
-from .tasks import Entry, Task, as_json, head_of, line_of
+from .program import how_it_ended
 
-READY = b"ready"
-# how long a handful is to take, and how many triangulations it may have
-SECONDS, MOST = 0.1, 64
+READY = "ready"
 # Linux: a signal to a process whose parent ends
 PR_SET_PDEATHSIG = 1
 
 
-class Done(NamedTuple):
-    """A line of the output, and what came out: `answer`, `refused` or `failed`."""
-    kind: str
-    line: str
+class WorkerEnded(RuntimeError):
+    """The process of a call died. It had this call alone, so no other is the cause."""
 
 
 class Terminated(KeyboardInterrupt):
@@ -46,184 +40,199 @@ def end_as_by_keyboard(_signal: int, _frame: Optional[FrameType]) -> NoReturn:
     raise Terminated
 
 
-class Worker:
-    """A process, and the triangulations that it has not yet answered."""
+def send(data: bytes, stream: IO[bytes]) -> None:
+    """Writes bytes, after their number."""
+    stream.write(len(data).to_bytes(8, "little") + data)
+    stream.flush()
 
-    def __init__(self, task: Task) -> None:
+
+def receive(stream: IO[bytes]) -> bytes:
+    """The next bytes that were sent; EOFError if the other side has ended."""
+    head = stream.read(8)
+    length = int.from_bytes(head, "little")
+    data = stream.read(length)
+    if len(head) < 8 or len(data) < length:
+        raise EOFError
+    return data
+
+
+class Worker:
+    """A process that calls functions, one after another."""
+
+    def __init__(self) -> None:
         # the same places of modules as here, so that no others need be looked for
         path = os.pathsep.join(place or os.getcwd() for place in [str(Path(__file__).resolve().parents[1]), *sys.path])
-        words = [sys.executable, "-S", "-m", "trinorm.workers", as_json(task)]
-        self.process = subprocess.Popen(words, start_new_session=True, stdin=subprocess.PIPE, stdout=subprocess.PIPE,
-                                        env=dict(os.environ, PYTHONPATH=path))
-        self.todo: Deque[Entry] = collections.deque()
-        self.is_ready = False
-        self.seconds, self.answers = 0.0, 0
-        self._begun = time.monotonic()
-        self._parts: List[bytes] = []
+        words = [sys.executable, "-S", "-c", "from trinorm.workers import main; main()"]
+        self._process = subprocess.Popen(words, start_new_session=True, stdin=subprocess.PIPE, stdout=subprocess.PIPE,
+                                         env=dict(os.environ, PYTHONPATH=path))
+        assert self._process.stdin is not None and self._process.stdout is not None
+        self._to, self._from = self._process.stdin, self._process.stdout
+        self._lock = threading.Lock()
 
-    def fileno(self) -> int:
-        assert self.process.stdout is not None
-        return self.process.stdout.fileno()
+    def wait_until_ready(self) -> None:
+        """EOFError if it ends before."""
+        receive(self._from)
 
-    def hand(self, entries: List[Entry]) -> None:
-        """Gives it more to do; only where it has answered all before, so that both never wait for each other."""
-        assert self.process.stdin is not None
-        self.todo.extend(entries)
-        self._begun = time.monotonic()
-        with contextlib.suppress(BrokenPipeError):
-            self.process.stdin.write(as_json(entries).encode() + b"\n")
-            self.process.stdin.flush()
-
-    def handful(self) -> int:
-        """How many triangulations it answers in a short while."""
-        return max(1, min(MOST, int(SECONDS * self.answers / self.seconds))) if self.seconds else 1
-
-    def receive(self) -> Optional[List[bytes]]:
-        """The lines that have come; None where the process has ended."""
-        came = os.read(self.fileno(), 1 << 20)
-        if not came:
-            return None
-        *lines, rest = came.split(b"\n")
-        if lines:
-            lines[0] = b"".join(self._parts) + lines[0]
-            self._parts = []
-        self._parts.append(rest)
-        return lines
-
-    def count(self, answers: int) -> None:
-        now = time.monotonic()
-        self.answers += answers
-        self.seconds += now - self._begun
-        self._begun = now
-
-    def failed(self, task: Task) -> Done:
-        """The line of the triangulation at which it ended."""
-        said = {"failed": f"a worker process: {how_it_ended(self.end())}"}
-        return Done("failed", as_json({**head_of(self.todo.popleft(), task, time.monotonic() - self._begun), **said}))
+    def call(self, asked: bytes) -> Tuple[bool, Any]:
+        """Whether the function of a pickled call returned, and what it returned or raised; EOFError if the process ends
+        before."""
+        try:
+            send(asked, self._to)
+        except BrokenPipeError:
+            raise EOFError from None
+        return pickle.loads(receive(self._from))
 
     def kill(self) -> None:
-        """Ends it at once, with the program that it runs: they are a group of their own."""
-        with contextlib.suppress(ProcessLookupError):
-            os.killpg(self.process.pid, signal.SIGKILL)
+        """Ends it at once, with all that it runs: they are a group of their own. Its number is its own until `status`."""
+        with self._lock, contextlib.suppress(ProcessLookupError):
+            if self._process.returncode is None:
+                os.killpg(self._process.pid, signal.SIGKILL)
 
-    def end(self) -> int:
-        """Its status, once it has ended, as it does by itself where its input does. What it left is ended too."""
-        for stream in (self.process.stdin, self.process.stdout):
+    def status(self) -> int:
+        """Its status, after it has ended, as it does if its input ends. What it left running is ended too."""
+        for stream in (self._to, self._from):
             with contextlib.suppress(BrokenPipeError):
-                assert stream is not None
                 stream.close()
-        if self.process.returncode is None:
-            # its number is its own as long as nobody has waited for it
-            os.waitid(os.P_PID, self.process.pid, os.WEXITED | os.WNOWAIT)
-            self.kill()
-        return self.process.wait()
+        os.waitid(os.P_PID, self._process.pid, os.WEXITED | os.WNOWAIT)
+        self.kill()
+        with self._lock:
+            return self._process.wait()
 
 
-class Pool:
-    """So many workers at a time. Where one ends, the triangulation that it had is failed, and another takes its place.
-    Those that are left are ended, with what they run, at the end of the `with` block."""
+class _Asked(NamedTuple):
+    """A call that waits for a process: what it is to answer, and function and arguments, pickled."""
+    future: "Future[Any]"
+    call: bytes
 
-    def __init__(self, task: Task, jobs: int) -> None:
-        self.task, self.jobs = task, jobs
-        self.waiting: Deque[Entry] = collections.deque()
-        self._selector = selectors.DefaultSelector()
 
-    def __enter__(self) -> Pool:
-        return self
+class Workers(Executor):
+    """An executor of so many processes, which are started as calls come. A call whose process dies raises `WorkerEnded`.
+    Functions are those of modules, not of the script that runs."""
 
-    def __exit__(self, *_: object) -> None:
-        for worker in self._workers():
+    def __init__(self, jobs: int) -> None:
+        if jobs < 1:
+            raise ValueError(f"at least 1 process is wanted, and not {jobs}")
+        self._max_workers = jobs
+        self._asked: "queue.SimpleQueue[Optional[_Asked]]" = queue.SimpleQueue()
+        self._threads: List[threading.Thread] = []
+        self._live: Set[Worker] = set()
+        self._lock = threading.Lock()
+        self._is_closed = False
+
+    def submit(self, function, /, *arguments, **named):  # type: ignore[no-untyped-def, override]
+        """Calls a function in one of the processes."""
+        future: "Future[Any]" = Future()
+        call = pickle.dumps((function, arguments, named))
+        with self._lock:
+            if self._is_closed:
+                raise RuntimeError("the processes have ended")
+            if len(self._threads) < self._max_workers:
+                # a process is ended with the thread that started it, so each has its own
+                self._threads.append(threading.Thread(target=self._serve, daemon=True))
+                self._threads[-1].start()
+        self._asked.put(_Asked(future, call))
+        return future
+
+    def shutdown(self, wait: bool = True, *, cancel_futures: bool = False) -> None:
+        """Takes no more calls; the processes end after those that they have."""
+        with self._lock:
+            self._is_closed = True
+        if cancel_futures:
+            self._cancel()
+        for _ in self._threads:
+            self._asked.put(None)
+        if wait:
+            for thread in self._threads:
+                thread.join()
+
+    def kill_workers(self) -> None:
+        """Ends all processes at once, with what they run."""
+        with self._lock:
+            self._is_closed = True
+            live = list(self._live)
+        self._cancel()
+        for worker in live:
             worker.kill()
-        for worker in self._workers():
-            self._drop(worker)
+        self.shutdown()
 
-    def _workers(self) -> List[Worker]:
-        return [key.data for key in self._selector.get_map().values()]
+    def _cancel(self) -> None:
+        with contextlib.suppress(queue.Empty):
+            while True:
+                asked = self._asked.get_nowait()
+                if asked is not None:
+                    asked.future.cancel()
 
-    def answers(self, todo: Iterable[Entry]) -> Iterator[Done]:
-        """The lines as they are done."""
-        self.waiting.extend(todo)
-        for _ in range(min(self.jobs, len(self.waiting))):
-            self._start()
-        while self._selector.get_map():
-            for key, _ in self._selector.select():
-                yield from self._step(key.data)
+    def _serve(self) -> None:
+        """What a thread does: it has one process, and hands it call after call."""
+        worker: Optional[Worker] = None
+        for asked in iter(self._asked.get, None):
+            if not asked.future.set_running_or_notify_cancel():
+                continue
+            try:
+                worker = worker or self._start()
+                is_returned, value = worker.call(asked.call)
+                if is_returned:
+                    asked.future.set_result(value)
+                else:
+                    asked.future.set_exception(value)
+            except EOFError:
+                assert worker is not None
+                asked.future.set_exception(WorkerEnded(f"a worker process: {how_it_ended(self._ended(worker))}"))
+                worker = None
+            except BaseException as fault:  # pylint: disable=broad-except
+                asked.future.set_exception(fault)
+        if worker is not None:
+            self._ended(worker)
 
-    def _start(self) -> None:
-        worker = Worker(self.task)
-        self._selector.register(worker.fileno(), selectors.EVENT_READ, worker)
+    def _start(self) -> Worker:
+        """A process that has begun to listen."""
+        try:
+            worker = Worker()
+        except OSError as fault:
+            raise BrokenExecutor(f"a worker process could not start: {fault.strerror}") from None
+        with self._lock:
+            self._live.add(worker)
+            if self._is_closed:
+                worker.kill()
+        try:
+            worker.wait_until_ready()
+        except EOFError:
+            raise BrokenExecutor(f"a worker process could not start: {how_it_ended(self._ended(worker))}") from None
+        return worker
 
-    def _drop(self, worker: Worker) -> None:
-        self._selector.unregister(worker.fileno())
-        worker.end()
-
-    def _step(self, worker: Worker) -> Iterator[Done]:
-        """What a worker has answered; then it gets more to do, or ends where nothing is left."""
-        lines = worker.receive()
-        if lines is None:
-            yield from self._ended(worker)
-            return
-        for line in lines:
-            if line == READY:
-                worker.is_ready = True
-            else:
-                worker.todo.popleft()
-                worker.count(1)
-                kind, _, text = line.decode().partition("\t")
-                yield Done(kind, text)
-        if worker.is_ready and not worker.todo:
-            self._hand(worker)
-
-    def _hand(self, worker: Worker) -> None:
-        if not self.waiting:
-            self._drop(worker)
-            return
-        share = -(-len(self.waiting) // (2 * self.jobs))
-        worker.hand([self.waiting.popleft() for _ in range(min(worker.handful(), share))])
-
-    def _ended(self, worker: Worker) -> Iterator[Done]:
-        """It was killed, as where memory ran out."""
-        self._selector.unregister(worker.fileno())
-        if not worker.is_ready:
-            raise Failed(f"a worker process could not start: {how_it_ended(worker.end())}")
-        if worker.todo:
-            yield worker.failed(self.task)
-        worker.end()
-        self.waiting.extendleft(reversed(worker.todo))
-        if self.waiting:
-            self._start()
+    def _ended(self, worker: Worker) -> int:
+        """The status of a process whose input or output has ended."""
+        status = worker.status()
+        with self._lock:
+            self._live.discard(worker)
+        return status
 
 
-@contextlib.contextmanager
-def by_server(task: Task) -> Iterator[Task]:
-    """The task with one server for all runs, where such a program stands beside the one that was found."""
-    beside = task.program if isinstance(task.program, str) else None
-    if Server.find(beside) is None:
-        yield task
-    else:
-        with Server(beside, own_session=False) as server:  # so that it ends with the group of this process
-            yield dataclasses.replace(task, program=server)
+def outcome(asked: bytes) -> bytes:
+    """Whether a call returned, and what it returned or raised, pickled."""
+    try:
+        function, arguments, named = pickle.loads(asked)
+        return pickle.dumps((True, function(*arguments, **named)))
+    except Exception as fault:  # pylint: disable=broad-except
+        try:
+            return pickle.dumps((False, fault))
+        except Exception:  # pylint: disable=broad-except
+            return pickle.dumps((False, RuntimeError(repr(fault))))
 
 
-def serve(task: Task, given: BinaryIO, to: BinaryIO) -> None:
-    """Answers handful after handful, until there are no more."""
-    to.write(READY + b"\n")
-    to.flush()
-    for handful in given:
-        for signature, name in json.loads(handful):
-            line = line_of(Entry(signature, name), task)
-            kind = next(key for key in ("answer", "refused", "failed") if key in line)
-            to.write(f"{kind}\t{as_json(line)}\n".encode())
-            to.flush()
+def serve(calls: BinaryIO, to: BinaryIO) -> None:
+    """Answers call after call, until there are no more."""
+    send(pickle.dumps(READY), to)
+    with contextlib.suppress(EOFError):
+        while True:
+            send(outcome(receive(calls)), to)
 
 
 def main() -> None:
-    # where the census is killed, so are this process and what it runs
+    # if the parent is killed, so are this process and what it runs
     signal.signal(signal.SIGTERM, lambda *_: os.killpg(0, signal.SIGKILL))
     ctypes.CDLL(None).prctl(PR_SET_PDEATHSIG, signal.SIGTERM)
-    with by_server(Task(**json.loads(sys.argv[1]))) as task:
-        serve(task, sys.stdin.buffer, sys.stdout.buffer)
-
-
-if __name__ == "__main__":
-    main()
+    with os.fdopen(os.dup(1), "wb") as to:
+        # what a function prints is no answer
+        os.dup2(2, 1)
+        serve(sys.stdin.buffer, to)

@@ -1,0 +1,383 @@
+"""A census by executors: handfuls, what is given back, workers that die, and engines that end."""
+import concurrent.futures
+import contextlib
+import io
+import json
+import os
+import signal
+import subprocess
+import sys
+import tempfile
+import threading
+import time
+import unittest
+import unittest.mock
+from concurrent.futures import Executor, Future, ProcessPoolExecutor, ThreadPoolExecutor
+
+import trinorm
+from tests.programs import script
+from trinorm import executors
+from trinorm.executors import Ran, answers, done_of
+from trinorm.program import Failed
+from trinorm.tables import BadArgument
+from trinorm.tasks import Entry, Task
+from trinorm.workers import WorkerEnded, Workers
+
+ECHO = "read kind signature\necho $signature\n"
+# kills the process that runs it where the signature is `killer`
+KILLER = "read kind signature\n[ $signature != killer ] || kill -9 $PPID\necho $signature\n"
+
+
+def entries(count, *others):
+    return [Entry(f"s{number}", f"n{number}") for number in range(count)] + [Entry(it, it) for it in others]
+
+
+class Programs(unittest.TestCase):
+    """Tests with a folder and a program in it."""
+
+    def setUp(self):
+        folder = tempfile.TemporaryDirectory()
+        self.addCleanup(folder.cleanup)
+        self.folder = folder.name
+
+    def task(self, text=ECHO):
+        return Task("sig", program=script(self.folder, text), timeout=20)
+
+    def answered(self, todo, executor, hands=4, task=None):
+        """The answers or failures by their names; each has to come once."""
+        found = {}
+        for done in answers(todo, task or self.task(), executor, hands):
+            lines = [json.loads(line) for line in done.lines.splitlines()]
+            self.assertEqual(sum(done.kinds.values()), len(lines))
+            for line in lines:
+                self.assertNotIn(line["name"], found)
+                found[line["name"]] = line.get("answer") or line["failed"]
+        return found
+
+
+class ByExecutors(Programs):
+    def test_any_executor(self):
+        for executor in (ThreadPoolExecutor(3), ProcessPoolExecutor(2), Workers(2)):
+            with self.subTest(type(executor).__name__), executor:
+                self.assertEqual(self.answered(iter(entries(50)), executor), {f"n{k}": f"s{k}" for k in range(50)})
+
+    def test_nothing_to_do(self):
+        with ThreadPoolExecutor(1) as executor:
+            self.assertEqual(self.answered([], executor), {})
+
+    def test_two_at_a_time_by_one_executor(self):
+        with Workers(2) as executor:
+            task = self.task()
+            found = [None, None]
+
+            def run(place):
+                found[place] = self.answered(entries(40), executor, task=task)
+            threads = [threading.Thread(target=run, args=(place,)) for place in range(2)]
+            for thread in threads:
+                thread.start()
+            for thread in threads:
+                thread.join(60)
+        self.assertEqual(found, [{f"n{k}": f"s{k}" for k in range(40)}] * 2)
+
+    def test_a_worker_that_dies_takes_no_other_with_it(self):
+        with Workers(2) as executor:
+            found = self.answered(entries(60, "killer") + entries(100)[60:], executor, task=self.task(KILLER))
+        self.assertEqual(found.pop("killer"), "a worker process: killed by signal 9")
+        self.assertEqual(found, {f"n{k}": f"s{k}" for k in range(100)})
+
+    def test_a_pool_of_python_s_own_that_breaks_is_named(self):
+        with ProcessPoolExecutor(2) as executor, self.assertRaisesRegex(Failed, "the engine has ended: .*terminated"):
+            self.answered(entries(20, "killer"), executor, task=self.task(KILLER))
+
+    def test_an_executor_that_was_shut_down(self):
+        executor = ThreadPoolExecutor(1)
+        executor.shutdown()
+        with self.assertRaisesRegex(Failed, "the engine has ended"):
+            self.answered(entries(1), executor)
+
+    def test_a_module_that_a_worker_has_not(self):
+        class Poor(Made):
+            def outcome(self, task, handful):
+                raise ModuleNotFoundError("No module named 'trinorm'")
+        with self.assertRaisesRegex(Failed, "can't import the package: No module named 'trinorm'"):
+            self.answered(entries(5), Poor())
+
+    def test_an_exception_in_a_worker_is_a_failed_run(self):
+        with unittest.mock.patch.object(executors, "line_of", side_effect=MemoryError("too much")), ThreadPoolExecutor(1) as executor:
+            self.assertEqual(self.answered(entries(2), executor), {"n0": "MemoryError: too much", "n1": "MemoryError: too much"})
+
+    def test_futures_are_cancelled_if_nobody_takes_more(self):
+        executor = Made(delay=True)
+        found = answers(entries(100), self.task(), executor, 4)
+        executor.release(1)
+        next(found)
+        found.close()
+        self.assertTrue(all(future.cancelled() or future.done() for future in executor.futures))
+
+
+class Made(Executor):
+    """An executor that answers at once, or when it is released; what it answers is made up."""
+
+    def __init__(self, delay=False):
+        self.sizes, self.futures, self.delay, self.waiting, self.most = [], [], delay, [], 0
+
+    def outcome(self, task, handful):
+        return Ran(done_of({"name": name, "answer": signature} for signature, name in handful), 0, 0.001)
+
+    def submit(self, function, task, handful):  # pylint: disable=arguments-differ
+        future = Future()
+        self.sizes.append(len(handful))
+        self.futures.append(future)
+        self.waiting.append((future, task, handful))
+        self.most = max(self.most, len(self.waiting))
+        if not self.delay:
+            self.release(1)
+        return future
+
+    def release(self, count):
+        """Answers so many calls, also those that come later."""
+        self.delay = count > 1
+        for future, task, handful in self.waiting[:count]:
+            if future.set_running_or_notify_cancel():
+                try:
+                    future.set_result(self.outcome(task, handful))
+                except Exception as fault:
+                    future.set_exception(fault)
+        del self.waiting[:count]
+
+
+class GivesUp(Made):
+    """Gives up each handful with the killer, and each that is submitted next to one, as an engine may."""
+
+    def __init__(self):
+        super().__init__()
+        self.alone = []
+
+    def outcome(self, task, handful):
+        signatures = [signature for signature, _ in handful]
+        if "killer" in signatures or len(self.sizes) <= 11:
+            raise RuntimeError("a worker died")
+        self.alone.append(signatures)
+        return super().outcome(task, handful)
+
+
+class Handing(Programs):
+    def test_handfuls_grow(self):
+        executor = Made()
+        self.assertEqual(len(self.answered(entries(200), executor, hands=1)), 200)
+        self.assertEqual(executor.sizes, [1, 2, 4, 8, 16, 32, 64, 73])
+
+    def test_slow_ones_stay_alone(self):
+        class Slow(Made):
+            def outcome(self, task, handful):
+                return super().outcome(task, handful)._replace(seconds=3.0)
+        executor = Slow()
+        self.answered(entries(5), executor, hands=1)
+        self.assertEqual(executor.sizes, [1] * 5)
+
+    def test_what_is_given_back_is_tried_again(self):
+        class Half(Made):
+            def outcome(self, task, handful):
+                half = -(-len(handful) // 2)
+                return super().outcome(task, handful[:half])._replace(left=len(handful) - half)
+        self.assertEqual(len(self.answered(entries(100), Half())), 100)
+
+    def test_no_more_hands_than_there_are(self):
+        for hands in (1, 3):
+            executor = Made(delay=True)
+            found = answers(entries(50), self.task(), executor, hands)
+            reader = threading.Thread(target=lambda: list(found), daemon=True)
+            reader.start()
+            end = time.monotonic() + 10
+            while reader.is_alive() and time.monotonic() < end:
+                with contextlib.suppress(IndexError):
+                    executor.release(len(executor.waiting) + 1)
+                time.sleep(0.005)
+            self.assertFalse(reader.is_alive())
+            self.assertLessEqual(executor.most, hands)
+
+    def test_innocent_ones_are_tried_again_alone(self):
+        executor = GivesUp()
+        found = self.answered(entries(10, "killer"), executor, hands=3)
+        self.assertEqual(found.pop("killer"), "RuntimeError: a worker died")
+        self.assertEqual(found, {f"n{k}": f"s{k}" for k in range(10)})
+
+    def test_a_run_ends_when_its_time_is_up(self):
+        with unittest.mock.patch.object(executors, "SECONDS", 0.05):
+            ran = executors.run(self.task("read kind signature\nsleep 0.1\necho $signature\n"), [("a", "a"), ("b", "b"), ("c", "c")])
+        self.assertEqual((ran.left, ran.done.kinds), (2, {"answer": 1}))
+
+    def test_entries_that_come_slowly(self):
+        """An answer is not kept back until more lines have come."""
+        lines, came = [], threading.Event()
+
+        def slowly():
+            yield Entry("first", "first")
+            came.wait(20)
+            yield Entry("second", "second")
+        with ThreadPoolExecutor(2) as executor:
+            for done in answers(slowly(), self.task(), executor, 1):
+                lines.append(done.lines)
+                came.set()
+        self.assertEqual(len(lines), 2)
+
+    def test_a_program_that_is_not_on_this_machine(self):
+        self.assertEqual(executors.on_this_machine(Task("sig", program="/no/such/program")), Task("sig"))
+        task = self.task()
+        self.assertEqual(executors.on_this_machine(task), task)
+
+    def test_hands(self):
+        with ThreadPoolExecutor(3) as executor:
+            self.assertEqual(executors.hands_of(executor), 6)
+        self.assertEqual(executors.hands_of(Executor()), 16)
+
+
+class Processes(unittest.TestCase):
+    def test_calls(self):
+        with Workers(2) as workers:
+            self.assertEqual(list(workers.map(abs, range(-20, 0))), list(range(20, 0, -1)))
+            self.assertEqual(workers.submit(int, "ff", 16).result(10), 255)
+            with self.assertRaises(ZeroDivisionError):
+                workers.submit(divmod, 1, 0).result(10)
+            self.assertEqual(len({workers.submit(os.getpid).result(10) for _ in range(10)} | {os.getpid()}) > 1, True)
+
+    def test_what_can_not_be_sent(self):
+        with Workers(1) as workers:
+            with self.assertRaises(Exception):
+                workers.submit(lambda: 1)
+            self.assertIn("cannot pickle", str(workers.submit(open, os.devnull).exception(10)))
+            self.assertEqual(workers.submit(abs, -1).result(10), 1)
+
+    def test_a_process_that_dies_is_replaced(self):
+        with Workers(1) as workers:
+            first = workers.submit(os.getpid).result(10)
+            self.assertIsInstance(workers.submit(os._exit, 5).exception(10), WorkerEnded)
+            self.assertIn("status 5", str(workers.submit(os._exit, 5).exception(10)))
+            self.assertNotEqual(workers.submit(os.getpid).result(10), first)
+
+    def test_what_a_call_prints_is_no_answer(self):
+        with Workers(1) as workers:
+            self.assertIsNone(workers.submit(print, "", end="").result(10))
+
+    def test_killed(self):
+        workers = Workers(2)
+        calls = [workers.submit(time.sleep, 100) for _ in range(5)]
+        while sum(call.running() for call in calls) < 2:
+            time.sleep(0.02)
+        begun = time.monotonic()
+        workers.kill_workers()
+        self.assertLess(time.monotonic() - begun, 10)
+        self.assertTrue(all(call.cancelled() or isinstance(call.exception(10), (WorkerEnded, concurrent.futures.BrokenExecutor))
+                            for call in calls))
+        with self.assertRaises(RuntimeError):
+            workers.submit(abs, 1)
+        workers.kill_workers()
+
+    def test_numbers_of_jobs(self):
+        for jobs in (0, -1):
+            with self.assertRaises(ValueError):
+                Workers(jobs)
+
+
+class FromPython(Programs):
+    """The function `trinorm.census`."""
+
+    def setUp(self):
+        super().setUp()
+        self.given = os.path.join(self.folder, "signatures")
+        self.out = os.path.join(self.folder, "answers")
+        with open(self.given, "w", encoding="utf8") as file:
+            file.writelines(f"s{number} n{number}\n" for number in range(100))
+
+    def census(self, signatures=None, out=None, command="sig", **named):
+        with contextlib.redirect_stderr(io.StringIO()):
+            return trinorm.census(signatures or self.given, out or self.out, command, program=self.task().program, **named)
+
+    def names(self):
+        with open(self.out, encoding="utf8") as file:
+            return [json.loads(line)["name"] for line in file]
+
+    def test_by_an_executor_and_on(self):
+        with ThreadPoolExecutor(2) as executor:
+            ran = self.census(executor=executor)
+            self.assertEqual((ran.before, ran.now, ran.failed), (0, 100, 0))
+            with open(self.out, "r+", encoding="utf8") as file:
+                file.truncate(sum(map(len, file.readlines()[:40])) + 7)
+            ran = self.census(executor=executor)
+        self.assertEqual((ran.before, ran.now, ran.failed), (40, 60, 0))
+        self.assertEqual(sorted(self.names()), sorted(f"n{k}" for k in range(100)))
+
+    def test_lines_and_processes(self):
+        ran = self.census([f"s{k}" for k in range(10)] + ["# none", "s3"], jobs=2)
+        self.assertEqual((ran.before, ran.now, ran.failed), (0, 10, 0))
+        self.assertEqual(self.census((f"s{k}" for k in range(12)), jobs=1).now, 2)
+
+    def test_arguments(self):
+        for named in ({"command": "crosscheck"}, {"coords": "quad"}, {"timeout": 0}, {"timeout": float("nan")}, {"jobs": 0}):
+            with self.subTest(named), self.assertRaises(BadArgument):
+                self.census(**named)
+        with self.assertRaisesRegex(Failed, "No such file"):
+            self.census("/no/such/file")
+        self.assertFalse(os.path.exists(self.out))
+
+    def test_lines_that_are_not_utf8(self):
+        with open(self.given, "wb") as file:
+            file.write(b"s1 one\ns2 b\xe4d\n# a comm\xe4nt\ns3 three\ns4 l\xe4st")
+        with self.assertRaisesRegex(Failed, "signatures, line 2: byte 5 isn't UTF-8"):
+            self.census(jobs=1)
+        ran = self.census(jobs=1, skip_bad=True)
+        self.assertEqual((ran.before, ran.now, ran.failed), (0, 4, 2))
+        with open(self.out, encoding="utf8") as file:
+            found = {line["name"]: line for line in map(json.loads, file)}
+        self.assertEqual(found["b\\xe4d"]["failed"], f"{self.given}, line 2: byte 5 isn't UTF-8")
+        self.assertEqual(found["b\\xe4d"]["signature"], "s2")
+        self.assertEqual(sorted(found), ["b\\xe4d", "l\\xe4st", "one", "three"])
+        ran = self.census(jobs=1, skip_bad=True)
+        self.assertEqual((ran.before, ran.now, ran.failed), (4, 0, 0))
+        ran = self.census(jobs=1, skip_bad=True, retry_failed=True)
+        self.assertEqual((ran.before, ran.now, ran.failed), (2, 2, 2))
+
+    def test_outputs_that_others_wrote(self):
+        """A line is known whatever wrote it."""
+        self.census(['a "b"', "a b\\c", "a é", "a b"], jobs=1)
+        for change in (lambda line: json.dumps(line, ensure_ascii=False), lambda line: json.dumps(line, separators=(",", ":")),
+                       lambda line: json.dumps(dict(reversed(list(line.items())))), json.dumps):
+            with open(self.out, encoding="utf8") as file:
+                lines = [json.loads(line) for line in file]
+            with open(self.out, "w", encoding="utf8") as file:
+                file.writelines(change(line) + "\n" for line in lines)
+            ran = self.census(['a "b"', "a b\\c", "a é", "a b"], jobs=1)
+            self.assertEqual((ran.before, ran.now), (4, 0))
+
+
+class Interrupted(Programs):
+    def test_a_last_line_says_how_to_go_on(self):
+        given, out = os.path.join(self.folder, "signatures"), os.path.join(self.folder, "answers")
+        with open(given, "w", encoding="utf8") as file:
+            file.write("quick\nslow\n")
+        program = script(self.folder, "read kind signature\n[ $signature = quick ] || exec sleep 100\necho $signature\n")
+        around = dict(os.environ, TRINORM=program, PYTHONPATH=os.path.dirname(os.path.dirname(os.path.abspath(trinorm.__file__))))
+        for number, status, words in ((signal.SIGINT, 130, ["--out", out]), (signal.SIGTERM, 143, ["--out", "-"])):
+            run = subprocess.Popen([sys.executable, "-m", "trinorm", "census", given, "--command", "sig", "--jobs", "1", *words],
+                                   env=around, stdout=subprocess.PIPE, stderr=subprocess.PIPE, text=True)
+            if words[1] == "-":
+                run.stdout.readline()
+            else:
+                while not os.path.exists(out) or not os.path.getsize(out):
+                    time.sleep(0.02)
+            run.send_signal(number)
+            _, said = run.communicate(timeout=30)
+            self.assertEqual(run.returncode, status)
+            self.assertIn("stopped: 1 answered, 0 refused, 0 failed", said)
+            self.assertIn("started again with the same words it goes on" if words[1] == out else "only if --out names a file", said)
+
+    def test_standard_input(self):
+        around = dict(os.environ, TRINORM=script(self.folder, ECHO),
+                      PYTHONPATH=os.path.dirname(os.path.dirname(os.path.abspath(trinorm.__file__))))
+        run = subprocess.run([sys.executable, "-m", "trinorm", "census", "-", "--command", "sig", "--jobs", "1"], env=around,
+                             input="a\nb two\n", capture_output=True, text=True, timeout=60, check=True)
+        self.assertEqual(sorted(json.loads(line)["name"] for line in run.stdout.splitlines()), ["a", "two"])
+
+
+if __name__ == "__main__":
+    unittest.main()

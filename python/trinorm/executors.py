@@ -1,0 +1,260 @@
+"""A census by any executor of `concurrent.futures`, as Dask's, MPI's, or `workers.Workers`, on as many machines as it has.
+
+An executor is asked for handfuls: `run(task, entries)` answers triangulations one after another, and gives back those that
+it hasn't begun when its time is up. How a triangulation is answered, and how long it may take, is the task's.
+"""
+from __future__ import annotations
+
+import collections
+import contextlib
+import dataclasses
+import itertools
+import shutil
+import sys
+import time
+from concurrent.futures import FIRST_COMPLETED, BrokenExecutor, CancelledError, Executor, Future, wait
+from typing import Deque, Dict, Iterable, Iterator, List, NamedTuple, Optional, Tuple
+
+from .program import Failed
+from .server import Server
+from .tasks import Entry, Task, as_json, head_of, line_of
+from .workers import WorkerEnded, Workers
+
+KINDS = ("answer", "refused", "failed")
+# seconds after which a handful begins no more triangulations, and the most that it may have
+SECONDS, MOST = 1.0, 2048
+# of a handful with which a worker died, so many parts are tried next
+PARTS = 64
+
+
+class Done(NamedTuple):
+    """Lines of the output, each with its end, and how many there are of each kind: `answer`, `refused`, `failed`."""
+    lines: str
+    kinds: Dict[str, int]
+
+
+class Ran(NamedTuple):
+    """What of a handful was answered, the number of those that are left, and the seconds that it took."""
+    done: Done
+    left: int
+    seconds: float
+
+
+def done_of(lines: Iterable[Dict[str, object]]) -> Done:
+    """The lines of the output as text, counted."""
+    them = list(lines)
+    kinds = collections.Counter(next(kind for kind in KINDS if kind in line) for line in them)
+    return Done("".join(as_json(line) + "\n" for line in them), dict(kinds))
+
+
+@contextlib.contextmanager
+def by_server(task: Task) -> Iterator[Task]:
+    """The task with one server for all runs, if such a program is next to the one that it names."""
+    program = task.program if isinstance(task.program, str) else None
+    if Server.find(program) is None:
+        yield task
+    else:
+        with Server(program, own_session=False) as server:  # so that it ends with the group of this process
+            yield dataclasses.replace(task, program=server)
+
+
+def on_this_machine(task: Task) -> Task:
+    """The task with its program, or, where there is none at that path, with the one that this machine has."""
+    if isinstance(task.program, str) and shutil.which(task.program) is None:
+        return dataclasses.replace(task, program=None)
+    return task
+
+
+def answered(entry: Entry, task: Task) -> Dict[str, object]:
+    """The line of a triangulation. What goes wrong in Python, as where memory runs out, is a failed run too."""
+    begun = time.monotonic()
+    try:
+        return line_of(entry, task)
+    except Exception as fault:  # pylint: disable=broad-except
+        return {**head_of(entry, task, time.monotonic() - begun), "failed": f"{type(fault).__name__}: {fault}"}
+
+
+def run(task: Task, entries: List[Tuple[str, str]]) -> Ran:
+    """Answers a handful, until its time is up. This is what an executor is asked."""
+    begun = time.monotonic()
+    lines = []
+    with by_server(on_this_machine(task)) as served:
+        for entry in entries:
+            lines.append(answered(Entry(*entry), served))
+            if time.monotonic() - begun > SECONDS:
+                break
+    return Ran(done_of(lines), len(entries) - len(lines), time.monotonic() - begun)
+
+
+class Asked(NamedTuple):
+    """A handful, and when it was submitted."""
+    entries: List[Entry]
+    begun: float
+
+
+class Handfuls:
+    """What is left to do, what an executor has in hand, and how many triangulations a handful has: as many as take half
+    of its time, but at most twice as many as the last."""
+
+    def __init__(self, entries: Iterable[Entry], task: Task, executor: Executor, hands: int) -> None:
+        self.task, self.executor, self.hands = task, executor, hands
+        self.size = 1
+        self.running: Dict[Future[Ran], Asked] = {}
+        self._stream = iter(entries)
+        # first come the parts of a handful with which a worker died, then what was given back, then what is new
+        self._parts: Deque[List[Entry]] = collections.deque()
+        self._back: Deque[Entry] = collections.deque()
+        self._suspects: Deque[Entry] = collections.deque()
+
+    def answers(self) -> Iterator[Done]:
+        """The lines as they are done."""
+        try:
+            self._fill()
+            while self.running:
+                for future in wait(self.running, return_when=FIRST_COMPLETED).done:
+                    yield from self._settled(future, self.running.pop(future))
+                self._fill()
+            for entry in self._suspects:
+                yield self._tried_alone(entry)
+        finally:
+            for future in self.running:
+                future.cancel()
+
+    def _fill(self) -> None:
+        """Submits handfuls until all hands are full. Reading may be slow, so an answer that has come goes first."""
+        while len(self.running) < self.hands and not any(future.done() for future in self.running):
+            handful = self._next()
+            if not handful:
+                break
+            self._submit(handful)
+
+    def _submit(self, handful: List[Entry]) -> Future[Ran]:
+        try:
+            # plain pairs are pickled far quicker than entries
+            future = self.executor.submit(run, self.task, [(entry.signature, entry.name) for entry in handful])
+        except (RuntimeError, OSError) as fault:
+            raise Failed(f"the engine has ended: {fault}") from None
+        self.running[future] = Asked(handful, time.monotonic())
+        return future
+
+    def _next(self) -> List[Entry]:
+        """The next handful; an empty one at the end."""
+        if self._parts:
+            return self._parts.popleft()
+        if self._back:
+            share = min(self.size, -(-len(self._back) // self.hands))
+            return [self._back.popleft() for _ in range(share)]
+        return self._read()
+
+    def _read(self) -> List[Entry]:
+        """New entries. A handful ends early if they come slowly, as through a pipe."""
+        end = time.monotonic() + SECONDS / 10
+        handful: List[Entry] = []
+        while len(handful) < self.size and time.monotonic() < end:
+            several = list(itertools.islice(self._stream, 1 if self.size < 64 else 64))
+            if not several:
+                break
+            handful += several
+        return handful
+
+    def _settled(self, future: Future[Ran], asked: Asked) -> Iterator[Done]:
+        """What came of a handful. If the engine gave it up, its parts are tried, down to single triangulations."""
+        fault = _fault_of(future)
+        if fault is None:
+            yield self._taken(future.result(), asked)
+        elif len(asked.entries) > 1:
+            part = max(1, len(asked.entries) // PARTS)
+            self._parts.extend(asked.entries[at:at + part] for at in range(0, len(asked.entries), part))
+        elif isinstance(fault, WorkerEnded):
+            yield self._failed(asked, str(fault))
+        else:
+            self._suspects.append(asked.entries[0])
+
+    def _taken(self, ran: Ran, asked: Asked) -> Done:
+        count = len(asked.entries) - ran.left
+        self._back.extend(asked.entries[count:])
+        self.size = max(1, min(MOST, 2 * self.size, int(SECONDS / 2 * count / max(ran.seconds, 1e-6))))
+        return ran.done
+
+    def _tried_alone(self, entry: Entry) -> Done:
+        """What comes of a triangulation that was given up, while the engine has nothing else in hand: others may have been
+        given up with the one that killed a worker."""
+        future = self._submit([entry])
+        wait([future])
+        asked = self.running.pop(future)
+        fault = _fault_of(future)
+        return self._failed(asked, f"{type(fault).__name__}: {fault}") if fault is not None else future.result().done
+
+    def _failed(self, asked: Asked, text: str) -> Done:
+        return done_of([{**head_of(asked.entries[0], self.task, time.monotonic() - asked.begun), "failed": text}])
+
+
+def _fault_of(future: Future[Ran]) -> Optional[BaseException]:
+    """Why the engine gave a handful up, if it did. An engine that has ended, or can't have answered, is `Failed`."""
+    try:
+        fault = future.exception()
+    except CancelledError as cancelled:
+        raise Failed(f"the engine has ended: {type(cancelled).__name__} {cancelled}".rstrip()) from None
+    if isinstance(fault, (BrokenExecutor, CancelledError)):
+        raise Failed(f"the engine has ended: {fault}") from None
+    if isinstance(fault, ImportError):
+        raise Failed(f"a worker of the engine can't import the package: {fault}; install it there, or name it by PYTHONPATH")
+    return fault
+
+
+def answers(entries: Iterable[Entry], task: Task, executor: Executor, hands: int) -> Iterator[Done]:
+    """The lines of the output as they are done.
+
+    hands: the number of handfuls that are submitted at a time
+    """
+    return Handfuls(entries, task, executor, hands).answers()
+
+
+class Engine(NamedTuple):
+    """An executor, and the number of handfuls that it takes at a time: two for each of its workers."""
+    executor: Executor
+    hands: int
+
+
+@contextlib.contextmanager
+def by_dask(address: str) -> Iterator[Engine]:
+    """The workers of a Dask scheduler."""
+    try:
+        from distributed import Client
+    except ImportError:
+        raise Failed("Dask isn't installed in this Python: `pip install distributed`, Debian's python3-distributed") from None
+    try:
+        client = Client(address)
+    except (OSError, ValueError, TypeError) as fault:
+        raise Failed(f"no Dask scheduler at {address}: {fault}") from None
+    with client:
+        threads = sum(client.nthreads().values())
+        # which workers come and go isn't known, so there is something in hand for more of them
+        yield Engine(client.get_executor(pure=False), max(2 * threads, 16))
+
+
+@contextlib.contextmanager
+def by_mpi() -> Iterator[Engine]:
+    """The processes of this run of MPI, but the first, which has the census."""
+    try:
+        from mpi4py import MPI
+        from mpi4py.futures import MPIPoolExecutor
+    except ImportError:
+        raise Failed("mpi4py isn't installed in this Python: `pip install mpi4py`, Debian's python3-mpi4py") from None
+    workers = MPI.COMM_WORLD.Get_size() - 1
+    if workers < 1 or not _is_shared():
+        raise Failed("--mpi is for the first of two or more processes: mpiexec -n 3 python3 -m mpi4py.futures -m trinorm ..")
+    with MPIPoolExecutor() as executor:
+        yield Engine(executor, 2 * workers)
+
+
+def _is_shared() -> bool:
+    """Whether mpi4py.futures started this run, so that the other processes wait for calls. It has no public word for it."""
+    module = sys.modules.get("mpi4py.futures._lib") or sys.modules.get("mpi4py.futures._core")
+    return getattr(module, "SharedPool", True) is not None
+
+
+def hands_of(executor: Executor) -> int:
+    """The number of handfuls for an executor of the user's: two for each worker that it says to have, or 16."""
+    workers = getattr(executor, "_max_workers", None) or getattr(executor, "num_workers", None)
+    return 2 * workers if isinstance(workers, int) else 16
