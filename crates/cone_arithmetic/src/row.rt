@@ -11,7 +11,8 @@ use std::marker::Model;
 /// The greatest magnitude of a coefficient.
 pub const MAX_COEFFICIENT: u32 = 1000000;
 
-/// A row: its nonzero coefficients with their columns, ascending.
+/// A row: its nonzero coefficients with their columns. Invariant: columns ascend strictly, and no magnitude exceeds
+/// `MAX_COEFFICIENT`.
 #[derive(Drop)]
 pub struct SparseRow {
     entries: SmallVec<(u32, i32), 8>,

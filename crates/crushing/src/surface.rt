@@ -13,7 +13,8 @@ pub struct Surface<'a> {
     pub ghost width: { length entries.now ≡ 7 * length table.now },
 }
 
-/// A surface, with the number of retained tetrahedra before each one.
+/// A surface with numbers of tetrahedra. Invariant: `numbers` has for each tetrahedron the number of retained ones
+/// before it.
 #[derive(Clone, Copy)]
 pub struct NumberedSurface<'a> {
     pub surface: Surface<'a>,

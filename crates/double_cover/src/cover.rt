@@ -19,7 +19,8 @@ use skeleton::Skeleton;
 use std::alloc::{AllocError, Global};
 use std::marker::Model;
 
-/// The orientable double cover of a table. Contracts see the rows of the covered table.
+/// The orientable double cover of a table. Contracts see the rows of the covered table. Invariant: `table` is the cover
+/// of `base`, with at most `MAX_TETS` tetrahedra, and `signs` is an orientation of `base`, if it has one.
 #[derive(Drop)]
 pub struct Cover {
     base: Table,

@@ -22,7 +22,8 @@ impl Sheet {
     }
 }
 
-/// The numbering of the cover of a table of `tets` tetrahedra: t on sheet 0, `tets` + t on sheet 1.
+/// The numbering of the cover of a table of `tets` tetrahedra: t on sheet 0, `tets` + t on sheet 1. Invariant: `tets`
+/// is at most `MAX_TETS`.
 #[derive(Clone, Copy)]
 pub struct Sheets {
     pub tets: u32,

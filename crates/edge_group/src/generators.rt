@@ -12,8 +12,8 @@ use skeleton::Skeleton;
 use std::alloc::Global;
 use std::marker::Model;
 
-/// The generators over `skeleton`: the classes of two faces that are not in the maximal tree, ascending in `classes`;
-/// `firsts` has the least face of each face class. Contracts see the skeleton and `classes`.
+/// The generators over `skeleton`. Contracts see the skeleton and `classes`. Invariant: `classes` are the classes of
+/// two faces that are not in the maximal tree, ascending, and `firsts` has the least face of each face class.
 #[derive(Drop)]
 pub struct Generators<'a> {
     pub skeleton: &'a Skeleton,

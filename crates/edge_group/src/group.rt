@@ -16,7 +16,8 @@ use skeleton::Skeleton;
 use std::alloc::Global;
 use std::marker::Model;
 
-/// A presentation of the group of a table, with the maximal tree by which it is made. Contracts see both.
+/// A presentation of the group of a table, with the maximal tree by which it is made. Contracts see both. Invariant:
+/// one sign for each generator, one relator for each edge, and a tree face for each tetrahedron except 0.
 #[derive(Drop)]
 pub struct Group {
     tree: Vec<Option<Face>>,

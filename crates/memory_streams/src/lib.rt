@@ -16,6 +16,7 @@ use text_io::{Failed, Sink, Source, copy_front};
 
 /// A source over bytes in memory. It fails at the calls listed in `failing`, counted from 1, and returns at most `most`
 /// bytes in each other call. Contracts see the bytes left, `failing`, `most`, and the numbers of calls and of failures.
+/// Invariant: `most` is positive, and `at` is at most the number of bytes.
 #[derive(Drop)]
 pub struct MemorySource {
     bytes: Vec<u8>,

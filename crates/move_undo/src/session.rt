@@ -46,7 +46,8 @@ impl From<MoveFault> for PlayFault {
 }
 
 /// A table on which moves are played, taken back and played again. Contracts see the first table, the recorded moves,
-/// and how many of them are played.
+/// and how many of them are played. Invariant: the played moves lead from the first table to `table`, the others can be
+/// played from there, and there is room to play them again.
 #[derive(Drop)]
 pub struct Session {
     table: Table,

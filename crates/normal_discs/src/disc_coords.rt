@@ -5,7 +5,7 @@ ghost use Rattle.surface_definitions.specs.Coordinates.{triangles_each};
 
 use surface_definitions::Coords;
 
-/// Coordinates with triangles: standard or octagon coordinates, in which a vector counts all discs of a surface.
+/// Standard or octagon coordinates, in which a vector counts all discs of a surface. Invariant: `system` has triangles.
 #[derive(Clone, Copy)]
 pub struct DiscCoords {
     pub system: Coords,

@@ -34,7 +34,8 @@ fn product_of_triples(squares: &[u64]) -> Option<u128>
 }
 
 /// As `columns_fit` for `system` and `limit`, but takes of each three consecutive columns only the greatest sum of
-/// squares. The bound holds if the columns of each such group clash; the number of columns is a multiple of 3.
+/// squares. The bound holds for clashing pairs by which the columns of each such group clash. The number of columns is
+/// a multiple of 3.
 pub fn triples_fit(alloc: Global, system: &System, limit: u128) -> Result<bool, NoMemory>
     requires { 3 * (system.now.columns / 3) ≡ system.now.columns }
     ensures bounded { IfOk result (λ fit. IsTrue fit → AreTriplesBounded system.now limit) }

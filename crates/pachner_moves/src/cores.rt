@@ -24,7 +24,8 @@ const LAST: [u8; 5] = [15, 15, 14, 12, 8];
 /// The mask of the ends of each edge, by its number.
 const ENDS: [u8; 6] = [3, 5, 9, 6, 10, 12];
 
-/// A nonempty set of vertices of a tetrahedron. Contracts see it as the ascending list of its vertices.
+/// A nonempty set of vertices of a tetrahedron. Contracts see it as the ascending list of its vertices. Invariant:
+/// `mask` is 1 to 15.
 #[derive(Clone, Copy)]
 pub struct Core {
     // bit v is set if vertex v is in the core

@@ -30,7 +30,7 @@ pub struct Label {
     ghost one_of_five: { number < 5 },
 }
 
-/// A table, a move on it, and the facets that the move removes.
+/// A table, a move on it, and facets. Invariant: `facets` are those that the move removes.
 #[derive(Clone, Copy)]
 pub struct TakenOut<'a> {
     pub table: &'a Table,

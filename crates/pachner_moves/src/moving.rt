@@ -22,7 +22,7 @@ use gluing_table::{Face, Glue, MAX_TETS, Row, Table};
 use std::marker::Model;
 
 /// The record that takes a move back: the move, the number of tetrahedra before it, and the removed rows with their
-/// numbers, ascending.
+/// numbers, ascending. Invariant: `tets` is at most `MAX_TETS`.
 #[derive(Drop)]
 pub struct Undo {
     played: Move,

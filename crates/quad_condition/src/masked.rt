@@ -13,7 +13,8 @@ use std::alloc::Global;
 use support_bits::Support;
 use surface_definitions::Coords;
 
-/// The masks for a number of tetrahedra, with the list of their clashing pairs.
+/// The masks for a number of tetrahedra, with clashing pairs. Invariant: `pairs` are those of the coordinates and the
+/// number of tetrahedra of `masks`, and `columns` is their number of columns.
 #[derive(Drop)]
 pub struct MaskedClashes {
     masks: Masks,

@@ -16,8 +16,9 @@ use std::marker::Model;
 use support_bits::{Support, set_bit};
 use surface_definitions::Coords;
 
-/// The clashing pairs for `tets` tetrahedra as masks. `near` has for each distance from 1 on the columns of quads and
-/// octagons with another one at that distance ahead in their tetrahedron; `octagons` has the columns of octagons.
+/// The clashing pairs for `tets` tetrahedra as masks. Invariant: `near` has for each distance from 1 on the columns of
+/// quads and octagons with another one at that distance ahead in their tetrahedron, and `octagons` has the columns of
+/// octagons.
 #[derive(Drop)]
 pub struct Masks {
     coords: Coords,

@@ -20,7 +20,8 @@ pub struct QuadVector<'a> {
     pub ghost fits: { 4 * sum entries.now ≤ limit },
 }
 
-/// A quad vector with the heights of all vertices, spread over it.
+/// A quad vector with heights of all vertices. Invariant: `values` are spread over the vector, so any heights of a
+/// class differ from them by one number.
 #[derive(Clone, Copy)]
 pub struct Heights<'a> {
     pub vector: QuadVector<'a>,

@@ -40,7 +40,8 @@ pub trait Compatible: Drop {
         ensures { IsTrue result ↔ IsClashFree (clashing self.now) a.now b.now };
 }
 
-/// A test together with the set of columns that clash with each column.
+/// A test together with clashing columns. Invariant: `partners` has for each column the set of columns that clash with
+/// it.
 #[derive(Drop)]
 pub struct Clashes<C: Compatible> {
     test: C,

@@ -4,7 +4,7 @@ ghost use Rattle.ray_steps.specs.Rays.{AreOfWidth};
 
 use crate::rays::RayWithSupport;
 
-/// Rays with `columns` entries each.
+/// A list of rays. Invariant: each has `columns` entries.
 #[derive(Clone, Copy)]
 pub struct RayList<'a> {
     pub columns: u32,

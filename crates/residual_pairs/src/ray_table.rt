@@ -9,7 +9,8 @@ use std::marker::Model;
 use support_bits::Support;
 use support_table::SupportTable;
 
-/// The supports of `count` rays, and for each column the set of the rays that contain it. Contracts see the supports.
+/// The supports of `count` rays, with an index by column. Contracts see the supports. Invariant: `holders` has for each
+/// column the set of the rays that contain it.
 #[derive(Drop)]
 pub struct RayTable {
     table: SupportTable,

@@ -15,7 +15,7 @@ use std::alloc::Global;
 use std::marker::Model;
 
 /// The signatures of the tables added so far, each once, in the order of their first occurrence. Contracts see this
-/// list.
+/// list. Invariant: there are fewer than 2^32.
 #[derive(Drop)]
 pub struct Census {
     alloc: Global,

@@ -11,7 +11,8 @@ use gluing_table::{Face, Glue};
 use perm_four::perm_at;
 
 /// A table in the making: the sections of the signature; for each face that was read its gluing; the number of
-/// tetrahedra seen; and how many types, and how many destinations and gluings, were used.
+/// tetrahedra seen; and how many types, and how many destinations and gluings, were used. Invariant: the state of the
+/// definitions' reading of the sections.
 #[derive(Drop)]
 pub struct Joining<'a> {
     pub parts: &'a Parts,

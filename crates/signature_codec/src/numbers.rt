@@ -16,7 +16,8 @@ pub enum Segment {
     Gluings,
 }
 
-/// The form of a section: `many` numbers, each in `width` characters and below `bound`.
+/// The form of a section: `many` numbers, each in `width` characters and below `bound`. Invariant: `many` is at most
+/// 4,000, and `width` at most 3.
 #[derive(Clone, Copy)]
 pub struct Numbers {
     pub segment: Segment,

@@ -3,7 +3,8 @@
 ghost use Rattle.std.specs.Prelude.{◌≤◌, ◌+◌, length};
 ghost use Rattle.table_definitions.specs.Table.{max_tets};
 
-/// The number of tetrahedra, the number of characters for each number, and the position of the types.
+/// The number of tetrahedra, the number of characters for each number, and the position of the types. Invariant:
+/// `count` is at most 1,000, and `width` at most 2.
 #[derive(Clone, Copy)]
 pub struct Head {
     pub count: u32,
@@ -13,7 +14,8 @@ pub struct Head {
     pub ghost narrow: { width ≤ 2 },
 }
 
-/// The types read so far, the number of faces not yet accounted for, and the number of types that are 1.
+/// The types read so far, the number of faces not yet accounted for, and the number of types that are 1. Invariant:
+/// there are at most 4,000 types and faces together, and at most 1,000 types 1.
 #[derive(Drop)]
 pub struct Types {
     pub read: Vec<u8>,

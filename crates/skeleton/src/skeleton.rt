@@ -18,7 +18,7 @@ use std::alloc::Global;
 use std::marker::Model;
 
 /// A table with its vertex, edge and face classes, numbered by their least members, its orientation, and the tours of
-/// its edges. Contracts see the rows and the three numberings.
+/// its edges. Contracts see the rows and the three numberings. Invariant: all fields are those of `table`.
 #[derive(Drop)]
 pub struct Skeleton {
     table: Table,

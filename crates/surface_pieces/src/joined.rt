@@ -2,7 +2,7 @@
 
 use std::marker::Model;
 
-/// The disc across an arc, and which signs are equal on both sides of it.
+/// The disc across an arc, and which signs are equal on both sides of it. Invariant: `piece` is at most 100,000.
 #[derive(Clone, Copy)]
 pub struct Joined {
     pub piece: u32,

@@ -25,7 +25,7 @@ use surface_definitions::Coords;
 use surface_vector_definitions::ManyPieces;
 
 /// The connected components of a surface, numbered by their first discs: the vector of each, whether it is two-sided,
-/// and whether it is orientable.
+/// and whether it is orientable. Invariant: the three lists have one length, below 2^32.
 #[derive(Drop)]
 pub struct Pieces {
     vectors: Vec<Vec<u128>>,

@@ -14,7 +14,7 @@ use text_definitions::{LexFault, LexKind, Place};
 
 /// A cursor over the bytes of an input. Contracts see what is left to read: the words left on the current line, the
 /// lines after it, the place after the last byte, and the place of the word read last. After an error nothing is stated
-/// about its position.
+/// about its position. Invariant: no number of a line or a column exceeds its type.
 #[derive(Drop)]
 pub struct Lexer<'a> {
     // the current line: its number, and what is left of it without its end, with the column at which that begins

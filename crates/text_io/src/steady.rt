@@ -4,7 +4,8 @@ ghost use Rattle.std.specs.Prelude.{◌≡◌, ◌↔◌, ◌<◌, [], length, t
 use crate::{Failed, Source};
 use std::marker::Model;
 
-/// A source over bytes in memory that never fails. Contracts see the bytes that are left.
+/// A source over bytes in memory that never fails. Contracts see the bytes that are left. Invariant: `at` is at most
+/// the number of bytes.
 #[derive(Drop)]
 pub struct SteadySource {
     bytes: Vec<u8>,

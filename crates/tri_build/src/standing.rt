@@ -12,7 +12,7 @@ use perm_four::Perm4;
 use std::marker::Model;
 
 /// The inverse move of a step, the number of tetrahedra that it retains, the facets that it removes, and its label that
-/// corresponds to each label of the step.
+/// corresponds to each label of the step. Invariant: `kept` is at most `MAX_TETS`, and each label is below 5.
 #[derive(Drop)]
 pub struct Back {
     pub played: Move,

@@ -15,7 +15,8 @@ use pachner_moves::{Facet, Move, apply_legal, inverse_on, legal};
 use std::alloc::Global;
 use std::marker::Model;
 
-/// A played move, the number of tetrahedra before it, and the facets that it removed.
+/// A played move, the number of tetrahedra before it, and the facets that it removed. Invariant: `tets` is at most
+/// `MAX_TETS`.
 #[derive(Drop)]
 pub struct PlayedMove {
     pub played: Move,

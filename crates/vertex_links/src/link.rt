@@ -76,7 +76,8 @@ struct Tallies {
     directions: Numbering,
 }
 
-/// A skeleton, and for each corner of a link triangle the vertex class of that triangle, by index 3(4t + v) + i.
+/// A skeleton, and the vertex classes of the corners of link triangles. Invariant: `owners` has an entry for each of
+/// the 12n corners, by index 3(4t + v) + i, and it is the vertex class of v in t.
 #[derive(Clone, Copy)]
 struct Corners<'a> {
     skeleton: &'a Skeleton,
