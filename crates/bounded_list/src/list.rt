@@ -40,7 +40,8 @@ fn list_by_solving<C: Compatible>(
     }
 }
 
-/// The vertex surfaces of `system`, found by eliminating its rows in the order `order`.
+/// The vertex surfaces of `system`, found by eliminating its rows in the order `order`. Fails with `LargeStep` at the
+/// first step at which a number exceeds `limit`.
 fn list_by_elimination<C: Compatible>(
     alloc: Global,
     system: &System,
@@ -59,7 +60,8 @@ fn list_by_elimination<C: Compatible>(
     eliminate(alloc, system, clashes, &picker, limit)
 }
 
-/// The list from solved rows if all numbers are bounded, otherwise by elimination in the order of `terms`.
+/// The list from solved rows if all numbers are bounded, otherwise by elimination in the order of `terms`. Fails as
+/// `list_by_elimination`.
 fn quickest_list<C: Compatible>(
     alloc: Global,
     system: &System,

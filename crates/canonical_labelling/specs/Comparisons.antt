@@ -146,7 +146,7 @@ pub record Follows (by : Relabelling) (new : List Row) (k : ℕ) (s : Comparison
   pub stands : Numbers s.order by
   pub crossed : (p : ℕ) → k ≤ p → p < 4 * length new → slice_index_or s.crossed p false ≡ leads_before k (face_of p) (glue new (face_of p))
 
--- Follows, for each table that a traversal from the start leads to
+-- Follows, for each table that results from a traversal from the start
 abbrev pub FollowsWalks : List Row → Start → ℕ → ComparisonView → Type 0
 FollowsWalks rows start k s = (by : Relabelling) (new : List Row) → IsWalked rows start by new → Follows by new k s
 

@@ -15,7 +15,7 @@ abbrev pub IsVisited : List Start → ℕ → Type 0
 IsVisited order t = (i : ℕ) × (i < length order) × ((start_at order i).tet ≡ t)
 
 -- a relabelling of n tetrahedra maps each start of the order to its index, and a gluing of the tetrahedron of from to
--- wanted
+-- `wanted`
 pub record Becomes (n : ℕ) (order : List Start) (from : Start) (g wanted : Gluing) (by : Relabelling) : Type 0 where
   pub in_range : g.tet < n
   pub from_permutes : IsPermutationOfFour from.perm
@@ -24,7 +24,7 @@ pub record Becomes (n : ℕ) (order : List Start) (from : Start) (g wanted : Glu
   pub numbers : Numbers order by
   pub becomes : gluing_under (record { tet = 0; perm = from.perm }) (relabelled_place by g.tet) g ≡ wanted
 
--- each relabelling that maps the gluing to wanted agrees, and maps the new order so too
+-- each relabelling that maps the gluing to `wanted` agrees, and maps each start of the new order to its index
 abbrev pub AgreesGlued : ℕ → List Start → List Start → Start → Gluing → Gluing → Bool → Type 0
 AgreesGlued n order after from g wanted agrees = (by : Relabelling) → Becomes n order from g wanted by → (agrees ≡ true) × Numbers after by
 

@@ -174,7 +174,8 @@ fn compare_character(found: FoundTypes<'_>, i: usize) -> Option<bool>
     )
 }
 
-/// Compares the last type character if all three of its types are known; `None` if not, or if the characters are equal.
+/// Compares the last type character of `found` if all three of its types are known; `None` if not, or if the characters
+/// are equal.
 fn compare_full_character(found: FoundTypes<'_>) -> Option<bool>
     ensures { result ≡ comparisons.compare_full_character found.entry.types.now found.entry.bound.now found.entry.head }
 {
@@ -185,8 +186,8 @@ fn compare_full_character(found: FoundTypes<'_>) -> Option<bool>
     compare_character(found, count - 3)
 }
 
-/// Compares the last type character if it packs only one or two types; `None` if it does not, or if the characters are
-/// equal.
+/// Compares the last type character of `found` if it packs only one or two types; `None` if it does not, or if the
+/// characters are equal.
 fn compare_last_character(found: FoundTypes<'_>) -> Option<bool>
     ensures { result ≡ comparisons.compare_last_character found.entry.types.now found.entry.bound.now found.entry.head }
 {

@@ -44,7 +44,7 @@ fn request_in(command: Request, matches: &ArgMatches<'_>) -> Option<Request>
     }
 }
 
-/// As `request_in`, but fails with `Usage` if there is no request.
+/// The request of `command` if it occurs in `matches` with valid values. Fails with `Usage` if there is none.
 fn request_or_usage(command: Request, matches: &ArgMatches<'_>) -> Result<Request, WordsFault>
     ensures { AnswersWords result (request_in (takes_of command) (subcommand_rows_of matches.now)) }
 {
@@ -128,7 +128,8 @@ fn fault_of(error: &Error) -> WordsFault
     WordsFault::Usage
 }
 
-/// Parses `words`, none of which is `--`, by the grammar of the one command that they begin with.
+/// Parses `words`, none of which is `--`, by the grammar of the one command that they begin with. Fails with `Usage` if
+/// they are not in the grammar.
 fn parse(alloc: Global, words: &[&str]) -> Result<Request, WordsFault>
     requires utf8 { AreTexts (texts words.now) }
     requires no_dashes { has_dashes (texts words.now) ≡ false }
@@ -144,7 +145,7 @@ fn parse(alloc: Global, words: &[&str]) -> Result<Request, WordsFault>
     }
 }
 
-/// Reads `words` as a request.
+/// Reads `words` as a request. Fails with `Usage` if they are not a command with valid options.
 fn read_request(alloc: Global, words: &Words) -> Result<Request, WordsFault>
     ensures { AnswersWords result (accepted_request words.now) }
 {

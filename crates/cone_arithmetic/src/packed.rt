@@ -198,7 +198,7 @@ fn small_sums(
     )
 }
 
-/// As `combine`, for packed rays `u` and `w`.
+/// As `combine`, with the same errors, for packed rays `u` and `w`.
 fn combine_wide(
     alloc: Global,
     u: &PackedRay,

@@ -54,7 +54,7 @@ impl<T: Drop> From<AllocFailed<T>> for ConeFault {
     }
 }
 
-/// Appends `coefficient` in `column`, unless it is 0.
+/// Appends `coefficient` in `column`, unless it is 0. Fails only if memory runs out.
 fn push_coefficient(
     entries: &mut SmallVec<(u32, i32), 8>,
     column: u32,
@@ -68,7 +68,7 @@ fn push_coefficient(
     Ok(())
 }
 
-/// Reads the next `columns` coefficients of the line as a row.
+/// Reads the next `columns` coefficients of the line as a row. Fails at the first word that is no coefficient.
 fn read_entries(alloc: Global, lexer: &mut Lexer<'_>, columns: u32) -> Result<SparseRow, ConeFault>
     ensures gives { GivesHere (λ row. row) result lexer.new (sparse_entries_at columns lexer.old) }
     ensures in_range { IfOk result (IsInRange columns) }
@@ -81,7 +81,7 @@ fn read_entries(alloc: Global, lexer: &mut Lexer<'_>, columns: u32) -> Result<Sp
     Ok(SparseRow::of(entries))
 }
 
-/// Reads a line of `columns` coefficients.
+/// Reads a line of `columns` coefficients. Fails with the first error on the line, `MissingWord` if there is no line.
 #[tactic(auto, unfolding(cone_text_definitions::specs::ConeText::cone_row_at))]
 fn read_row(alloc: Global, lexer: &mut Lexer<'_>, columns: u32) -> Result<SparseRow, ConeFault>
     ensures gives { GivesHere (λ row. row) result lexer.new (sparse_row_at columns lexer.old) }
@@ -93,7 +93,7 @@ fn read_row(alloc: Global, lexer: &mut Lexer<'_>, columns: u32) -> Result<Sparse
     Ok(row)
 }
 
-/// Reads the next `count` lines as rows of `columns` coefficients.
+/// Reads the next `count` lines as rows of `columns` coefficients. Fails at the first line on which `read_row` does.
 fn read_rows(
     alloc: Global,
     lexer: &mut Lexer<'_>,

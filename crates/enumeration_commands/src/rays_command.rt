@@ -19,7 +19,8 @@ use std::alloc::Global;
 use surface_answers::large_outcome;
 use text_io::Lexer;
 
-/// Reads `bytes` as one cone.
+/// Reads `bytes` as one cone. Fails with the first error of the cone; then with `ExtraWord` or `BadByte` if a line
+/// follows.
 #[tactic(auto, unfolding(text_document_definitions::specs::Documents::cone_document))]
 fn read_cone_document(alloc: Global, bytes: &[u8]) -> Result<System, ConeFault>
     requires { length bytes.now ≤ max_text }

@@ -58,7 +58,8 @@ fn glue_of(lexer: &Lexer<'_>, word: &[u8]) -> Result<Glue, LexFault>
     Ok(Glue { tet, perm })
 }
 
-/// Reads the entry of a face: `-` for a boundary face, or a gluing `t:p`.
+/// Reads the next word of `lexer` as the entry of a face: `-` for a boundary face, or a gluing `t:p`. Fails at the
+/// first word that is no entry.
 #[tactic(auto, unfolding(table_definitions::specs::TableText::entry_at))]
 fn read_entry(lexer: &mut Lexer<'_>) -> Result<Option<Glue>, LexFault>
     ensures { Gives (λ g. g) result lexer.new (entry_at lexer.old) }
@@ -71,7 +72,8 @@ fn read_entry(lexer: &mut Lexer<'_>) -> Result<Option<Glue>, LexFault>
     Ok(Some(glue))
 }
 
-/// Reads the next line as a row of four entries.
+/// Reads the next line of `lexer` as a row of four entries. Fails with the first error on the line, `MissingWord` if
+/// there is no line.
 #[tactic(auto, unfolding(table_definitions::specs::TableText::row_at))]
 fn read_row(lexer: &mut Lexer<'_>) -> Result<Row, LexFault>
     ensures { Gives (λ row. row) result lexer.new (row_at lexer.old) }
@@ -85,7 +87,7 @@ fn read_row(lexer: &mut Lexer<'_>) -> Result<Row, LexFault>
     Ok([first, second, third, fourth])
 }
 
-/// Reads the next `count` lines as rows.
+/// Reads the next `count` lines as rows. Fails at the first line on which `read_row` does.
 fn read_lines(alloc: Global, lexer: &mut Lexer<'_>, count: u32) -> Result<Vec<Row>, TextFault>
     ensures { ReadsFrom TextFault.NoMemory (λ rows. rows.items) result lexer.new (lexed (rows_at count lexer.old)) }
 {
@@ -97,7 +99,8 @@ fn read_lines(alloc: Global, lexer: &mut Lexer<'_>, count: u32) -> Result<Vec<Ro
     Ok(rows)
 }
 
-/// Reads the rest of the current line, which has to be empty, and then a table of `count` rows.
+/// Reads the rest of the current line, which has to be empty, and then a table of `count` rows. Fails with the first
+/// error in the text, then with that of the table.
 #[tactic(auto, unfolding(table_definitions::specs::TableText::counted_rows_at))]
 fn read_counted(alloc: Global, lexer: &mut Lexer<'_>, count: u32) -> Result<Table, TextFault>
     ensures { ReadsFrom TextFault.NoMemory (λ table. table) result lexer.new (counted_rows_at count lexer.old) }

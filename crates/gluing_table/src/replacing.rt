@@ -211,7 +211,7 @@ fn new_row(swap: &Exchange<'_>, number: u32) -> Row
     retained_row(swap, tet, number)
 }
 
-/// The number of rows of the new table.
+/// The number of rows of the new table of `swap`.
 fn new_length(swap: &Exchange<'_>) -> u32
     ensures value { result ≡ replaced_length swap.now.rows swap.now.by }
     ensures few { result ≤ max_tets }

@@ -22,7 +22,8 @@ use ray_steps::{
 };
 use std::alloc::Global;
 
-/// Processes `row`, all of whose columns enter before.
+/// Processes `row`, all of whose columns enter before. Fails with `Large` at a ray or pair at which a number exceeds
+/// `MAX_ENTRY`.
 fn eliminate_row<C: Compatible>(
     alloc: Global,
     clashes: &Clashes<C>,
@@ -50,7 +51,7 @@ fn eliminate_row<C: Compatible>(
     })
 }
 
-/// Processes `row`, whose column `fresh` is free, after its other columns have entered.
+/// Processes `row`, whose column `fresh` is free, after its other columns have entered. Fails as `eliminate_row`.
 fn eliminate_with_fresh<C: Compatible>(
     alloc: Global,
     clashes: &Clashes<C>,
@@ -81,7 +82,7 @@ fn eliminate_with_fresh<C: Compatible>(
     })
 }
 
-/// Processes `row`, by a free column if it has one.
+/// Processes `row`, by a free column if it has one. Fails as `eliminate_row`.
 fn next_late<C: Compatible>(
     alloc: Global,
     clashes: &Clashes<C>,
@@ -100,7 +101,8 @@ fn next_late<C: Compatible>(
     }
 }
 
-/// The vertex surfaces of all rows of `system`, in any order.
+/// The vertex surfaces of all rows of `system`, in any order. Fails with `Large` if a number of a step exceeds
+/// `MAX_ENTRY`.
 fn all_rows<C: Compatible>(
     alloc: Global,
     system: &System,

@@ -18,7 +18,7 @@ pub record IsPlayed (rows : List Row) (m : Move) (u : Undo) (next : List Row) : 
 abbrev pub CanPlayAll : List Row → List Move → Type 0
 CanPlayAll rows moves = (last : List Row) × PlaysAll rows moves last
 
--- the moves that have a record lead to table, and the others can be played from there
+-- playing the moves that have a record results in table, and the others can be played from there
 unfoldable pub Recorded : List Row → List Move → List Undo → List Row → Type 0
 Recorded rows moves [] table = (rows ≡ table) × CanPlayAll table moves
 Recorded rows [] (u ∷ us) table = ⊥

@@ -116,7 +116,7 @@ fn read_edge(lexer: &mut Lexer<'_>) -> Result<Core, LexFault>
     edge_named(word).ok_or(lexer.bad_word())
 }
 
-/// Reads the core of a move of kind `kind`.
+/// Reads the core of a move of kind `kind`. Fails with the first error in its word.
 #[tactic(auto, unfolding(move_definitions::specs::MoveText::core_at))]
 fn read_core(lexer: &mut Lexer<'_>, kind: MoveKind) -> Result<Core, LexFault>
     ensures { Gives (λ core. core) result lexer.new (text.core_at (kind_value kind) lexer.old) }
@@ -129,7 +129,7 @@ fn read_core(lexer: &mut Lexer<'_>, kind: MoveKind) -> Result<Core, LexFault>
     }
 }
 
-/// Reads a move of kind `kind`, to the end of the line.
+/// Reads a move of kind `kind`, to the end of the line. Fails with the first error on the line.
 #[tactic(auto, unfolding(move_definitions::specs::MoveText::kind_at))]
 fn read_kind(lexer: &mut Lexer<'_>, kind: MoveKind) -> Result<Move, LexFault>
     ensures { Gives (λ m. m) result lexer.new (text.kind_at (Some (kind_value kind)) lexer.old) }
@@ -140,7 +140,8 @@ fn read_kind(lexer: &mut Lexer<'_>, kind: MoveKind) -> Result<Move, LexFault>
     Ok(Move { tet, core })
 }
 
-/// Reads the move whose kind is `word`, to the end of the line.
+/// Reads the move whose kind is `word`, to the end of the line. Fails with `BadWord` if it is no kind, then with the
+/// first error on the line.
 #[tactic(auto, unfolding(move_definitions::specs::MoveText::kind_at))]
 fn read_named(lexer: &mut Lexer<'_>, word: &[u8]) -> Result<Move, LexFault>
     ensures { Gives (λ m. m) result lexer.new (text.kind_at (text.move_kind word.now) lexer.old) }
@@ -187,7 +188,7 @@ fn step_named(word: &[u8]) -> Option<Step>
     None
 }
 
-/// Reads the move whose kind is `word`, as a step.
+/// Reads the move whose kind is `word`, as a step. Fails as `read_named`.
 #[tactic(auto, unfolding(move_definitions::specs::MoveText::named_step_at))]
 fn read_played(lexer: &mut Lexer<'_>, word: &[u8]) -> Result<Step, LexFault>
     ensures { Gives step_value result lexer.new (text.named_step_at None word.now lexer.old) }
@@ -196,7 +197,7 @@ fn read_played(lexer: &mut Lexer<'_>, word: &[u8]) -> Result<Step, LexFault>
     Ok(Step::Play(m))
 }
 
-/// Reads the end of the line of `lexer` after `undo` or `redo`.
+/// Reads the end of the line of `lexer` after `undo` or `redo`. Fails if the line does not end there.
 #[tactic(auto, unfolding(move_definitions::specs::MoveText::named_step_at))]
 fn end_step(lexer: &mut Lexer<'_>, word: &[u8], step: Step) -> Result<Step, LexFault>
     ensures { Gives step_value result lexer.new (text.named_step_at (Some (step_value step)) word.now lexer.old) }

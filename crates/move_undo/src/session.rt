@@ -69,7 +69,7 @@ impl Model for Session {
     ghost invariant = { IsKept };
 }
 
-/// Plays `m`, and returns the record that takes it back.
+/// Plays `m`, and returns the record that takes it back. Fails as `apply`.
 fn play_on(table: &mut Table, m: Move) -> Result<Undo, MoveFault>
     ensures played { IfOk result (λ u. IsPlayed table.old m u table.new) }
     ensures fault { IfErr result (λ e. play_fault table.old m ≡ Some e) }

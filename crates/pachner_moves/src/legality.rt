@@ -55,7 +55,8 @@ fn find_facet(table: &Table, m: &Move, label: u8, found: &[Facet]) -> Result<Fac
     Ok(facet)
 }
 
-/// The facets across the faces of the tetrahedron of `m`, from the first label outside the core on.
+/// The facets across the faces of the tetrahedron of `m`, from the first label outside the core on. Fails at the first
+/// label at which `find_facet` does.
 fn find_facets(table: &Table, m: &Move) -> Result<ArrayVec<Facet, 4>, MoveFault>
     ensures some { 0 < length m.now.core }
     ensures most { length m.now.core ≤ 4 }

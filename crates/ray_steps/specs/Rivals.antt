@@ -27,13 +27,13 @@ pub record HasAllSupports (rays : List (List ℕ)) (columns : ℕ) (table : Tabl
   pub width : table.columns ≡ columns
   pub supports : table.supports ≡ map support_of rays
 
--- the indices and supports of all rays that contain none of the columns rivals.joined
+-- the indices and supports of all rays that contain none of the columns `rivals.joined`
 pub record HaveCompatible (rays : List (List ℕ)) (columns : ℕ) (rivals : Rivals) : Type 0 where
   pub count : length rivals.joined ≡ columns
   pub places : AreCompatible rays rivals.joined (length rays) rivals.places.items
   pub table : HasSupportsOf rays columns rivals.places.items rivals.table
 
--- rivals.joined is the set of columns that clash with ray i, and `rivals` are the rays that contain none of them
+-- `rivals.joined` is the set of columns that clash with ray i, and `rivals` are the rays that contain none of them
 pub record AreCompatibleWith (pairs : List Clash) (rays : List (List ℕ)) (i columns : ℕ) (rivals : Rivals) : Type 0 where
   pub joined : AreClashingColumns pairs (support_of (ray_at rays i)) rivals.joined
   pub listed : HaveCompatible rays columns rivals

@@ -41,7 +41,7 @@ pub record IsStep (columns : ℕ) (pairs : List Clash) (ray_list : List RayWithS
   pub count : length signs ≡ length ray_list
   pub bounded : All (IsBoundedSign limit) signs
 
--- the list consists of the combinations of the pairs whose first ray has an index below i; rivals, if given, are
+-- the list consists of the combinations of the pairs whose first ray has an index below i; `rivals`, if given, are
 -- compatible rays
 pub record AreMadeBelow (step : StepData) (i : ℕ) (made : CombinationsSoFar) : Type 0 where
   pub so_far : IsMadeUpTo step.limit step.pairs step.rays step.signs i 0 (rays_of made.ray_list.items)

@@ -187,7 +187,7 @@ impl<'a, C: Compatible> Step<'a, C> {
     }
 
     /// Appends the combination of rays `i` and `j`, if they are positive and negative and the union of their supports
-    /// contains no clashing pair; then they are known to be adjacent.
+    /// contains no clashing pair; then they are known to be adjacent. Fails with `Large` if an entry exceeds the limit.
     fn combine_found(
         &self,
         alloc: Global,
@@ -220,7 +220,7 @@ impl<'a, C: Compatible> Step<'a, C> {
 
     /// Appends the combinations of ray `i`, if it is positive, with each adjacent negative ray, which are found by
     /// minimal residuals: one pass over all rays for each positive ray. Skipped if no negative ray passes the test of
-    /// `first_near`.
+    /// `first_near`. Fails with `Large` at the first pair of which an entry exceeds the limit.
     fn combine_minimal(
         &self,
         alloc: Global,
@@ -254,7 +254,7 @@ impl<'a, C: Compatible> Step<'a, C> {
     }
 
     /// Appends the combinations of ray `i`: by residuals if `supports` is given and the ray has more than one column,
-    /// and else by a search for third rays.
+    /// otherwise by a search for third rays. Fails with `Large` at the first pair of which an entry exceeds the limit.
     fn combine_one(
         &self,
         alloc: Global,
@@ -278,8 +278,8 @@ impl<'a, C: Compatible> Step<'a, C> {
         self.combine_with(alloc, i, negatives, made)
     }
 
-    /// The combinations of all adjacent pairs, each once, given the negative rays and, if they are to be used, the
-    /// supports of all rays.
+    /// The combinations of all adjacent pairs, each once, by the negative rays `negatives` and, if they are to be used,
+    /// the supports of all rays `supports`. Fails with `Large` at the first pair of which an entry exceeds the limit.
     fn combine_each(
         &self,
         alloc: Global,

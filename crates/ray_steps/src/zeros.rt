@@ -9,7 +9,7 @@ ghost use Rattle.ray_steps.specs.Signs.{IsMadeUpTo, IsNextFrom};
 use crate::rays::{RayWithSupport, StepFault};
 use crate::signs::Sign;
 
-/// Appends the ray to `next` if `sign` is zero, and else drops it.
+/// Appends the ray `kept` to `next` if its sign is zero. Fails only with `NoMemory`.
 fn keep_if_zero(
     kept: RayWithSupport,
     sign: Sign,

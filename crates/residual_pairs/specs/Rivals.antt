@@ -107,7 +107,7 @@ pub record AreInOrder (supports : List (List Bool)) (outer : List Bool) (order :
   pub apart : AllPairs (λ r s. r.place ≢ s.place) order
   pub ascending : AllPairs (λ r s. r.size ≤ s.size) order
 
--- the residual of the candidate with index k in rivals lies inside that of the ray with index place
+-- the residual of the candidate with index k in `rivals` lies inside that of the ray with index place
 pub record IsInsideAt (supports : List (List Bool)) (outer : List Bool) (rivals : List Rival) (place k : ℕ) : Type 0 where
   pub in_range : k < length rivals
   pub inside : IsInsideUnionOf (support_at supports (rival_at rivals k).place) outer (support_at supports place)

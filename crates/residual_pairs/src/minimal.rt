@@ -23,7 +23,7 @@ fn single_size(outer: &Support) -> u64
     union_count(outer.words(), outer.words()) + 1
 }
 
-/// Candidates among which are all that have a minimal residual.
+/// Candidates for adjacency to `outer`, among which are all that have a minimal residual.
 fn candidates(
     alloc: Global,
     rays: &RayTable,

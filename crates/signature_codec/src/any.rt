@@ -8,7 +8,8 @@ use gluing_table::{Table, TextFault, read_rows};
 use std::alloc::Global;
 use text_io::Lexer;
 
-/// Reads the signature after the word `sig`, alone on the rest of the line of `lexer`, as a table.
+/// Reads the signature after the word `sig`, alone on the rest of the line of `lexer`, as a table. Fails with the first
+/// error on the line, then with that of the signature.
 #[tactic(auto, unfolding(signature_definitions::specs::SignatureText::signature_at))]
 fn read_signature_line(alloc: Global, lexer: &mut Lexer<'_>) -> Result<Table, InputFault>
     ensures { ReadsFrom InputFault.NoMemory (λ table. table) result lexer.new (signature_at lexer.old) }

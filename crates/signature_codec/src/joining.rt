@@ -56,7 +56,7 @@ impl<'a> Joining<'a> {
         Ok(glue)
     }
 
-    /// Glues `face`, unless it is already read.
+    /// Glues `face`, unless it is already read. Fails with `Unreached`, `Destination` or `FaceTaken` as `join_faces`.
     fn join_face(&mut self, face: Face) -> Result<(), SigFault>
         ensures { Leaves (slots_view self.new) result (slots.slot_face face (slots_view self.old)) }
     {

@@ -14,7 +14,7 @@ use crate::types::read_types;
 use gluing_table::{Row, Table};
 use std::alloc::Global;
 
-/// A table of `rows`, which are known to be valid.
+/// A table of `rows`, which are known to be valid. Fails only if memory runs out.
 fn table_of(alloc: Global, rows: Vec<Row>) -> Result<Table, SigFault>
     requires { IsTable rows.items }
     ensures { Reads (λ t. t) result (Ok rows.items) }

@@ -48,7 +48,7 @@ fn take_type(types: &mut Types, head: Head, at: usize, kind: u8) -> Result<(), S
     Ok(())
 }
 
-/// Reads the three types of the character with value `value`.
+/// Reads the three types of the character with value `value`. Fails at the first type at which `take_type` does.
 fn take_character(types: &mut Types, head: Head, at: usize, value: u8) -> Result<(), SigFault>
     ensures reads { Leaves (types_view types.new) result (signatures.character_types head.count at value (types_view types.old)) }
     ensures less { OnOk result (types.new.left ≤ types.old.left - 1) }

@@ -164,8 +164,8 @@ fn as_they_stand(alloc: Global) -> RowOrder {
     }
 }
 
-/// The cheapest of the greedy orders, one for each first row that is tried. An order is given up once it costs as much
-/// as the best.
+/// The cheapest of the greedy orders of `rows`, one for each first row that is tried. An order is given up once it
+/// costs as much as the best.
 fn cheapest(alloc: Global, rows: &[RowBlocks]) -> Result<RowOrder, NoMemory> {
     let mut best = as_they_stand(alloc);
     for start in 0..start_count(rows.len()) {
@@ -196,8 +196,8 @@ fn rows_in_turn(
     Ok(ordered)
 }
 
-/// Reorders `rows` so that few blocks of `each` columns occur early: the cheapest of the greedy orders. Any order is
-/// correct.
+/// Reorders `rows` so that blocks of `each` columns occur as late as possible: the cheapest of the greedy orders. Any
+/// order is correct.
 pub(crate) fn in_cheapest_order(
     alloc: Global,
     each: u32,

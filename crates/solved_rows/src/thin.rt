@@ -85,7 +85,8 @@ fn thinning_factor(row: &[(u32, i32)], other: &[(u32, i32)]) -> Option<i32>
     }
 }
 
-/// Makes row `i` sparser by row `j` if that leaves fewer terms, and returns whether it did.
+/// Makes row `i` sparser by row `j` if that leaves fewer terms, and returns whether it did. Fails with `Passed` if a
+/// coefficient exceeds 1,000,000.
 fn thin_by(
     alloc: Global,
     columns: u32,
@@ -128,7 +129,7 @@ fn note(rounds: &mut [u32], i: usize, round: u32) {
     }
 }
 
-/// As `thin_by`, but tries only if row `i` or row `j` changed since this pair was tried last.
+/// As `thin_by`, with the same errors, but tries only if row `i` or row `j` changed since this pair was tried last.
 fn thin_pair(
     alloc: Global,
     columns: u32,
@@ -158,7 +159,7 @@ fn thin_pair(
     Ok(thinner)
 }
 
-/// Makes row `i` sparser by each other row, and returns whether it changed.
+/// Makes row `i` sparser by each other row, and returns whether it changed. Fails as `thin_by`.
 fn thin_row(
     alloc: Global,
     columns: u32,
@@ -184,7 +185,7 @@ fn thin_row(
     Ok(thinner)
 }
 
-/// One pass: makes each row sparser by all others, and returns whether a row changed.
+/// One pass: makes each of `rows` sparser by all others, and returns whether a row changed. Fails as `thin_by`.
 fn thin_once(
     alloc: Global,
     columns: u32,

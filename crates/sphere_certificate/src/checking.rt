@@ -42,7 +42,8 @@ pub fn is_sphere(text: &[u8]) -> bool
     text == SPHERE.as_slice()
 }
 
-/// Whether `last` is isomorphic to the standard sphere, by its signature.
+/// Checks that `last` is isomorphic to the standard sphere, by its signature. Fails with `NotConnected`, then with
+/// `NotStandard`.
 fn judge(alloc: Global, last: &Table) -> Result<(), Failure<CheckFault>>
     requires { IsTable last.now }
     ensures standard { OnOk result (IsStandard last.now) }
@@ -77,7 +78,7 @@ pub fn check_owned(
     judge(alloc, &table)
 }
 
-/// Checks that `moves` are a certificate of `table`: played in order, they lead to a table that is isomorphic to the
+/// Checks that `moves` are a certificate of `table`: played in order, they end at a table that is isomorphic to the
 /// standard sphere (Pachner 1991). Fails with `Illegal` at the first move that `apply` rejects, counted from 1; then
 /// with `NotConnected`, which names the least tetrahedron of the last table not reached from tetrahedron 0; then with
 /// `NotStandard`, which has the last table's signature.

@@ -1,4 +1,4 @@
-//! Certificates that a table is a 3-sphere, as moves that lead to a table isomorphic to the standard sphere (Pachner
+//! Certificates that a table is a 3-sphere, as moves that end at a table isomorphic to the standard sphere (Pachner
 //! 1991).
 //!
 //! - `check`: whether moves are a certificate of a table, or the first reason why not

@@ -39,7 +39,8 @@ struct Times {
     terms: Vec<Given>,
 }
 
-/// Reads a line `term K` with entries from `lexer`.
+/// Reads a line `term K` with entries from `lexer`. Fails with the first error on the line, `MissingWord` if there is
+/// no line.
 #[tactic(auto, unfolding(text_document_definitions::specs::Blocks::term_at, text_definitions::specs::Reading::exactly_at))]
 fn read_term(alloc: Global, lexer: &mut Lexer<'_>) -> Result<Given, TextFault>
     ensures { ReadsFrom TextFault.NoMemory term_of result lexer.new (lexed (term_at lexer.old)) }
@@ -54,7 +55,7 @@ fn read_term(alloc: Global, lexer: &mut Lexer<'_>) -> Result<Given, TextFault>
     Ok(Given { count, entries })
 }
 
-/// Reads the next `count` lines as terms.
+/// Reads the next `count` lines as terms. Fails at the first line on which `read_term` does.
 fn read_terms(alloc: Global, lexer: &mut Lexer<'_>, count: u32) -> Result<Vec<Given>, TextFault>
     ensures { ReadsFrom TextFault.NoMemory given_terms result lexer.new (lexed (terms_at count lexer.old)) }
 {
@@ -66,7 +67,7 @@ fn read_terms(alloc: Global, lexer: &mut Lexer<'_>, count: u32) -> Result<Vec<Gi
     Ok(terms)
 }
 
-/// Reads a line `times S T` and T terms from `lexer`.
+/// Reads a line `times S T` and T terms from `lexer`. Fails with the first error on these lines.
 #[tactic(auto, unfolding(text_document_definitions::specs::Blocks::times_at, text_definitions::specs::Reading::exactly_at))]
 fn read_times(alloc: Global, lexer: &mut Lexer<'_>) -> Result<Times, TextFault>
     ensures { ReadsFrom TextFault.NoMemory sum_of result lexer.new (lexed (times_at lexer.old)) }
@@ -83,7 +84,8 @@ fn read_times(alloc: Global, lexer: &mut Lexer<'_>) -> Result<Times, TextFault>
     Ok(Times { times, terms })
 }
 
-/// Reads a block from the current line of `lexer` on, of which no word is read yet.
+/// Reads a block from the current line of `lexer` on, of which no word is read yet. Fails with the first error on its
+/// lines.
 #[tactic(auto, unfolding(text_document_definitions::specs::Blocks::block_at))]
 fn read_block(alloc: Global, lexer: &mut Lexer<'_>) -> Result<Block, TextFault>
     ensures { ReadsFrom TextFault.NoMemory block_of result lexer.new (lexed (block_at lexer.old)) }
@@ -97,7 +99,7 @@ fn read_block(alloc: Global, lexer: &mut Lexer<'_>) -> Result<Block, TextFault>
     })
 }
 
-/// Reads the blocks up to the end of the input of `lexer`.
+/// Reads the blocks up to the end of the input of `lexer`. Fails at the first block at which `read_block` does.
 fn read_blocks(alloc: Global, lexer: &mut Lexer<'_>) -> Result<Vec<Block>, TextFault>
     ensures { ReadsFrom TextFault.NoMemory blocks_of result lexer.new (lexed (blocks_from lexer.old.later lexer.old)) }
 {

@@ -26,7 +26,7 @@ use std::alloc::Global;
 use surface_answers::large_outcome;
 use surface_list::surfaces_by;
 
-/// Appends the block of the vector `x`.
+/// Appends the block of the vector `x`. Fails at the first step of its sum at which a number exceeds `limit`.
 fn append_sum(
     alloc: Global,
     system: &System,

@@ -88,7 +88,7 @@ fn append_cause(alloc: Global, out: &mut Vec<u8>, refusal: SumRefusal) -> Result
     }
 }
 
-/// The status of a failed check: `Large` if a number exceeds the limit, otherwise `Refused`.
+/// The status of a failed check with the error `fault`: `Large` if a number exceeds the limit, otherwise `Refused`.
 fn unfit_status(fault: VectorFault) -> Status
     ensures { result ≡ sums.unfit_status fault }
 {

@@ -68,7 +68,8 @@ impl<'a> DiscVector<'a> {
     }
 }
 
-/// The Euler characteristic of a surface, from its number of points and normal discs together, and of arcs.
+/// The Euler characteristic of a surface, from its number of points and normal discs together (`points_and_pieces`),
+/// and of `arcs`.
 fn euler(points_and_pieces: u128, arcs: u128) -> i128
     requires first { points_and_pieces ≤ limit }
     requires second { arcs ≤ limit }

@@ -74,7 +74,7 @@ fn add(groups: &mut Groups, table: &Table) -> Result<(), NoMemory>
     }
 }
 
-/// Reads a table from the current line of `lexer` on, and adds it to `groups`.
+/// Reads a table from the current line of `lexer` on, and adds it to `groups`. Fails with the first error of the table.
 fn group_table(alloc: Global, lexer: &mut Lexer<'_>, groups: &mut Groups) -> Result<(), InputFault>
     requires few_classes { length groups.old.classes.items + 1 < 2 ^ 32 }
     requires few_signatures { length groups.old.census + 1 < 2 ^ 32 }
@@ -87,7 +87,7 @@ fn group_table(alloc: Global, lexer: &mut Lexer<'_>, groups: &mut Groups) -> Res
     }
 }
 
-/// Reads the tables up to the end of the input of `lexer`.
+/// Reads the tables up to the end of the input of `lexer`. Fails with the first error of the first table that has one.
 fn read_groups(alloc: Global, lexer: &mut Lexer<'_>) -> Result<Groups, InputFault>
     requires few { length lexer.old.later + 1 < 2 ^ 32 }
     ensures { GivesGroups result lexer.new (tables_from lexer.old.later lexer.old) }

@@ -19,7 +19,8 @@ use pachner_moves::{Move, apply_legal, legal, retained};
 use perm_four::Perm4;
 use std::alloc::Global;
 
-/// The relabelling that maps each tetrahedron before the step to its image after the inverse move.
+/// The relabelling that maps each tetrahedron before `step` to its image after the inverse move `back`; `on` carries
+/// the table after the step.
 fn carry_back(
     alloc: Global,
     step: &PlayedMove,

@@ -13,7 +13,7 @@ const NO_MEMORY: u8 = 8;
 /// The exit status if the program's words cannot be read.
 const NO_WORDS: u8 = 9;
 
-/// The words after the program's name, or the exit status if they cannot be read.
+/// The words after the program's name. Fails with the exit status if they cannot be read.
 fn words_of(rt: &HostRuntime) -> Result<Words, u8> {
     let arguments = env::args(rt).map_err(|fault| fault_code(&fault))?;
     let mut words = Words::new(rt.alloc());

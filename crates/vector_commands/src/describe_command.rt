@@ -84,7 +84,7 @@ fn describe_vector(
     }
 }
 
-/// Appends the lines of the vector `x`.
+/// Appends the lines of the vector `x`. Fails if it is refused.
 fn append_vector(
     alloc: Global,
     skeleton: &Skeleton,

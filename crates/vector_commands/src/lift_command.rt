@@ -65,7 +65,7 @@ fn lift_vector(
     }
 }
 
-/// Appends the line of the lift of `x`.
+/// Appends the line of the lift of `x`. Fails if it is refused.
 fn append_lift(
     alloc: Global,
     skeleton: &Skeleton,

@@ -15,7 +15,8 @@ use std::process::Abort;
 use std::test::Fail;
 use support_bits::Support;
 
-/// Without clashing pairs: the list, or what exceeds the limit, and the order of the rows up to there.
+/// Without clashing pairs: asserts the list `vectors` of the cone `text`, or what exceeds `limit`, and the order `rows`
+/// of the rows up to there.
 fn rays_are(
     rt: &impl Abort,
     alloc: Global,

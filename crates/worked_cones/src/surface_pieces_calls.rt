@@ -45,7 +45,7 @@ fn pieces_of(alloc: Global, skeleton: &Skeleton, x: &[u128]) -> Result<Pieces, F
     }
 }
 
-/// Whether a surface of one component is two-sided, and whether it is orientable.
+/// Whether a surface with one component, `pieces`, is two-sided, and whether it is orientable.
 fn sides_of_one(rt: &impl Abort, pieces: &Pieces) -> (bool, bool) {
     assert_eq!(rt; pieces.components(), 1);
     (pieces.two_sided(0), pieces.orientable(0))

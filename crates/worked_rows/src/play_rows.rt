@@ -159,7 +159,7 @@ fn push_loose(text: &mut Vec<u8>, count: u32) -> Result<(), Fail> {
     Ok(())
 }
 
-/// Asserts the output of the move `14 0` on a number of tetrahedra without glued faces.
+/// Asserts that the move `14 0` on `count` tetrahedra without glued faces gives `wanted`.
 fn is_played_on_loose(
     rt: &impl Abort,
     alloc: Global,

@@ -27,8 +27,8 @@ pub struct Ended {
 /// No call fails, and each transfers as much as possible.
 pub const STEADY: u64 = 0;
 
-/// Runs words over an input, with room for the answer. The source fails at one call and the sink at another, counted
-/// from 1, or at none; the last numbers limit the bytes of each call.
+/// Runs `words` over `input`, with room for the answer. The source fails at call `failing_read` and the sink at call
+/// `failing_write`, counted from 1, or at none; each other call transfers at most `most` bytes.
 pub fn answered(
     alloc: Global,
     words: &[&str],

@@ -34,7 +34,7 @@ fn worked_texts_are_read_and_spelled(rt: HostRuntime) -> Result<(), Fail> {
     Ok(())
 }
 
-/// The kind of an error, and its position in the text, or 0.
+/// The kind of `fault`, and its position in the text, or 0.
 fn kind_and_place(fault: SigFault) -> (&'static str, usize) {
     match fault {
         SigFault::NoMemory => ("no memory", 0),

@@ -55,7 +55,7 @@ fn lines_follow_each_other(rt: HostRuntime) {
     assert!(rt; fault == Some((5, 2, LexKind::MissingWord)));
 }
 
-/// The line and the column of an error, and its kind.
+/// The line and the column of `fault`, and its kind.
 fn place_and_kind(fault: LexFault) -> (u32, u32, LexKind) {
     (fault.place.line, fault.place.column, fault.kind)
 }
@@ -70,7 +70,7 @@ enum Wanted {
     End,
 }
 
-/// The error of the read of the first line.
+/// The error of the read `wanted` of the first line of `bytes`.
 fn fault_of(bytes: &[u8], wanted: Wanted) -> Option<(u32, u32, LexKind)> {
     if bytes.len() > 1000 {
         return None;
@@ -170,7 +170,7 @@ fn each_fault_has_its_place(rt: HostRuntime) {
     }
 }
 
-/// The result of reading a source whose listed calls fail.
+/// The result of reading up to `limit` bytes of a source that fails at the calls `failing`.
 fn read_of(alloc: Global, failing: &[u64], limit: u64) -> Result<Result<Vec<u8>, ReadEnd>, Fail>
     requires { limit < 1000 }
 {
