@@ -68,7 +68,8 @@ fn push_coefficient(
     Ok(())
 }
 
-/// Reads the next `columns` coefficients of the line as a row. Fails at the first word that is no coefficient.
+/// Reads the next `columns` coefficients of the line as a row. Fails at the first word that is missing or no
+/// coefficient.
 fn read_entries(alloc: Global, lexer: &mut Lexer<'_>, columns: u32) -> Result<SparseRow, ConeFault>
     ensures gives { GivesHere (λ row. row) result lexer.new (sparse_entries_at columns lexer.old) }
     ensures in_range { IfOk result (IsInRange columns) }

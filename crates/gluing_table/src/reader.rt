@@ -58,8 +58,8 @@ fn glue_of(lexer: &Lexer<'_>, word: &[u8]) -> Result<Glue, LexFault>
     Ok(Glue { tet, perm })
 }
 
-/// Reads the next word of `lexer` as the entry of a face: `-` for a boundary face, or a gluing `t:p`. Fails at the
-/// first word that is no entry.
+/// Reads the next word of `lexer` as the entry of a face: `-` for a boundary face, or a gluing `t:p`. Fails if it is
+/// missing or no entry.
 #[tactic(auto, unfolding(table_definitions::specs::TableText::entry_at))]
 fn read_entry(lexer: &mut Lexer<'_>) -> Result<Option<Glue>, LexFault>
     ensures { Gives (λ g. g) result lexer.new (entry_at lexer.old) }
