@@ -31,7 +31,7 @@ fn words_between(alloc: Global, text: &str) -> Result<Words, NoMemory>
 }
 
 /// The outcome for the words of `text`, which has a zero byte between each two, and the input `input`. Its status is
-/// none for a failed source, a failed sink or memory. Fails with `NoMemory` if memory runs out.
+/// never `ReadFault`, `WriteFault` or `NoMemory`. Fails with `NoMemory` if memory runs out.
 pub fn outcome_between(alloc: Global, text: &str, input: &[u8]) -> Result<Outcome, NoMemory>
     ensures outcome { IfOk result (λ o. IsOutcome (words_of text.now) input.now o) }
     ensures answered { IfOk result (λ o. IsAnswered o.status) }

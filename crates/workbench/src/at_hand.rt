@@ -26,8 +26,8 @@ fn answer_at_hand(alloc: Global, request: Request, input: &[u8]) -> Result<Outco
     answer(alloc, request, input)
 }
 
-/// The outcome for `words` and the input `input`, with the text that a run would write. Its status is none for a failed
-/// source, a failed sink or memory. Fails with `NoMemory` if memory runs out.
+/// The outcome for `words` and the input `input`, with the text that a run would write. Its status is never
+/// `ReadFault`, `WriteFault` or `NoMemory`. Fails with `NoMemory` if memory runs out.
 pub fn outcome_of(alloc: Global, words: &Words, input: &[u8]) -> Result<Outcome, NoMemory>
     ensures outcome { IfOk result (λ o. IsOutcome words.now input.now o) }
     ensures answered { IfOk result (λ o. IsAnswered o.status) }
