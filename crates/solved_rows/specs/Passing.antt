@@ -26,8 +26,8 @@ pub record PassesAtColumn (row : Row) (factor : ℤ) (other : Row) : Type 0 wher
   pub other_is : IsCoefficientAt other column other_coefficient
   pub passes : PassesSum coefficient factor other_coefficient
 
--- one of the rows has a term at the column, and a coefficient of its sum with the multiple of the pivot row that cancels
--- that term exceeds the greatest one
+-- one of the rows has a term at the column, and a coefficient of its sum with the multiple of the pivot row that
+-- cancels that term exceeds the greatest one
 pub record PassesClearing (pivot : Row) (column : ℕ) (rows : List Row) : Type 0 where
   pub row : Row
   pub among : Contains rows row
