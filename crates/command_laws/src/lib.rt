@@ -19,8 +19,8 @@ pub fn requests_are_spelled()
     ensures { RequestsAreSpelled }
 {}
 
-/// Theorem: each of the 21 commands asks for its own request, by words that name each command, each option and each word
-/// of a value once; and an option that is left out means its default.
+/// Theorem: each of the 21 commands asks for its own request, by words that name each command, each option and each
+/// word of a value once; and an option that is left out means its default.
 pub fn worked_words()
     ensures { WorkedWords }
 {}
