@@ -1,4 +1,4 @@
--- What a piece is joined to by its arcs.
+-- The neighbours of a disc across its arcs.
 use Rattle.std.specs.Prelude.{◌≡◌, ℕ, ◌%◌, ◌<◌, List, [], length, Option, Some, None}
 use Rattle.std.specs.List.{slice_index_or}
 use Rattle.table_definitions.specs.Table.{Gluing, Row}
@@ -10,7 +10,7 @@ use Rattle.surface_pieces.specs.Meetings.{IsOnlyMeeting, HasNoMeeting}
 use Rattle.surface_pieces.specs.Searches.{stays_at}
 use Rattle.surface_pieces.specs.Slots.{slots_each, vertex_of_slot}
 
--- piece p is joined to j by its arc around vertex v of face f
+-- j is the neighbour of disc p across its arc around vertex v of face f
 pub record IsJoinedAt (rows : List Row) (coords : Coords) (xs : List ℕ) (p : NormalDisc) (f v : ℕ) (j : Across) : Type 0 where
   pub arc : Arc
   pub gluing : Gluing
@@ -21,17 +21,17 @@ pub record IsJoinedAt (rows : List Row) (coords : Coords) (xs : List ℕ) (p : N
   pub sides : j.keeps_sides ≡ stays_at Sides coords xs arc gluing
   pub orientation : j.keeps_orientation ≡ stays_at Orientation coords xs arc gluing
 
--- a row holds what piece p is joined to by its arcs of the slots before this one
+-- a row holds the neighbours of disc p at the slots before this one
 pub record IsJoinedUpTo (rows : List Row) (coords : Coords) (xs : List ℕ) (p : NormalDisc) (slot : ℕ) (row : List (Option Across)) : Type 0 where
   pub size : length row ≡ slots_each coords
   pub some : (s : ℕ) (j : Across) → s < slot → slice_index_or row s None ≡ Some j → IsJoinedAt rows coords xs p (s % 4) (vertex_of_slot coords p s) j
   pub none : (s : ℕ) → s < slot → slice_index_or row s None ≡ None → HasNoMeeting rows coords xs p (s % 4) (vertex_of_slot coords p s)
 
--- a row holds what piece p is joined to by all its arcs
+-- a row holds the neighbours of disc p at all slots
 abbrev pub IsJoinedRow : List Row → Coords → List ℕ → NormalDisc → List (Option Across) → Type 0
 IsJoinedRow rows coords xs p row = IsJoinedUpTo rows coords xs p (slots_each coords) row
 
--- the rows of all pieces, in their order
+-- the rows of all discs, in order
 pub record AreJoined (rows : List Row) (coords : Coords) (xs : List ℕ) (joined : List (List (Option Across))) : Type 0 where
   pub size : length joined ≡ length (discs_of xs)
   pub each : (i : ℕ) → i < length (discs_of xs) → IsJoinedRow rows coords xs (slice_index_or (discs_of xs) i (record { column = 0; number = 0 })) (slice_index_or joined i [])

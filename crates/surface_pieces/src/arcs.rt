@@ -17,7 +17,8 @@ struct Further {
     by_zero: bool,
 }
 
-/// The number of a position counted from one end or from the other.
+/// The number of position `place` among `entry` positions, counted from the one end if `by_zero`, otherwise from the
+/// other.
 fn number_from_end(entry: u32, place: u32, by_zero: bool) -> u32
     ensures { result ≡ (if by_zero then place else entry - 1 - place) }
 {

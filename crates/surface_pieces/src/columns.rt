@@ -1,4 +1,4 @@
-//! Arcs around a vertex of a face: the slots of a disc for them, and the column of those past the triangles.
+//! Arcs around a vertex of a face, with the slots of a disc for them, and the column of those after the triangles.
 
 ghost use Rattle.std.specs.Prelude.{◌≡◌, ◌≢◌, ◌<◌, All, IfSome, IfNone, ◌%◌, length};
 ghost use Rattle.surface_laws.specs.PieceLaws.{first_nonzero};

@@ -10,7 +10,7 @@ use crate::joined::Joined;
 use crate::surface::NumberedPieces;
 use std::alloc::{AllocError, Global};
 
-/// What a piece is joined to by each of its arcs.
+/// The neighbours of `piece` across its arcs, by slot.
 fn joined_row<const N: usize>(pieces: &NumberedPieces, piece: Piece) -> [Option<Joined>; N]
     requires slots { N ≡ slots_each pieces.now.surface.coords.system }
     requires piece { IsPieceOf pieces.now.surface.entries.now piece }
@@ -23,7 +23,7 @@ fn joined_row<const N: usize>(pieces: &NumberedPieces, piece: Piece) -> [Option<
     row
 }
 
-/// What each piece is joined to.
+/// The neighbours of each of `pieces` across its arcs, by slot.
 pub fn joined_rows<const N: usize>(
     alloc: Global,
     pieces: &NumberedPieces,

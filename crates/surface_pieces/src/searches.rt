@@ -37,7 +37,7 @@ fn number_across(kind: SearchKind, number: u32, joined: Joined) -> u32
     }
 }
 
-/// As `number_across`, if there is a neighbour.
+/// As `number_across`, if there is a neighbour `joined`.
 fn number_at(kind: SearchKind, number: u32, joined: Option<Joined>) -> Option<u32>
     ensures { result ≡ readings.read_at kind number joined }
 {
@@ -45,7 +45,7 @@ fn number_at(kind: SearchKind, number: u32, joined: Option<Joined>) -> Option<u3
     Some(number_across(kind, number, across))
 }
 
-/// What is joined to a number, by the row of its piece.
+/// The neighbours of `number`, by the row `joined` of its disc.
 fn row_of<const N: usize>(
     joined: &[Option<Joined>; N],
     kind: SearchKind,
@@ -71,7 +71,7 @@ fn piece_in(kind: SearchKind, number: usize) -> usize
 }
 
 impl<'a, const N: usize> JoinedPieces<'a, N> {
-    /// How many numbers there are.
+    /// The number of numbers in a search of kind `kind`.
     fn numbers(&self, kind: SearchKind) -> usize
         ensures value { result ≡ searches.numbers kind (length self.now.rows.now) }
         ensures few { result ≤ 2 * most_pieces }
@@ -82,7 +82,7 @@ impl<'a, const N: usize> JoinedPieces<'a, N> {
         }
     }
 
-    /// What is joined to each number.
+    /// The neighbours of each number in a search of kind `kind`.
     fn rows_of(&self, alloc: Global, kind: SearchKind) -> Result<Vec<[Option<u32>; N]>, AllocError>
         ensures { IfOk result (λ rows. AreReadRows kind self.now.rows.now rows.items) }
     {

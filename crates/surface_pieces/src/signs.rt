@@ -21,7 +21,8 @@ fn mark(free: &mut [bool], component: u32, same: bool)
     }
 }
 
-/// For each component whether none of its discs is connected to itself with the other sign.
+/// For each of `components` whether none of its discs is connected to itself with the other sign, by the classes
+/// `signed`.
 fn free_components(
     alloc: Global,
     signed: &[u32],
@@ -40,7 +41,7 @@ fn free_components(
     Ok(free)
 }
 
-/// Whether signs exist on each component.
+/// For each of `components` whether signs of kind `signs` exist on it.
 pub fn signs_of<const N: usize>(
     alloc: Global,
     joined: &JoinedPieces<N>,

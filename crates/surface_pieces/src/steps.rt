@@ -55,7 +55,8 @@ impl<'a> Surface<'a> {
 }
 
 impl<'a> NumberedPieces<'a> {
-    /// What `piece` is joined to by its arc of `slot`, or `None` if it has none, or the arc is in a boundary face.
+    /// The neighbour of `piece` across its arc of `slot`, or `None` if it has no such arc or the arc is in a boundary
+    /// face.
     pub fn joined_at(&self, piece: Piece, slot: u32) -> Option<Joined>
         requires piece { IsPieceOf self.now.surface.entries.now piece }
         requires a_slot { slot < 8 }

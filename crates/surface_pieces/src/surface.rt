@@ -35,7 +35,7 @@ pub struct NumberedPieces<'a> {
     pub ghost counted: { AreStarts surface.entries.now starts.now },
 }
 
-/// What each piece of a surface is joined to, by the slots of its arcs.
+/// The neighbours of each disc of a surface, by the slots of its arcs.
 #[derive(Clone, Copy)]
 pub struct JoinedPieces<'a, const N: usize> {
     pub surface: Surface<'a>,
