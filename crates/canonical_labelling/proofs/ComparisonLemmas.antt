@@ -2,11 +2,12 @@
 use Rattle.std.proofs.Common.{◌≡◌, ℕ, zero, suc, ◌+◌, ◌*◌, ◌<◌, ◌≤◌, Bool, true, false, List, [], ◌∷◌, ◌++◌, length, refl, sym, ap, ◌∙◌, subst, arith, ⊎_elim}
 use Rattle.std.specs.Prelude.{◌≢◌, All, slice_index, slice_set, if◌then◌else◌}
 use Rattle.std.specs.List.{slice_index_or}
-use Rattle.std.proofs.lemmas.Bool.{cases_lt}
+use Rattle.std.proofs.lemmas.Bool.{cases_lt, cases_eq}
 use Rattle.std.proofs.lemmas.List.{length-append, length-set, get_or_append_left, get_or_push, get_or-set_same, get_or-set_other}
 use Rattle.std.proofs.lemmas.List.Elements.{All-append}
 use Rattle.plain_facts.proofs.Truths.{by_bool}
-use Rattle.table_definitions.specs.Table.{Gluing}
+use Rattle.table_definitions.specs.Table.{Gluing, other_side, face_number}
+use Rattle.table_definitions.specs.Places.{face_of}
 use Rattle.signature_definitions.specs.Labellings.{Start}
 use Rattle.signature_laws.specs.Orders.{start_at, is_visited, start_behind, follow}
 use Rattle.canonical_labelling.specs.Comparisons.{ComparisonView, IsComparison, numbered, crossed}
@@ -45,6 +46,10 @@ fresh_numbers k s b h l unmet i m = ⊎_elim
     ap (λ (r : Start). slice_index (slice_set s.numbers b.tet (length s.order)) r.tet) there ∙ get_or-set_same s.numbers b.tet (length s.order) 0 l ∙ e)
     (cases_lt i (length s.order))
 
+follow_grows : (met : Bool) (from : Start) (g : Gluing) (order : List Start) → length order ≤ length (follow met from g order)
+follow_grows true from g order = omega arith
+follow_grows false from g order = omega (arith, length-append order (start_behind from g ∷ []))
+
 pub numbered_holds : (k : ℕ) (s : ComparisonView) (from : Start) (g : Gluing) → IsComparison k s → g.tet < length s.numbers → IsComparison k (numbered (slice_index_or s.met g.tet false) from g s)
 numbered_holds k s from g h l = record {
   few = subst (λ n. n ≤ 1000) (sym size) h.few;
@@ -54,6 +59,7 @@ numbered_holds k s from g h l = record {
   crossed = h.crossed ∙ ap (λ n. 4 * n) (sym size);
   small = h.small;
   few_types = h.few_types;
+  marked = λ p e. let low = h.marked p e in omega (arith, low, follow_grows (slice_index_or s.met g.tet false) from g s.order);
 }
   where
     inside : g.tet < length s.met
@@ -83,8 +89,8 @@ more_types types t h l = All-append (λ t. t < 3) types (t ∷ []) h one
     one zero d m = l
     one (suc k) d m = absurd (omega arith)
 
-pub crossed_holds : (k : ℕ) (s : ComparisonView) (met : Bool) (at : ℕ) (g : Gluing) → IsComparison k s → IsComparison (k + 1) (crossed met at g s)
-crossed_holds k s met at g h = record {
+pub crossed_holds : (k : ℕ) (s : ComparisonView) (met : Bool) (at : ℕ) (g : Gluing) → IsComparison k s → face_number (other_side (face_of at) g) < 4 * length s.order → IsComparison (k + 1) (crossed met at g s)
+crossed_holds k s met at g h low = record {
   few = h.few;
   marks = h.marks;
   met = h.met;
@@ -92,4 +98,8 @@ crossed_holds k s met at g h = record {
   crossed = length-set s.crossed _ true ∙ h.crossed;
   small = more_types s.types (if met then 2 else 1) h.small (by_bool met (λ e. rw e (omega arith)) (λ e. rw e (omega arith)));
   few_types = let f = h.few_types in omega (arith, f, length-append s.types ((if met then 2 else 1) ∷ []));
+  marked = λ p e. ⊎_elim
+      (λ (same : p ≡ face_number (other_side (face_of at) g)). omega (arith, same, low))
+      (λ (apart : p ≡ face_number (other_side (face_of at) g) → ⊥). h.marked p (sym (get_or-set_other s.crossed (face_number (other_side (face_of at) g)) p true false apart) ∙ e))
+      (cases_eq p (face_number (other_side (face_of at) g)));
 }

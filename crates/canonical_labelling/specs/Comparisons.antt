@@ -13,6 +13,7 @@ use Rattle.signature_definitions.specs.Spelling.{seen_gluings}
 use Rattle.signature_text_laws.specs.Walks.{IsWalkTo}
 use Rattle.signature_laws.specs.Orders.{start_at, face_from, follow, AreVisited, Numbers}
 use Rattle.canonical_labelling.specs.declared.comparison.Comparison.{Comparison}
+use Rattle.canonical_labelling.specs.declared.comparison.WorkSpace.{WorkSpace}
 
 -- the state of a traversal: the order and its marks, the new number of each tetrahedron, the new faces reached from
 -- their other sides, the types of the faces read, and the new gluings of those of type 2
@@ -133,6 +134,22 @@ pub record IsComparison (k : ℕ) (s : ComparisonView) : Type 0 where
   pub crossed : length s.crossed ≡ 4 * length s.numbers
   pub small : All (λ t. t < 3) s.types
   pub few_types : length s.types ≤ k
+  pub marked : (p : ℕ) → slice_index_or s.crossed p false ≡ true → p < 4 * length s.order
+
+-- no mark is set
+abbrev pub AreUnmarked : List Bool → Type 0
+AreUnmarked marks = (p : ℕ) → slice_index_or marks p false ≡ false
+
+-- nothing is visited, crossed or found; numbers may be left from an earlier traversal
+pub record IsClean (s : ComparisonView) : Type 0 where
+  pub few : length s.numbers ≤ max_tets
+  pub marks : length s.met ≡ length s.numbers
+  pub faces : length s.crossed ≡ 4 * length s.numbers
+  pub order : s.order ≡ []
+  pub types : s.types ≡ []
+  pub gluings : s.gluings ≡ []
+  pub met : AreUnmarked s.met
+  pub crossed : AreUnmarked s.crossed
 
 -- whether the face is glued to one of an index below k
 abbrev pub leads_before : ℕ → Face → Option Gluing → Bool
@@ -160,3 +177,9 @@ pub record IsUndecided (rows : List Row) (start : Start) (bound : List ℕ) (s :
   pub types : (by : Relabelling) (new : List Row) → IsWalked rows start by new → s.types ≡ face_types new
   pub gluings : (by : Relabelling) (new : List Row) → IsWalked rows start by new → s.gluings ≡ seen_gluings new
   pub agreed : told (head_text (length rows) ++ map character (packed s.types)) bound ≡ None
+
+-- the work space is for tables of n tetrahedra, and no traversal is under way
+pub record IsWorkSpace (n : ℕ) (w : WorkSpace) : Type 0 where
+  pub clean : IsClean (comparison_view w.comparison)
+  pub size : length w.comparison.numbers.items ≡ n
+  pub head : w.head.items ≡ head_text n

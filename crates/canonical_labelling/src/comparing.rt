@@ -4,17 +4,18 @@
 ghost use Rattle.std.specs.Prelude.{◌≡◌, ◌≢◌, ◌<◌, ◌≤◌, ◌+◌, ◌-◌, ◌*◌, ◌/◌, ◌^◌, ◌++◌, ◌∷◌, [], ℕ, List, true, false, None, Some, All, length, replicate, map, slice_get, slice_index, IfOk, IfSome, IfNone, OnOk};
 ghost use Rattle.std.specs.List.{slice_index_or};
 ghost use Rattle.table_definitions.specs.Lists.{is_list_before};
-ghost use Rattle.table_definitions.specs.Table.{max_tets, IsTable};
+ghost use Rattle.table_definitions.specs.Table.{max_tets, IsTable, other_side, face_number};
+ghost use Rattle.table_definitions.specs.Places.{face_of};
 ghost use Rattle.signature_definitions.specs.Spelling as spellings;
 ghost use Rattle.signature_definitions.specs.Spelling.{character, packed};
 ghost use Rattle.signature_text_laws.specs.Texts.{destinations_text, indices_text};
 ghost use Rattle.signature_laws.specs.Starts.{IsTextFrom};
 ghost use Rattle.canonical_labelling.specs.Comparisons as comparisons;
-ghost use Rattle.canonical_labelling.specs.Comparisons.{IsComparison, FollowsWalks, ReadsFew, IsDecided, IsUndecided, head_text, compare_by, comparison_view};
+ghost use Rattle.canonical_labelling.specs.Comparisons.{IsComparison, AreUnmarked, IsClean, IsWorkSpace, FollowsWalks, ReadsFew, IsDecided, IsUndecided, head_text, compare_by, comparison_view};
 
 use crate::Start;
-use crate::comparison::{Comparison, FoundTypes};
-use crate::order::{face_from, follow, walking_from};
+use crate::comparison::{Comparison, FoundTypes, WorkSpace};
+use crate::order::{Walking, face_from, follow, leave};
 use gluing_table::{Face, Glue, Probe};
 use no_memory::NoMemory;
 use signature_codec::{
@@ -97,7 +98,8 @@ fn new_gluing(comparison: &Comparison, from: Start, glue: Glue) -> Glue
 /// and 1 otherwise.
 fn cross(comparison: &mut Comparison, place: u32, glue: Glue, met: bool) -> Result<(), AllocError>
     requires { glue.tet < length comparison.old.numbers.items }
-    ensures { OnOk result (comparison_view comparison.new ≡ comparisons.crossed met place glue (comparison_view comparison.old)) }
+    ensures crossed { OnOk result (comparison_view comparison.new ≡ comparisons.crossed met place glue (comparison_view comparison.old)) }
+    ensures other { face_number (other_side (face_of place) glue) < 4 * glue.tet + 4 }
 {
     let other = glue.other_side(Face {
         tet: place / 4,
@@ -219,6 +221,7 @@ fn compare_types(
     ensures told { IfOk result (λ r. IfSome r (IsDecided probe.old.rows start bound.now (probe.new.taken - probe.old.taken))) }
     ensures untold { IfOk result (λ r. IfNone r (IsUndecided probe.old.rows start bound.now (comparison_view comparison.new))) }
     ensures comparison { OnOk result (IsComparison (4 * length probe.old.rows) (comparison_view comparison.new)) }
+    ensures size { OnOk result (length comparison.new.numbers.items ≡ length comparison.old.numbers.items) }
     ensures rows { probe.new.rows ≡ probe.old.rows }
 {
     for place in 0..4 * probe.len() {
@@ -239,27 +242,75 @@ fn compare_types(
     }))
 }
 
-/// A traversal of a table with `count` tetrahedra that has visited only that of `start`.
-fn comparison_from(alloc: Global, count: u32, start: Start) -> Result<Comparison, AllocError>
-    requires in_range { start.tet < count }
-    requires few { count ≤ max_tets }
-    ensures order { IfOk result (λ t. t.walking.order.items ≡ start ∷ []) }
+/// A state for tables with `count` tetrahedra that has visited none.
+fn blank(alloc: Global, count: u32) -> Result<Comparison, AllocError>
+    requires { count ≤ max_tets }
+    ensures clean { IfOk result (λ t. IsClean (comparison_view t)) }
     ensures size { IfOk result (λ t. length t.numbers.items ≡ count) }
-    ensures comparison { IfOk result (λ t. IsComparison 0 (comparison_view t)) }
-    ensures crossed { IfOk result (λ t. t.crossed.items ≡ replicate (4 * count) false) }
-    ensures types { IfOk result (λ t. t.types.items ≡ []) }
-    ensures gluings { IfOk result (λ t. t.gluings.items ≡ []) }
 {
-    let walking = walking_from(alloc, count, start)?;
+    let order = Vec::with_capacity(alloc, count as usize)?;
+    let met = vec![in alloc; false; count as usize]?;
     let numbers = vec![in alloc; 0u32; count as usize]?;
     let crossed = vec![in alloc; false; 4 * count as usize]?;
     Ok(Comparison {
-        walking,
+        walking: Walking { order, met },
         numbers,
         crossed,
         types: Vec::new(alloc),
         gluings: Vec::new(alloc),
     })
+}
+
+/// A work space for tables with `count` tetrahedra.
+pub fn work_space(alloc: Global, count: u32) -> Result<WorkSpace, NoMemory>
+    requires { count ≤ max_tets }
+    ensures { IfOk result (IsWorkSpace count) }
+{
+    let mut head = Vec::new(alloc);
+    append_head(&mut head, count)?;
+    let comparison = blank(alloc, count)?;
+    Ok(WorkSpace { comparison, head })
+}
+
+/// Visits the tetrahedron of `start`, the first one of a traversal.
+fn begin(comparison: &mut Comparison, start: Start) -> Result<(), AllocError>
+    requires clean { IsClean (comparison_view comparison.old) }
+    requires in_range { start.tet < length comparison.old.numbers.items }
+    ensures comparison { OnOk result (IsComparison 0 (comparison_view comparison.new)) }
+    ensures order { OnOk result (comparison.new.walking.order.items ≡ start ∷ []) }
+    ensures types { OnOk result (comparison.new.types.items ≡ []) }
+    ensures gluings { OnOk result (comparison.new.gluings.items ≡ []) }
+    ensures crossed { OnOk result (AreUnmarked comparison.new.crossed.items) }
+    ensures size { OnOk result (length comparison.new.numbers.items ≡ length comparison.old.numbers.items) }
+{
+    comparison.walking.order.push(start)?;
+    comparison.walking.met[start.tet as usize] = true;
+    comparison.numbers[start.tet as usize] = 0;
+    Ok(())
+}
+
+/// Sets the first `count` marks to false, where no other mark is set.
+fn unmark_first(marks: &mut [bool], count: usize)
+    requires in_range { count ≤ length marks.old }
+    requires all { (p : ℕ) → slice_index_or marks.old p false ≡ true → p < count }
+    ensures { AreUnmarked marks.new }
+{
+    for place in 0..count {
+        marks[place] = false;
+    }
+}
+
+/// Takes back all that a traversal touched but the numbers, which need not be reset: marks tell which of them count.
+fn clean(comparison: &mut Comparison)
+    requires { IsComparison (4 * length comparison.old.numbers.items) (comparison_view comparison.old) }
+    ensures clean { IsClean (comparison_view comparison.new) }
+    ensures size { length comparison.new.numbers.items ≡ length comparison.old.numbers.items }
+{
+    let visited = comparison.walking.order.len();
+    unmark_first(&mut comparison.crossed, 4 * visited);
+    leave(&mut comparison.walking);
+    comparison.types.clear();
+    comparison.gluings.clear();
 }
 
 /// Appends the types, the destinations and the permutation indices, which complete `text`.
@@ -286,33 +337,66 @@ fn order(first: &[u8], second: &[u8]) -> Option<bool>
     }
 }
 
+/// Compares the text of the traversal from `start`, of which `comparison` has visited the first tetrahedron, with
+/// `bound`, whose first `head` bytes agree with it: whether the text comes first, or `None` if the two are equal.
+fn compare_begun(
+    alloc: Global,
+    comparison: &mut Comparison,
+    probe: &mut Probe<'_>,
+    start: Start,
+    bound: &[u8],
+    head: usize,
+) -> Result<Option<bool>, NoMemory>
+    requires table { IsTable probe.old.rows }
+    requires in_range { start.tet < length probe.old.rows }
+    requires comparison { IsComparison 0 (comparison_view comparison.old) }
+    requires size { length comparison.old.numbers.items ≡ length probe.old.rows }
+    requires follows { FollowsWalks probe.old.rows start 0 (comparison_view comparison.old) }
+    requires head { head ≡ length (head_text (length probe.old.rows)) }
+    requires agreed { comparisons.told (head_text (length probe.old.rows)) bound.now ≡ None }
+    ensures value { IfOk result (λ r. IfSome r (λ before. (text : List ℕ) → IsTextFrom probe.old.rows start text → before ≡ is_list_before text bound.now)) }
+    ensures equal { IfOk result (λ r. IfNone r ((text : List ℕ) → IsTextFrom probe.old.rows start text → text ≡ bound.now)) }
+    ensures few { IfOk result (λ r. r ≢ Some true → ReadsFew probe.old.rows start bound.now (probe.new.taken - probe.old.taken)) }
+    ensures comparison { OnOk result (IsComparison (4 * length probe.old.rows) (comparison_view comparison.new)) }
+    ensures size { OnOk result (length comparison.new.numbers.items ≡ length comparison.old.numbers.items) }
+    ensures rows { probe.new.rows ≡ probe.old.rows }
+{
+    if let Some(before) = compare_types(comparison, probe, start, bound, head)? {
+        return Ok(Some(before));
+    }
+    let mut text = Vec::new(alloc);
+    append_head(&mut text, probe.len())?;
+    append_parts(&mut text, probe.len(), comparison)?;
+    Ok(order(&text, bound))
+}
+
 /// Whether the text of the traversal from `start` comes before `bound`, or `None` if the two are equal. If it does not
 /// come before `bound`, the number of faces read is bounded as for `lesser`. For a disconnected table, which has no
-/// such text, any result may come.
+/// such text, any result may come. `space` is for tables of the size of that of `probe`.
 pub fn compare(
     alloc: Global,
+    space: &mut WorkSpace,
     probe: &mut Probe<'_>,
     start: Start,
     bound: &[u8],
 ) -> Result<Option<bool>, NoMemory>
     requires table { IsTable probe.old.rows }
     requires in_range { start.tet < length probe.old.rows }
+    requires space { IsWorkSpace (length probe.old.rows) space.old }
     ensures value { IfOk result (λ r. IfSome r (λ before. (text : List ℕ) → IsTextFrom probe.old.rows start text → before ≡ is_list_before text bound.now)) }
     ensures equal { IfOk result (λ r. IfNone r ((text : List ℕ) → IsTextFrom probe.old.rows start text → text ≡ bound.now)) }
     ensures few { IfOk result (λ r. r ≢ Some true → ReadsFew probe.old.rows start bound.now (probe.new.taken - probe.old.taken)) }
+    ensures space { OnOk result (IsWorkSpace (length probe.old.rows) space.new) }
     ensures rows { probe.new.rows ≡ probe.old.rows }
 {
-    let mut text = Vec::new(alloc);
-    append_head(&mut text, probe.len())?;
-    if let Some(before) = compare_head(&text, bound) {
+    if let Some(before) = compare_head(&space.head, bound) {
         return Ok(Some(before));
     }
-    let mut comparison = comparison_from(alloc, probe.len(), start)?;
-    if let Some(before) = compare_types(&mut comparison, probe, start, bound, text.len())? {
-        return Ok(Some(before));
-    }
-    append_parts(&mut text, probe.len(), &comparison)?;
-    Ok(order(&text, bound))
+    let head = space.head.len();
+    begin(&mut space.comparison, start)?;
+    let before = compare_begun(alloc, &mut space.comparison, probe, start, bound, head)?;
+    clean(&mut space.comparison);
+    Ok(before)
 }
 
 /// Whether the text of the traversal from `start` comes before `bound`. If it does not, and the two first differ before
@@ -330,7 +414,8 @@ pub fn lesser(
     ensures few { IfOk result (λ before. before ≡ false → ReadsFew probe.old.rows start bound.now (probe.new.taken - probe.old.taken)) }
     ensures rows { probe.new.rows ≡ probe.old.rows }
 {
-    if let Some(before) = compare(alloc, probe, start, bound)? {
+    let mut space = work_space(alloc, probe.len())?;
+    if let Some(before) = compare(alloc, &mut space, probe, start, bound)? {
         return Ok(before);
     }
     Ok(false)

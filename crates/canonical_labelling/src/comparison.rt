@@ -22,6 +22,15 @@ pub struct Comparison {
     pub ghost small: { All (λ t. t < 3) types.items },
 }
 
+/// The memory of comparisons of traversals with bounds, for one table or tables of the same size: the state of a
+/// traversal, and the head of the text. It is kept from one comparison to the next, and only what a traversal touched is
+/// taken back.
+#[derive(Drop)]
+pub struct WorkSpace {
+    pub comparison: Comparison,
+    pub head: Vec<u8>,
+}
+
 /// The types found so far of a text, and the bound that it is compared with; `head` bytes of the text come before the
 /// types.
 #[derive(Clone, Copy)]
