@@ -24,8 +24,8 @@ pub record AreAlike (one other : Link) : Type 0 where
   pub orientable : one.orientable ≡ other.orientable
   pub kind : one.kind ≡ other.kind
 
--- the vertex classes that the move leaves and those that its inverse leaves correspond one to one: the class of a vertex
--- of a tetrahedron that stays to that of the same vertex, and each to one whose link is alike
+-- the vertex classes that the move leaves and those that its inverse leaves correspond one to one: the class of a
+-- vertex of a tetrahedron that stays to that of the same vertex, and each to one whose link is alike
 pub record LinksCorrespond (s : Skeleton) (m back : Move) (s' : Skeleton) : Type 0 where
   pub to : ℕ → ℕ
   pub left : (c : ℕ) → IsLeft s m c → IsLeft s' back (to c)

@@ -18,8 +18,8 @@ pub fn moves_keep_valid()
 {}
 
 /// Theorem: the vertex classes of both tables correspond one to one, but for the one that a 1-4 puts in and a 4-1 takes
-/// away, whose link is a sphere by its numbers. A vertex of a tetrahedron that stays corresponds to the same vertex, and
-/// links agree in Euler characteristic and in whether they are closed and orientable.
+/// away, whose link is a sphere by its numbers. A vertex of a tetrahedron that stays corresponds to the same vertex,
+/// and links agree in Euler characteristic and in whether they are closed and orientable.
 pub fn moves_keep_links()
     ensures correspond { MovesKeepLinks }
     ensures taken_away { TakenAwayAreSpheres }

@@ -27,8 +27,8 @@ use Rattle.outcome_answer_laws.specs.Requests.{IsOutcomeTo}
 abbrev pub IsLinkingWherePositive : Description → Type 0
 IsLinkingWherePositive d = pos 0 <ℤ d.properties.euler → d.properties.linking ≡ true
 
--- all vertex surfaces of the table are described, and each connected surface of positive Euler characteristic is a vertex
--- link if and only if each described one is printed as one
+-- all vertex surfaces of the table are described, and each connected surface of positive Euler characteristic is a
+-- vertex link if and only if each described one is printed as one
 pub record DecidesLinks (coords : Coords) (rows : List Row) (o : Outcome) : Type 0 where
   pub skeleton : Skeleton
   pub of_rows : skeleton.rows ≡ rows

@@ -32,8 +32,8 @@ pub fn vertex_surfaces_are_connected()
 
 /// Theorem (Jaco and Oertel 1984; Jaco and Rubinstein 2003): in standard and octagon coordinates, each connected
 /// surface of positive Euler characteristic is a vertex link if and only if each listed one is, and if not, one that is
-/// no vertex link is listed. In standard coordinates this is 0-efficiency by the table's numbers: for closed tables that
-/// of Jaco and Rubinstein. With boundary they ask it of normal discs alone; in octagon coordinates a sphere with
+/// no vertex link is listed. In standard coordinates this is 0-efficiency by the table's numbers: for closed tables
+/// that of Jaco and Rubinstein. With boundary they ask it of normal discs alone; in octagon coordinates a sphere with
 /// octagons counts too, which a 0-efficient table may have.
 pub fn list_decides_efficiency()
     ensures all { ListDecidesEfficiency }

@@ -25,15 +25,15 @@ pub fn surfaces_have_at_most_two_each()
     ensures links { LinksHaveAtMostTwo }
 {}
 
-/// Theorem: if no edge is invalid, a connected surface of positive Euler characteristic has 1 or 2. With octagons, and at
-/// least twice their number, it has one octagon and 2, as an octagonal almost normal sphere.
+/// Theorem: if no edge is invalid, a connected surface of positive Euler characteristic has 1 or 2. With octagons, and
+/// at least twice their number, it has one octagon and 2, as an octagonal almost normal sphere.
 pub fn positive_surfaces_have_one_or_two()
     ensures positive { PositiveIsOneOrTwo }
     ensures octagons { OctagonalSphereNumbersAreOneAndTwo }
 {}
 
-/// Theorem (Rubinstein 1995; Thompson 1994): if no edge is invalid and the table is 0-efficient by its numbers, it has an
-/// octagonal almost normal sphere, by its numbers, if and only if one is listed. 0-efficiency is that of standard
+/// Theorem (Rubinstein 1995; Thompson 1994): if no edge is invalid and the table is 0-efficient by its numbers, it has
+/// an octagonal almost normal sphere, by its numbers, if and only if one is listed. 0-efficiency is that of standard
 /// coordinates; almost normal surfaces with a tube are not meant.
 pub fn almost_normal_sphere_is_listed()
     ensures { AlmostNormalSphereIsListed }
