@@ -2,7 +2,7 @@
 use Rattle.std.proofs.Common.{◌≡◌, ℕ, ◌*◌, ◌%◌, ◌<◌, ◌≤◌, List, length, ◌⊎◌, inl, inr, false, refl, sym, ap, ◌∙◌, subst, arith}
 use Rattle.std.specs.Prelude.{slice_index}
 use Rattle.std.proofs.lemmas.Bool.{cases_lt}
-use Rattle.table_definitions.specs.Lists.{has, closed_up}
+use Rattle.table_definitions.specs.Lists.{has, rank_without}
 use Rattle.table_definitions.specs.Places.{Place, vertex}
 use Rattle.skeleton_definitions.specs.Links.{kind_of}
 use Rattle.skeleton_definitions.specs.Skeleton.{Skeleton, IsSkeleton}
@@ -102,9 +102,9 @@ module _ (s : Skeleton) (m : Move) (s' : Skeleton) (k : IsSkeleton s) (k' : IsSk
           (class_of s.vertices.classes p, l, sym (over (class_of s.vertices.classes p) (to_of (class_of s.vertices.classes p)) (match_of (class_of s.vertices.classes p) l) p (vertex j.0) sp t refl) ∙ at)
 
   -- a vertex of a tetrahedron that stays
-  stays_of : (t v : ℕ) → t < length s.rows → has (old_tets s.rows m) t ≡ false → v < 4 → to_of (class_of s.vertices.classes (spot t v)) ≡ class_of s'.vertices.classes (spot (closed_up (old_tets s.rows m) t) v)
+  stays_of : (t v : ℕ) → t < length s.rows → has (old_tets s.rows m) t ≡ false → v < 4 → to_of (class_of s.vertices.classes (spot t v)) ≡ class_of s'.vertices.classes (spot (rank_without (old_tets s.rows m) t) v)
   stays_of t v lt there low =
-      let q : Place = spot (closed_up (old_tets s.rows m) t) v in
+      let q : Place = spot (rank_without (old_tets s.rows m) t) v in
       let sp : IsSpot (length s.rows) (spot t v) = record { v = v; is = refl; below = lt; low = low } in
       let f = free_of_one v in
       let z : Tie (spot t v) q = kept_tie s.rows m s'.rows k.table h (spot t v) there lt (low, tt) f.0 f.1 f.2 in

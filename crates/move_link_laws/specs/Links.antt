@@ -1,6 +1,6 @@
 -- A legal move keeps the links of vertex classes.
 use Rattle.std.specs.Prelude.{◌≡◌, ℕ, ◌<◌, false, List, length, slice_index}
-use Rattle.table_definitions.specs.Lists.{has, closed_up}
+use Rattle.table_definitions.specs.Lists.{has, rank_without}
 use Rattle.table_definitions.specs.Table.{Row}
 use Rattle.skeleton_definitions.specs.Links.{vertex_number}
 use Rattle.skeleton_definitions.specs.Skeleton.{Skeleton, IsSkeleton}
@@ -32,7 +32,7 @@ pub record LinksCorrespond (s : Skeleton) (m back : Move) (s' : Skeleton) : Type
   pub once : (c d : ℕ) → IsLeft s m c → IsLeft s m d → to c ≡ to d → c ≡ d
   pub onto : (c' : ℕ) → IsLeft s' back c' → (c : ℕ) × IsLeft s m c × (to c ≡ c')
   pub stays : (t v : ℕ) → t < length s.rows → has (old_tets s.rows m) t ≡ false → v < 4
-      → to (slice_index s.vertices.classes (vertex_number t v)) ≡ slice_index s'.vertices.classes (vertex_number (closed_up (old_tets s.rows m) t) v)
+      → to (slice_index s.vertices.classes (vertex_number t v)) ≡ slice_index s'.vertices.classes (vertex_number (rank_without (old_tets s.rows m) t) v)
   pub alike : (c : ℕ) (one other : Link) → IsLeft s m c → HasLink s c one → HasLink s' (to c) other → AreAlike one other
 
 abbrev pub MovesKeepLinks : Type 0
