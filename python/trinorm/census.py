@@ -308,7 +308,8 @@ def add_arguments(reader: argparse.ArgumentParser) -> None:
     reader.add_argument("--retry-failed", action="store_true", help="run those again whose run failed")
     reader.add_argument("--skip-bad", action="store_true", help="pass over lines that aren't UTF-8, as failed ones")
     engines = reader.add_mutually_exclusive_group()
-    engines.add_argument("--dask", metavar="ADDRESS", help="run it by the workers of the Dask scheduler at this address")
+    engines.add_argument("--dask", metavar="ADDRESS", help="run it by the workers of the Dask scheduler at this address, "
+                         "or with this scheduler file")
     engines.add_argument("--mpi", action="store_true",
                          help="run it by MPI: mpiexec -n N python3 -m mpi4py.futures -m trinorm census .. --mpi")
     add_run_arguments(reader)
