@@ -24,14 +24,15 @@ NAME = "trinorm.wasm"
 EXPORTS = ["memory", "trinorm_area", "trinorm_forget", "trinorm_held", "trinorm_limit", "trinorm_run"]
 HELPERS = Path("/usr/lib/llvm-22/lib/clang/22/lib/wasi/libclang_rt.builtins-wasm64.a")
 STACK = 8 << 20
+PACKAGES = ["libclang-rt-22-dev-wasm64", "binaryen"]
 FEATURES = ["memory64", "bulk-memory", "sign-ext", "nontrapping-float-to-int", "mutable-globals"]
 TABLE_SECTION = 4
 
 
 def missing() -> List[str]:
     """The Debian packages that are needed here and not installed."""
-    packages = [] if HELPERS.is_file() else ["libclang-rt-22-dev-wasm64"]
-    return packages + ([] if shutil.which("wasm-opt") else ["binaryen"])
+    there = [HELPERS.is_file(), shutil.which("wasm-opt") is not None]
+    return [package for package, is_there in zip(PACKAGES, there) if not is_there]
 
 
 def number_at(data: bytes, at: int) -> Tuple[int, int]:

@@ -5,6 +5,7 @@ import {MOST_INPUT, NO_MEMORY} from './engine.js';
 import {bytes_of, text_of} from './files.js';
 import {EFFICIENCY, Form} from './form.js';
 import {hint, read_hints} from './hints.js';
+import {Discs} from './pictures.js';
 import {zero_efficiency} from './questions.js';
 import {first_table} from './texts.js';
 import {efficiency_view, shortened, triangulation_view, view_of} from './views.js';
@@ -23,6 +24,7 @@ function say(parts, is_bad = false) {
 let engine = null;
 let form = null;
 let hints = [];
+let discs = null;
 let newest = 0; // the number of the newest question
 let is_busy = false;
 
@@ -118,7 +120,7 @@ async function answer_command(words, input) {
     if (outcome.status !== 0) return say_refusal(outcome, words, input);
     offer_text(outcome.text);
     show_text_actions(true);
-    show(await view_of(outcome.text, words, {input, ask, busy}));
+    show(await view_of(outcome.text, words, {input, ask, busy, discs}));
     say(`Answered in ${spent(outcome.milliseconds)}, with ${(outcome.held / 2 ** 20).toFixed(0)} MiB of memory.`);
     return show_triangulation(input);
 }
@@ -128,7 +130,7 @@ async function answer_efficiency(words, input) {
     const verdict = await zero_efficiency(ask, input, (done, all) => say(`${done} of ${all} surfaces described.`));
     if (verdict.outcome) return say_refusal(verdict.outcome, words, input);
     show_text_actions(false);
-    show(efficiency_view(verdict));
+    show(efficiency_view(verdict, discs));
     say(`Answered in ${spent(performance.now() - begun)}.`);
     return show_triangulation(input);
 }
@@ -204,6 +206,7 @@ async function show_checksum(bytes, about) {
 async function begin() {
     form = new Form(await text_of('commands.txt'), JSON.parse(await text_of('examples.json')));
     hints = read_hints(await text_of('hints.txt'));
+    discs = new Discs(JSON.parse(await text_of('discs.json')));
     form.choose('surfaces');
     by_id('input').value = FIRST_INPUT;
     listen();

@@ -78,84 +78,81 @@ export function face_pairing_graph(table) {
 }
 
 // ---- discs
+//
+// discs.json says how a tetrahedron and the discs of each column are drawn; pictures of the package go by it too.
 
-const VERTICES = [[62, 10], [10, 92], [122, 84], [74, 118]];
-const EDGES = [[0, 1], [0, 2], [0, 3], [1, 2], [1, 3], [2, 3]];
-const HIDDEN_EDGE = '12';
-const QUADS = [[[0, 1], [2, 3]], [[0, 2], [1, 3]], [[0, 3], [1, 2]]];
+const SIDE = 130;
+const COLUMNS = {standard: [0, 7], quad: [4, 7], octagon: [0, 10]};
 
-const point_on = (from, to, t) => [0, 1].map((axis) => rounded(VERTICES[from][axis] + t * (VERTICES[to][axis] - VERTICES[from][axis])));
-
-/** The number of parallel discs that are drawn of an entry. */
-const drawn_of = (entry) => (entry.length > 3 ? MOST_PARALLEL : Math.min(MOST_PARALLEL, Number(entry)));
-
-/** How many discs cross the edge from `from` to `to`, by their order along it: those around `from`, those across, those around
- *  `to`. Two octagons cross the edge twice if it lies on one side of both. */
-function crossings(discs, from, to) {
-    const separated = ([first]) => first.includes(from) !== first.includes(to);
-    const quads = QUADS.findIndex((kind, number) => separated(kind) && discs.quads[number] > 0);
-    const octagons = QUADS.findIndex((_, number) => discs.octagons[number] > 0);
-    const octagon_count = octagons < 0 ? 0 : discs.octagons[octagons] * (separated(QUADS[octagons]) ? 1 : 2);
-    return {near: discs.triangles[from], middle: (quads < 0 ? 0 : discs.quads[quads]) + octagon_count, far: discs.triangles[to]};
+/** How many parallel discs are drawn of each column of octagon coordinates, for the entries of one tetrahedron. */
+function drawn_counts(entries, coordinates) {
+    const [first] = COLUMNS[coordinates], counts = new Array(10).fill(0);
+    entries.forEach((entry, number) => { counts[first + number] = entry.length > 3 ? MOST_PARALLEL : Math.min(MOST_PARALLEL, Number(entry)); });
+    return counts;
 }
 
-/** The point at which the disc number `nth` crosses the edge, counted from `from`. */
-function crossing(discs, from, to, nth) {
-    const {near, middle, far} = crossings(discs, from, to);
-    return point_on(from, to, (nth + 1) / (near + middle + far + 1));
-}
+/** How tetrahedra are drawn, by the data of discs.json. */
+export class Discs {
+    constructor({plane, edges, hidden, discs}) {
+        Object.assign(this, {edges, discs});
+        this.plane = plane.map((point) => point.map((part) => SIDE * part));
+        this.hidden = new Set(hidden.map(String));
+    }
 
-const triangle = (discs, vertex, nth) => [0, 1, 2, 3].filter((other) => other !== vertex).map((other) => crossing(discs, vertex, other, nth));
+    /** How many points of the drawn discs lie on an edge. */
+    points_on(counts, a, b) {
+        const on_edge = ({corners}) => corners.filter(([from, to]) => (from === a && to === b) || (from === b && to === a)).length;
+        return this.discs.reduce((sum, disc, column) => sum + counts[column] * on_edge(disc), 0);
+    }
 
-/** The corners of a quad: the `nth` from the side of the edge that has vertex 0. */
-function quad(discs, kind, nth) {
-    const [[a, b], [c, d]] = QUADS[kind];
-    return [[a, c], [b, c], [b, d], [a, d]].map(([from, to]) => crossing(discs, from, to, discs.triangles[from] + nth));
-}
+    /** How many points come before those of a column on the edge from `a` to `b`, counted from `a`. */
+    points_before(counts, column, a, b) {
+        const is_before = ({corners}, other) => other < column && corners.some(([from, to]) => from === a && to === b);
+        return this.discs.reduce((sum, disc, other) => sum + (is_before(disc, other) ? counts[other] : 0), 0);
+    }
 
-/** The corners of an octagon, which crosses the two edges `ab` and `cd` twice: the `nth` from the side of `ab`. */
-function octagon(discs, kind, nth) {
-    const [[a, b], [c, d]] = QUADS[kind], count = discs.octagons[kind];
-    const once = (from, to) => crossing(discs, from, to, discs.triangles[from] + nth);
-    const own = (from, to) => crossing(discs, from, to, discs.triangles[from] + nth);
-    const other = (from, to) => crossing(discs, from, to, discs.triangles[from] + count - 1 - nth);
-    return [own(a, b), once(a, c), other(c, d), once(b, c), own(b, a), once(b, d), other(d, c), once(a, d)];
-}
+    /** A corner of the disc number `nth` of a column. */
+    corner(counts, column, nth, [a, b, way]) {
+        const place = this.points_before(counts, column, a, b) + (way === 1 ? nth : counts[column] - 1 - nth);
+        const part = (place + 1) / (this.points_on(counts, a, b) + 1);
+        return [0, 1].map((axis) => rounded(this.plane[a][axis] + part * (this.plane[b][axis] - this.plane[a][axis])));
+    }
 
-function polygon(corners, name) {
-    return element('polygon', {class: `disc ${name}`, points: corners.map((corner) => corner.join(',')).join(' ')});
-}
+    polygons(counts) {
+        return this.discs.flatMap(({name, corners}, column) => Array.from({length: counts[column]}, (_, nth) => {
+            const points = corners.map((corner) => this.corner(counts, column, nth, corner).join(','));
+            return element('polygon', {class: `disc ${name.split(' ')[0]}`, points: points.join(' ')});
+        }));
+    }
 
-function polygons(discs) {
-    const each = (counts, shape, name) => counts.flatMap((count, kind) => Array.from({length: count}, (_, nth) => polygon(shape(discs, kind, nth), name)));
-    return [...each(discs.triangles, triangle, 'triangle'), ...each(discs.quads, quad, 'quad'), ...each(discs.octagons, octagon, 'octagon')];
-}
+    frame() {
+        return this.edges.map(([a, b]) => {
+            const [[x1, y1], [x2, y2]] = [this.plane[a], this.plane[b]], dashes = this.hidden.has(`${a},${b}`) ? {'stroke-dasharray': '4 3'} : {};
+            return element('line', {class: 'frame', x1, y1, x2, y2, ...dashes});
+        });
+    }
 
-const frame = () => EDGES.map(([from, to]) => {
-    const [[x1, y1], [x2, y2]] = [VERTICES[from], VERTICES[to]], hidden = `${from}${to}` === HIDDEN_EDGE ? {'stroke-dasharray': '4 3'} : {};
-    return element('line', {class: 'frame', x1, y1, x2, y2, ...hidden});
-});
+    vertex_names() {
+        return this.plane.map(([x, y], vertex) => text(rounded(x + (x < SIDE / 2 ? -7 : 7)), rounded(y + (y < SIDE / 2 ? -3 : 11)), 'face', String(vertex)));
+    }
 
-const vertex_names = () => VERTICES.map(([x, y], vertex) => text(x + (x < 66 ? -6 : 6), y + (y < 60 ? -2 : 10), 'face', String(vertex)));
+    /** The discs of a tetrahedron in words. */
+    about(entries, coordinates) {
+        const [first] = COLUMNS[coordinates];
+        return entries.flatMap((entry, number) => (entry === '0' ? [] : [`${entry} × ${this.discs[first + number].name}`])).join(', ');
+    }
 
-/** The discs of a tetrahedron in words. */
-function about_discs([triangles, quads, octagons = []]) {
-    const named = (entries, name, places) => entries.flatMap((entry, kind) => (entry === '0' ? [] : [`${entry} × ${name} ${places[kind]}`]));
-    const pairs = ['01/23', '02/13', '03/12'];
-    return [...named(triangles, 'triangle', ['0', '1', '2', '3']), ...named(quads, 'quad', pairs), ...named(octagons, 'octagon', pairs)].join(', ');
-}
+    tetrahedron(entries, coordinates, number) {
+        const about = `Tetrahedron ${number}: ${this.about(entries, coordinates)}`, counts = drawn_counts(entries, coordinates);
+        const parts = [...this.frame(), ...this.polygons(counts), ...this.vertex_names()];
+        return {about, picture: element('svg', {role: 'img', 'aria-label': about, width: 150, height: 150, viewBox: `-12 -12 ${SIDE + 24} ${SIDE + 24}`}, ...parts)};
+    }
 
-function tetrahedron_with(parts, number) {
-    const [triangles, quads, octagons = ['0', '0', '0']] = parts.map((entries) => entries.map(drawn_of));
-    const discs = {triangles: triangles.length ? triangles : [0, 0, 0, 0], quads, octagons: octagons.map(Number)};
-    const about = `Tetrahedron ${number}: ${about_discs(parts)}`;
-    const picture = element('svg', {role: 'img', 'aria-label': about, width: 150, height: 150, viewBox: '-8 -8 150 150'}, ...frame(), ...polygons(discs), ...vertex_names());
-    return {picture, about};
-}
-
-/** A surface as discs in the tetrahedra that it meets: for each a picture and its words; the first MOST_TETRAHEDRA of them,
- *  and the number of those that it meets. */
-export function discs_of(entries, coordinates) {
-    const met = by_tetrahedron(entries, coordinates).map((parts, number) => [parts, number]).filter(([parts]) => parts.flat().some((entry) => entry !== '0'));
-    return {met: met.length, pictures: met.slice(0, MOST_TETRAHEDRA).map(([parts, number]) => tetrahedron_with(parts, number)), most: MOST_PARALLEL};
+    /** A surface as the discs in the tetrahedra that it meets: {met, pictures, most}, with {about, picture} for each of the
+     *  first MOST_TETRAHEDRA of them. */
+    surface(entries, coordinates) {
+        const all = by_tetrahedron(entries, coordinates).map((parts, number) => ({entries: parts.flat(), number}));
+        const met = all.filter((one) => one.entries.some((entry) => entry !== '0'));
+        return {met: met.length, most: MOST_PARALLEL, pictures: met.slice(0, MOST_TETRAHEDRA).map((one) => this.tetrahedron(one.entries, coordinates, one.number))};
+    }
 }

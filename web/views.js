@@ -1,6 +1,6 @@
 // What the page shows of an answer: tables and pictures, made from the answer's text.
 import {make, sortable_table} from './elements.js';
-import {about_table, discs_of, face_pairing_graph} from './pictures.js';
+import {about_table, face_pairing_graph} from './pictures.js';
 import {described, part_length} from './questions.js';
 import {by_tetrahedron, entries_of, name_of, read_info, read_table, vector_lines} from './texts.js';
 
@@ -62,8 +62,8 @@ const of_all = (components, property) => [...new Set(components.map(property))].
 const yes_or_no = (value) => (value ? 'yes' : 'no');
 
 /** The discs of a surface as a section that names it. */
-export function surface_picture(entries, coordinates, title) {
-    const {met, pictures, most} = discs_of(entries, coordinates);
+function surface_picture(discs, entries, coordinates, title) {
+    const {met, pictures, most} = discs.surface(entries, coordinates);
     const figures = pictures.map(({picture, about}) => make('figure', {}, picture, make('figcaption', {}, about)));
     const rest = met > pictures.length ? ` The first ${pictures.length} are drawn.` : '';
     const about = `It meets ${met === 1 ? 'one tetrahedron' : `${met} tetrahedra`}.${rest} At most ${most} parallel discs of a type are drawn.`;
@@ -72,8 +72,8 @@ export function surface_picture(entries, coordinates, title) {
 
 /** A list of surfaces as a table, described by the proved code, some hundred at a time. */
 class SurfaceList {
-    constructor({lines, coordinates, input, ask, noun}) {
-        Object.assign(this, {lines, coordinates, input, ask, noun, done: 0, counts: new Map()});
+    constructor({lines, coordinates, input, ask, noun, discs}) {
+        Object.assign(this, {lines, coordinates, input, ask, noun, discs, done: 0, counts: new Map()});
         this.table = sortable_table('Surfaces', columns_for(coordinates));
         this.tally = make('p');
         this.more = make('button', {type: 'button', id: 'more'});
@@ -102,7 +102,7 @@ class SurfaceList {
 
     draw_button(entries, title) {
         const draw = ({target}) => {
-            const section = surface_picture(entries, this.coordinates, title);
+            const section = surface_picture(this.discs, entries, this.coordinates, title);
             this.drawing.replaceChildren(section);
             this.table.element.querySelector('tr.chosen')?.classList.remove('chosen');
             target.closest('tr').classList.add('chosen');
@@ -126,8 +126,8 @@ class SurfaceList {
 }
 
 /** The table of a list. `busy` runs what takes time. */
-async function list_view(lines, coordinates, noun, {input, ask, busy}) {
-    const list = new SurfaceList({lines, coordinates, input, ask, noun});
+async function list_view(lines, coordinates, noun, {input, ask, busy, discs}) {
+    const list = new SurfaceList({lines, coordinates, input, ask, noun, discs});
     list.more.onclick = () => busy(() => list.describe_more());
     if (lines.length) await list.describe_more();
     return list.elements();
@@ -138,7 +138,7 @@ const coordinates_of = (words) => words[words.indexOf('--coords') + 1 || words.l
 /**
  * What is shown of an answer.
  *
- * words: the question's; context: {input, ask, busy}, the input and the ways to ask more
+ * words: the question's; context: {input, ask, busy, discs}, the input, the ways to ask more, and how discs are drawn
  */
 export async function view_of(text, words, context) {
     if (words[0] === 'surfaces') return list_view(vector_lines(text), coordinates_of(words), 'vertex normal surface', context);
@@ -165,10 +165,10 @@ function topology_of({facts}) {
 }
 
 /** The verdict on 0-efficiency. */
-export function efficiency_view({info, count, contrary}) {
+export function efficiency_view({info, count, contrary}, discs) {
     const verdict = contrary ? `Not 0-efficient by its numbers: surface ${contrary.index} is a ${name_of(contrary)} and no vertex link.` : '0-efficient by its numbers.';
     const found = `${count} vertex normal surface${count === 1 ? '' : 's'} in standard coordinates; ${contrary ? 'this one has positive Euler characteristic.' : 'each one of positive Euler characteristic is a vertex link.'}`;
     const parts = [make('p', {className: 'verdict'}, verdict), make('p', {}, found), make('p', {}, LAW, topology_of(info))];
-    if (contrary) parts.push(surface_picture(entries_of(contrary.line), 'standard', `Surface ${contrary.index}: ${name_of(contrary)}`));
+    if (contrary) parts.push(surface_picture(discs, entries_of(contrary.line), 'standard', `Surface ${contrary.index}: ${name_of(contrary)}`));
     return parts;
 }

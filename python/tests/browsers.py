@@ -11,6 +11,7 @@ import shutil
 import subprocess
 import tempfile
 import threading
+import time
 from pathlib import Path
 
 # a wide window, and that of a phone
@@ -30,12 +31,32 @@ def require(commands, modules):
         raise Missing(f"not installed: {', '.join(lacking)}")
 
 
-class Chromium:
+class Downloads:
+    """A folder that downloads go to."""
+
+    def __init__(self):
+        self.folder = tempfile.mkdtemp(prefix="downloads-")
+
+    def downloaded(self, name, most=20):
+        """The bytes of a file that is being downloaded."""
+        path, end = Path(self.folder, name), time.monotonic() + most
+        while not path.is_file() or not path.stat().st_size:
+            if time.monotonic() > end:
+                raise RuntimeError(f"{name} was not downloaded")
+            time.sleep(0.1)
+        return path.read_bytes()
+
+    def close(self):
+        shutil.rmtree(self.folder, ignore_errors=True)
+
+
+class Chromium(Downloads):
     """Chromium with a new profile. `size` is that of its window, `dark` its colour scheme."""
     name = "chromium"
 
     def __init__(self, size=WIDE, dark=False):
         require(["chromium", "chromedriver"], ["selenium"])
+        super().__init__()
         from selenium import webdriver
         from selenium.webdriver.chrome.service import Service
         options = webdriver.ChromeOptions()
@@ -46,6 +67,7 @@ class Chromium:
         self.driver.set_script_timeout(300)
         self.version = self.driver.capabilities["browserVersion"]
         self._command("Emulation.setDeviceMetricsOverride", width=size[0], height=size[1], deviceScaleFactor=1, mobile=False)
+        self._command("Browser.setDownloadBehavior", behavior="allow", downloadPath=self.folder)
         self.set_media(dark=dark)
 
     def _command(self, method, **values):
@@ -88,19 +110,22 @@ class Chromium:
 
     def close(self):
         self.driver.quit()
+        super().close()
 
 
-class Firefox:
+class Firefox(Downloads):
     """Firefox with a new profile. `size` is that of its window, `dark` its colour scheme."""
     name = "firefox"
     KEYS = {"Tab": "\ue004", "Enter": "\ue006", "Escape": "\ue00c", "Control": "\ue009"}
 
     def __init__(self, size=WIDE, dark=False):
         require(["firefox-esr"], ["websocket"])
+        super().__init__()
         import websocket
         self.profile = tempfile.mkdtemp(prefix="firefox-")
         settings = {"ui.systemUsesDarkTheme": int(dark), "layout.css.prefers-color-scheme.content-override": 0 if dark else 1,
-                    "dom.max_script_run_time": 0, "browser.shell.checkDefaultBrowser": False}
+                    "dom.max_script_run_time": 0, "browser.shell.checkDefaultBrowser": False,
+                    "browser.download.folderList": 2, "browser.download.dir": self.folder, "browser.download.useDownloadDir": True}
         lines = [f"user_pref({json.dumps(name)}, {json.dumps(value)});\n" for name, value in settings.items()]
         Path(self.profile, "user.js").write_text("".join(lines), "utf8")
         self.process = self._start()
@@ -167,3 +192,4 @@ class Firefox:
         except subprocess.TimeoutExpired:
             self.process.kill()
         shutil.rmtree(self.profile, ignore_errors=True)
+        super().close()

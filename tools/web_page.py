@@ -1,7 +1,7 @@
 #!/usr/bin/env python3
 """Makes the page: a folder for any file server, and the same page as one file, which opens from the disk.
 
-    tools/site.py MODULE FOLDER
+    tools/web_page.py MODULE FOLDER
 
 MODULE is trinorm.wasm. FOLDER gets the folder `web` and the file trinorm.html.
 """
@@ -24,7 +24,6 @@ SOURCES = TOP / "web"
 SCRIPTS = ["elements.js", "engine.js", "files.js", "asking.js", "texts.js", "hints.js", "pictures.js", "questions.js", "form.js",
            "views.js", "page.js"]
 WORKER = ["engine.js", "worker.js"]
-DATA = ["commands.txt", "hints.txt", "examples.json", "about.json"]
 POLICY = ("default-src 'none'; script-src '{script}' 'wasm-unsafe-eval'; worker-src blob:; style-src '{style}'; img-src data:; "
           "base-uri 'none'; form-action 'none'")
 
@@ -38,11 +37,12 @@ def examples(table: str) -> Dict[str, Dict[str, str]]:
 
 
 def data_files() -> Dict[str, str]:
-    """What the page reads besides the module: the table of commands, hints, examples, and the version."""
+    """What the page reads besides the module: the table of commands, hints, how discs are drawn, examples, and the version."""
     table = (TOP / "python" / PROGRAM / "commands.txt").read_text("utf8")
     return {
         "commands.txt": table,
         "hints.txt": (TOP / "python" / PROGRAM / "hints.txt").read_text("utf8"),
+        "discs.json": (TOP / "python" / PROGRAM / "discs.json").read_text("utf8"),
         "examples.json": json.dumps(examples(table), indent=1) + "\n",
         "about.json": json.dumps({"version": version(TOP)}) + "\n",
     }
