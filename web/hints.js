@@ -1,7 +1,7 @@
 // What a refusal most likely means, by the rows of hints.txt, which the package and the launcher read too: that file says
 // what its fields are.
 
-const COLUMNS = {standard: 7, quad: 3, octagon: 10};
+const WIDTHS = {standard: 7, quad: 3, octagon: 10};
 
 /** The rows of hints.txt. */
 export function read_hints(text) {
@@ -84,7 +84,7 @@ export function hint(rows, {status, refusal, command, reads, coordinates, input}
     const row = rows.find(is_fitting);
     if (!row) return '';
     const [undecorated] = place.word.split('_');
-    const values = {...numbers, command, coords: coordinates, width: COLUMNS[coordinates], word: place.word, undecorated, decoration: place.word.slice(undecorated.length)};
+    const values = {...numbers, command, coords: coordinates, width: WIDTHS[coordinates], word: place.word, undecorated, decoration: place.word.slice(undecorated.length)};
     const sentence = row.sentence.replace(/\{(\w+)\}/g, (_, name) => values[name] ?? '');
     return sentence;
 }
