@@ -212,10 +212,11 @@ async function begin() {
     listen();
     const bytes = await bytes_of('trinorm.wasm');
     engine = new Engine(await WebAssembly.compile(bytes));
+    by_id('answer').disabled = false;
     document.documentElement.dataset.ready = 'yes';
     if (form.take_fragment(location.hash)) answer();
     await show_checksum(bytes, JSON.parse(await text_of('about.json')));
 }
 
 by_id('answer').disabled = true;
-begin().then(() => { by_id('answer').disabled = false; }, (fault) => say(`This browser cannot run the engine: ${fault.message}`, true));
+begin().catch((fault) => say(`This browser cannot run the engine: ${fault.message}`, true));
