@@ -102,7 +102,7 @@ class FromC:
 
 
 def ways(program: str, folder: str) -> Dict[str, object]:
-    library = os.path.join(os.path.dirname(os.path.realpath(program)), "libtrinorm.so")
+    library = os.path.join(os.path.dirname(os.path.realpath(program)), "libtrinorm.so.1")
     around, regina = {"TRINORM": program, "TRINORM_LIBRARY": library}, regina_python()
     found: Dict[str, object] = {"Regina": Way(regina, REGINA, {})} if regina else {}
     if os.path.exists(library):

@@ -7,7 +7,7 @@
 extern "C" {
 #endif
 
-/* How a call ends. Up to 5 and at 8 and 9 it is the exit status of the program. */
+/* How a call ends. 0 to 5 and 8 are exit statuses of the program, with its meaning; 7, 9 and 10 are not. */
 enum {
     TRINORM_DONE = 0,    /* the answer */
     TRINORM_USAGE = 2,   /* the line of a refusal: the words are no command with its options, */
@@ -27,14 +27,14 @@ enum {
 uint8_t trinorm_run(const uint8_t *words, size_t words_length, const uint8_t *input, size_t input_length,
                     uint8_t *answer, size_t room, size_t *needed);
 
-/* Limits of a call; 0 and null are none, and null limits too. They are looked at where the call asks for memory, which it does often, but no
- * time is promised: what has to end takes a process of its own. */
+/* Limits of a call; 0 and null are none, and null limits too. They are looked at where the call asks for memory, which it
+ * does often, but no time is promised: what has to end takes a process of its own. */
 typedef struct {
     uint64_t most_bytes;       /* memory that the call may hold at a time */
     uint64_t most_nanoseconds; /* how long it may take */
     int (*stop)(void *);       /* asked some ten times a second, in the calling thread: whether to stop */
     void *stop_argument;
-    uint8_t reached;           /* told: one of those below */
+    uint8_t reached;           /* written by the call: one of those below */
 } trinorm_limits;
 
 enum { TRINORM_NO_LIMIT = 0, TRINORM_MOST_BYTES = 1, TRINORM_MOST_TIME = 2, TRINORM_STOPPED = 3 };
@@ -44,8 +44,12 @@ enum { TRINORM_NO_LIMIT = 0, TRINORM_MOST_BYTES = 1, TRINORM_MOST_TIME = 2, TRIN
 uint8_t trinorm_run_within(trinorm_limits *limits, const uint8_t *words, size_t words_length, const uint8_t *input,
                            size_t input_length, uint8_t *answer, size_t room, size_t *needed);
 
-/* The proved function below those two: it wants that no area is null, also one of no bytes, and that what it writes lies
- * over nothing else. */
+/* The version of the library, as "1.0.0". A program that was linked to libtrinorm.so.1 runs with each later one of that
+ * name. */
+const char *trinorm_version(void);
+
+/* The proved function below trinorm_run and trinorm_run_within: no area may be null, not even one of no bytes, and what it
+ * writes may lie over nothing else. */
 uint8_t trinorm_answer(const uint8_t *words, size_t words_length, const uint8_t *input, size_t input_length,
                        uint8_t *answer, size_t room, size_t *needed);
 #ifdef __cplusplus

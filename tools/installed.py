@@ -2,10 +2,11 @@
 from __future__ import annotations
 
 import os
+from contextlib import suppress
 from pathlib import Path, PurePosixPath
 from typing import Dict, List
 
-from manifest import FILES, Manifest, parts
+from manifest import FILES, LINKS, Manifest, parts
 from repository import PROGRAM, Sources, sum_of_file, sum_of_lines
 
 # so many seconds before a build began are its sources taken to be unread, since clocks of file systems are coarse
@@ -17,7 +18,7 @@ def watched(sources: Sources) -> List[str]:
     program's crate is none: the build itself makes a folder there."""
     files = sorted({**sources.files, **sources.linked})
     folders = {str(folder) for path in files for folder in PurePosixPath(path).parents}
-    return ["crates.txt", *sorted(folders - {".", "tools", f"crates/{PROGRAM}"}), *files]
+    return ["crates.txt", *sorted(folders - {".", "tools", "python", f"crates/{PROGRAM}"}), *files]
 
 
 class Installed:
@@ -67,11 +68,21 @@ class Installed:
                 self.write(file, files[name], 0o755)
             else:
                 (self.out / file).unlink(missing_ok=True)
+        self.make_links()
         self.write(".sources", "".join(f"{path}\0" for path in watched(manifest.sources)).encode())
         self.write(".version", "".join(f"{line}\n" for line in [f"proved {where}", *manifest.head()]).encode())
         self.touch(begun)
 
+    def make_links(self) -> None:
+        """Makes the links to what was made, and drops those to what was not."""
+        for link, file in LINKS.items():
+            (self.out / link).unlink(missing_ok=True)
+            if (self.out / file).is_file():
+                (self.out / link).symlink_to(file)
+
     def touch(self, begun: float) -> None:
-        """Notes that the sources are, at that time, those of the program."""
-        self.write(".built", b"")
-        os.utime(self.out / ".built", (begun - MARGIN, begun - MARGIN))
+        """Notes that the sources are, at that time, those of the program. In a clone whose folder this user may not write, the
+        next run compares the sources again."""
+        with suppress(OSError):
+            self.write(".built", b"")
+            os.utime(self.out / ".built", (begun - MARGIN, begun - MARGIN))

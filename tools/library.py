@@ -3,25 +3,30 @@
 
     tools/library.py ARCHIVE FOLDER
 
-FOLDER gets libtrinorm.so, trinorm-server, which answers many requests over pipes and finds the library beside it, and
-libtrinorm_c.a, the archive itself. They are compiled and linked by the system's `cc`, else by the kit's clang.
+FOLDER gets libtrinorm.so.1, with the link libtrinorm.so for those who link to it, trinorm-server, which answers many requests
+over pipes and finds the library beside it, and libtrinorm_c.a, the archive itself. They are compiled and linked by the system's
+`cc`, else by the kit's clang.
 """
+from __future__ import annotations
+
 import os
 import shutil
 import subprocess
 import sys
 import tempfile
+from pathlib import Path
 from typing import List
 
+from manifest import FILES, LINKS
 from prove import Kit, NotProved
+from repository import TOP, version
 
-TOP = os.path.dirname(os.path.dirname(os.path.realpath(__file__)))
-SOURCES = os.path.join(TOP, "library")
-ARCHIVE = "libtrinorm_c.a"
-LIBRARY, SERVER = "libtrinorm.so", "trinorm-server"
-# nothing of the machine that compiles stands in what is made
+SOURCES = TOP / "library"
+ARCHIVE, LIBRARY, SERVER = FILES["archive"], FILES["library"], FILES["server"]
+# nothing of the machine that compiles is in what is made
 COMPILED = ["-O2", "-std=gnu11", "-Wall", "-Wextra", "-Werror", "-fPIC", f"-ffile-prefix-map={SOURCES}=library"]
 LINKED = ["-Wl,--build-id=none", "-Wl,-z,relro", "-Wl,-z,now", "-s"]
+PARTS = ("limits", "memory", "python_stop")
 
 
 def compiler(kit: Kit) -> str:
@@ -29,7 +34,8 @@ def compiler(kit: Kit) -> str:
     return shutil.which("cc") or f"{kit.at}/toolchain/bin/clang"
 
 
-def run(words: List[str], folder: str) -> None:
+def run(words: List[str], folder: Path) -> None:
+    """Runs a command of the compiler. Fails with `NotProved` if that does."""
     done = subprocess.run(words, cwd=folder, stdout=subprocess.PIPE, stderr=subprocess.STDOUT, text=True, check=False)
     if done.returncode:
         raise NotProved(f"{' '.join(words[:2])} .. did not link the library:\n{done.stdout}")
@@ -37,26 +43,37 @@ def run(words: List[str], folder: str) -> None:
 
 def build_library(kit: Kit, archive: str, to: str) -> None:
     """Puts the library, the server and the archive into a folder, each at once, in the place of older ones."""
-    os.makedirs(to, exist_ok=True)
-    with tempfile.TemporaryDirectory(dir=to, prefix=".library-") as room:
-        shutil.copy(archive, f"{room}/{ARCHIVE}")
-        command = compiler(kit)
-        objects = []
-        for it in ("limits", "python_stop"):
-            run([command, *COMPILED, "-c", f"{SOURCES}/{it}.c", "-o", f"{it}.o"], room)
-            objects.append(f"{it}.o")
-        run([command, "-shared", "-o", LIBRARY, *objects, "-Wl,--whole-archive", ARCHIVE, "-Wl,--no-whole-archive",
-             f"{kit.at}/c/libos_c.a", f"-Wl,--version-script={SOURCES}/exports.map", "-Wl,--gc-sections", *LINKED], room)
+    folder = Path(to)
+    folder.mkdir(parents=True, exist_ok=True)
+    with tempfile.TemporaryDirectory(dir=folder, prefix=".library-") as place:
+        room, command = Path(place), compiler(kit)
+        shutil.copy(archive, room / ARCHIVE)
+        for part in PARTS:
+            run([command, *COMPILED, f'-DTRINORM_VERSION="{version(TOP)}"', "-c", f"{SOURCES}/{part}.c", "-o", f"{part}.o"], room)
+        run([command, "-shared", "-o", LIBRARY, f"-Wl,-soname,{LIBRARY}", *(f"{part}.o" for part in PARTS), "-Wl,--whole-archive",
+             ARCHIVE, "-Wl,--no-whole-archive", f"{kit.at}/c/libos_c.a", f"-Wl,--version-script={SOURCES}/exports.map",
+             "-Wl,--gc-sections", *LINKED], room)
         run([command, *COMPILED, "-o", SERVER, f"{SOURCES}/server.c", LIBRARY, "-Wl,-rpath,$ORIGIN", *LINKED], room)
-        for it in (ARCHIVE, LIBRARY, SERVER):
-            os.replace(f"{room}/{it}", f"{to}/{it}")
+        for name in (ARCHIVE, LIBRARY, SERVER):
+            os.replace(room / name, folder / name)
+        make_links(folder)
+
+
+def make_links(folder: Path) -> None:
+    """Makes the links under which a linker looks for what is in a folder."""
+    for link, name in LINKS.items():
+        fresh = folder / f".{link}.new"
+        fresh.unlink(missing_ok=True)
+        fresh.symlink_to(name)
+        fresh.replace(folder / link)
 
 
 def main(given: List[str]) -> None:
+    """Links the library of the archive that the words name."""
     if len(given) != 2:
         sys.exit(__doc__)
     try:
-        build_library(Kit(shutil.which("rt") or "rt"), *(os.path.abspath(it) for it in given))
+        build_library(Kit(shutil.which("rt") or "rt"), *(os.path.abspath(name) for name in given))
     except NotProved as fault:
         sys.exit(str(fault))
 

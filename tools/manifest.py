@@ -7,7 +7,9 @@ from repository import PROGRAM, Sources, sum_of_lines
 
 # what a build makes, by the names in a manifest: the program, the proved archive for other languages, the library that is
 # linked of it, and a server over that
-FILES = {"program": PROGRAM, "archive": "libtrinorm_c.a", "library": "libtrinorm.so", "server": "trinorm-server"}
+FILES = {"program": PROGRAM, "archive": "libtrinorm_c.a", "library": "libtrinorm.so.1", "server": "trinorm-server"}
+# the names under which a linker looks for them
+LINKS = {"libtrinorm.so": FILES["library"]}
 
 
 class NoManifest(Exception):

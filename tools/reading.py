@@ -91,8 +91,8 @@ class Names:
             crate, _, file = path.partition(".specs.")
             if alias:
                 self.modules[alias] = (crate, file)
-            for name in filter(None, (part.strip() for part in names.split(","))):
-                first, _, other = name.partition(" as ")
+            for part in (part.strip() for part in names.split(",") if part.strip()):
+                first, _, other = part.partition(" as ")
                 if crate == "std":
                     self.library.add(other or first)
                 else:

@@ -32,7 +32,7 @@ PYTHON = TOP / "python"
 TESTS = {
     "tools": ("test_build", "test_edits", "test_floors", "test_language", "test_release", "test_test", "test_twice"),
     "launcher": ("test_launcher",),
-    "library": ("test_library",),
+    "library": ("test_c_library", "test_library", "test_server"),
     "rust": ("test_rust",),
 }
 # seconds after which a part is ended; the longest takes some three minutes on an idle machine
@@ -74,6 +74,8 @@ def quick_parts() -> List[Part]:
         Part("edits apply", python("tools/edits.py")),
         Part("crates in order", python("tools/floors.py", "--check")),
         Part("table of commands", python("tools/commands.py", "--check")),
+        Part("page of laws", python("tools/laws.py", "--check")),
+        Part("page to read", python("tools/reading.py", "--check")),
         Part("comments", python("tools/language.py", "--check")),
     ]
 

@@ -71,9 +71,9 @@ def build_library(kit, archive, to):
     shutil.copy(archive, f"{to}/libtrinorm_c.a")
     here = os.path.dirname(os.path.abspath(__file__))
     with open(f"{here}/../library/limits.c") as source:
-        for name in ("libtrinorm.so", "trinorm-server"):
+        for name in ("libtrinorm.so.1", "trinorm-server"):
             with open(f"{to}/{name}", "w") as file:
-                file.write(f"{name} by {source.read()}")
+                file.write(f"{name.removesuffix('.1')} by {source.read()}")
             source.seek(0)
 """
 

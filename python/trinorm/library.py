@@ -16,7 +16,7 @@ from .arguments import as_bytes, checked_memory, checked_timeout, joined
 from .errors import Failed, TimedOut
 from .program import read_outcome
 
-NAME = "libtrinorm.so"
+NAME = "libtrinorm.so.1"
 # of a call: no room, no memory; of what ended it: memory, time, a handler of a signal
 TOO_LITTLE_ROOM, NO_MEMORY = 7, 8
 MOST_MEMORY, MOST_TIME, STOPPED = 1, 2, 3
