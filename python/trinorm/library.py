@@ -12,7 +12,7 @@ import threading
 from pathlib import Path
 from typing import Any, Dict, List, Optional, Sequence, Tuple
 
-from .arguments import as_bytes, checked_memory, checked_timeout, joined
+from .arguments import as_bytes, checked_memory, checked_timeout, checked_words, joined
 from .errors import Failed, TimedOut
 from .program import read_outcome
 
@@ -92,7 +92,7 @@ class Library:
 
         timeout: seconds after which it is to end; memory: bytes that it may hold at a time
         """
-        said, given, rooms = joined(words), as_bytes(text), self._rooms.unused
+        said, given, rooms = joined(checked_words(words)), as_bytes(text), self._rooms.unused
         seconds, most_bytes = checked_timeout(timeout), checked_memory(memory)
         room = rooms.pop() if rooms else _Room(self._stop)
         try:
@@ -118,6 +118,7 @@ class Library:
     def run(self, words: Sequence[str], text: str = "", timeout: Optional[float] = None,
             memory: Optional[int] = None) -> str:
         """As `program.run`: what the program writes; a refusal or a call that was ended is raised."""
+        words = checked_words(words)
         status, said, reached = self.answer(words, text, timeout, memory)
         if reached == MOST_TIME:
             raise TimedOut(f"{' '.join(words)}: no answer in {timeout} s")
