@@ -44,9 +44,10 @@ def entry(command: Command) -> List[str]:
     return lines + numbers
 
 
-def manual(commands: Sequence[Command], version: str) -> str:
+def manual(commands: Sequence[Command], version: str, day: str) -> str:
+    """The manual page of a version that was made on a day, as 2026-01-31."""
     lines = [
-        f'.TH TRINORM 1 "" "trinorm {version}" "User Commands"', ".SH NAME", rf"trinorm \- {roff(PURPOSE)}", ".SH SYNOPSIS",
+        f'.TH TRINORM 1 {day} "trinorm {version}" "User Commands"', ".SH NAME", rf"trinorm \- {roff(PURPOSE)}", ".SH SYNOPSIS",
         r"\fBtrinorm\fR \fICOMMAND\fR [\fB\-\-\fIoption value\fR ...] < \fIINPUT\fR", ".SH DESCRIPTION",
         "Reads standard input to its end, writes the whole answer to standard output, and ends with a status. A refusal is one",
         r"line that begins with \fBrefused:\fR. Where standard error is a terminal, a few words there say what is wanted.",

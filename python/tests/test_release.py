@@ -1,16 +1,23 @@
 """A release of a made-up repository: its files, that they are the same whenever they are made, and that they can be used."""
+import io
 import os
 import pty
 import re
 import subprocess
 import sys
+import tarfile
 import tempfile
 import unittest
 import venv
+import zipfile
 from pathlib import Path
 
 from tests.made_up import MadeUp
 from trinorm.program import REPOSITORY
+
+sys.path.insert(0, str(REPOSITORY / "tools"))
+
+from archives import ar_files  # noqa: E402
 
 ANSWER = "ground\nleft\nright\ntrinorm\n"
 
@@ -24,6 +31,11 @@ class Release(unittest.TestCase):
         cls.clone = MadeUp(cls.folder)
         cls.clone.add_library()
         cls.clone.lay_out_rest()
+        # what git doesn't know is in no release, also where it is hidden
+        (cls.clone.top / ".git" / "info" / "exclude").write_text("stray*\n")
+        for place in ("python/trinorm/stray.json", "python/trinorm/stray/more.py", "examples/stray.txt", "docs/stray.md"):
+            (cls.clone.top / place).parent.mkdir(exist_ok=True)
+            (cls.clone.top / place).write_text("stray")
         cls.early = cls.clone.run(["tools/release.py"])
         cls.clone.build()
         cls.partial = cls.clone.run(["tools/release.py"])
@@ -90,7 +102,8 @@ class Release(unittest.TestCase):
         program = str(top / "bin" / "trinorm")
         self.assertEqual(self.run_alone([program]), (0, ANSWER, ""))
         self.assertEqual(self.run_alone([program], terminal=True), (0, ANSWER, ""))
-        for name in ("lib/libtrinorm.so", "include/trinorm.h", "libexec/trinorm/trinorm-server", "share/man/man1/trinorm.1", "share/zsh/site-functions/_trinorm", "share/doc/trinorm/NOTICES", "share/doc/trinorm/docs/GUIDE.md"):
+        for name in ("lib/libtrinorm.so", "lib/libtrinorm.so.1", "lib/pkgconfig/trinorm.pc", "include/trinorm.h", "share/doc/trinorm/examples/quads.c",
+                     "share/trinorm/rust/trinorm/src/lib.rs", "libexec/trinorm/trinorm-server", "share/man/man1/trinorm.1", "share/zsh/site-functions/_trinorm", "share/doc/trinorm/NOTICES", "share/doc/trinorm/docs/GUIDE.md"):
             self.assertTrue((top / name).is_file(), name)
         completion = top / "share/bash-completion/completions/trinorm"
         script = f". {completion}; COMP_WORDS=(trinorm describe --coords ''); COMP_CWORD=3; _trinorm; echo ${{COMPREPLY[*]}}"
@@ -104,6 +117,28 @@ class Release(unittest.TestCase):
         self.assertEqual(self.run_alone([str(to / "usr/bin/trinorm")]), (0, ANSWER, ""))
         told = subprocess.run(["dpkg-deb", "-f", str(self.file(".deb")), "Depends", "Version"], capture_output=True, text=True, check=True).stdout
         self.assertIn("Depends: libc6 (>= 2.", told)
+        script = f"import sys; sys.path.insert(0, '{to}/usr/lib/python3/dist-packages'); import trinorm; print(trinorm.find())"
+        self.assertEqual(self.run_alone([sys.executable, "-c", script])[1], f"{to}/usr/libexec/trinorm/trinorm\n")
+
+    def names(self):
+        """The names of all files in the packages."""
+        with zipfile.ZipFile(self.file(".whl")) as wheel, tarfile.open(self.file(".tar.gz")) as tarball:
+            deb = b"".join(data for name, data in ar_files(self.file(".deb").read_bytes()) if name.startswith("data.tar"))
+            with tarfile.open(fileobj=io.BytesIO(deb)) as debian:
+                return [*wheel.namelist(), *tarball.getnames(), *debian.getnames()]
+
+    def test_only_what_git_knows(self):
+        names = self.names()
+        self.assertEqual([name for name in names if "stray" in name], [])
+        for ending in ("trinorm/__main__.py", "trinorm/py.typed", "examples/figure-eight.txt"):
+            self.assertGreaterEqual(sum(name.endswith(ending) for name in names), 3, ending)
+
+    def test_the_launcher_is_no_program(self):
+        around = dict(self.clone.environment, TRINORM=str(self.clone.top / "trinorm"))
+        script = "import sys; sys.path.insert(0, 'python'); import wheels; wheels.build_wheel('.')"
+        done = subprocess.run([sys.executable, "-c", script], cwd=self.clone.top, env=around, capture_output=True, text=True, check=False)
+        self.assertEqual(done.returncode, 1)
+        self.assertIn("is no program but a script, such as the launcher", done.stderr)
 
     def test_take(self):
         other = MadeUp(self.folder, "other clone")
@@ -117,7 +152,7 @@ class Release(unittest.TestCase):
             self.assertEqual(done.returncode, 0, done.stderr)
             self.assertIn("it was proved elsewhere, by made-up-kit-1", done.stderr)
             self.assertEqual(other.launch(kit=False), ANSWER)
-            self.assertEqual(out.with_name("libtrinorm.so").read_text(), "libtrinorm.so by one")
+            self.assertEqual(out.with_name("libtrinorm.so.1").read_text(), "libtrinorm.so by one")
         other.source("left").touch()
         self.assertEqual((other.launch(), other.proved()), (ANSWER, []))
         other.write("left", "echo changed\n")
