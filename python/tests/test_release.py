@@ -159,7 +159,25 @@ class Release(unittest.TestCase):
         done = other.build("--take", str(self.file(".whl")))
         self.assertEqual(done.returncode, 1)
         self.assertIn("1 differ, first crates/left/src/lib.rt", done.stderr)
-        self.assertEqual(other.build("--take", str(self.file("MANIFEST"))).returncode, 1)
+        self.assertIn("it is a MANIFEST, which --compare takes", other.build("--take", str(self.file("MANIFEST"))).stderr)
+
+    def test_what_is_no_release(self):
+        """A file that is cut, that holds a link to nothing, or that is none has one line that says so."""
+        with tarfile.open(self.folder / "link.tar.gz", "w:gz") as out:
+            entry = tarfile.TarInfo("trinorm/libexec/trinorm/trinorm")
+            entry.type, entry.linkname = tarfile.LNKTYPE, "nowhere"
+            out.addfile(entry)
+        given = [("link.tar.gz", "it holds no program with its manifest")]
+        for ending in (".whl", ".deb", ".tar.gz"):
+            data = self.file(ending).read_bytes()
+            for name, part in (("half", data[:len(data) // 2]), ("spoilt", b"spoilt" + data[6:])):
+                (self.folder / f"{name}{ending}").write_bytes(part)
+                given.append((f"{name}{ending}", "it is no whole tarball, wheel or Debian package"))
+        (self.folder / "text").write_text("text")
+        for name, why in [*given, ("text", "it is no whole tarball")]:
+            done = self.clone.build("--take", str(self.folder / name))
+            self.assertEqual((done.returncode, len(done.stderr.splitlines())), (1, 1), (name, done.stderr))
+            self.assertRegex(done.stderr, f"{why}|isn't the one that its manifest tells|holds no program", name)
 
     def test_pip(self):
         """The wheel, and the package from its folder, without network, in fresh environments."""
