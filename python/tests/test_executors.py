@@ -365,6 +365,7 @@ class Interrupted(Programs):
             else:
                 while not os.path.exists(out) or not os.path.getsize(out):
                     time.sleep(0.02)
+            time.sleep(0.5)
             run.send_signal(number)
             _, said = run.communicate(timeout=30)
             self.assertEqual(run.returncode, status)

@@ -177,15 +177,18 @@ class Library(unittest.TestCase):
         self.assertEqual((done.returncode, done.stdout), (0, "ended bkaagj\n\n"))
 
     def test_exceptions_of_handlers_are_released(self):
+        class Enough(Exception):
+            """One that can be referred to weakly."""
+
         faults = []
 
         def stop(*_):
-            fault = InterruptedError("enough")
+            fault = Enough("enough")
             faults.append(weakref.ref(fault))
             raise fault
 
         for _ in range(5):
-            with self.assertRaises(InterruptedError):
+            with self.assertRaises(Enough):
                 self.by_alarm(stop)
         gc.collect()
         self.assertEqual([it() for it in faults], [None] * 5)

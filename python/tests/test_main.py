@@ -42,7 +42,7 @@ class Words(unittest.TestCase):
         self.assertEqual(self.said("census", os.devnull, "--command", "describe", "--coords", "quad")[0], 3)
 
     def test_what_is_wrong(self):
-        self.assertEqual(self.said("graph", "bkaagjx"), (3, "", "trinorm: refused: signature trailing 6\n"))
+        self.assertEqual(self.said("graph", "bkaagjx"), (3, "", "trinorm: refused: signature trailing 6 (the signature is complete before this)\n"))
         self.assertEqual(self.said("census", "/no/such/file")[0], 3)
         self.assertEqual(self.said("growth", os.devnull)[0], 3)
         self.assertIn("takes no coordinates", self.said("census", os.devnull, "--command", "info", "--coords", "quad")[2])

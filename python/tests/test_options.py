@@ -40,9 +40,9 @@ class CommandLine(unittest.TestCase):
     def test_jobs_and_limits_that_are_none(self):
         for what in (["crosscheck", "bkaagj"], ["crosscheck", "--file", "f"], ["census", "f"]):
             for jobs in ("0", "-1", "1.5", "x", "", "nan"):
-                self.assertIn("a whole number from 1 on is expected", self.said(*what, "--jobs", jobs))
+                self.assertIn("a whole number from 1 on is expected", self.said(*what, f"--jobs={jobs}"))
             for timeout in ("0", "-1", "nan", "inf", "-inf", "x", "", "1e999"):
-                self.assertIn("a positive number of seconds is expected", self.said(*what, "--timeout", timeout))
+                self.assertIn("a positive number of seconds is expected", self.said(*what, f"--timeout={timeout}"))
 
     def test_those_that_are_some(self):
         self.assertEqual([at_least_one(it) for it in ("1", "64")], [1, 64])

@@ -1,6 +1,7 @@
 """Refusals, failed runs, and how the program is found."""
 import os
 import pickle
+import signal
 import tempfile
 import unittest
 from pathlib import Path
@@ -63,8 +64,24 @@ class Failures(unittest.TestCase):
     def test_no_program(self):
         with self.assertRaises(trinorm.Failed):
             trinorm.info("bkaagj", program="/no/such/program")
-        with mock.patch.dict(os.environ, TRINORM="/no/such/program"), self.assertRaises(trinorm.Failed):
+        others = {name: value for name, value in os.environ.items() if name != "TRINORM_LIBRARY"}
+        with mock.patch.dict(os.environ, dict(others, TRINORM="/no/such/program"), clear=True), self.assertRaises(trinorm.Failed):
             trinorm.info("bkaagj")
+
+    def test_exceptions_of_handlers_are_raised(self):
+        class Enough(OSError):
+            """One that is no fault of a file."""
+
+        def stop(*_):
+            raise Enough("enough")
+
+        before = signal.signal(signal.SIGALRM, stop)
+        try:
+            with tempfile.TemporaryDirectory() as folder, self.assertRaises(Enough):
+                signal.setitimer(signal.ITIMER_REAL, 0.3)
+                trinorm.info("bkaagj", program=script(folder, "exec sleep 20\n"))
+        finally:
+            signal.signal(signal.SIGALRM, before)
 
 
 class Finding(unittest.TestCase):

@@ -8,7 +8,6 @@ from __future__ import annotations
 
 import contextlib
 import json
-import math
 import os
 import re
 import sys
@@ -19,6 +18,7 @@ from typing import TYPE_CHECKING, Any, BinaryIO, Callable, Dict, Iterable, Itera
 
 from . import executors
 from .answer_files import BadLine, Output, count_lines, decoded, digest, read_lines
+from .arguments import checked_timeout, shown, whole_number
 from .executors import Done, Engine
 from .options import add_run_arguments, coordinates
 from .program import Failed, find
@@ -252,28 +252,26 @@ def run_census(signatures: Signatures, out: str, task: Task, engine: Engine, *, 
     with faults_of_files(out), opened(signatures, skip_bad) as source, Output(out) as output:
         earlier = Earlier(out, task, retry)
         output.keep(earlier.is_kept)
-        with meter or Meter(source.total, KINDS) as shown:
-            run = Run(source, output, earlier, shown)
+        with meter or Meter(source.total, KINDS) as counter:
+            run = Run(source, output, earlier, counter)
             try:
                 for done in executors.answers(run.entries(skip_bad), task, *engine):
                     run.take(done)
             except BaseException:
-                shown.end(f"stopped: {shown.counts()} in {shown.seconds():.1f} s; {run.how_to_go_on()}")
+                counter.end(f"stopped: {counter.counts()} in {counter.seconds():.1f} s; {run.how_to_go_on()}")
                 raise
-            shown.end(f"{shown.counts()} in {shown.seconds():.1f} s; {out}")
-            return Ran(shown.before, shown.done(), shown.counted["failed"])
+            counter.end(f"{counter.counts()} in {counter.seconds():.1f} s; {out}")
+            return Ran(counter.before, counter.done(), counter.counted["failed"])
 
 
 def task_of(command: str, coords: Optional[str], timeout: Optional[float], program: Optional[str]) -> Task:
     """What is asked of each triangulation, or `BadArgument`."""
     if command not in NAMES:
-        raise BadArgument(f"command is one of {', '.join(NAMES)}, and not {command!r}")
+        raise BadArgument(f"command is one of {', '.join(NAMES)}, and not {shown(command)}")
     may_be = COORDS.get(command, ())
     if coords is not None and coords not in may_be:
         raise BadArgument(f"{command} takes {' or '.join(may_be) or 'no'} coordinates")
-    if timeout is not None and not 0 < timeout < math.inf:
-        raise BadArgument(f"timeout is a number of seconds above 0, and not {timeout!r}")
-    return Task(command, (coords or "standard") if may_be else None, timeout, find(program))
+    return Task(command, (coords or "standard") if may_be else None, checked_timeout(timeout), find(program))
 
 
 def census(signatures: Signatures, out: str, command: str = "surfaces", coords: Optional[str] = None, *,
@@ -290,8 +288,8 @@ def census(signatures: Signatures, out: str, command: str = "surfaces", coords: 
     executor: any executor of `concurrent.futures`, as Dask's or MPI's, in the place of processes of this machine
     """
     task = task_of(command, coords, timeout, program)
-    if jobs is not None and jobs < 1:
-        raise BadArgument(f"jobs is at least 1, and not {jobs!r}")
+    if jobs is not None and (whole_number(jobs) or 0) < 1:
+        raise BadArgument(f"jobs is a whole number from 1 on, and not {shown(jobs)}")
     if executor is not None:
         engine = Engine(executor, jobs or executors.hands_of(executor))
         return run_census(signatures, os.fspath(out), task, engine, retry=retry_failed, skip_bad=skip_bad)
@@ -308,7 +306,8 @@ def add_arguments(reader: argparse.ArgumentParser) -> None:
     reader.add_argument("--retry-failed", action="store_true", help="run those again whose run failed")
     reader.add_argument("--skip-bad", action="store_true", help="pass over lines that aren't UTF-8, as failed ones")
     engines = reader.add_mutually_exclusive_group()
-    engines.add_argument("--dask", metavar="ADDRESS", help="run it by the workers of the Dask scheduler at this address")
+    engines.add_argument("--dask", metavar="ADDRESS", help="run it by the workers of the Dask scheduler at this address, "
+                         "or with this scheduler file")
     engines.add_argument("--mpi", action="store_true",
                          help="run it by MPI: mpiexec -n N python3 -m mpi4py.futures -m trinorm census .. --mpi")
     add_run_arguments(reader)

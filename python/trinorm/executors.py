@@ -9,6 +9,7 @@ import collections
 import contextlib
 import dataclasses
 import itertools
+import os
 import shutil
 import sys
 import time
@@ -218,13 +219,16 @@ class Engine(NamedTuple):
 
 @contextlib.contextmanager
 def by_dask(address: str) -> Iterator[Engine]:
-    """The workers of a Dask scheduler."""
+    """The workers of a Dask scheduler.
+
+    address: its address, or the file that it wrote as `--scheduler-file`
+    """
     try:
         from distributed import Client
     except ImportError:
         raise Failed("Dask isn't installed in this Python: `pip install distributed`, Debian's python3-distributed") from None
     try:
-        client = Client(address)
+        client = Client(scheduler_file=address) if os.path.isfile(address) else Client(address)
     except (OSError, ValueError, TypeError) as fault:
         raise Failed(f"no Dask scheduler at {address}: {fault}") from None
     with client:

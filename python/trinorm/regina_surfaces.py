@@ -86,7 +86,8 @@ def normal_surface(t: Triangulation, vector: Sequence[int], coords: str = "stand
     entries = whole_numbers(vector, expected)
     if len(entries) != width or min(entries, default=0) < 0:
         raise BadArgument(f"{expected}, and not {shown(vector)}")
-    return import_regina().NormalSurface(there, in_regina(coords), list(entries))
+    regina = import_regina()
+    return regina.NormalSurface(there, in_regina(coords), [regina.LargeInteger(str(entry)) for entry in entries])
 
 
 def to_regina(t: Triangulation) -> Any:

@@ -29,7 +29,7 @@ class Gluing:
     @classmethod
     def parse(cls, word: str) -> Optional[Gluing]:
         """An entry of a table, as `1:0132`, or `-` for a boundary face."""
-        if word == "-":
+        if isinstance(word, str) and word == "-":
             return None
         tet, colon, images = word.partition(":") if isinstance(word, str) else ("", "", "")
         if not (colon and tet.isdecimal() and images.isdecimal() and len(images) == 4):
@@ -65,14 +65,23 @@ class Table:
 
     def to_regina(self) -> Any:
         """The `regina.Triangulation3` with the same numbers of tetrahedra, faces and vertices."""
-        regina = import_regina()
+        regina, rows = import_regina(), self.checked().rows
         made = regina.Triangulation3()
-        tets = [made.newTetrahedron() for _ in self.rows]
-        for tet, row in zip(tets, self.rows):
-            for face, gluing in enumerate(row):
-                if gluing is not None and tet.adjacentTetrahedron(face) is None:
-                    tet.join(face, tets[gluing.tet], regina.Perm4(*gluing.images))
+        tets = [made.newTetrahedron() for _ in rows]
+        try:
+            for tet, row in zip(tets, rows):
+                for face, gluing in enumerate(row):
+                    if gluing is not None and sorted(gluing.images) != [0, 1, 2, 3]:
+                        raise ValueError(f"{gluing} has no permutation")
+                    if gluing is not None and tet.adjacentTetrahedron(face) is None:
+                        tet.join(face, tets[gluing.tet], regina.Perm4(*gluing.images))
+        except Exception as fault:  # Regina's own, whose names depend on its version
+            raise BadArgument(f"the rows of a Table are those of a gluing table: {fault}") from None
         return made
+
+    def checked(self) -> Table:
+        """This table, if its rows have the form of rows; else BadArgument says what is wrong."""
+        return Table(tuple(map(row_of, listed(self.rows, "the rows of a Table are a tuple"))))
 
 
 class ReginaTriangulation(Protocol):
@@ -116,12 +125,12 @@ def row_of(row: object) -> Row:
 
 
 def _entry(entry: object) -> Optional[Gluing]:
-    if entry is None or isinstance(entry, Gluing):
-        return entry
+    if entry is None:
+        return None
     if isinstance(entry, str):
         return Gluing.parse(entry)
     expected = "an entry of a gluing table is 1:0132, (1, '0132'), (1, (0, 1, 3, 2)), - or None"
-    pair = listed(entry, expected)
+    pair = [entry.tet, entry.images] if isinstance(entry, Gluing) else listed(entry, expected)
     tet = whole_number(pair[0]) if len(pair) == 2 else None
     if tet is None or tet < 0:
         raise BadArgument(f"{expected}, and not {shown(entry)}")
@@ -168,7 +177,7 @@ def document(triangulation: Triangulation) -> str:
     if isinstance(triangulation, str):
         return _text_document(triangulation)
     if isinstance(triangulation, Table):
-        return str(Table(tuple(map(row_of, listed(triangulation.rows, "the rows of a Table are a tuple")))))
+        return str(triangulation.checked())
     if is_of_regina(triangulation):
         return str(from_regina(triangulation))
     if is_of_snappy(triangulation):

@@ -23,8 +23,8 @@ pub struct Comparison {
 }
 
 /// The memory of comparisons of traversals with bounds, for one table or tables of the same size: the state of a
-/// traversal, and the head of the text. It is kept from one comparison to the next, and only what a traversal touched is
-/// taken back.
+/// traversal, and the head of the text. It is kept from one comparison to the next, and only what a traversal touched
+/// is taken back.
 #[derive(Drop)]
 pub struct WorkSpace {
     pub comparison: Comparison,

@@ -17,8 +17,9 @@ pub fn moves_keep_valid()
     ensures number { MovesKeepInvalid }
 {}
 
-/// The vertex classes of both tables correspond, and so that their links are alike, but for the sphere that a 1-4 puts
-/// in and a 4-1 takes away.
+/// Theorem: the vertex classes of both tables correspond one to one, but for the one that a 1-4 puts in and a 4-1 takes
+/// away, whose link is a sphere by its numbers. A vertex of a tetrahedron that stays corresponds to the same vertex,
+/// and links agree in Euler characteristic and in whether they are closed and orientable.
 pub fn moves_keep_links()
     ensures correspond { MovesKeepLinks }
     ensures taken_away { TakenAwayAreSpheres }

@@ -20,13 +20,13 @@ use Rattle.outcome_definitions.specs.Vectors.{describe_outcome, AreDescribed, Is
 use Rattle.surface_laws.specs.MatchingLaws.{HasTriangles}
 use Rattle.surface_agreement_laws.specs.VertexSurfaces.{IsVertexSurfaceOf, IsSurfaceListOf}
 use Rattle.surface_agreement_laws.proofs.LinkSurfaces.{linking_is_link, link_is_linking}
-use Rattle.surface_efficiency_laws.specs.Laws.{IsZeroEfficient}
+use Rattle.surface_efficiency_laws.specs.Laws.{PositiveAreLinks}
 use Rattle.surface_efficiency_laws.proofs.Efficiency.{list_decides}
 use Rattle.outcome_answer_laws.proofs.Asked.{answer_to, answer_to_value}
 use Rattle.outcome_written_laws.specs.Surfaces.{IsReadAsSurfaces}
 use Rattle.outcome_written_laws.proofs.Surfaces.{surfaces_are_read_lem}
 use Rattle.outcome_written_laws.proofs.Lifts.{never_done}
-use Rattle.outcome_list_laws.specs.Efficiency.{IsLinkingWherePositive, DecidesEfficiency, DescribedListsDecide}
+use Rattle.outcome_list_laws.specs.Efficiency.{IsLinkingWherePositive, DecidesLinks, DescribedListsDecide}
 use Rattle.outcome_list_laws.proofs.ReadLists.{list_of}
 use Rattle.outcome_list_laws.proofs.Zipped.{zip_back, zip_on, zip_map}
 
@@ -44,21 +44,21 @@ module _ (s : Skeleton) (k : IsSkeleton s) (coords : Coords) (triangles : HasTri
     vertex : (v : List ℕ) → Contains list v → IsVertexSurfaceOf s coords v
     vertex v c = All-contains (IsVertexSurfaceOf s coords) list v surfaces.vertex_surfaces c
 
-    told_linking : IsZeroEfficient s coords → All IsLinkingWherePositive told
+    told_linking : PositiveAreLinks s coords → All IsLinkingWherePositive told
     told_linking h i d l positive =
         let m = zip_back IsTold list told zipped (slice_index_or told i d) (among_contains (slice_index_or told i d) told (Contains-get_or told i d l)) in
         let c : Contains list m.0 = contains_among m.0 list m.1 in
         let link = (list_decides s k coords triangles list surfaces).0 h m.0 c (subst (λ z. pos 0 <ℤ z) (euler_is m.0 (slice_index_or told i d) m.2) positive) in
         (properties m.0 (slice_index_or told i d) m.2).linking ∙ link_is_linking s k coords triangles m.0 link
 
-    linking_decides : All IsLinkingWherePositive told → IsZeroEfficient s coords
+    linking_decides : All IsLinkingWherePositive told → PositiveAreLinks s coords
     linking_decides h = (list_decides s k coords triangles list surfaces).1 (λ v c positive.
         let m = zip_on IsTold list told zipped v (among_contains v list c) in
         let at : IsLinkingWherePositive m.0 = All-contains IsLinkingWherePositive told m.0 h (contains_among m.0 told m.1) in
         let linking = at (subst (λ z. pos 0 <ℤ z) (sym (euler_is v m.0 m.2)) positive) in
         linking_is_link s k coords triangles v (vertex v c) (sym (properties v m.0 m.2).linking ∙ linking))
 
-    pub decided : IsZeroEfficient s coords ↔ All IsLinkingWherePositive told
+    pub decided : PositiveAreLinks s coords ↔ All IsLinkingWherePositive told
     decided = (told_linking, linking_decides)
 
     pub vectors_are : map (λ (d : Description). d.vector) told ≡ list
@@ -66,7 +66,7 @@ module _ (s : Skeleton) (k : IsSkeleton s) (coords : Coords) (triangles : HasTri
 
   -- an answer that is done describes all vectors
   pub decides_by : (rows : List Row) → s.rows ≡ rows → (list : List (List ℕ)) → IsSurfaceListOf s coords list → (o : Outcome) → o.status ≡ Done → (told : Result (List Description) (ℕ × Refusal))
-      → AreAnswered (IsDescription s coords equations) list told → o ≡ describe_outcome s coords told → DecidesEfficiency coords rows o
+      → AreAnswered (IsDescription s coords equations) list told → o ≡ describe_outcome s coords told → DecidesLinks coords rows o
   decides_by rows of_rows list surfaces o done (Err refusal) t e = absurd (never_done refusal.1 (sym (ap (λ (q : Outcome). q.status) e) ∙ done))
   decides_by rows of_rows list surfaces o done (Ok told) t e = record {
     skeleton = s;

@@ -6,7 +6,7 @@ use Rattle.table_definitions.specs.Table.{Row}
 use Rattle.table_definitions.specs.TableText.{table_text}
 use Rattle.table_definitions.proofs.Listed.{among_contains, contains_among}
 use Rattle.skeleton_definitions.specs.Skeleton.{Skeleton, IsSkeleton, IsFirstInvalid}
-use Rattle.surface_definitions.specs.declared.Coords.TheVariants.{Standard, Octagon}
+use Rattle.surface_definitions.specs.declared.Coords.TheVariants.{Octagon}
 use Rattle.surface_vector_definitions.specs.Answers.{Description, IsDescription, AreAnswered}
 use Rattle.surface_vector_definitions.specs.declared.Refusal.{Refusal}
 use Rattle.text_document_definitions.specs.Documents.{vectors_document}
@@ -18,7 +18,7 @@ use Rattle.surface_agreement_laws.specs.VertexSurfaces.{IsSurfaceListOf}
 use Rattle.surface_efficiency_laws.specs.Laws.{IsZeroEfficient}
 use Rattle.surface_efficiency_laws.specs.Octagons.{octagons}
 use Rattle.surface_efficiency_laws.proofs.Efficiency.{listed_connected}
-use Rattle.surface_euler_laws.specs.Laws.{IsAlmostNormalSphere}
+use Rattle.surface_euler_laws.specs.Laws.{IsOctagonalAlmostNormalSphere}
 use Rattle.surface_euler_laws.proofs.AlmostNormal.{almost_normal_listed}
 use Rattle.outcome_answer_laws.proofs.Asked.{answer_to, answer_to_value}
 use Rattle.outcome_written_laws.specs.Surfaces.{IsReadAsSurfaces}
@@ -30,21 +30,21 @@ use Rattle.outcome_list_laws.proofs.ReadLists.{list_of}
 use Rattle.outcome_list_laws.proofs.Zipped.{zip_back, zip_on}
 
 module _ (s : Skeleton) (k : IsSkeleton s) (valid : IsFirstInvalid s None) (equations : List EquationRow) where
-  module _ (list : List (List ℕ)) (told : List Description) (surfaces : IsSurfaceListOf s Octagon list) (zipped : AllZip (IsTold s k Octagon tt equations) list told) (efficient : IsZeroEfficient s Standard) where
-    decided : ((xs : List ℕ) × IsAlmostNormalSphere s xs) ↔ ((d : Description) × Contains told d × IsToldAlmostNormal s d)
+  module _ (list : List (List ℕ)) (told : List Description) (surfaces : IsSurfaceListOf s Octagon list) (zipped : AllZip (IsTold s k Octagon tt equations) list told) (efficient : IsZeroEfficient s) where
+    decided : ((xs : List ℕ) × IsOctagonalAlmostNormalSphere s xs) ↔ ((d : Description) × Contains told d × IsToldAlmostNormal s d)
     decided = (to, from)
       where
-        to : ((xs : List ℕ) × IsAlmostNormalSphere s xs) → (d : Description) × Contains told d × IsToldAlmostNormal s d
+        to : ((xs : List ℕ) × IsOctagonalAlmostNormalSphere s xs) → (d : Description) × Contains told d × IsToldAlmostNormal s d
         to h =
             let found = (almost_normal_listed s k valid list surfaces efficient).0 h in
-            let sphere : IsAlmostNormalSphere s found.0 = found.2 in
+            let sphere : IsOctagonalAlmostNormalSphere s found.0 = found.2 in
             let m = zip_on (IsTold s k Octagon tt equations) list told zipped found.0 (among_contains found.0 list found.1) in (
               m.0,
               contains_among m.0 told m.1,
               (ap (octagons s) (m.2).1 ∙ sphere.one_octagon, euler_is s k Octagon tt equations found.0 m.0 m.2 ∙ sphere.two),
             )
 
-        from : ((d : Description) × Contains told d × IsToldAlmostNormal s d) → (xs : List ℕ) × IsAlmostNormalSphere s xs
+        from : ((d : Description) × Contains told d × IsToldAlmostNormal s d) → (xs : List ℕ) × IsOctagonalAlmostNormalSphere s xs
         from h =
             let m = zip_back (IsTold s k Octagon tt equations) list told zipped h.0 (among_contains h.0 told h.1) in
             let numbers : IsToldAlmostNormal s h.0 = h.2 in (

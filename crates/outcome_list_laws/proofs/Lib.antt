@@ -3,3 +3,4 @@ pub mod ReadLists
 pub mod Described
 pub mod DescribedOctagons
 pub mod Lists
+pub mod Parts

@@ -13,7 +13,7 @@ use Rattle.surface_laws.specs.MatchingLaws.{HasTriangles}
 use Rattle.surface_agreement_laws.specs.VertexSurfaces.{IsSurfaceListBy, IsSurfaceListOf}
 
 -- the equations of a table with triangles are its matching equations
-by_matching : (coords : Coords) (rows : List Row) (equations : List EquationRow) → HasTriangles coords → AreEquations coords rows equations → equations ≡ matching_rows coords rows
+pub by_matching : (coords : Coords) (rows : List Row) (equations : List EquationRow) → HasTriangles coords → AreEquations coords rows equations → equations ≡ matching_rows coords rows
 by_matching Standard rows equations h e = e
 by_matching Quad rows equations h e = absurd h
 by_matching Octagon rows equations h e = e

@@ -1,2 +1,3 @@
 pub mod Efficiency
 pub mod Lists
+pub mod Parts

@@ -4,16 +4,26 @@
 #![tactic(auto)]
 
 ghost use Rattle.outcome_list_laws.specs.Efficiency.{DescribedListsDecide, DescribedOctagonsDecide};
+ghost use Rattle.outcome_list_laws.specs.Parts.{PartsDecideEfficiency};
 ghost use Rattle.outcome_list_laws.specs.Lists.{LiftedListsAreListed, OctagonListsHaveStandard};
 
-/// Where `describe` tells of what `surfaces` listed, the table is 0-efficient by its numbers exactly where each line
-/// with an Euler characteristic above 0 says that the surface is linking.
+/// Theorem (Jaco and Rubinstein 2003): for what `surfaces` listed in standard coordinates, the table is 0-efficient by
+/// its numbers if and only if `describe` prints `linking yes` in each line with a positive Euler characteristic. In
+/// octagon coordinates these lines decide whether each connected surface of positive Euler characteristic is a vertex
+/// link, which a 0-efficient table with an octagonal sphere fails.
 pub fn described_lists_decide_efficiency()
     ensures { DescribedListsDecide }
 {}
 
-/// Where that is so, there is an almost normal sphere, by its numbers, exactly where a line of `describe` of what
-/// `surfaces` listed in octagon coordinates has Euler characteristic 2, for a vector with one octagon.
+/// Theorem: if the vectors of some runs of `describe` that are done, one run after the other, are those that `surfaces`
+/// listed, the lines of all runs together decide what `described_lists_decide_efficiency` says of one run.
+pub fn parts_decide_efficiency()
+    ensures { PartsDecideEfficiency }
+{}
+
+/// Theorem (Rubinstein 1995; Thompson 1994): if the table is 0-efficient by its numbers, it has an octagonal almost
+/// normal sphere, by its numbers, if and only if `describe`, of what `surfaces` listed in octagon coordinates, prints
+/// Euler characteristic 2 for a vector with one octagon.
 pub fn described_octagons_decide_spheres()
     ensures { DescribedOctagonsDecide }
 {}

@@ -17,7 +17,7 @@ use Rattle.surface_laws.specs.MatchingLaws.{HasTriangles}
 use Rattle.surface_laws.specs.PieceLaws.{IsSurface}
 use Rattle.surface_laws.proofs.ComponentSurfaces.{component_surface}
 use Rattle.surface_laws.proofs.ComponentCounts.{one_is_whole}
-use Rattle.surface_efficiency_laws.specs.Laws.{IsPositive, IsConnectedSurface, HasPositiveInside, IsZeroEfficient, IsOtherSurface}
+use Rattle.surface_efficiency_laws.specs.Laws.{IsPositive, IsConnectedSurface, HasPositiveInside, PositiveAreLinks, IsPositiveNonLink}
 use Rattle.surface_efficiency_laws.proofs.Positives.{positive_inside}
 use Rattle.surface_efficiency_laws.proofs.Canonical.{link_or_canonical}
 use Rattle.surface_efficiency_laws.proofs.Connected.{vertex_surface_connected}
@@ -52,20 +52,20 @@ module _ (s : Skeleton) (k : IsSkeleton s) (coords : Coords) where
         vertex_surface_connected s coords v k.table triangles
         (All-contains (IsVertexSurfaceOf s coords) surfaces v list.vertex_surfaces c)
 
-    pub list_decides : IsZeroEfficient s coords ↔ ((v : List ℕ) → Contains surfaces v → IsPositive s coords v → IsVertexLink s coords v)
+    pub list_decides : PositiveAreLinks s coords ↔ ((v : List ℕ) → Contains surfaces v → IsPositive s coords v → IsVertexLink s coords v)
     list_decides = ((λ h v c positive. h v (listed_connected v c) positive), from)
       where
-        from : ((v : List ℕ) → Contains surfaces v → IsPositive s coords v → IsVertexLink s coords v) → IsZeroEfficient s coords
+        from : ((v : List ℕ) → Contains surfaces v → IsPositive s coords v → IsVertexLink s coords v) → PositiveAreLinks s coords
         from h xs connected positive = elim (connected_link_or_canonical xs connected) [
           | inl link ↦ link
           | inr canonical ↦ absurd (let p : HasPositiveInside s coords surfaces xs = positive_inside s coords surfaces xs list connected.surface canonical positive in
               no_link_is_canonical s coords p.v triangles (h p.v p.listed p.positive) p.canonical)
         ]
 
-    pub other_is_listed : ((xs : List ℕ) × IsOtherSurface s coords xs) ↔ ((v : List ℕ) × Contains surfaces v × IsOtherSurface s coords v)
+    pub other_is_listed : ((xs : List ℕ) × IsPositiveNonLink s coords xs) ↔ ((v : List ℕ) × Contains surfaces v × IsPositiveNonLink s coords v)
     other_is_listed = (to, (λ h. (h.0, h.2)))
       where
-        to : ((xs : List ℕ) × IsOtherSurface s coords xs) → (v : List ℕ) × Contains surfaces v × IsOtherSurface s coords v
+        to : ((xs : List ℕ) × IsPositiveNonLink s coords xs) → (v : List ℕ) × Contains surfaces v × IsPositiveNonLink s coords v
         to (xs, h) = elim (connected_link_or_canonical xs h.connected) [
           | inl link ↦ absurd (h.no_link link)
           | inr canonical ↦ (let p : HasPositiveInside s coords surfaces xs = positive_inside s coords surfaces xs list (h.connected).surface canonical h.positive in
@@ -77,8 +77,8 @@ module _ (s : Skeleton) (k : IsSkeleton s) (coords : Coords) where
     positive_or_not : (v : List ℕ) → IsPositive s coords v ⊎ (IsPositive s coords v → ⊥)
     positive_or_not v = by_lt_z (pos 0) (characteristic s coords v) (λ less. inl less) (λ most. inr (λ less. absurd (omega (arith, ints))))
 
-    pub efficiency_decided : IsZeroEfficient s coords ⊎ ((xs : List ℕ) × IsOtherSurface s coords xs)
-    efficiency_decided = elim (all_or_one (λ i. i < length surfaces → IsPositive s coords (at i) → IsVertexLink s coords (at i)) (λ i. (i < length surfaces) × IsOtherSurface s coords (at i)) decide (length surfaces)) [
+    pub efficiency_decided : PositiveAreLinks s coords ⊎ ((xs : List ℕ) × IsPositiveNonLink s coords xs)
+    efficiency_decided = elim (all_or_one (λ i. i < length surfaces → IsPositive s coords (at i) → IsVertexLink s coords (at i)) (λ i. (i < length surfaces) × IsPositiveNonLink s coords (at i)) decide (length surfaces)) [
       | inl all ↦ inl ((list_decides triangles surfaces list).1 (λ v c. subst (λ u. IsPositive s coords u → IsVertexLink s coords u) (same v c) (all c.0 c.1 c.1)))
       | inr found ↦ inr (at found.0, found.2.1)
     ]
@@ -95,7 +95,7 @@ module _ (s : Skeleton) (k : IsSkeleton s) (coords : Coords) where
         same : (v : List ℕ) (c : Contains surfaces v) → at c.0 ≡ v
         same v c = get_or_default surfaces c.0 [] v c.1 ∙ c.2
 
-        decide : (i : ℕ) → (i < length surfaces → IsPositive s coords (at i) → IsVertexLink s coords (at i)) ⊎ ((i < length surfaces) × IsOtherSurface s coords (at i))
+        decide : (i : ℕ) → (i < length surfaces → IsPositive s coords (at i) → IsVertexLink s coords (at i)) ⊎ ((i < length surfaces) × IsPositiveNonLink s coords (at i))
         decide i = elim (cases_lt i (length surfaces)) [
           | inr past ↦ inl (λ l. absurd (omega arith))
           | inl l ↦ elim (positive_or_not (at i)) [

@@ -18,14 +18,14 @@ use Rattle.surface_quad_laws.proofs.VertexLinks.{others-link}
 use Rattle.surface_quad_laws.specs.LinkLaws.{IsCanonical, IsVertexLink}
 use Rattle.surface_quad_laws.proofs.Canonical.{no_link_is_canonical, inside_canonical}
 use Rattle.surface_efficiency_laws.specs.Laws.{IsPositive, IsConnectedSurface, HasPositiveInside}
-use Rattle.surface_efficiency_laws.specs.Octagons.{octagons, NoneWithoutOctagons, HasTwiceOctagons, HasTwiceInside, HasOctagonInside}
+use Rattle.surface_efficiency_laws.specs.Octagons.{octagons, PositiveWithoutOctagonsAreLinks, HasOctagonalSphereNumbers, HasOctagonalSphereInside, HasOctagonInside}
 use Rattle.surface_efficiency_laws.proofs.Descents.{HasSomeInside, some_inside}
 use Rattle.surface_efficiency_laws.proofs.Efficiency.{connected_link_or_canonical, listed_connected}
 use Rattle.surface_efficiency_laws.proofs.Measures.{columns_linear, points_and_pieces, points_and_pieces_linear, arcs_linear, is_positive, at_least_twice, twice_at_least}
 use Rattle.surface_efficiency_laws.proofs.Positives.{positive_inside}
 use Rattle.surface_agreement_laws.specs.VertexSurfaces.{IsSurfaceListOf}
 
-module _ (s : Skeleton) (surfaces : List (List ℕ)) (list : IsSurfaceListOf s Octagon surfaces) (none : NoneWithoutOctagons s surfaces) where
+module _ (s : Skeleton) (surfaces : List (List ℕ)) (list : IsSurfaceListOf s Octagon surfaces) (none : PositiveWithoutOctagonsAreLinks s surfaces) where
   abbrev n : ℕ
   n = columns Octagon (length s.rows)
 
@@ -54,7 +54,7 @@ module _ (s : Skeleton) (surfaces : List (List ℕ)) (list : IsSurfaceListOf s O
           no_link_is_canonical s Octagon v tt (none v (listed v ray inside) z (is_positive s Octagon n v ray.extreme.solution.width fewer)) (inside_canonical s Octagon v x inside canonical))
     ]
 
-    pub twice_inside : HasTwiceOctagons s x → HasTwiceInside s surfaces x
+    pub twice_inside : HasOctagonalSphereNumbers s x → HasOctagonalSphereInside s surfaces x
     twice_inside h = record {
       v = found.v;
       listed = listed found.v found.ray found.inside;
@@ -85,12 +85,12 @@ module _ (s : Skeleton) (surfaces : List (List ℕ)) (list : IsSurfaceListOf s O
       ap (λ (ys : List ℕ). slice_index ys i) link.2
       ∙ others-link (length s.rows) s.vertices.classes link.0 Octagon i tt (below-among i (columns Octagon (length s.rows)) m.0) (omega arith))
 
-  pub octagon_sphere_is_listed : IsSkeleton s → ((xs : List ℕ) × IsConnectedSurface s Octagon xs × HasTwiceOctagons s xs) ↔ ((v : List ℕ) × Contains surfaces v × IsConnectedSurface s Octagon v × HasTwiceOctagons s v)
+  pub octagon_sphere_is_listed : IsSkeleton s → ((xs : List ℕ) × IsConnectedSurface s Octagon xs × HasOctagonalSphereNumbers s xs) ↔ ((v : List ℕ) × Contains surfaces v × IsConnectedSurface s Octagon v × HasOctagonalSphereNumbers s v)
   octagon_sphere_is_listed k = (to, (λ h. (h.0, h.2, h.3)))
     where
-      to : ((xs : List ℕ) × IsConnectedSurface s Octagon xs × HasTwiceOctagons s xs) → (v : List ℕ) × Contains surfaces v × IsConnectedSurface s Octagon v × HasTwiceOctagons s v
+      to : ((xs : List ℕ) × IsConnectedSurface s Octagon xs × HasOctagonalSphereNumbers s xs) → (v : List ℕ) × Contains surfaces v × IsConnectedSurface s Octagon v × HasOctagonalSphereNumbers s v
       to (xs, connected, h) = elim (connected_link_or_canonical s k Octagon xs connected) [
         | inl link ↦ absurd (let z : octagons s xs ≡ 0 = link_without xs link in let some : 1 ≤ octagons s xs = h.some in omega arith)
-        | inr canonical ↦ (let p : HasTwiceInside s surfaces xs = twice_inside xs connected.surface canonical h in
+        | inr canonical ↦ (let p : HasOctagonalSphereInside s surfaces xs = twice_inside xs connected.surface canonical h in
             (p.v, p.listed, listed_connected s k Octagon tt surfaces list p.v p.listed, p.octagonal))
       ]

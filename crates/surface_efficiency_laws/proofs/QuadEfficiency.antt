@@ -56,16 +56,16 @@ module _ (s : Skeleton) (k : IsSkeleton s) (links : List Link) (spheres : HasSph
         admissible = quads_admissible n v lift (lift_quads s k v lift vertex.extreme.solution.width l) vertex.admissible;
       }
 
-  pub quad_list_decides : IsZeroEfficient s Standard ↔ ((v lift : List ℕ) → Contains surfaces v → IsLiftOf s v lift → IsPositive s Standard lift → ⊥)
+  pub quad_list_decides : IsZeroEfficient s ↔ ((v lift : List ℕ) → Contains surfaces v → IsLiftOf s v lift → IsPositive s Standard lift → ⊥)
   quad_list_decides = (to, from)
     where
-      to : IsZeroEfficient s Standard → (v lift : List ℕ) → Contains surfaces v → IsLiftOf s v lift → IsPositive s Standard lift → ⊥
+      to : IsZeroEfficient s → (v lift : List ℕ) → Contains surfaces v → IsLiftOf s v lift → IsPositive s Standard lift → ⊥
       to h v lift c l positive =
           let all = some_list s Standard in
           let p : HasPositiveInside s Standard all.0 lift = positive_inside s Standard all.0 lift all.1 (lift_surface v lift c l) (lift_canonical s k v lift l) positive in
           no_link_is_canonical s Standard p.v tt (h p.v (listed_connected s k Standard tt all.0 all.1 p.v p.listed) p.positive) p.canonical
 
-      from : ((v lift : List ℕ) → Contains surfaces v → IsLiftOf s v lift → IsPositive s Standard lift → ⊥) → IsZeroEfficient s Standard
+      from : ((v lift : List ℕ) → Contains surfaces v → IsLiftOf s v lift → IsPositive s Standard lift → ⊥) → IsZeroEfficient s
       from h xs connected positive = elim (connected_link_or_canonical s k Standard xs connected) [
         | inl link ↦ link
         | inr canonical ↦ absurd (let p : HasPositiveLift s surfaces xs = positive_lift xs connected.surface canonical positive in h p.v p.lift p.listed p.is_lift p.positive)

@@ -17,7 +17,7 @@ use Rattle.surface_agreement_laws.proofs.InOctagons.{AreSame, in_octagons_is, in
 use Rattle.surface_agreement_laws.proofs.SameCharacteristic.{same_characteristic}
 use Rattle.surface_agreement_laws.proofs.SameSurfaces.{octagon_vertex, standard_vertex}
 use Rattle.surface_efficiency_laws.specs.Laws.{IsPositive, IsZeroEfficient}
-use Rattle.surface_efficiency_laws.specs.Octagons.{octagons, NoneWithoutOctagons}
+use Rattle.surface_efficiency_laws.specs.Octagons.{octagons, PositiveWithoutOctagonsAreLinks}
 use Rattle.surface_efficiency_laws.proofs.Connected.{vertex_surface_connected}
 use Rattle.surface_efficiency_laws.proofs.Efficiency.{list_decides, some_list}
 
@@ -74,14 +74,14 @@ module _ (s : Skeleton) (k : IsSkeleton s) where
   positive_octagon ys xs same h = subst (λ z. pos 0 <ℤ z) (sym (same_characteristic s ys xs k same)) h
 
   module _ (surfaces : List (List ℕ)) (list : IsSurfaceListOf s Octagon surfaces) where
-    efficient_none : IsZeroEfficient s Standard → NoneWithoutOctagons s surfaces
+    efficient_none : IsZeroEfficient s → PositiveWithoutOctagonsAreLinks s surfaces
     efficient_none h v c z positive =
         let vertex : IsVertexSurfaceOf s Octagon v = All-contains (IsVertexSurfaceOf s Octagon) surfaces v list.vertex_surfaces c in
         let same : AreSame n (in_standard n v) v = without_octagons v ((vertex.extreme).solution).width z in
         let connected = vertex_surface_connected s Standard (in_standard n v) k.table tt (standard_vertex s k (in_standard n v) v same vertex) in
         link_octagon (in_standard n v) v same (h (in_standard n v) connected (positive_standard (in_standard n v) v same positive))
 
-    none_efficient : NoneWithoutOctagons s surfaces → IsZeroEfficient s Standard
+    none_efficient : PositiveWithoutOctagonsAreLinks s surfaces → IsZeroEfficient s
     none_efficient none =
         let standard = some_list s Standard in
         (list_decides s k Standard tt standard.0 standard.1).1 (λ ys c positive.
@@ -90,5 +90,5 @@ module _ (s : Skeleton) (k : IsSkeleton s) where
         link_standard ys (in_octagons n ys) same
         (none (in_octagons n ys) (list.complete (in_octagons n ys) (octagon_vertex s k ys (in_octagons n ys) same vertex)) (has_no_octagons ys (in_octagons n ys) same) (positive_octagon ys (in_octagons n ys) same positive)))
 
-    pub none_where_efficient : NoneWithoutOctagons s surfaces ↔ IsZeroEfficient s Standard
+    pub none_where_efficient : PositiveWithoutOctagonsAreLinks s surfaces ↔ IsZeroEfficient s
     none_where_efficient = (none_efficient, efficient_none)

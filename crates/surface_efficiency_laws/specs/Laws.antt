@@ -1,11 +1,13 @@
--- 0-efficiency by the list: the Euler characteristics of the listed vertex surfaces decide it (Jaco and Oertel 1984;
--- Jaco and Rubinstein 2003).
+-- The Euler characteristics of the listed vertex surfaces decide whether each connected surface of positive Euler
+-- characteristic is a vertex link, which in standard coordinates is 0-efficiency (Jaco and Oertel 1984; Jaco and
+-- Rubinstein 2003).
 use Rattle.std.specs.Prelude.{◌≡◌, ℕ, ◌⊎◌, ◌↔◌, pos, ◌<ℤ◌, List}
 use Rattle.std.specs.List.{Contains}
 use Rattle.cone_definitions.specs.Vectors.{IsInside}
 use Rattle.table_definitions.specs.Table.{IsTable}
 use Rattle.skeleton_definitions.specs.Skeleton.{Skeleton, IsSkeleton}
 use Rattle.surface_definitions.specs.declared.Coords.{Coords}
+use Rattle.surface_definitions.specs.declared.Coords.TheVariants.{Standard}
 use Rattle.surface_definitions.specs.Pieces.{AreComponents, component_vector}
 use Rattle.surface_vector_definitions.specs.Properties.{AreProperties, characteristic}
 use Rattle.surface_vector_definitions.specs.declared.Properties.{Properties}
@@ -57,30 +59,36 @@ VertexSurfacesAreConnected =
     (s : Skeleton) (coords : Coords) (xs : List ℕ) → IsTable s.rows → HasTriangles coords
     → IsVertexSurfaceOf s coords xs → IsConnectedSurface s coords xs
 
--- 0-efficient by its numbers (in standard coordinates): each connected surface of positive Euler characteristic is a
--- vertex link
-abbrev pub IsZeroEfficient : Skeleton → Coords → Type 0
-IsZeroEfficient s coords = (xs : List ℕ) → IsConnectedSurface s coords xs → IsPositive s coords xs → IsVertexLink s coords xs
+-- each connected surface of positive Euler characteristic is a vertex link. In octagon coordinates connected surfaces
+-- with octagons count too, so that a 0-efficient table may fail this.
+abbrev pub PositiveAreLinks : Skeleton → Coords → Type 0
+PositiveAreLinks s coords = (xs : List ℕ) → IsConnectedSurface s coords xs → IsPositive s coords xs → IsVertexLink s coords xs
 
--- Theorem: a table is 0-efficient by its numbers if and only if each listed surface of positive Euler characteristic is
--- a vertex link.
+-- 0-efficient by its numbers, for closed tables as Jaco and Rubinstein define it: each connected surface of positive
+-- Euler characteristic, in standard coordinates, is a vertex link. For tables with boundary they ask it of normal discs
+-- alone, while a sphere around a boundary component counts here too.
+abbrev pub IsZeroEfficient : Skeleton → Type 0
+IsZeroEfficient s = PositiveAreLinks s Standard
+
+-- Theorem: each connected surface of positive Euler characteristic is a vertex link if and only if each listed one is.
+-- In standard coordinates the first is 0-efficiency by the table's numbers.
 abbrev pub ListDecidesEfficiency : Type 0
 ListDecidesEfficiency =
     (s : Skeleton) (coords : Coords) (surfaces : List (List ℕ)) → IsSkeleton s → HasTriangles coords → IsSurfaceListOf s coords surfaces
-    → IsZeroEfficient s coords ↔ ((v : List ℕ) → Contains surfaces v → IsPositive s coords v → IsVertexLink s coords v)
+    → PositiveAreLinks s coords ↔ ((v : List ℕ) → Contains surfaces v → IsPositive s coords v → IsVertexLink s coords v)
 
 -- a connected surface of positive Euler characteristic that is no vertex link
-pub record IsOtherSurface (s : Skeleton) (coords : Coords) (xs : List ℕ) : Type 0 where
+pub record IsPositiveNonLink (s : Skeleton) (coords : Coords) (xs : List ℕ) : Type 0 where
   pub connected : IsConnectedSurface s coords xs
   pub positive : IsPositive s coords xs
   pub no_link : ¬ IsVertexLink s coords xs
 
 -- Theorem: a connected surface of positive Euler characteristic that is no vertex link exists if and only if one is
 -- listed.
-abbrev pub OtherSurfaceIsListed : Type 0
-OtherSurfaceIsListed =
+abbrev pub PositiveNonLinkIsListed : Type 0
+PositiveNonLinkIsListed =
     (s : Skeleton) (coords : Coords) (surfaces : List (List ℕ)) → IsSkeleton s → HasTriangles coords → IsSurfaceListOf s coords surfaces
-    → ((xs : List ℕ) × IsOtherSurface s coords xs) ↔ ((v : List ℕ) × Contains surfaces v × IsOtherSurface s coords v)
+    → ((xs : List ℕ) × IsPositiveNonLink s coords xs) ↔ ((v : List ℕ) × Contains surfaces v × IsPositiveNonLink s coords v)
 
 -- Theorem: if a component of a surface has positive Euler characteristic and is no vertex link, some listed canonical
 -- surface of positive Euler characteristic has its support in that of the component.
@@ -90,8 +98,7 @@ PositiveComponentsHaveListed =
     → IsSurface s.rows coords xs → AreComponents s.rows coords xs components count → IsPositive s coords (component_vector xs components i)
     → ¬ IsVertexLink s coords (component_vector xs components i) → HasPositiveInside s coords surfaces (component_vector xs components i)
 
--- Theorem: each table is 0-efficient by its numbers, or has a connected surface of positive Euler characteristic that
--- is no vertex link.
+-- Theorem: each connected surface of positive Euler characteristic is a vertex link, or one exists that is not.
 abbrev pub EfficiencyIsDecided : Type 0
 EfficiencyIsDecided =
-    (s : Skeleton) (coords : Coords) → IsSkeleton s → HasTriangles coords → IsZeroEfficient s coords ⊎ ((xs : List ℕ) × IsOtherSurface s coords xs)
+    (s : Skeleton) (coords : Coords) → IsSkeleton s → HasTriangles coords → PositiveAreLinks s coords ⊎ ((xs : List ℕ) × IsPositiveNonLink s coords xs)

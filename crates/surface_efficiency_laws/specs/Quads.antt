@@ -38,4 +38,4 @@ PositiveSurfacesHaveLifts =
 abbrev pub QuadListDecidesEfficiency : Type 0
 QuadListDecidesEfficiency =
     (s : Skeleton) (links : List Link) (quad_rows : List EquationRow) (surfaces : List (List ℕ)) → IsSkeleton s → HasSphereAndDiscLinks s links → AreEquations Quad s.rows quad_rows
-    → IsSurfaceListBy s Quad quad_rows surfaces → IsZeroEfficient s Standard ↔ ((v lift : List ℕ) → Contains surfaces v → IsLiftOf s v lift → ¬ IsPositive s Standard lift)
+    → IsSurfaceListBy s Quad quad_rows surfaces → IsZeroEfficient s ↔ ((v lift : List ℕ) → Contains surfaces v → IsLiftOf s v lift → ¬ IsPositive s Standard lift)

@@ -12,7 +12,7 @@ use Rattle.surface_laws.specs.MatchingLaws.{HasTriangles}
 use Rattle.surface_laws.specs.PieceLaws.{IsSurface, ArePieceNumbers}
 use Rattle.surface_laws.proofs.Offsets.{piece_numbers}
 use Rattle.surface_efficiency_laws.specs.Laws.{IsPositive, IsConnectedSurface}
-use Rattle.surface_efficiency_laws.specs.Octagons.{octagons, HasTwiceOctagons}
+use Rattle.surface_efficiency_laws.specs.Octagons.{octagons, HasOctagonalSphereNumbers}
 use Rattle.surface_efficiency_laws.proofs.Connected.{vertex_surface_connected}
 use Rattle.surface_euler_laws.proofs.ArcList.{length-arc_list}
 use Rattle.surface_euler_laws.proofs.ComponentsConnected.{component_connected}
@@ -62,7 +62,7 @@ positive_one_or_two s coords xs k valid c h =
 one_and_two : (o p a r : ℕ) → 1 ≤ o → pos (2 * o) ≤ℤ euler p a r → euler p a r ≤ℤ pos 2 → (o ≡ 1) × (euler p a r ≡ pos 2)
 one_and_two o p a r some h l = (omega (arith, ints), omega (arith, ints))
 
-pub twice_are_spheres : (s : Skeleton) (xs : List ℕ) → IsSkeleton s → IsFirstInvalid s None → IsConnectedSurface s Octagon xs → HasTwiceOctagons s xs
+pub twice_are_spheres : (s : Skeleton) (xs : List ℕ) → IsSkeleton s → IsFirstInvalid s None → IsConnectedSurface s Octagon xs → HasOctagonalSphereNumbers s xs
     → (octagons s xs ≡ 1) × (characteristic s Octagon xs ≡ pos 2)
 twice_are_spheres s xs k valid c h =
     one_and_two (octagons s xs) (points Octagon xs s.edges.classes s.edges.count) (arcs s.rows Octagon xs) (sum xs) h.some h.twice (connected_at_most_two s Octagon xs k valid c)

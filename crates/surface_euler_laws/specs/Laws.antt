@@ -1,16 +1,17 @@
--- A connected normal surface in a table without invalid edges has Euler characteristic at most 2.
+-- A connected normal surface in a table without invalid edges has Euler characteristic at most 2, and an octagonal
+-- almost normal sphere exists if and only if one is listed, by their numbers (Rubinstein 1995; Thompson 1994).
 use Rattle.std.specs.Prelude.{◌≡◌, ℕ, ◌*◌, ◌<◌, ◌⊎◌, pos, ◌≤ℤ◌, List, None, ◌↔◌}
 use Rattle.std.specs.List.{Contains}
 use Rattle.skeleton_definitions.specs.Skeleton.{Skeleton, IsSkeleton, IsFirstInvalid}
 use Rattle.skeleton_definitions.specs.declared.Link.{Link}
 use Rattle.surface_definitions.specs.declared.Coords.{Coords}
-use Rattle.surface_definitions.specs.declared.Coords.TheVariants.{Octagon, Standard}
+use Rattle.surface_definitions.specs.declared.Coords.TheVariants.{Octagon}
 use Rattle.surface_definitions.specs.Pieces.{AreComponents, component_vector}
 use Rattle.surface_laws.specs.MatchingLaws.{HasTriangles}
 use Rattle.surface_laws.specs.PieceLaws.{IsSurface}
 use Rattle.surface_quad_lift_laws.specs.Laws.{HasLink}
 use Rattle.surface_efficiency_laws.specs.Laws.{IsPositive, IsConnectedSurface, IsZeroEfficient}
-use Rattle.surface_efficiency_laws.specs.Octagons.{octagons, HasTwiceOctagons}
+use Rattle.surface_efficiency_laws.specs.Octagons.{octagons, HasOctagonalSphereNumbers}
 use Rattle.surface_vector_definitions.specs.Properties.{characteristic}
 use Rattle.surface_agreement_laws.specs.VertexSurfaces.{IsVertexSurfaceOf, IsSurfaceListOf}
 
@@ -55,21 +56,22 @@ PositiveIsOneOrTwo =
     (s : Skeleton) (coords : Coords) (xs : List ℕ) → IsSkeleton s → IsFirstInvalid s None → IsConnectedSurface s coords xs → IsPositive s coords xs
     → (characteristic s coords xs ≡ pos 1) ⊎ (characteristic s coords xs ≡ pos 2)
 
--- where there are octagons, and it is at least twice their number, there is one octagon and it is 2: an almost normal
--- sphere, by its numbers
-abbrev pub TwiceOctagonsAreSpheres : Type 0
-TwiceOctagonsAreSpheres =
-    (s : Skeleton) (xs : List ℕ) → IsSkeleton s → IsFirstInvalid s None → IsConnectedSurface s Octagon xs → HasTwiceOctagons s xs
+-- Theorem: if no edge is invalid, a connected surface with octagons whose Euler characteristic is at least twice their
+-- number has one octagon and Euler characteristic 2: an octagonal almost normal sphere, by its numbers.
+abbrev pub OctagonalSphereNumbersAreOneAndTwo : Type 0
+OctagonalSphereNumbersAreOneAndTwo =
+    (s : Skeleton) (xs : List ℕ) → IsSkeleton s → IsFirstInvalid s None → IsConnectedSurface s Octagon xs → HasOctagonalSphereNumbers s xs
     → (octagons s xs ≡ 1) × (characteristic s Octagon xs ≡ pos 2)
 
--- a connected surface with one octagon and Euler characteristic 2: an almost normal sphere, by its numbers
-pub record IsAlmostNormalSphere (s : Skeleton) (xs : List ℕ) : Type 0 where
+-- a connected surface with one octagon and Euler characteristic 2: an octagonal almost normal sphere, by its numbers
+pub record IsOctagonalAlmostNormalSphere (s : Skeleton) (xs : List ℕ) : Type 0 where
   pub connected : IsConnectedSurface s Octagon xs
   pub one_octagon : octagons s xs ≡ 1
   pub two : characteristic s Octagon xs ≡ pos 2
 
--- where the table is 0-efficient by its numbers, there is one exactly where one is listed
+-- Theorem: if no edge is invalid and the table is 0-efficient by its numbers, an octagonal almost normal sphere exists,
+-- by its numbers, if and only if one is listed.
 abbrev pub AlmostNormalSphereIsListed : Type 0
 AlmostNormalSphereIsListed =
-    (s : Skeleton) (surfaces : List (List ℕ)) → IsSkeleton s → IsFirstInvalid s None → IsSurfaceListOf s Octagon surfaces → IsZeroEfficient s Standard
-    → ((xs : List ℕ) × IsAlmostNormalSphere s xs) ↔ ((v : List ℕ) × Contains surfaces v × IsAlmostNormalSphere s v)
+    (s : Skeleton) (surfaces : List (List ℕ)) → IsSkeleton s → IsFirstInvalid s None → IsSurfaceListOf s Octagon surfaces → IsZeroEfficient s
+    → ((xs : List ℕ) × IsOctagonalAlmostNormalSphere s xs) ↔ ((v : List ℕ) × Contains surfaces v × IsOctagonalAlmostNormalSphere s v)

@@ -2,7 +2,7 @@
 //! one part. The functions here have no code: their contracts are laws over the definitions.
 #![tactic(auto)]
 
-ghost use Rattle.surface_euler_laws.specs.Laws.{SurfacesHaveAtMostTwoEach, ConnectedHaveAtMostTwo, ComponentsAreConnected, ComponentsHaveAtMostTwo, VertexSurfacesHaveAtMostTwo, LinksHaveAtMostTwo, PositiveIsOneOrTwo, TwiceOctagonsAreSpheres, AlmostNormalSphereIsListed};
+ghost use Rattle.surface_euler_laws.specs.Laws.{SurfacesHaveAtMostTwoEach, ConnectedHaveAtMostTwo, ComponentsAreConnected, ComponentsHaveAtMostTwo, VertexSurfacesHaveAtMostTwo, LinksHaveAtMostTwo, PositiveIsOneOrTwo, OctagonalSphereNumbersAreOneAndTwo, AlmostNormalSphereIsListed};
 ghost use Rattle.surface_euler_laws.specs.Polygons.{PolygonsHaveAtMostTwo};
 
 /// Polygons that are glued along sides have Euler characteristic at most 2 for each part.
@@ -25,14 +25,16 @@ pub fn surfaces_have_at_most_two_each()
     ensures links { LinksHaveAtMostTwo }
 {}
 
-/// Where it is positive it is 1 or 2; with octagons, where it is at least twice their number, there is one and it is 2.
+/// Theorem: if no edge is invalid, a connected surface of positive Euler characteristic has 1 or 2. With octagons, and
+/// at least twice their number, it has one octagon and 2, as an octagonal almost normal sphere.
 pub fn positive_surfaces_have_one_or_two()
     ensures positive { PositiveIsOneOrTwo }
-    ensures octagons { TwiceOctagonsAreSpheres }
+    ensures octagons { OctagonalSphereNumbersAreOneAndTwo }
 {}
 
-/// Where no edge is invalid and a table is 0-efficient by its numbers, it has an almost normal sphere, by its numbers
-/// too, exactly where one is listed.
+/// Theorem (Rubinstein 1995; Thompson 1994): if no edge is invalid and the table is 0-efficient by its numbers, it has
+/// an octagonal almost normal sphere, by its numbers, if and only if one is listed. 0-efficiency is that of standard
+/// coordinates; almost normal surfaces with a tube are not meant.
 pub fn almost_normal_sphere_is_listed()
     ensures { AlmostNormalSphereIsListed }
 {}

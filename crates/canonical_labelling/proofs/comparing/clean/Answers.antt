@@ -1,5 +1,5 @@
 -- No more tetrahedra are visited than there are numbers.
-use Rattle.std.proofs.Common.{◌≡◌, ◌≤◌, ◌*◌, length, ap, arith}
+use Rattle.std.proofs.Common.{◌≤◌, ◌*◌, length, ap, arith}
 use Rattle.canonical_labelling.specs.Comparisons.{comparison_view}
 use Rattle.canonical_labelling.proofs.ComparisonLemmas.{few_numbered}
 use Rattle.canonical_labelling.proofs.comparing.clean.Goals as goal

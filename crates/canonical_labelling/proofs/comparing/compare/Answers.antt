@@ -1,7 +1,7 @@
 -- The head is compared with the bound, and then the traversal is begun in the clean work space.
-use Rattle.std.proofs.Common.{◌≡◌, ℕ, List, ◌*◌, ◌+◌, length, ap, sym, ◌∙◌, subst}
+use Rattle.std.proofs.Common.{◌≡◌, List, length, ap, sym, ◌∙◌}
 use Rattle.table_definitions.specs.Table.{Row}
-use Rattle.canonical_labelling.specs.Comparisons.{told, head_text, comparison_view, IsComparison}
+use Rattle.canonical_labelling.specs.Comparisons.{told, head_text, comparison_view}
 use Rattle.canonical_labelling.proofs.FollowedEnds.{follows_begun}
 use Rattle.canonical_labelling.proofs.Compared.{head_tells}
 use Rattle.canonical_labelling.proofs.comparing.compare.Goals as goal

@@ -1,0 +1,195 @@
+"""Real browsers without a window, for tests of the page: Chromium by its driver, Firefox by WebDriver BiDi.
+
+Needed are of Debian chromium, chromium-driver and python3-selenium; firefox-esr and python3-websocket.
+"""
+import base64
+import contextlib
+import importlib.util
+import json
+import os
+import shutil
+import subprocess
+import tempfile
+import threading
+import time
+from pathlib import Path
+
+# a wide window, and that of a phone
+WIDE, NARROW = (1100, 1250), (390, 840)
+FLAGS = ["--headless=new", "--no-sandbox", "--disable-dev-shm-usage", "--disable-background-networking", "--disable-component-update"]
+
+
+class Missing(Exception):
+    """What a browser needs is not installed; the text names it."""
+
+
+def require(commands, modules):
+    """Raises `Missing` unless all commands and modules are there."""
+    lacking = [name for name in commands if shutil.which(name) is None]
+    lacking += [name for name in modules if importlib.util.find_spec(name) is None]
+    if lacking:
+        raise Missing(f"not installed: {', '.join(lacking)}")
+
+
+class Downloads:
+    """A folder that downloads go to."""
+
+    def __init__(self):
+        self.folder = tempfile.mkdtemp(prefix="downloads-")
+
+    def downloaded(self, name, most=20):
+        """The bytes of a file that is being downloaded."""
+        path, end = Path(self.folder, name), time.monotonic() + most
+        while not path.is_file() or not path.stat().st_size:
+            if time.monotonic() > end:
+                raise RuntimeError(f"{name} was not downloaded")
+            time.sleep(0.1)
+        return path.read_bytes()
+
+    def close(self):
+        shutil.rmtree(self.folder, ignore_errors=True)
+
+
+class Chromium(Downloads):
+    """Chromium with a new profile. `size` is that of its window, `dark` its colour scheme."""
+    name = "chromium"
+
+    def __init__(self, size=WIDE, dark=False):
+        require(["chromium", "chromedriver"], ["selenium"])
+        super().__init__()
+        from selenium import webdriver
+        from selenium.webdriver.chrome.service import Service
+        options = webdriver.ChromeOptions()
+        options.binary_location = shutil.which("chromium")
+        for flag in FLAGS:
+            options.add_argument(flag)
+        self.driver = webdriver.Chrome(service=Service(shutil.which("chromedriver")), options=options)
+        self.driver.set_script_timeout(300)
+        self.version = self.driver.capabilities["browserVersion"]
+        self._command("Emulation.setDeviceMetricsOverride", width=size[0], height=size[1], deviceScaleFactor=1, mobile=False)
+        self._command("Browser.setDownloadBehavior", behavior="allow", downloadPath=self.folder)
+        self.set_media(dark=dark)
+
+    def _command(self, method, **values):
+        self.driver.execute_cdp_cmd(method, values)
+
+    def set_media(self, dark=False, reduced_motion=False):
+        features = {"prefers-color-scheme": "dark" if dark else "light",
+                    "prefers-reduced-motion": "reduce" if reduced_motion else "no-preference"}
+        self._command("Emulation.setEmulatedMedia", features=[{"name": name, "value": value} for name, value in features.items()])
+
+    def open(self, address):
+        self.driver.get("about:blank")
+        self.driver.get(address)
+
+    def run(self, script):
+        """The value of the body of an async function."""
+        body = f"const done = arguments[0]; (async () => {{{script}\n}})().then((value) => done({{value}}), (fault) => done({{fault: String(fault)}}));"
+        outcome = self.driver.execute_async_script(body)
+        if "fault" in outcome:
+            raise RuntimeError(outcome["fault"])
+        return outcome.get("value")
+
+    def press(self, *keys):
+        """Presses keys one after the other, as `Tab` or `Control+Enter`."""
+        from selenium.webdriver.common.action_chains import ActionChains
+        from selenium.webdriver.common.keys import Keys
+        chain = ActionChains(self.driver)
+        for key in keys:
+            *held, last = [getattr(Keys, part.upper(), part) for part in key.split("+")]
+            for part in held:
+                chain.key_down(part)
+            chain.send_keys(last)
+            for part in held:
+                chain.key_up(part)
+        chain.perform()
+
+    def picture(self):
+        """The window as a PNG."""
+        return self.driver.get_screenshot_as_png()
+
+    def close(self):
+        self.driver.quit()
+        super().close()
+
+
+class Firefox(Downloads):
+    """Firefox with a new profile. `size` is that of its window, `dark` its colour scheme."""
+    name = "firefox"
+    KEYS = {"Tab": "\ue004", "Enter": "\ue006", "Escape": "\ue00c", "Control": "\ue009"}
+
+    def __init__(self, size=WIDE, dark=False):
+        require(["firefox-esr"], ["websocket"])
+        super().__init__()
+        import websocket
+        self.profile = tempfile.mkdtemp(prefix="firefox-")
+        settings = {"ui.systemUsesDarkTheme": int(dark), "layout.css.prefers-color-scheme.content-override": 0 if dark else 1,
+                    "dom.max_script_run_time": 0, "browser.shell.checkDefaultBrowser": False,
+                    "browser.download.folderList": 2, "browser.download.dir": self.folder, "browser.download.useDownloadDir": True}
+        lines = [f"user_pref({json.dumps(name)}, {json.dumps(value)});\n" for name, value in settings.items()]
+        Path(self.profile, "user.js").write_text("".join(lines), "utf8")
+        self.process = self._start()
+        self.socket = websocket.create_connection(f"{self._address()}/session", timeout=300, suppress_origin=True)
+        self.count = 0
+        self.version = self._send("session.new", capabilities={})["capabilities"]["browserVersion"]
+        self.context = self._send("browsingContext.getTree")["contexts"][0]["context"]
+        self._send("browsingContext.setViewport", context=self.context, viewport={"width": size[0], "height": size[1]})
+
+    def _start(self):
+        words = [shutil.which("firefox-esr"), "--headless", "--no-remote", "--profile", self.profile, "--remote-debugging-port", "0"]
+        return subprocess.Popen(words, stderr=subprocess.PIPE, stdout=subprocess.DEVNULL, text=True, env={**os.environ, "HOME": self.profile})
+
+    def _address(self):
+        for line in self.process.stderr:
+            if "WebDriver BiDi listening on" in line:
+                # nobody reads the rest, and it must not fill the pipe
+                threading.Thread(target=lambda: [None for _ in self.process.stderr], daemon=True).start()
+                return line.split()[-1]
+        raise RuntimeError("Firefox ended before it listened")
+
+    def _send(self, method, **values):
+        self.count += 1
+        self.socket.send(json.dumps({"id": self.count, "method": method, "params": values}))
+        while True:
+            outcome = json.loads(self.socket.recv())
+            if outcome.get("id") != self.count:
+                continue
+            if outcome["type"] == "error":
+                raise RuntimeError(f"{outcome['error']}: {outcome['message']}")
+            return outcome["result"]
+
+    def open(self, address):
+        for place in ("about:blank", address):
+            self._send("browsingContext.navigate", context=self.context, url=place, wait="complete")
+
+    def run(self, script):
+        """The value of the body of an async function."""
+        body = f"(async () => JSON.stringify(await (async () => {{{script}\n}})()))()"
+        outcome = self._send("script.evaluate", expression=body, target={"context": self.context}, awaitPromise=True)
+        if outcome["type"] != "success":
+            raise RuntimeError(outcome["exceptionDetails"]["text"])
+        value = outcome["result"].get("value")
+        return None if value is None else json.loads(value)
+
+    def press(self, *keys):
+        """Presses keys one after the other, as `Tab` or `Control+Enter`."""
+        actions = []
+        for key in keys:
+            parts = [self.KEYS.get(part, part) for part in key.split("+")]
+            actions += [{"type": "keyDown", "value": part} for part in parts]
+            actions += [{"type": "keyUp", "value": part} for part in reversed(parts)]
+        self._send("input.performActions", context=self.context, actions=[{"type": "key", "id": "keys", "actions": actions}])
+
+    def picture(self):
+        """The window as a PNG."""
+        return base64.b64decode(self._send("browsingContext.captureScreenshot", context=self.context)["data"])
+
+    def close(self):
+        with contextlib.suppress(Exception):
+            self._send("browser.close")
+        try:
+            self.process.wait(20)
+        except subprocess.TimeoutExpired:
+            self.process.kill()
+        shutil.rmtree(self.profile, ignore_errors=True)
+        super().close()

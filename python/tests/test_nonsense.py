@@ -1,0 +1,185 @@
+"""Each public function with values of all kinds for each of its parameters: an answer comes, or an exception of the package that
+says what was expected; and arrays of NumPy's and pandas', which are no nonsense."""
+import fractions
+import inspect
+import itertools
+import pathlib
+import subprocess
+import sys
+import unittest
+
+import trinorm
+from trinorm import library, program, regina_surfaces, server, tables
+from trinorm.program import REPOSITORY
+
+try:
+    import numpy
+except ImportError:
+    numpy = None
+try:
+    import pandas
+except ImportError:
+    pandas = None
+try:
+    import regina
+except ImportError:
+    regina = None
+
+SPHERE, TORUS, LINK = "bkaagj", (1, 1, 0, 0, 1, 0, 0), (1, 1, 1, 1, 0, 0, 0)
+TABLE = trinorm.Table.parse("tri 1\n0:1023 0:1023 0:1230 0:3012\n")
+SUM = trinorm.Sum(TORUS, 1, (trinorm.Term(1, TORUS),))
+# a right value of each parameter, by its name
+RIGHT = {"t": SPHERE, "one": SPHERE, "other": SPHERE, "tables": [SPHERE], "vectors": [TORUS], "vector": TORUS, "coords": None, "order": None, "max_entry": None,
+         "rows": [[1, -1]], "columns": None, "sums": [SUM], "steps": [], "moves": [], "seed": 1, "timeout": None, "program": None, "triangulation": SPHERE,
+         "surface": None, "words": ["sig"], "text": "sig bkaagj\n", "word": "0:0123", "memory": None}
+# where a parameter has another meaning
+OTHERS = {("make", "moves"): 1, ("bulk", "moves"): 1, ("parse", "text"): str(TABLE)}
+
+
+def values():
+    """Values of all kinds, made anew for each call, since some are used up."""
+    found = [
+        None, True, False, 0, 1, -1, 7, 2 ** 70, -2 ** 70, 1.0, 0.5, float("nan"), float("inf"), 1j, fractions.Fraction(1, 2),
+        "", "x", SPHERE, "bkaagjx", "tri 0", "tri 1\n- - - -", "a\0b", "\ud800", "é", "standard", "a/b.txt", "\n", b"", b"bkaagj", bytearray(b"1"),
+        [], (), {}, set(), frozenset([1]), [1], (1, 2), [[1]], [[]], [None], ["x"], [b"x"], [[1, 2], [3]], range(3), {"a": 1}, {1: (1, 2)}, iter([]), iter([1]),
+        (it for it in ()), (it for it in (TORUS,)), itertools.repeat(0, 3), zip([1], [2]), object(), object, int, len, lambda: None, NotImplemented, Ellipsis,
+        ValueError("x"), pathlib.Path("x"), memoryview(b"12"), TORUS, [TORUS], [LINK, TORUS], TABLE, [TABLE], SUM, [SUM], trinorm.Term(1, TORUS), trinorm.Table(5),
+        trinorm.Table(((1,),)), trinorm.Sum(1, 2, 3), [trinorm.Sum(1, 2, 3)], trinorm.Gluing("x", 5), [[trinorm.Gluing("x", 5)] * 4], [float("nan")] * 7,
+        [True] * 7, [2 ** 200] * 7, [-1] * 7, [["0:1023"] * 4], [[(0, 1)] * 4], [[(0, "0123"), None, "-", 5]], trinorm, unittest,
+    ]
+    if numpy is not None:
+        found += [numpy.array(TORUS), numpy.array([TORUS, LINK]), numpy.array(3), numpy.array([]), numpy.array([0.5]), numpy.array(["x"]), numpy.int64(1), numpy.float64("nan"),
+                  numpy.bool_(True), numpy.array([True] * 7), numpy.zeros((2, 2, 2), int), numpy.str_("quad"), numpy.array([None, 1])]
+    if pandas is not None:
+        found += [pandas.Series(TORUS), pandas.DataFrame([TORUS, LINK]), pandas.DataFrame(), pandas.Series(["x"]), pandas.NA, pandas.Timestamp(0)]
+    if regina is not None:
+        found += [regina.Triangulation3(), regina.Triangulation3.fromIsoSig(SPHERE), regina.Triangulation4(), regina.Triangulation2(), regina.Container(),
+                  regina.NormalSurfaces(regina.Triangulation3.fromIsoSig("cPcbbbiht"), regina.NS_QUAD)[0], regina.Perm4(), regina.Triangulation3]
+    return found
+
+
+class Nonsense(unittest.TestCase):
+    @classmethod
+    def setUpClass(cls):
+        cls.server = server.Server() if server.Server.find() else None
+        if cls.server:
+            cls.addClassCleanup(cls.server.close)
+
+    def right(self, name, parameter):
+        if parameter == "program":
+            return self.server
+        if parameter == "surface" and regina is not None:
+            return regina.NormalSurfaces(regina.Triangulation3.fromIsoSig(SPHERE), regina.NS_STANDARD)[0]
+        if parameter == "triangulation" and regina is not None:
+            return regina.Triangulation3.fromIsoSig(SPHERE)
+        return OTHERS.get((name, parameter), RIGHT[parameter])
+
+    def try_all(self, name, call, parameters, allowed=()):
+        """Tries each value for each parameter, the others being right. Returns how often it was called."""
+        calls, wrong = 0, []
+        for parameter in parameters:
+            for at, value in enumerate(values()):
+                named = {other: self.right(name, other) for other in parameters if other != parameter}
+                named = {other: right for other, right in named.items() if right is not None}
+                try:
+                    call(**named, **{parameter: value})
+                except (trinorm.Refused, trinorm.BadArgument, trinorm.TimedOut, *allowed) as fault:
+                    self.assertGreater(len(str(fault)), 10)
+                except trinorm.Failed as fault:
+                    is_program = parameter == "program" and "no program at" in str(fault)
+                    if not (is_program or "module regina" in str(fault)):
+                        wrong.append(f"{name}, {parameter}, value {at} ({value!r:.80}): {type(fault).__name__}: {fault}")
+                except Exception as fault:
+                    wrong.append(f"{name}, {parameter}, value {at} ({value!r:.80}): {type(fault).__name__}: {fault}")
+                calls += 1
+        self.assertEqual("\n".join(wrong), "")
+        return calls
+
+    def functions(self):
+        """The public functions with their parameters, of those whose names are known here."""
+        for name in trinorm.__all__:
+            call = getattr(trinorm, name)
+            parameters = inspect.signature(call).parameters if inspect.isfunction(call) else {}
+            needed = [it for it, kind in parameters.items() if kind.default is inspect.Parameter.empty]
+            if parameters and set(needed) <= set(RIGHT):
+                yield name, call, [it for it in parameters if it in RIGHT]
+
+    def test_public_functions(self):
+        calls = 0
+        for name, call, parameters in self.functions():
+            with self.subTest(name):
+                calls += self.try_all(name, call, parameters)
+        self.assertGreater(calls, 4951)
+
+    def test_others(self):
+        self.try_all("parse", trinorm.Table.parse, ["text"])
+        self.try_all("parse", trinorm.Gluing.parse, ["word"])
+        self.try_all("document", tables.document, ["triangulation"])
+        self.try_all("vertex_surfaces", regina_surfaces.vertex_surfaces, ["t", "coords"])
+        if self.server:
+            self.try_all("run", self.server.run, ["words", "text", "timeout"])
+            self.try_all("run", lambda **named: program.run(**{"program": self.server, **named}), ["words", "text", "timeout", "program"])
+        self.try_all("find", program.find, ["program"])
+
+    def test_the_library(self):
+        found = program.find_library()
+        if found is None:
+            self.skipTest("the library isn't built")
+        self.assertIsInstance(found, library.Library)
+        self.try_all("answer", found.answer, ["words", "text", "timeout", "memory"])
+        self.try_all("run", found.run, ["words", "text", "timeout", "memory"], (trinorm.Failed,))
+
+
+@unittest.skipIf(numpy is None, "NumPy isn't there")
+class Arrays(unittest.TestCase):
+    """Vectors and lists of vectors by NumPy and pandas."""
+
+    def test_vectors(self):
+        for kind in ("int64", "int32", "uint8", "object"):
+            one, two = numpy.array(TORUS, kind), numpy.array([TORUS, LINK], kind)
+            self.assertEqual(trinorm.sig(trinorm.crush(SPHERE, one)), trinorm.sig(trinorm.crush(SPHERE, TORUS)))
+            for vectors in (two, list(two), tuple(two), [one, LINK], two[:, ::1]):
+                right = [tuple(map(int, it)) for it in vectors]
+                self.assertEqual(trinorm.verify(SPHERE, vectors), trinorm.verify(SPHERE, right))
+                self.assertEqual(trinorm.describe(SPHERE, vectors), trinorm.describe(SPHERE, right))
+        self.assertEqual(trinorm.describe(SPHERE, two[::-1].astype("int16", order="F")), trinorm.describe(SPHERE, [LINK, TORUS]))
+        self.assertEqual(trinorm.verify(SPHERE, numpy.zeros((0, 7), int)), [])
+
+    def test_rows(self):
+        rows = numpy.array([[1, -2, 0], [0, 1, -2]])
+        self.assertEqual(trinorm.rays(rows), [(4, 2, 1)])
+        self.assertEqual(trinorm.rays(rows, columns=numpy.int64(3), max_entry=numpy.uint8(200)), [(4, 2, 1)])
+        self.assertEqual(trinorm.rays(numpy.zeros((0, 2), int), 2), [(0, 1), (1, 0)])
+
+    def test_tables(self):
+        self.assertEqual(trinorm.sig([[(numpy.int64(0), numpy.array([1, 0, 2, 3])), (0, "1023"), "0:1230", "0:3012"]]), SPHERE)
+        self.assertEqual(trinorm.sig(numpy.array([["0:1023", "0:1023", "0:1230", "0:3012"]])), SPHERE)
+
+    def test_those_that_are_none(self):
+        for value in (numpy.array(TORUS), numpy.array(3), numpy.array([[[1]]]), numpy.array([[0.5] * 7]), numpy.array([[1.0] * 7]), numpy.array(["x"]), numpy.array([[True] * 7])):
+            with self.assertRaises(trinorm.BadArgument):
+                trinorm.describe(SPHERE, value)
+        with self.assertRaisesRegex(trinorm.BadArgument, "astype"):
+            trinorm.crush(SPHERE, numpy.array(TORUS, float))
+        with self.assertRaisesRegex(trinorm.BadArgument, "coords is one of"):
+            trinorm.surfaces(SPHERE, coords=numpy.array(["quad", "quad"]))
+
+    @unittest.skipIf(pandas is None, "pandas isn't there")
+    def test_pandas(self):
+        frame = pandas.DataFrame([TORUS, LINK])
+        right = trinorm.describe(SPHERE, [TORUS, LINK])
+        self.assertEqual(trinorm.describe(SPHERE, frame), right)
+        self.assertEqual(trinorm.describe(SPHERE, pandas.Series([TORUS, LINK])), right)
+        self.assertEqual(trinorm.describe(SPHERE, [frame.loc[0], frame.iloc[1]]), right)
+        self.assertEqual(trinorm.crush(SPHERE, pandas.Series(TORUS)), trinorm.crush(SPHERE, TORUS))
+        self.assertEqual(trinorm.group(pandas.Series([SPHERE, "bkaagb"])).classes, (0, 1))
+        self.assertEqual(trinorm.rays(pandas.DataFrame([[1, -2, 0], [0, 1, -2]])), [(4, 2, 1)])
+
+    def test_it_is_not_imported(self):
+        text = "import sys, trinorm\ntry:\n    trinorm.verify('bkaagj', [(-1,)], program='/bin/false')\nexcept trinorm.Error:\n    print('numpy' in sys.modules)"
+        done = subprocess.run([sys.executable, "-c", text], cwd=REPOSITORY / "python", stdout=subprocess.PIPE, text=True, check=True)
+        self.assertEqual(done.stdout, "False\n")
+
+
+if __name__ == "__main__":
+    unittest.main()

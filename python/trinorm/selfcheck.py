@@ -1,0 +1,190 @@
+"""Checks this installation: worked rows of all commands, the package's examples, and limits of a call.
+
+    python3 -m trinorm selfcheck
+
+takes some seconds, prints what to report, and ends with status 1 if anything differs. It matters most where nobody has
+run this package yet.
+"""
+from __future__ import annotations
+
+import _thread
+import argparse
+import doctest
+import json
+import os
+import platform
+import subprocess
+import sys
+import threading
+import time
+from pathlib import Path
+from typing import TYPE_CHECKING, Callable, Iterator, List, NamedTuple, Tuple
+
+from . import program, versions
+
+if TYPE_CHECKING:
+    from .library import Library
+
+HERE = Path(__file__).resolve().parent
+MOST_SHOWN = 10
+# of 24 tetrahedra, with a list that takes many seconds
+LONG_QUESTION = "sig yLALvLvAzAQMzzMQQaccehjikqpoornspvuttwwvxxbggggtccanffxwavawcvaeccc\n"
+FEW_BYTES = 1 << 20
+SHORT_TIME = 0.3
+# how late a limit may be looked at
+LATE = 20.0
+
+
+class Row(NamedTuple):
+    """A question, and what the program answers: its output and its exit status."""
+
+    words: Tuple[str, ...]
+    input: bytes
+    output: bytes
+    status: int
+
+
+class Outcome(NamedTuple):
+    """What was checked: how many checks there were, what differed, and the seconds that they took."""
+
+    count: int
+    differences: List[str]
+    seconds: float
+
+    def __str__(self) -> str:
+        return f"{self.count - len(self.differences)} of {self.count}, {self.seconds:.1f} s"
+
+
+Answer = Callable[[Row], Tuple[int, bytes]]
+
+
+def _bytes_of(spelled: object) -> bytes:
+    """Bytes as the file of rows has them: latin-1 text, or a text with a number of times."""
+    if isinstance(spelled, dict):
+        return _bytes_of(spelled["repeat"]) * spelled["times"]
+    return str(spelled).encode("latin-1")
+
+
+def read_rows() -> List[Row]:
+    """The worked rows."""
+    rows = json.loads((HERE / "worked_rows.json").read_text("utf8"))
+    return [Row(tuple(row["words"]), _bytes_of(row["input"]), _bytes_of(row["output"]), row["status"]) for row in rows]
+
+
+def _timed(count: int, differences: Iterator[str]) -> Outcome:
+    begun = time.monotonic()
+    listed = list(differences)
+    return Outcome(count, listed, time.monotonic() - begun)
+
+
+def check_rows(answer: Answer, rows: List[Row]) -> Outcome:
+    """Asks for the answer to each row."""
+    def differing() -> Iterator[str]:
+        for row in rows:
+            status, output = answer(row)
+            if (status, output) != (row.status, row.output):
+                yield (f"{' '.join(row.words)} < {row.input[:80]!r}: expected {row.output[:80]!r} with status {row.status}, "
+                       f"got {output[:80]!r} with status {status}")
+    return _timed(len(rows), differing())
+
+
+def by_library(library: Library) -> Answer:
+    """Answers by a library in this process."""
+    def answer(row: Row) -> Tuple[int, bytes]:
+        status, output, _ = library.answer(row.words, row.input.decode("utf8", "surrogateescape"))
+        return status, output
+    return answer
+
+
+def by_program(path: str) -> Answer:
+    """Answers by a process of the program for each row."""
+    def answer(row: Row) -> Tuple[int, bytes]:
+        done = subprocess.run([path, *row.words], input=row.input, stdout=subprocess.PIPE, stderr=subprocess.DEVNULL, check=False)
+        return done.returncode, done.stdout
+    return answer
+
+
+def check_examples() -> Outcome:
+    """Runs the package's examples."""
+    text = (HERE / "examples.txt").read_text("utf8")
+    test = doctest.DocTestParser().get_doctest(text, {}, "examples.txt", str(HERE / "examples.txt"), 0)
+    said: List[str] = []
+    runner = doctest.DocTestRunner(verbose=False)
+    begun = time.monotonic()
+    outcome = runner.run(test, out=said.append)
+    differences = [part for part in "".join(said).split("*" * 70) if part.strip()]
+    return Outcome(outcome.attempted, differences[:outcome.failed], time.monotonic() - begun)
+
+
+def _ends_by_interruption(library: Library) -> bool:
+    """Whether an interruption of the main thread, as by Ctrl-C, ends a call."""
+    if threading.current_thread() is not threading.main_thread():
+        return True
+    timer = threading.Timer(SHORT_TIME, _thread.interrupt_main)
+    timer.start()
+    try:
+        library.answer(["surfaces"], LONG_QUESTION, timeout=LATE)
+        library.run(["surfaces"], LONG_QUESTION, timeout=LATE)
+    except KeyboardInterrupt:
+        return True
+    except program.Error:
+        return False
+    finally:
+        timer.cancel()
+    return False
+
+
+def check_limits(library: Library) -> Outcome:
+    """Limits of time and memory, and an interruption, of a question that takes long."""
+    def differing() -> Iterator[str]:
+        begun = time.monotonic()
+        status, _, reached = library.answer(["surfaces"], LONG_QUESTION, timeout=SHORT_TIME)
+        if (status, reached) != (8, 2) or time.monotonic() - begun > LATE:
+            yield f"a limit of time: status {status}, limit {reached}, after {time.monotonic() - begun:.1f} s"
+        status, _, reached = library.answer(["surfaces"], LONG_QUESTION, memory=FEW_BYTES)
+        if (status, reached) != (8, 1):
+            yield f"a limit of memory: status {status}, limit {reached}"
+        if not _ends_by_interruption(library):
+            yield "an interruption did not end a call"
+    return _timed(3, differing())
+
+
+def _system() -> str:
+    return f"{platform.platform()}, {platform.machine()}, Python {platform.python_version()}, {os.cpu_count()} processors"
+
+
+def checks() -> Iterator[Tuple[str, Outcome]]:
+    """Each part that is checked, with its outcome."""
+    rows = read_rows()
+    library = program.find_library()
+    if library is not None:
+        yield f"worked rows by the library {library.path}", check_rows(by_library(library), rows)
+        yield "limits and interruption of a call", check_limits(library)
+    try:
+        path = program.find()
+    except program.Failed as missing:
+        if library is None:
+            raise
+        print(f"no program: {missing}")
+    else:
+        yield f"worked rows by the program {path}", check_rows(by_program(path), rows)
+    yield "examples of the package", check_examples()
+
+
+def main(_: argparse.Namespace) -> int:
+    """Prints the outcome of each check, and says whether all is as expected."""
+    print(f"trinorm {versions.version()}")
+    print(versions.build(), end="")
+    print(_system())
+    differences: List[str] = []
+    for name, outcome in checks():
+        print(f"{name}: {outcome}", flush=True)
+        differences += outcome.differences
+    for difference in differences[:MOST_SHOWN]:
+        print(f"differs: {difference.strip()}")
+    print(f"{len(differences)} differences: please report all of the above" if differences else "all is as expected")
+    return 1 if differences else 0
+
+
+if __name__ == "__main__":
+    sys.exit(main(argparse.Namespace()))

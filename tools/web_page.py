@@ -1,0 +1,118 @@
+#!/usr/bin/env python3
+"""Makes the page: a folder for any file server, and the same page as one file, which opens from the disk.
+
+    tools/web_page.py MODULE FOLDER
+
+MODULE is trinorm.wasm. FOLDER gets the folder `web` and the file trinorm.html.
+"""
+from __future__ import annotations
+
+import base64
+import hashlib
+import json
+import re
+import shutil
+import sys
+from pathlib import Path
+from typing import Dict, List, Optional
+
+from repository import PROGRAM, TOP, version
+
+PAGE = f"{PROGRAM}.html"
+SOURCES = TOP / "web"
+# in this order in the one file: each stands after those that it imports
+SCRIPTS = ["elements.js", "engine.js", "files.js", "asking.js", "texts.js", "hints.js", "pictures.js", "questions.js", "form.js",
+           "views.js", "page.js"]
+WORKER = ["engine.js", "worker.js"]
+POLICY = ("default-src 'none'; script-src '{script}' 'wasm-unsafe-eval'; worker-src blob:; style-src '{style}'; img-src data:; "
+          "base-uri 'none'; form-action 'none'")
+
+
+def examples(table: str) -> Dict[str, Dict[str, str]]:
+    """The examples of the commands, by the names of their files."""
+    found = {}
+    for command, name in re.findall(r"\./trinorm (\S+) < examples/(\S+)\.txt", table):
+        found.setdefault(name, {"command": command, "text": (TOP / "examples" / f"{name}.txt").read_text("utf8")})
+    return found
+
+
+def data_files() -> Dict[str, str]:
+    """What the page reads besides the module: the table of commands, hints, how discs are drawn, examples, and the version."""
+    table = (TOP / "python" / PROGRAM / "commands.txt").read_text("utf8")
+    return {
+        "commands.txt": table,
+        "hints.txt": (TOP / "python" / PROGRAM / "hints.txt").read_text("utf8"),
+        "discs.json": (TOP / "python" / PROGRAM / "discs.json").read_text("utf8"),
+        "examples.json": json.dumps(examples(table), indent=1) + "\n",
+        "about.json": json.dumps({"version": version(TOP)}) + "\n",
+    }
+
+
+def folder(module: bytes) -> Dict[str, bytes]:
+    """The files of the folder, by name."""
+    names = ["index.html", "page.css", *SCRIPTS, "worker.js", "package.json", f"node/{PROGRAM}.js"]
+    files = {name: (SOURCES / name).read_bytes() for name in names}
+    files.update((name, text.encode("utf8")) for name, text in data_files().items())
+    return {**files, f"{PROGRAM}.wasm": module}
+
+
+def joined(names: List[str]) -> str:
+    """Scripts as one, without their imports of each other and without exports. No two declare the same name."""
+    parts = []
+    for name in names:
+        text = (SOURCES / name).read_text("utf8")
+        text = re.sub(r"^import .*;\n", "", text, flags=re.M)
+        parts.append(re.sub(r"^export ", "", text, flags=re.M))
+    return "\n".join(parts)
+
+
+def hash_of(text: str) -> str:
+    """The name by which a content security policy allows a text."""
+    return "sha256-" + base64.b64encode(hashlib.sha256(text.encode("utf8")).digest()).decode()
+
+
+def element(name: str, text: str) -> str:
+    """An element that holds a file and does nothing. No text may end it early."""
+    if re.search(r"</script|<!--", text, re.I):
+        raise ValueError(f"{name} can't be held by an element of the page")
+    return f'<script type="text/plain" data-file="{name}">{text}</script>'
+
+
+def one_file(module: bytes) -> str:
+    """The page as one file, which fetches nothing."""
+    script, style = joined(SCRIPTS), (SOURCES / "page.css").read_text("utf8")
+    held = {**data_files(), "worker.js": joined(WORKER), f"{PROGRAM}.wasm": base64.b64encode(module).decode()}
+    parts = [*(element(name, text) for name, text in held.items()), f'<script type="module">{script}</script>']
+    page = (SOURCES / "index.html").read_text("utf8")
+    replaced = {
+        r'(http-equiv="Content-Security-Policy" content=)"[^"]*"': rf'\1"{POLICY.format(script=hash_of(script), style=hash_of(style))}"',
+        r'<link rel="stylesheet" href="page.css">': f"<style>{style}</style>",
+        r'<script type="module" src="page.js"></script>\n': "",
+        r"</body>": "\n".join(parts) + "\n</body>",
+    }
+    for pattern, text in replaced.items():
+        page, count = re.subn(pattern, text if r"\1" in text else lambda _, text=text: text, page)
+        if count != 1:
+            raise ValueError(f"web/index.html has {count} of {pattern}")
+    return page
+
+
+def write(module: bytes, to: Path) -> None:
+    """Writes the folder and the one file, in place of older ones."""
+    shutil.rmtree(to / "web", ignore_errors=True)
+    for name, data in folder(module).items():
+        path = to / "web" / name
+        path.parent.mkdir(parents=True, exist_ok=True)
+        path.write_bytes(data)
+    (to / PAGE).write_text(one_file(module), "utf8")
+
+
+def main(words: List[str]) -> Optional[str]:
+    if len(words) != 2:
+        return __doc__
+    write(Path(words[0]).read_bytes(), Path(words[1]))
+    return None
+
+
+if __name__ == "__main__":
+    sys.exit(main(sys.argv[1:]))

@@ -1,0 +1,48 @@
+// One call of the proved function in trinorm.wasm. Each call has an instance of its own: no call sees what another one left,
+// also after a trap, and the memory of the call is freed as a whole.
+
+/** The most bytes of an input. The program reads one byte more of a longer one, and refuses it. */
+export const MOST_INPUT = 1048576;
+
+/** The program's exit status if memory runs out. */
+export const NO_MEMORY = 8;
+
+const TOO_LITTLE_ROOM = 7;
+const AREAS = 10;
+const USUAL_ROOM = 1 << 26; // pages that no answer reaches cost nothing
+const NOTHING = new Uint8Array(0);
+
+/** Copies `bytes` into a new area of at least `length` bytes. Returns its address, or 0 if memory runs out. */
+function place(exports, bytes, length = bytes.length) {
+    const address = Number(exports.trinorm_area(BigInt(Math.max(length, 8))));
+    if (address) new Uint8Array(exports.memory.buffer, address, bytes.length).set(bytes);
+    return address;
+}
+
+/**
+ * Answers words and an input as the program does.
+ *
+ * module: a compiled trinorm.wasm
+ * words: strings without a zero character
+ * input: bytes, of which at most MOST_INPUT + 1 are read
+ * limit: the most bytes of memory, or 0 for what the host gives
+ * room: the bytes for the answer; if it is longer the call is made once more with enough
+ *
+ * Returns {status, answer, held}: the program's exit status, the bytes that it prints, and the bytes of memory that the
+ * instance had. If memory runs out the status is 8. A trap is thrown, as what the host makes of it.
+ */
+export function call(module, words, input, limit = 0, room = USUAL_ROOM) {
+    const spelled = new TextEncoder().encode(words.join('\0'));
+    const read = input.subarray(0, MOST_INPUT + 1);
+    const {exports} = new WebAssembly.Instance(module);
+    exports.trinorm_limit(BigInt(limit));
+    const areas = [place(exports, spelled), place(exports, read), place(exports, NOTHING, room), place(exports, NOTHING)];
+    const held = () => exports.memory.buffer.byteLength;
+    if (areas.includes(0)) return {status: NO_MEMORY, answer: NOTHING, held: held()};
+    const [words_at, input_at, answer_at, needed_at] = areas.map(BigInt);
+    const status = exports.trinorm_run(words_at, BigInt(spelled.length), input_at, BigInt(read.length), answer_at, BigInt(room), needed_at);
+    if (status === AREAS) throw new Error('the engine was called wrongly');
+    const needed = Number(new DataView(exports.memory.buffer).getBigUint64(areas[3], true));
+    if (status === TOO_LITTLE_ROOM) return call(module, words, input, limit, needed);
+    return {status, answer: new Uint8Array(exports.memory.buffer).slice(areas[2], areas[2] + needed), held: held()};
+}

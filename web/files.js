@@ -1,0 +1,28 @@
+// What belongs to the page: files next to it, or, if the page is one file, elements of it with their names.
+
+const element_of = (name) => document.querySelector(`script[data-file="${name}"]`);
+
+/** The text of a file of the page. */
+export async function text_of(name) {
+    const element = element_of(name);
+    if (element) return element.textContent;
+    const response = await fetch(name);
+    if (!response.ok) throw new Error(`${name} is missing (${response.status})`);
+    return response.text();
+}
+
+/** The bytes of a file of the page, which an element holds in base 64. */
+export async function bytes_of(name) {
+    const element = element_of(name);
+    if (element) return Uint8Array.from(atob(element.textContent.trim()), (character) => character.charCodeAt(0));
+    const response = await fetch(name);
+    if (!response.ok) throw new Error(`${name} is missing (${response.status})`);
+    return new Uint8Array(await response.arrayBuffer());
+}
+
+/** A new worker. The text of an element starts as a script, since a page from the disk may not load a module. */
+export function new_worker() {
+    const element = element_of('worker.js');
+    if (!element) return new Worker('worker.js', {type: 'module'});
+    return new Worker(URL.createObjectURL(new Blob([element.textContent], {type: 'text/javascript'})));
+}
