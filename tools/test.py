@@ -87,7 +87,7 @@ def late_parts() -> List[Part]:
     tools = sorted(path.name for path in (TOP / "tools").glob("*.py"))
     return parts + [
         Part("types", ["mypy", "--strict", "--cache-dir", os.devnull, *tools], TOP / "tools", "mypy"),
-        Part("worked rows", python("-m", "trinorm", "selfcheck"), PYTHON, str(PYTHON / "trinorm" / "selfcheck")),
+        Part("worked rows", python("-m", "trinorm.selfcheck"), PYTHON, str(PYTHON / "trinorm" / "selfcheck")),
         Part("examples", python("bench/examples.py")),
     ]
 
