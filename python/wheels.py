@@ -15,12 +15,20 @@ import packages  # noqa: E402
 from installed import Installed  # noqa: E402
 
 
+def named_program(named: str) -> bytes:
+    """The program at a path; a launcher, which finds it elsewhere, is none."""
+    data = Path(named).expanduser().read_bytes()
+    if not data.startswith(b"\x7fELF"):
+        raise SystemExit(f"TRINORM names {named}, which is no program but a script, such as the launcher: name the program itself")
+    return data
+
+
 def current_program() -> packages.Made:
     """What the repository's build made, where it is that of its sources, or the program that TRINORM names."""
     named, installed = os.environ.get("TRINORM"), Installed(TOP)
     version = packages.fields()["version"]
     if named:
-        return packages.Made(version, {"program": Path(named).expanduser().read_bytes()}, f"proved elsewhere\nversion {version}\n")
+        return packages.Made(version, {"program": named_program(named)}, f"proved elsewhere\nversion {version}\n")
     done = subprocess.run([sys.executable, str(TOP / "tools" / "build.py"), "--no-proof"], check=False)
     if done.returncode:
         raise SystemExit("there is no program to put into the package: build it first by ./trinorm, or name it by TRINORM")

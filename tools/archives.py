@@ -4,6 +4,7 @@ from __future__ import annotations
 import io
 import tarfile
 import zipfile
+import zlib
 from pathlib import Path
 from typing import Dict, Iterator, Tuple
 
@@ -20,7 +21,8 @@ class NoRelease(Exception):
 def tar_files(data: bytes) -> Iterator[Tuple[str, bytes]]:
     with tarfile.open(fileobj=io.BytesIO(data)) as files:
         for member in files:
-            found = files.extractfile(member)
+            # a link has no data of its own
+            found = files.extractfile(member) if member.isfile() else None
             if found is not None:
                 yield member.name, found.read()
 
@@ -54,13 +56,17 @@ def files_of(data: bytes) -> Iterator[Tuple[str, bytes]]:
 def read_release(path: Path) -> Tuple[Manifest, Dict[str, bytes]]:
     """The manifest of a release, and what its build made, as far as it is in there."""
     found: Dict[str, bytes] = {}
+    archive = path.read_bytes()
+    if archive.startswith(b"version "):
+        raise NoRelease("it is a MANIFEST, which --compare takes; --take takes a tarball, a wheel or a Debian package")
     try:
-        for name, data in files_of(path.read_bytes()):
+        for name, data in files_of(archive):
             _, place, file = name.rpartition(PLACE)
             if place and "/" not in file:
                 found[file] = data
-    except (tarfile.TarError, zipfile.BadZipFile, EOFError, ValueError) as fault:
-        raise NoRelease(f"it is no tarball, wheel or Debian package: {fault}") from None
+    except (tarfile.TarError, zipfile.BadZipFile, zlib.error, EOFError, OSError, ValueError) as fault:
+        why = str(fault).splitlines()[0] if str(fault) else type(fault).__name__
+        raise NoRelease(f"it is no whole tarball, wheel or Debian package: {why}") from None
     if "MANIFEST" not in found or PROGRAM not in found:
         raise NoRelease("it holds no program with its manifest")
     manifest = read_manifest(found["MANIFEST"].decode("utf8"))

@@ -16,8 +16,8 @@ from typing import Dict, List, Optional, Tuple
 
 import pages
 from commands import read_table
-from manifest import FILES, Manifest
-from repository import PROGRAM, TOP, git
+from manifest import FILES, LINKS, Manifest
+from repository import PROGRAM, TOP, git, tracked
 
 # each file with its mode, by its path; a link is what it leads to, with this mode
 Files = Dict[str, Tuple[bytes, int]]
@@ -51,12 +51,17 @@ def epoch() -> int:
     return max(EARLIEST, int(told)) if told else EARLIEST
 
 
+def day() -> str:
+    """The day of that time."""
+    return time.strftime("%Y-%m-%d", time.gmtime(epoch()))
+
+
 def plain(path: Path) -> Tuple[bytes, int]:
     return path.read_bytes(), 0o644
 
 
 def shared(made: Made) -> Files:
-    """What each package has: program, launcher, manual page, completions, examples and licences."""
+    """What each package has: program, launcher, manual page, completions, header, examples and licences."""
     commands = read_table()
     libexec, doc = f"libexec/{PROGRAM}", f"share/doc/{PROGRAM}"
     files: Files = {
@@ -64,38 +69,54 @@ def shared(made: Made) -> Files:
         f"{libexec}/version": (made.told.encode(), 0o644),
         f"{libexec}/commands.txt": plain(TOP / "python" / PROGRAM / "commands.txt"),
         f"{libexec}/hints.txt": plain(TOP / "python" / PROGRAM / "hints.txt"),
-        f"share/man/man1/{PROGRAM}.1": (pages.manual(commands, made.version).encode(), 0o644),
+        f"share/man/man1/{PROGRAM}.1": (pages.manual(commands, made.version, day()).encode(), 0o644),
         f"share/bash-completion/completions/{PROGRAM}": (pages.bash(commands).encode(), 0o644),
         f"share/zsh/site-functions/_{PROGRAM}": (pages.zsh(commands).encode(), 0o644),
     }
     for name, data in made.files.items():
         if name != "archive":
-            files[f"{libexec}/{FILES[name]}"] = (data, 0o755)
+            files[f"{libexec}/{FILES[name]}"] = (data, 0o644 if name == "library" else 0o755)
     for name in ("hints.sh", "fault.awk", "sentences.awk", "usage.awk"):
         files[f"{libexec}/{name}"] = plain(TOP / "launcher" / name)
     for name in LICENCES:
         files[f"{doc}/{name}"] = plain(TOP / name)
-    for path in (TOP / "examples").glob("*.txt"):
-        files[f"{doc}/examples/{path.name}"] = plain(path)
+    files.update(below(f"{doc}/examples", "examples", ".txt"))
     if made.manifest is not None:
         files[f"{libexec}/MANIFEST"] = (made.manifest.text().encode(), 0o644)
-    return files
+    return {**files, **for_c()} if "library" in made.files else files
+
+
+def below(place: str, folder: str, *endings: str) -> Files:
+    """The files of a folder of the repository, below a place of a package; with endings, only those that have one."""
+    return {f"{place}/{path.relative_to(TOP / folder).as_posix()}": plain(path)
+            for path in tracked(TOP, folder) if not endings or path.suffix in endings}
+
+
+def for_c() -> Files:
+    """The header, and the examples in C."""
+    header = {f"include/{PROGRAM}.h": plain(TOP / "library" / f"{PROGRAM}.h")}
+    return {**header, **below(f"share/doc/{PROGRAM}/examples", "library/examples", ".c")}
+
+
+def package_config(version: str) -> bytes:
+    """What pkg-config is to say of the library; the folders are found from the place of this file."""
+    return (f"prefix=${{pcfiledir}}/../..\nlibdir=${{prefix}}/lib\nincludedir=${{prefix}}/include\n\nName: {PROGRAM}\n"
+            f"Description: {pages.PURPOSE}\nVersion: {version}\nLibs: -L${{libdir}} -l{PROGRAM}\nCflags: -I${{includedir}}\n").encode()
 
 
 def with_library(made: Made) -> Files:
-    """The same, with the library and the pages."""
+    """The same, with the library for C and Rust, and the pages."""
     files = shared(made)
     if "library" in made.files:
-        files[f"include/{PROGRAM}.h"] = plain(TOP / "library" / f"{PROGRAM}.h")
-        files[f"lib/{FILES['library']}"] = (f"../libexec/{PROGRAM}/{FILES['library']}".encode(), LINK)
+        library = FILES["library"]
+        files[f"lib/{library}"] = (f"../libexec/{PROGRAM}/{library}".encode(), LINK)
+        files.update({f"lib/{link}": (name.encode(), LINK) for link, name in LINKS.items()})
         files[f"lib/{FILES['archive']}"] = (made.files["archive"], 0o644)
-        for path in (path for path in (TOP / "library" / "rust").rglob("*") if path.is_file() and "target" not in path.parts):
-            files[f"share/{PROGRAM}/{path.relative_to(TOP / 'library').as_posix()}"] = plain(path)
+        files[f"lib/pkgconfig/{PROGRAM}.pc"] = (package_config(made.version), 0o644)
+        files.update(below(f"share/{PROGRAM}/rust", "library/rust"))
     for name in ("README.md", "CHANGELOG.md", "CITATION.cff"):
         files[f"share/doc/{PROGRAM}/{name}"] = plain(TOP / name)
-    for path in (TOP / "docs").iterdir():
-        files[f"share/doc/{PROGRAM}/docs/{path.name}"] = plain(path)
-    return files
+    return {**files, **below(f"share/doc/{PROGRAM}/docs", "docs")}
 
 
 def tar(files: Files, prefix: str = "") -> bytes:
@@ -127,8 +148,10 @@ def gzipped(data: bytes) -> bytes:
 
 
 def tarball(made: Made) -> Tuple[str, bytes]:
+    """The tarball: all that a release has, below one folder, with the package in share/trinorm/python."""
     name = f"{PROGRAM}-{made.version}-x86_64-linux"
-    return f"{name}.tar.gz", tar(with_library(made), f"{name}/")
+    package = {f"share/{PROGRAM}/python/{path}": content for path, content in modules().items()}
+    return f"{name}.tar.gz", tar({**with_library(made), **package}, f"{name}/")
 
 
 def ar(parts: List[Tuple[str, bytes]]) -> bytes:
@@ -138,30 +161,82 @@ def ar(parts: List[Tuple[str, bytes]]) -> bytes:
     return out
 
 
+MAINTAINER = f"the {PROGRAM} authors <{PROGRAM}@example.org>"
+DESCRIPTION = """\
+ It lists all vertex normal surfaces of a triangulated 3-manifold, with a
+ machine-checked proof that none is missing, and describes, crushes, adds and
+ decomposes surfaces, compares triangulations, and plays and checks Pachner
+ moves.
+ .
+ This package has the command, a library for C, a crate for Rust, and a package
+ for Python.
+"""
+# removes what Python makes of the package's modules when root imports them
+BEFORE_REMOVAL = f"""\
+#!/bin/sh
+set -e
+if command -v py3clean >/dev/null; then
+  py3clean -p {PROGRAM}
+fi
+"""
+# the program is, bit for bit, the one that was proved
+OVERRIDES = f"""\
+# The program is the one that MANIFEST names, bit for bit, so that whoever proves it again can compare it.
+{PROGRAM}: unstripped-binary-or-object [usr/libexec/{PROGRAM}/{PROGRAM}]
+"""
+
+
 def control(made: Made, files: Files) -> str:
+    """What a Debian package says of itself."""
     size = sum(len(data) for data, _ in files.values()) >> 10
-    return (f"Package: {PROGRAM}\nVersion: {made.version}\nArchitecture: amd64\nMaintainer: the {PROGRAM} authors\n"
-            f"Installed-Size: {size}\nDepends: libc6 (>= 2.{made.glibc()})\nSection: math\nPriority: optional\n"
-            f"Description: {pages.PURPOSE}\n")
+    return (f"Package: {PROGRAM}\nVersion: {made.version}\nArchitecture: amd64\nMaintainer: {MAINTAINER}\n"
+            f"Installed-Size: {size}\nDepends: libc6 (>= 2.{made.glibc()})\nRecommends: python3 (>= 3.9)\nSection: math\nPriority: optional\n"
+            f"Description: {pages.PURPOSE}\n{DESCRIPTION}")
 
 
 def copyright_page() -> bytes:
     """What a Debian package says of its licence."""
-    head = ("Format: https://www.debian.org/doc/packaging-manuals/copyright-format/1.0/\n\nFiles: *\nCopyright: the trinorm authors\n"
-            "License: MIT or Apache-2.0\nComment: LICENSE-MIT, LICENSE-APACHE and NOTICES stand beside this file.\n")
+    authors = f"{day()[:4]} the {PROGRAM} authors"
+    licence = (TOP / "LICENSE-MIT").read_text("utf8").strip()
+    text = "\n".join(f" {line}" if line.strip() else " ." for line in licence.splitlines())
+    head = (f"Format: https://www.debian.org/doc/packaging-manuals/copyright-format/1.0/\n\nFiles: *\nCopyright: {authors}\n"
+            "License: Expat or Apache-2.0\nComment: NOTICES, next to this file, has the licences of the libraries that the program holds.\n\n"
+            f"License: Expat\n{text}\n\nLicense: Apache-2.0\n On Debian systems /usr/share/common-licenses/Apache-2.0 has its text.\n")
     return head.encode()
 
 
-def debian(made: Made) -> Tuple[str, bytes]:
+def changes(version: str) -> bytes:
+    """The changelog of a Debian package."""
+    moment = time.strftime("%a, %d %b %Y %H:%M:%S +0000", time.gmtime(epoch()))
+    return f"{PROGRAM} ({version}) stable; urgency=medium\n\n  * Release {version}.\n\n -- {MAINTAINER}  {moment}\n".encode()
+
+
+def files_of_debian(made: Made) -> Files:
+    """The files of a Debian package, below usr/."""
     files: Files = {}
     for name, (data, mode) in with_library(made).items():
         if name.startswith("share/man/"):
             name, data = f"{name}.gz", gzipped(data)
-        files["usr/" + name.replace("zsh/site-functions", "zsh/vendor-completions")] = (data, mode)
-    files[f"usr/share/doc/{PROGRAM}/copyright"] = (copyright_page(), 0o644)
+        # Debian has the one text, and asks that a licence that it has is not repeated
+        if not name.endswith(("/LICENSE-MIT", "/LICENSE-APACHE")):
+            files["usr/" + name.replace("zsh/site-functions", "zsh/vendor-completions")] = (data, mode)
+    doc = f"usr/share/doc/{PROGRAM}"
+    files[f"{doc}/copyright"] = (copyright_page(), 0o644)
+    files[f"{doc}/changelog.gz"] = (gzipped(changes(made.version)), 0o644)
+    files[f"usr/share/lintian/overrides/{PROGRAM}"] = (OVERRIDES.encode(), 0o644)
+    files.update({f"usr/lib/python3/dist-packages/{name}": content for name, content in modules().items()})
+    return files
+
+
+def debian(made: Made) -> Tuple[str, bytes]:
+    """The Debian package: all that a release has, with the package where Debian's Python finds it."""
+    files = files_of_debian(made)
     sums = "".join(f"{hashlib.md5(data).hexdigest()}  {name}\n" for name, (data, mode) in sorted(files.items()) if mode != LINK)
-    about = tar({"control": (control(made, files).encode(), 0o644), "md5sums": (sums.encode(), 0o644)}, "./")
-    parts = [("debian-binary", b"2.0\n"), ("control.tar.gz", about), ("data.tar.gz", tar(files, "./"))]
+    about: Files = {"control": (control(made, files).encode(), 0o644), "md5sums": (sums.encode(), 0o644),
+                    "prerm": (BEFORE_REMOVAL.encode(), 0o755)}
+    if "library" in made.files:
+        about["triggers"] = (b"activate-noawait ldconfig\n", 0o644)
+    parts = [("debian-binary", b"2.0\n"), ("control.tar.gz", tar(about, "./")), ("data.tar.gz", tar(files, "./"))]
     return f"{PROGRAM}_{made.version}_amd64.deb", ar(parts)
 
 
@@ -171,6 +246,8 @@ def fields() -> Dict[str, str]:
     found = dict(re.findall(r'^([\w-]+) = "([^"]*)"', text, re.M))
     classifiers = re.search(r"^classifiers = \[(.*?)^\]", text, re.M | re.S)
     found["classifiers"] = "\n".join(re.findall(r'"([^"]+)"', classifiers[1])) if classifiers else ""
+    keywords = re.search(r"^keywords = \[(.*?)\]", text, re.M | re.S)
+    found["keywords"] = ",".join(re.findall(r'"([^"]+)"', keywords[1])) if keywords else ""
     scripts = re.search(r"^\[project\.scripts\]\n((?:.+\n)*)", text, re.M)
     found["scripts"] = scripts[1].replace('"', "") if scripts else ""
     return found
@@ -180,7 +257,7 @@ def metadata() -> str:
     told = fields()
     head = [
         "Metadata-Version: 2.1", f"Name: {told['name']}", f"Version: {told['version']}", f"Summary: {told['description']}",
-        "Author: the trinorm authors", "License: MIT OR Apache-2.0", *(f"License-File: {name}" for name in LICENCES),
+        "Author: the trinorm authors", "License: MIT OR Apache-2.0", f"Keywords: {told['keywords']}", *(f"License-File: {name}" for name in LICENCES),
         *(f"Classifier: {line}" for line in told["classifiers"].splitlines()),
         f"Requires-Python: {told['requires-python']}", "Description-Content-Type: text/markdown",
     ]
@@ -216,9 +293,7 @@ def wheel_of(files: Files, tag: str) -> Tuple[str, bytes]:
 
 def modules() -> Files:
     """The package's own files."""
-    folder = TOP / "python"
-    paths = sorted(path for path in (folder / PROGRAM).rglob("*") if path.suffix in (".py", ".typed", ".txt", ".json"))
-    return {path.relative_to(folder).as_posix(): plain(path) for path in paths}
+    return below(PROGRAM, f"python/{PROGRAM}")
 
 
 def wheel(made: Made) -> Tuple[str, bytes]:

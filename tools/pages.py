@@ -39,14 +39,15 @@ def synopsis(command: Command) -> str:
 
 
 def entry(command: Command) -> List[str]:
-    lines = [".TP", synopsis(command), roff(f"Answers {command.answers}. Reads {DOCUMENTS[command.document]}.")]
+    lines = [".TP", synopsis(command), roff(f"Prints {command.answers}. Reads {DOCUMENTS[command.document]}.")]
     numbers = [roff(f"--{option.name} is a number from {option.numbers[0]} to {option.numbers[1]}.") for option in command.options if not option.values]
     return lines + numbers
 
 
-def manual(commands: Sequence[Command], version: str) -> str:
+def manual(commands: Sequence[Command], version: str, day: str) -> str:
+    """The manual page of a version that was made on a day, as 2026-01-31."""
     lines = [
-        f'.TH TRINORM 1 "" "trinorm {version}" "User Commands"', ".SH NAME", rf"trinorm \- {roff(PURPOSE)}", ".SH SYNOPSIS",
+        f'.TH TRINORM 1 {day} "trinorm {version}" "User Commands"', ".SH NAME", rf"trinorm \- {roff(PURPOSE)}", ".SH SYNOPSIS",
         r"\fBtrinorm\fR \fICOMMAND\fR [\fB\-\-\fIoption value\fR ...] < \fIINPUT\fR", ".SH DESCRIPTION",
         "Reads standard input to its end, writes the whole answer to standard output, and ends with a status. A refusal is one",
         r"line that begins with \fBrefused:\fR. Where standard error is a terminal, a few words there say what is wanted.",
@@ -64,6 +65,10 @@ def manual(commands: Sequence[Command], version: str) -> str:
     lines += [
         ".SH EXAMPLES", ".TP", "All vertex normal surfaces of the figure eight knot's complement:", r"echo sig cPcbbbiht | trinorm surfaces",
         ".TP", "Is this triangulation isomorphic to another one?", r"printf \(aqsig bkaagn\ensig bkaagj\en\(aq | trinorm same",
+    ]
+    lines += [
+        ".SH FILES", r"Pages, examples and licences are in \fIshare/doc/trinorm\fR of the folder in which trinorm is installed, the program and its",
+        r"MANIFEST in \fIlibexec/trinorm\fR.", ".SH AUTHORS", "The trinorm authors.",
     ]
     return "\n".join(lines) + "\n"
 

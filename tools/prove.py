@@ -232,6 +232,9 @@ class Workspace:
     def wait(self, running: Dict[int, Run], done: "set[str]", finish: Callable[[str, Took], None]) -> None:
         """Waits for the end of one proof."""
         process, status, used = os.wait4(-1, 0)
+        while process not in running:
+            # as the first process of a container this one is given others' children
+            process, status, used = os.wait4(-1, 0)
         run = running.pop(process)
         run.process.returncode = status
         self.look_at_end(run.name, status)

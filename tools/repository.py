@@ -154,6 +154,18 @@ def git(top: Path, *words: str) -> Optional[str]:
     return done.stdout.strip() if done.returncode == 0 else None
 
 
+def tracked(top: Path, *folders: str) -> List[Path]:
+    """The files of some folders that the commit has or is about to have, in order. Outside a checkout, where git can't say, all
+    files but those that tools leave behind."""
+    told = git(top, "ls-files", "-z", "--", *folders)
+    if told is not None:
+        return sorted(top / name for name in told.split("\0") if name and (top / name).is_file())
+    left_behind = ("__pycache__", "target", "out", "build")
+    paths = (path for folder in folders for path in (top / folder).rglob("*") if path.is_file())
+    return sorted(path for path in paths if not any(part.startswith(".") or part in left_behind or part.endswith(".egg-info")
+                                                    for part in path.relative_to(top).parts))
+
+
 def changed(top: Path, paths: Iterable[str] = ()) -> bool:
     """Whether files differ from the commit. Where that can't be told, as outside a checkout, none does."""
     return bool(git(top, "status", "--porcelain", "--", *paths))

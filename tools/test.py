@@ -32,7 +32,7 @@ PYTHON = TOP / "python"
 TESTS = {
     "tools": ("test_build", "test_edits", "test_floors", "test_language", "test_release", "test_test", "test_twice"),
     "launcher": ("test_launcher",),
-    "library": ("test_c_library", "test_library", "test_server"),
+    "library": ("test_c_library", "test_installing", "test_library", "test_server"),
     "rust": ("test_rust",),
 }
 # seconds after which a part is ended; the longest takes some three minutes on an idle machine
@@ -87,7 +87,7 @@ def late_parts() -> List[Part]:
     tools = sorted(path.name for path in (TOP / "tools").glob("*.py"))
     return parts + [
         Part("types", ["mypy", "--strict", "--cache-dir", os.devnull, *tools], TOP / "tools", "mypy"),
-        Part("worked rows", python("-m", "trinorm", "selfcheck"), PYTHON, str(PYTHON / "trinorm" / "selfcheck")),
+        Part("worked rows", python("-m", "trinorm.selfcheck"), PYTHON, str(PYTHON / "trinorm" / "selfcheck")),
         Part("examples", python("bench/examples.py")),
     ]
 

@@ -30,7 +30,7 @@ POLICY = ("default-src 'none'; script-src '{script}' 'wasm-unsafe-eval'; worker-
 
 def examples(table: str) -> Dict[str, Dict[str, str]]:
     """The examples of the commands, by the names of their files."""
-    found = {}
+    found: Dict[str, Dict[str, str]] = {}
     for command, name in re.findall(r"\./trinorm (\S+) < examples/(\S+)\.txt", table):
         found.setdefault(name, {"command": command, "text": (TOP / "examples" / f"{name}.txt").read_text("utf8")})
     return found
@@ -91,7 +91,8 @@ def one_file(module: bytes) -> str:
         r"</body>": "\n".join(parts) + "\n</body>",
     }
     for pattern, text in replaced.items():
-        page, count = re.subn(pattern, text if r"\1" in text else lambda _, text=text: text, page)
+        # only the policy names a group of its pattern
+        page, count = re.subn(pattern, text if text.startswith(r"\1") else text.replace("\\", r"\\"), page)
         if count != 1:
             raise ValueError(f"web/index.html has {count} of {pattern}")
     return page

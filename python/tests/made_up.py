@@ -139,7 +139,10 @@ class MadeUp:
             file.write("for_c staticlib: left\n")
         (self.top / "crates" / "for_c" / "src").mkdir(parents=True)
         self.write("for_c", "echo for_c\n")
-        (self.top / "library").mkdir()
+        for name in ("examples", "rust/trinorm/src"):
+            (self.top / "library" / name).mkdir(parents=True)
+        for name in ("examples/quads.c", "rust/trinorm/src/lib.rs"):
+            shutil.copy(REPOSITORY / "library" / name, self.top / "library" / name)
         (self.top / "library" / "limits.c").write_text("one")
         (self.top / "library" / "trinorm.h").write_text("header")
         (self.top / "tools" / "library.py").write_text(LIBRARY)

@@ -169,6 +169,30 @@ class Build(unittest.TestCase):
         self.clone.launch()
         self.assertEqual(MadeUp(self.folder, "second").launch(kit=False), ANSWER)
 
+    def as_another_user(self):
+        """Words that run a command as a user who may not write the clone, or None if there is no way to."""
+        if os.geteuid():
+            for path in [self.clone.top, *self.clone.top.rglob("*")]:
+                if path.is_dir():
+                    path.chmod(0o555)
+                    self.addCleanup(path.chmod, 0o755)
+            return []
+        words = ["setpriv", "--reuid=65534", "--regid=65534", "--clear-groups"]
+        return words if shutil.which("setpriv") and subprocess.run([*words, "true"], check=False).returncode == 0 else None
+
+    def test_a_clone_that_another_user_runs(self):
+        """It answers, also after a source was touched, without a word: the program is that of the sources."""
+        self.clone.launch()
+        self.clone.proved()
+        self.folder.chmod(0o755)
+        self.clone.source("left").touch()
+        words = self.as_another_user()
+        if words is None:
+            self.skipTest("nothing runs as another user here")
+        self.clone.environment["XDG_CACHE_HOME"] = str(self.folder / "none")
+        done = self.clone.run([*words, "./trinorm"])
+        self.assertEqual((done.returncode, done.stdout, done.stderr), (0, ANSWER, ""))
+
     def test_no_proof(self):
         self.assertEqual(self.clone.build("--no-proof").returncode, 9)
         self.assertEqual(self.clone.proved(), [])

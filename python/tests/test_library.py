@@ -329,26 +329,5 @@ class Memory(unittest.TestCase):
             self.refused(words, "sig bkaagj\n", *check)
 
 
-@unittest.skipUnless(named() and shutil.which("cc"), "the library or a C compiler isn't there")
-class Example(unittest.TestCase):
-    def test_the_example_in_c(self):
-        with tempfile.TemporaryDirectory() as folder:
-            program, sources = os.path.join(folder, "quads"), REPOSITORY / "library"
-            subprocess.run(["cc", "-Wall", "-Wextra", "-Werror", "-std=c99", "-I", sources, "-o", program, sources / "examples" / "quads.c",
-                            named(), f"-Wl,-rpath,{Path(named()).parent}"], check=True)
-            done = subprocess.run([program], stdout=subprocess.PIPE, check=False)
-        self.assertEqual((done.returncode, done.stdout), by_process(["surfaces", "--coords", "quad"], "sig cPcbbbiht\n"))
-
-
-@unittest.skipUnless(named() and ARCHIVE.is_file() and shutil.which("cargo"), "the archive or cargo isn't there")
-class Rust(unittest.TestCase):
-    def test_the_crate_s_own_tests(self):
-        with tempfile.TemporaryDirectory() as folder:
-            around = dict(os.environ, TRINORM_LIB_DIR=str(ARCHIVE.parent), CARGO_TARGET_DIR=folder)
-            done = subprocess.run(["cargo", "test", "--offline", "--quiet"], cwd=REPOSITORY / "library" / "rust" / "trinorm-sys",
-                                  env=around, stdout=subprocess.PIPE, stderr=subprocess.STDOUT, text=True, check=False)
-        self.assertEqual(done.returncode, 0, done.stdout)
-
-
 if __name__ == "__main__":
     unittest.main()

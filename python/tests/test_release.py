@@ -1,16 +1,23 @@
 """A release of a made-up repository: its files, that they are the same whenever they are made, and that they can be used."""
+import io
 import os
 import pty
 import re
 import subprocess
 import sys
+import tarfile
 import tempfile
 import unittest
 import venv
+import zipfile
 from pathlib import Path
 
 from tests.made_up import MadeUp
 from trinorm.program import REPOSITORY
+
+sys.path.insert(0, str(REPOSITORY / "tools"))
+
+from archives import ar_files  # noqa: E402
 
 ANSWER = "ground\nleft\nright\ntrinorm\n"
 
@@ -24,6 +31,11 @@ class Release(unittest.TestCase):
         cls.clone = MadeUp(cls.folder)
         cls.clone.add_library()
         cls.clone.lay_out_rest()
+        # what git doesn't know is in no release, also where it is hidden
+        (cls.clone.top / ".git" / "info" / "exclude").write_text("stray*\n")
+        for place in ("python/trinorm/stray.json", "python/trinorm/stray/more.py", "examples/stray.txt", "docs/stray.md"):
+            (cls.clone.top / place).parent.mkdir(exist_ok=True)
+            (cls.clone.top / place).write_text("stray")
         cls.early = cls.clone.run(["tools/release.py"])
         cls.clone.build()
         cls.partial = cls.clone.run(["tools/release.py"])
@@ -90,7 +102,8 @@ class Release(unittest.TestCase):
         program = str(top / "bin" / "trinorm")
         self.assertEqual(self.run_alone([program]), (0, ANSWER, ""))
         self.assertEqual(self.run_alone([program], terminal=True), (0, ANSWER, ""))
-        for name in ("lib/libtrinorm.so", "include/trinorm.h", "libexec/trinorm/trinorm-server", "share/man/man1/trinorm.1", "share/zsh/site-functions/_trinorm", "share/doc/trinorm/NOTICES", "share/doc/trinorm/docs/GUIDE.md"):
+        for name in ("lib/libtrinorm.so", "lib/libtrinorm.so.1", "lib/pkgconfig/trinorm.pc", "include/trinorm.h", "share/doc/trinorm/examples/quads.c",
+                     "share/trinorm/rust/trinorm/src/lib.rs", "libexec/trinorm/trinorm-server", "share/man/man1/trinorm.1", "share/zsh/site-functions/_trinorm", "share/doc/trinorm/NOTICES", "share/doc/trinorm/docs/GUIDE.md"):
             self.assertTrue((top / name).is_file(), name)
         completion = top / "share/bash-completion/completions/trinorm"
         script = f". {completion}; COMP_WORDS=(trinorm describe --coords ''); COMP_CWORD=3; _trinorm; echo ${{COMPREPLY[*]}}"
@@ -104,6 +117,28 @@ class Release(unittest.TestCase):
         self.assertEqual(self.run_alone([str(to / "usr/bin/trinorm")]), (0, ANSWER, ""))
         told = subprocess.run(["dpkg-deb", "-f", str(self.file(".deb")), "Depends", "Version"], capture_output=True, text=True, check=True).stdout
         self.assertIn("Depends: libc6 (>= 2.", told)
+        script = f"import sys; sys.path.insert(0, '{to}/usr/lib/python3/dist-packages'); import trinorm; print(trinorm.find())"
+        self.assertEqual(self.run_alone([sys.executable, "-c", script])[1], f"{to}/usr/libexec/trinorm/trinorm\n")
+
+    def names(self):
+        """The names of all files in the packages."""
+        with zipfile.ZipFile(self.file(".whl")) as wheel, tarfile.open(self.file(".tar.gz")) as tarball:
+            deb = b"".join(data for name, data in ar_files(self.file(".deb").read_bytes()) if name.startswith("data.tar"))
+            with tarfile.open(fileobj=io.BytesIO(deb)) as debian:
+                return [*wheel.namelist(), *tarball.getnames(), *debian.getnames()]
+
+    def test_only_what_git_knows(self):
+        names = self.names()
+        self.assertEqual([name for name in names if "stray" in name], [])
+        for ending in ("trinorm/__main__.py", "trinorm/py.typed", "examples/figure-eight.txt"):
+            self.assertGreaterEqual(sum(name.endswith(ending) for name in names), 3, ending)
+
+    def test_the_launcher_is_no_program(self):
+        around = dict(self.clone.environment, TRINORM=str(self.clone.top / "trinorm"))
+        script = "import sys; sys.path.insert(0, 'python'); import wheels; wheels.build_wheel('.')"
+        done = subprocess.run([sys.executable, "-c", script], cwd=self.clone.top, env=around, capture_output=True, text=True, check=False)
+        self.assertEqual(done.returncode, 1)
+        self.assertIn("is no program but a script, such as the launcher", done.stderr)
 
     def test_take(self):
         other = MadeUp(self.folder, "other clone")
@@ -117,14 +152,32 @@ class Release(unittest.TestCase):
             self.assertEqual(done.returncode, 0, done.stderr)
             self.assertIn("it was proved elsewhere, by made-up-kit-1", done.stderr)
             self.assertEqual(other.launch(kit=False), ANSWER)
-            self.assertEqual(out.with_name("libtrinorm.so").read_text(), "libtrinorm.so by one")
+            self.assertEqual(out.with_name("libtrinorm.so.1").read_text(), "libtrinorm.so by one")
         other.source("left").touch()
         self.assertEqual((other.launch(), other.proved()), (ANSWER, []))
         other.write("left", "echo changed\n")
         done = other.build("--take", str(self.file(".whl")))
         self.assertEqual(done.returncode, 1)
         self.assertIn("1 differ, first crates/left/src/lib.rt", done.stderr)
-        self.assertEqual(other.build("--take", str(self.file("MANIFEST"))).returncode, 1)
+        self.assertIn("it is a MANIFEST, which --compare takes", other.build("--take", str(self.file("MANIFEST"))).stderr)
+
+    def test_what_is_no_release(self):
+        """A file that is cut, that holds a link to nothing, or that is none has one line that says so."""
+        with tarfile.open(self.folder / "link.tar.gz", "w:gz") as out:
+            entry = tarfile.TarInfo("trinorm/libexec/trinorm/trinorm")
+            entry.type, entry.linkname = tarfile.LNKTYPE, "nowhere"
+            out.addfile(entry)
+        given = [("link.tar.gz", "it holds no program with its manifest")]
+        for ending in (".whl", ".deb", ".tar.gz"):
+            data = self.file(ending).read_bytes()
+            for name, part in (("half", data[:len(data) // 2]), ("spoilt", b"spoilt" + data[6:])):
+                (self.folder / f"{name}{ending}").write_bytes(part)
+                given.append((f"{name}{ending}", "it is no whole tarball, wheel or Debian package"))
+        (self.folder / "text").write_text("text")
+        for name, why in [*given, ("text", "it is no whole tarball")]:
+            done = self.clone.build("--take", str(self.folder / name))
+            self.assertEqual((done.returncode, len(done.stderr.splitlines())), (1, 1), (name, done.stderr))
+            self.assertRegex(done.stderr, f"{why}|isn't the one that its manifest tells|holds no program", name)
 
     def test_pip(self):
         """The wheel, and the package from its folder, without network, in fresh environments."""

@@ -3,7 +3,7 @@
 //!     cargo run --release --example census -- FILE_OF_SIGNATURES
 use std::io::{self, Write};
 use std::{env, fs, thread};
-use trinorm_sys::{run, Status};
+use trinorm::{run, Status};
 
 fn line_of(signature: &str) -> String {
     match run(&["surfaces"], format!("sig {signature}\n").as_bytes()) {

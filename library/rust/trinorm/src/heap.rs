@@ -13,6 +13,7 @@ pub struct Tried {
 const HEAD: usize = 16;
 static NOTHING: u8 = 0;
 
+/// The layout of a block of `size` bytes with its head. Blocks are aligned to HEAD bytes, and to no more.
 fn layout(size: usize) -> Option<Layout> {
     Layout::from_size_align(size.checked_add(HEAD)?, HEAD).ok()
 }
@@ -37,8 +38,8 @@ unsafe fn told(head: *mut u8, size: usize) -> Tried {
 }
 
 #[no_mangle]
-extern "C" fn rattle_alloc(size: usize, _align: usize) -> Tried {
-    let head = match layout(size) {
+extern "C" fn rattle_alloc(size: usize, align: usize) -> Tried {
+    let head = match layout(size).filter(|_| align <= HEAD) {
         // SAFETY: the layout has at least the bytes of the head
         Some(it) => unsafe { alloc(it) },
         None => std::ptr::null_mut(),
@@ -54,13 +55,13 @@ unsafe extern "C" fn rattle_realloc(
     old: *mut u8,
     _kept: usize,
     size: usize,
-    _align: usize,
+    align: usize,
 ) -> Tried {
     // SAFETY: the head of the block says its size, with which it was made
     unsafe {
         let head = old.sub(HEAD);
         let made = match (layout(head.cast::<usize>().read()), layout(size)) {
-            (Some(was), Some(is)) => realloc(head, was, is.size()),
+            (Some(was), Some(is)) if align <= HEAD => realloc(head, was, is.size()),
             _ => std::ptr::null_mut(),
         };
         told(made, size)

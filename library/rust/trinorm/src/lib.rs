@@ -5,6 +5,9 @@
 #![deny(unsafe_op_in_unsafe_fn)]
 
 mod heap;
+mod room;
+
+use room::Room;
 
 extern "C" {
     fn trinorm_answer(
@@ -60,18 +63,24 @@ impl std::fmt::Display for Fault {
 
 impl std::error::Error for Fault {}
 
-/// How large the room for an answer is at first.
-const ROOM: usize = 1 << 14;
+/// How large the room for an answer is at first. The system gives its pages as an answer reaches them, so a room that
+/// holds nearly every answer costs no more than a small one, and spares a second computation.
+const ROOM: usize = 1 << 26;
 
 /// Answers words, as `["surfaces", "--coords", "quad"]`, and an input, as `b"sig cPcbbbiht\n"`.
+///
+/// Fails with [`Fault::ZeroByte`] if a word has a zero byte, and with [`Fault::NoMemory`] if memory runs out, also for the
+/// room of the answer. An answer of more than 64 MiB is computed twice, since only the first run says how long it is.
 pub fn run(words: &[&str], input: &[u8]) -> Result<Answer, Fault> {
-    if words.iter().any(|it| it.contains('\0')) {
-        return Err(Fault::ZeroByte);
-    }
-    let words = words.join("\0");
-    let mut text = vec![0; ROOM];
+    run_with_room(ROOM, words, input)
+}
+
+/// As `run`, with a first room of `size` bytes.
+fn run_with_room(size: usize, words: &[&str], input: &[u8]) -> Result<Answer, Fault> {
+    let words = joined(words)?;
+    let mut room = Room::new(size).ok_or(Fault::NoMemory)?;
     loop {
-        let (code, needed) = answer_into(&mut text, words.as_bytes(), input);
+        let (code, needed) = answer_into(room.bytes(), &words, input);
         let status = match code {
             0 => Status::Done,
             2 => Status::Usage,
@@ -79,21 +88,47 @@ pub fn run(words: &[&str], input: &[u8]) -> Result<Answer, Fault> {
             4 => Status::Refused,
             5 => Status::Large,
             7 => {
-                text = vec![0; needed];
+                room = Room::new(needed).ok_or(Fault::NoMemory)?;
                 continue;
             }
             _ => return Err(Fault::NoMemory),
         };
-        text.truncate(needed);
+        let text = copied(&room.bytes()[..needed]).ok_or(Fault::NoMemory)?;
         return Ok(Answer { status, text });
     }
 }
 
-/// The status of the call, and how long its answer is, which stands in the room where it fits.
+/// The words with a zero byte between each two.
+fn joined(words: &[&str]) -> Result<Vec<u8>, Fault> {
+    if words.iter().any(|word| word.contains('\0')) {
+        return Err(Fault::ZeroByte);
+    }
+    let length = words.iter().map(|word| word.len() + 1).sum();
+    let mut text = Vec::new();
+    text.try_reserve_exact(length)
+        .map_err(|_| Fault::NoMemory)?;
+    for (at, word) in words.iter().enumerate() {
+        if at > 0 {
+            text.push(0);
+        }
+        text.extend_from_slice(word.as_bytes());
+    }
+    Ok(text)
+}
+
+/// A copy of some bytes, or `None` if memory runs out.
+fn copied(bytes: &[u8]) -> Option<Vec<u8>> {
+    let mut copy = Vec::new();
+    copy.try_reserve_exact(bytes.len()).ok()?;
+    copy.extend_from_slice(bytes);
+    Some(copy)
+}
+
+/// The status of the call, and how long its answer is, which is at the start of the room if it fits.
 fn answer_into(room: &mut [u8], words: &[u8], input: &[u8]) -> (u8, usize) {
     let mut needed = 0;
     // SAFETY: a slice's pointer is never null, all bytes of the room are initialized, and what is borrowed for writing
-    // lies over nothing else
+    // overlaps nothing else
     let code = unsafe {
         trinorm_answer(
             words.as_ptr(),
@@ -106,4 +141,30 @@ fn answer_into(room: &mut [u8], words: &[u8], input: &[u8]) -> (u8, usize) {
         )
     };
     (code, needed)
+}
+
+#[cfg(test)]
+mod tests {
+    use super::{run, run_with_room, Fault};
+
+    #[test]
+    fn a_room_of_any_size_gives_the_same_answer() {
+        let whole = run(&["surfaces"], b"sig cPcbbbiht\n");
+        for size in [0, 1, 7, 40, 41, 42, 43, 44, 1000] {
+            assert_eq!(
+                run_with_room(size, &["surfaces"], b"sig cPcbbbiht\n"),
+                whole
+            );
+        }
+    }
+
+    #[test]
+    fn a_room_that_memory_cannot_hold_is_an_error() {
+        for size in [usize::MAX, isize::MAX as usize, isize::MAX as usize - 100] {
+            assert_eq!(
+                run_with_room(size, &["sig"], b"sig bkaagj\n"),
+                Err(Fault::NoMemory)
+            );
+        }
+    }
 }

@@ -1,4 +1,4 @@
-use trinorm_sys::{run, Answer, Fault, Status};
+use trinorm::{run, Answer, Fault, Status};
 
 fn told(status: Status, text: &str) -> Result<Answer, Fault> {
     Ok(Answer {
@@ -36,6 +36,7 @@ fn long_answers_get_their_room() {
     let answer = run(&["surfaces"], format!("tri 12\n{rows}").as_bytes()).unwrap();
     assert_eq!(answer.status, Status::Done);
     assert!(answer.text.len() > 1 << 14);
+    assert!(answer.text.capacity() < 2 * answer.text.len());
     assert!(answer.text.ends_with(b"\n"));
 }
 
