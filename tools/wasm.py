@@ -15,7 +15,7 @@ import shutil
 import sys
 import tempfile
 from pathlib import Path
-from typing import Dict, Iterator, List, Optional, Tuple
+from typing import Callable, Dict, Iterator, List, Optional, Tuple
 
 from modules import TARGETS, NotCompiled, clang, compiled, compiled_c, run
 from repository import TOP, sum_of_file
@@ -111,6 +111,23 @@ def build(kit: Path, module: Path) -> bytes:
         data = lowered(link(kit, objects, folder), folder).read_bytes()
     check(data)
     return data
+
+
+def made(kit: Path, module: Optional[bytes], say: Callable[[str], None]) -> Dict[str, bytes]:
+    """The module for WebAssembly by its name in a manifest; nothing if it can't be made here, which is said."""
+    if module is None:
+        return {}
+    if missing():
+        say(f"there is no {NAME}, since {' and '.join(missing())} of Debian are not installed")
+        return {}
+    with tempfile.TemporaryDirectory() as folder:
+        path = Path(folder, "module.bc")
+        path.write_bytes(module)
+        try:
+            return {"wasm": build(kit, path)}
+        except (NotCompiled, OSError) as fault:
+            say(f"there is no {NAME}: {fault}")
+            return {}
 
 
 def parts() -> Dict[str, str]:
