@@ -74,7 +74,7 @@ def shared(made: Made) -> Files:
         f"share/zsh/site-functions/_{PROGRAM}": (pages.zsh(commands).encode(), 0o644),
     }
     for name, data in made.files.items():
-        if name != "archive":
+        if name in ("program", "library", "server"):
             files[f"{libexec}/{FILES[name]}"] = (data, 0o644 if name == "library" else 0o755)
     for name in ("hints.sh", "fault.awk", "sentences.awk", "usage.awk"):
         files[f"{libexec}/{name}"] = plain(TOP / "launcher" / name)

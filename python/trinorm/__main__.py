@@ -1,4 +1,4 @@
-"""python3 -m trinorm: a census on all processors, a comparison with Regina, and pictures."""
+"""python3 -m trinorm: a census on all processors, a comparison with Regina, pictures, and a check of the installation."""
 from __future__ import annotations
 
 import argparse
@@ -7,7 +7,7 @@ import sys
 import threading
 from typing import List, Optional
 
-from . import commands, crosscheck, pictures, versions
+from . import commands, crosscheck, pictures, selfcheck, versions
 from .census import add_arguments, main as run_census
 from .program import Error, Failed
 from .workers import Terminated, end_as_by_keyboard
@@ -56,6 +56,10 @@ def reader_of_words() -> argparse.ArgumentParser:
     one = kinds.add_parser("growth", help="an SVG picture of how lists grow, from the answers of a census")
     one.add_argument("answers", metavar="ANSWERS.jsonl")
     one.set_defaults(main=draw_growth)
+
+    one = kinds.add_parser("selfcheck", help="check this installation by worked rows and examples, and print what to report",
+                           description="It takes some seconds. Status 1: something differs.")
+    one.set_defaults(main=selfcheck.main)
     return reader
 
 

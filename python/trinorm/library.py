@@ -8,6 +8,7 @@ from __future__ import annotations
 import ctypes
 import mmap
 import os
+import sys
 import threading
 from pathlib import Path
 from typing import Any, Dict, List, Optional, Sequence, Tuple
@@ -16,7 +17,7 @@ from .arguments import as_bytes, checked_memory, checked_timeout, checked_words,
 from .errors import Failed, TimedOut
 from .program import read_outcome
 
-NAME = "libtrinorm.so.1"
+NAME = {"win32": "trinorm.dll", "darwin": "libtrinorm.dylib"}.get(sys.platform, "libtrinorm.so.1")
 # of a call: no room, no memory; of what ended it: memory, time, a handler of a signal
 TOO_LITTLE_ROOM, NO_MEMORY = 7, 8
 MOST_MEMORY, MOST_TIME, STOPPED = 1, 2, 3
@@ -24,6 +25,16 @@ MOST_MEMORY, MOST_TIME, STOPPED = 1, 2, 3
 ROOM, LONG = 1 << 26, 1 << 20
 
 _Stop = ctypes.CFUNCTYPE(ctypes.c_int, ctypes.c_void_p)
+
+
+# in this order, as library/python_stop.c has them
+_PYTHON_FUNCTIONS = ("PyGILState_Ensure", "PyGILState_Release", "PyErr_CheckSignals", "PyErr_Fetch", "PyErr_Restore", "PyErr_Clear")
+
+
+def _python_functions() -> Any:
+    """The addresses of Python's functions that the library calls, for systems where it can't find them by name."""
+    addresses = [ctypes.cast(getattr(ctypes.pythonapi, name), ctypes.c_void_p) for name in _PYTHON_FUNCTIONS]
+    return (ctypes.c_void_p * len(addresses))(*addresses)
 
 
 class _Limits(ctypes.Structure):
@@ -45,14 +56,15 @@ class _Room:
 
     def grow(self, size: int) -> None:
         """Takes pages of this size in place of the ones before; a forked child gets pages of its own."""
-        self.pages = mmap.mmap(-1, size, flags=mmap.MAP_PRIVATE | mmap.MAP_ANONYMOUS)
+        # Windows has pages of a process alone
+        self.pages = mmap.mmap(-1, size) if os.name == "nt" else mmap.mmap(-1, size, flags=mmap.MAP_PRIVATE | mmap.MAP_ANONYMOUS)
         self.at = ctypes.addressof(ctypes.c_char.from_buffer(self.pages))
         self.size = size
 
     def answer(self) -> bytes:
         """The answer that was written into it."""
         text = ctypes.string_at(self.at, self.needed.value)
-        if len(text) > LONG:
+        if len(text) > LONG and hasattr(mmap, "MADV_DONTNEED"):
             self.pages.madvise(mmap.MADV_DONTNEED)
         return text
 
@@ -76,6 +88,8 @@ class Library:
             self._call.argtypes = [ctypes.c_void_p, *area, *area, ctypes.c_void_p, ctypes.c_size_t, ctypes.c_void_p]
             # asked some ten times a second: in the main thread Python runs its handlers of signals
             self._stop = _Stop(("trinorm_python_stops", library))
+            if hasattr(library, "trinorm_python_is"):
+                library.trinorm_python_is(_python_functions())
             self._rooms = _Rooms()
             # by a second look at the same library, which keeps Python's lock and raises what is raised in it
             self._raise = ctypes.PyDLL(path).trinorm_python_raises

@@ -58,7 +58,7 @@ def find(program: Union[str, "os.PathLike[str]", None] = None) -> str:
     if (REPOSITORY / "trinorm").is_file() and (REPOSITORY / "crates" / "trinorm").is_dir():
         return _built_in_repository()
     for folder in Path(__file__).resolve().parents:
-        installed = folder / "libexec" / "trinorm" / "trinorm"
+        installed = folder / "libexec" / "trinorm" / ("trinorm.exe" if os.name == "nt" else "trinorm")
         if installed.is_file():
             return str(installed)
     path = shutil.which("trinorm")

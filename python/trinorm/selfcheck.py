@@ -124,11 +124,8 @@ def _ends_by_interruption(library: Library) -> bool:
     timer.start()
     try:
         library.answer(["surfaces"], LONG_QUESTION, timeout=LATE)
-        library.run(["surfaces"], LONG_QUESTION, timeout=LATE)
     except KeyboardInterrupt:
         return True
-    except program.Error:
-        return False
     finally:
         timer.cancel()
     return False
