@@ -104,6 +104,10 @@ uint8_t trinorm_run_within(trinorm_limits *limits, const uint8_t *words, size_t 
                          input_length, room ? answer : &none, room, to);
 }
 
+uint64_t trinorm_held(void) {
+    return current ? current->held : 0;
+}
+
 uint8_t trinorm_run(const uint8_t *words, size_t words_length, const uint8_t *input, size_t input_length,
                     uint8_t *answer, size_t room, size_t *needed) {
     return trinorm_run_within(NULL, words, words_length, input, input_length, answer, room, needed);

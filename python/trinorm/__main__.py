@@ -7,7 +7,7 @@ import sys
 import threading
 from typing import List, Optional
 
-from . import commands, crosscheck, pictures, selfcheck, versions
+from . import certificates, commands, crosscheck, pictures, selfcheck, versions
 from .census import add_arguments, main as run_census
 from .program import Error, Failed
 from .workers import Terminated, end_as_by_keyboard
@@ -46,6 +46,11 @@ def reader_of_words() -> argparse.ArgumentParser:
                            description="Status 1: something differs, or was refused.")
     crosscheck.add_arguments(one)
     one.set_defaults(main=crosscheck.main)
+
+    one = kinds.add_parser("certify", help="moves that show that a triangulation is a 3-sphere, as an input of `check`",
+                           description="Status 1: none were found in time, which says nothing of the manifold.")
+    certificates.add_arguments(one)
+    one.set_defaults(main=certificates.main)
 
     one = kinds.add_parser("graph", help="the face-pairing graph of a triangulation, as DOT or SVG")
     one.add_argument("triangulation", metavar="SIGNATURE",

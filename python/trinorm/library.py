@@ -11,7 +11,7 @@ import os
 import sys
 import threading
 from pathlib import Path
-from typing import Any, Dict, List, Optional, Sequence, Tuple
+from typing import Any, Callable, Dict, Generator, List, Optional, Sequence, Tuple
 
 from .arguments import as_bytes, checked_memory, checked_timeout, checked_words, joined
 from .errors import Failed, TimedOut
@@ -61,6 +61,11 @@ class _Room:
         self.at = ctypes.addressof(ctypes.c_char.from_buffer(self.pages))
         self.size = size
 
+    def limit(self, seconds: Optional[float], most_bytes: int) -> None:
+        """Sets the limits of the next call."""
+        self.limits.most_bytes = most_bytes
+        self.limits.most_nanoseconds = 0 if seconds is None else max(1, int(seconds * 1e9))
+
     def answer(self) -> bytes:
         """The answer that was written into it."""
         text = ctypes.string_at(self.at, self.needed.value)
@@ -74,6 +79,23 @@ class _Rooms(threading.local):
 
     def __init__(self) -> None:
         self.unused: List[_Room] = []
+
+
+# called some ten times a second with the bytes that a call holds
+Progress = Callable[[int], object]
+
+
+def _reports(progress: Progress, held: Callable[[], int], faults: List[BaseException]) -> Generator[int, object, None]:
+    """Yields each time whether the call is to stop: 1 once `progress`, or a handler of a signal, has raised something,
+    which is put into `faults`. What a handler raises is caught too, since the generator waits inside the `try`."""
+    while True:
+        try:
+            yield len(faults)
+            progress(held())
+        except GeneratorExit:
+            return
+        except BaseException as fault:  # pylint: disable=broad-except
+            faults[:] = [fault]
 
 
 class Library:
@@ -94,27 +116,44 @@ class Library:
             # by a second look at the same library, which keeps Python's lock and raises what is raised in it
             self._raise = ctypes.PyDLL(path).trinorm_python_raises
             self._raise.restype = None
+            self._held = getattr(library, "trinorm_held", None)
+            if self._held is not None:
+                self._held.restype = ctypes.c_uint64
         except (OSError, AttributeError) as fault:
             raise Failed(f"{path}: {fault}") from None
         self.path = path
 
     def answer(self, words: Sequence[str], text: str = "", timeout: Optional[float] = None,
-               memory: Optional[int] = None) -> Tuple[int, bytes, int]:
+               memory: Optional[int] = None, progress: Optional[Progress] = None) -> Tuple[int, bytes, int]:
         """The status, the bytes of the answer, and the limit that ended the call, or 0.
 
         An exception that a handler of signals raises during the call, as KeyboardInterrupt, is raised here.
 
         timeout: seconds after which it is to end; memory: bytes that it may hold at a time
+        progress: called some ten times a second with the bytes that the call holds; what it raises ends the call
         """
         said, given, rooms = joined(checked_words(words)), as_bytes(text), self._rooms.unused
         seconds, most_bytes = checked_timeout(timeout), checked_memory(memory)
+        if progress is not None:
+            faults: List[BaseException] = []
+            reports = _reports(progress, self.held, faults)
+            next(reports)
+            room = _Room(_Stop(reports.send))
+            room.limit(seconds, most_bytes)
+            answered = self._answer_in(room, said, given)
+            if faults:
+                raise faults[0]
+            return answered
         room = rooms.pop() if rooms else _Room(self._stop)
         try:
-            room.limits.most_bytes = most_bytes
-            room.limits.most_nanoseconds = 0 if seconds is None else max(1, int(seconds * 1e9))
+            room.limit(seconds, most_bytes)
             return self._answer_in(room, said, given)
         finally:
             rooms.append(room)
+
+    def held(self) -> int:
+        """The bytes that the call of this thread holds, for a function that it calls; 0 if the library doesn't say."""
+        return 0 if self._held is None else int(self._held())
 
     def _answer_in(self, room: _Room, said: bytes, given: bytes) -> Tuple[int, bytes, int]:
         at_limits, at_needed = room.places
@@ -130,10 +169,10 @@ class Library:
                 return NO_MEMORY, b"", 0
 
     def run(self, words: Sequence[str], text: str = "", timeout: Optional[float] = None,
-            memory: Optional[int] = None) -> str:
+            memory: Optional[int] = None, progress: Optional[Progress] = None) -> str:
         """As `program.run`: what the program writes; a refusal or a call that was ended is raised."""
         words = checked_words(words)
-        status, said, reached = self.answer(words, text, timeout, memory)
+        status, said, reached = self.answer(words, text, timeout, memory, progress)
         if reached == MOST_TIME:
             raise TimedOut(f"{' '.join(words)}: no answer in {timeout} s")
         if reached == MOST_MEMORY:
