@@ -23,7 +23,9 @@ def draw_growth(given: argparse.Namespace) -> int:
     try:
         with open(given.answers, encoding="utf8") as file:
             picture = pictures.growth_svg(pictures.growth_points(file))
-    except (OSError, ValueError) as fault:
+    except OSError as fault:
+        raise Failed(f"{given.answers}: {fault.strerror}") from None
+    except ValueError as fault:
         raise Failed(f"{given.answers}: {fault}") from None
     print(picture, end="")
     return 0

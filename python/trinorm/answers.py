@@ -55,6 +55,11 @@ class Info:
     vertices: Tuple[Vertex, ...]
     edges: Tuple[Edge, ...]
 
+    def _repr_html_(self) -> str:
+        """What a notebook shows: a table of the classes."""
+        from .html_tables import info_html
+        return info_html(self)
+
 
 @dataclass(frozen=True)
 class Component:
