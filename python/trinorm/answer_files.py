@@ -10,12 +10,8 @@ import os
 import stat
 import sys
 import tempfile
+from hashlib import blake2b
 from typing import BinaryIO, Callable, Iterable, Iterator, TextIO
-
-try:
-    from _blake2 import blake2b  # hashlib's own; that loads OpenSSL too, a twentieth of what a million lines take
-except ImportError:
-    from hashlib import blake2b
 
 UTF16 = (b"\xff\xfe", b"\xfe\xff")
 MARK = b"\xef\xbb\xbf"

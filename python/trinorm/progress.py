@@ -7,7 +7,7 @@ import time
 from typing import Callable, Optional, Sequence, Union
 
 from . import program
-from .arguments import as_bytes, checked_timeout, joined, shown
+from .arguments import as_bytes, checked_timeout, checked_words, joined, shown
 from .errors import BadArgument, Failed, TimedOut
 from .program import Program
 
@@ -43,7 +43,7 @@ class Reported:
         return self._run_process(words, text, timeout)
 
     def _run_process(self, words: Sequence[str], text: str, timeout: Optional[float]) -> str:
-        joined(words)  # raises what is wrong with them
+        joined(checked_words(words))  # raises what is wrong with them
         begun, limit, path = time.monotonic(), checked_timeout(timeout), program.find(self.named)
         given: Optional[bytes] = as_bytes(text)
         try:
