@@ -50,7 +50,7 @@ def examples(text: str) -> Iterator[Tuple[str, Optional[List[str]]]]:
 
 
 def needs_regina(example: str) -> bool:
-    return "regina" in example or "crosscheck" in example
+    return any(it in example for it in ("regina", "crosscheck", "crush_and_identify"))
 
 
 def is_right(command: str, answer: Optional[List[str]], around: Dict[str, str]) -> bool:
