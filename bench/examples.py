@@ -20,7 +20,7 @@ from typing import Dict, Iterator, List, Optional, Tuple
 TOP = os.path.dirname(os.path.dirname(os.path.realpath(__file__)))
 PYTHON = os.path.join(TOP, "python")
 # words of examples, and the modules that these need
-NEEDED = {"regina": "regina", "crosscheck": "regina", "numpy": "numpy", "pandas": "pandas"}
+NEEDED = {"regina": "regina", "crosscheck": "regina", "crush_and_identify": "regina", "numpy": "numpy", "pandas": "pandas"}
 MISSING = [word for word, module in NEEDED.items() if importlib.util.find_spec(module) is None]
 
 

@@ -105,7 +105,7 @@ uint8_t trinorm_run_within(trinorm_limits *limits, const uint8_t *words, size_t 
 }
 
 uint64_t trinorm_held(void) {
-    return current ? current->held : 0;
+    return current_call ? current_call->held : 0;
 }
 
 uint8_t trinorm_run(const uint8_t *words, size_t words_length, const uint8_t *input, size_t input_length,

@@ -74,7 +74,7 @@ class Questions(unittest.TestCase):
             user = Path(folder) / "user.py"
             user.write_text("import trinorm\nz = trinorm.zero_efficient('bkaagj')\nif not z:\n    z.vector\n"
                             "n: int = trinorm.count('bkaagj').surfaces\nv = trinorm.surfaces('bkaagj')\nw: int = v[0][0]\n")
-            words = ["mypy", "--follow-imports=silent", "--ignore-missing-imports", "--cache-dir", folder, str(user)]
+            words = ["mypy", "--follow-imports=silent", "--ignore-missing-imports", "--no-site-packages", "--cache-dir", folder, str(user)]
             done = subprocess.run(words, env={"PATH": "/usr/bin:/bin", "MYPYPATH": str(REPOSITORY / "python")}, capture_output=True,
                                   text=True, check=False)
             self.assertEqual((done.returncode, done.stderr), (0, ""), done.stdout)
