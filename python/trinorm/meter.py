@@ -60,7 +60,7 @@ class Terminal:
 
     def show(self, meter: Meter) -> None:
         try:
-            width = os.get_terminal_size(self.to.fileno()).columns
+            width = os.get_terminal_size(self.to.fileno()).columns or 80
         except (OSError, ValueError):
             width = 80
         print(f"\r\033[K{meter.text()[:max(20, width - 1)]}", end="", file=self.to, flush=True)
