@@ -224,8 +224,23 @@ run() {
   fi
 }
 
+# Says, if the program runs for ten seconds, that it does and how to stop it. The process that waits holds none of the
+# launcher's files, so that nobody waits for it. From a terminal the program may be waiting for its input.
+say_later() {
+  (
+    trap 'kill $!; exit' TERM
+    sleep 10 &
+    wait $!
+    say "$1 has been running for ten seconds; Ctrl-C stops it" 2>"/proc/$$/fd/2"
+  ) </dev/null >/dev/null 2>&1 3<&- &
+  later=$!
+}
+
+later=
+[ -t 0 ] || [ $# = 0 ] || say_later "$1"
 run "$@"
 status=$?
+[ -z "$later" ] || { kill "$later"; wait "$later"; } 2>/dev/null
 case $status in
   2) say_words "$@" ;;
   3 | 4 | 5) say_fault "$@" ;;

@@ -277,6 +277,42 @@ class Launcher(unittest.TestCase):
         os.close(ours)
         os.close(theirs)
 
+    def test_a_long_run(self):
+        """What is said after ten seconds, which a made-up `sleep` makes shorter; what waits ends with the program."""
+        with tempfile.TemporaryDirectory() as folder:
+            for name, text in (("sleep", "exec /bin/sleep ${1%0}"), ("slow", "cat; exec /bin/sleep 2"), ("quick", "cat")):
+                path = os.path.join(folder, name)
+                with open(path, "w", encoding="utf8") as file:
+                    file.write(f"#!/bin/sh\n{text}\n")
+                os.chmod(path, 0o755)
+            start = f"PATH={folder}:$PATH commands={self.folder.name}/python/trinorm/commands.txt here={self.folder.name}/launcher told=x"
+            for shell in ("dash", "bash"):
+                if not shutil.which(shell):
+                    continue
+                for name, said in (("slow", "trinorm: sig has been running for ten seconds; Ctrl-C stops it\n"), ("quick", "")):
+                    script = f"{start}; program={folder}/{name}; set -- sig; . {self.folder.name}/launcher/hints.sh"
+                    self.assertEqual(self.run_with(shell, ["-c", script], b"answer\n"), (0, b"answer\n", said))
+
+    def test_what_waits_ends(self):
+        """After ten short runs no process of them is left, and a reader of the answer doesn't wait for one."""
+        mark = f"mark-{os.getpid()}"
+        ours, theirs = pty.openpty()
+        script = f"for n in 1 2 3 4 5 6 7 8 9 10; do echo sig bkaagj | {self.launcher} sig; done"
+        done = subprocess.run(["sh", "-c", script], env=dict(os.environ, TRINORM_MARK=mark), stdin=subprocess.DEVNULL, stdout=subprocess.PIPE,
+                              stderr=theirs, timeout=60, check=False)
+        os.close(ours)
+        os.close(theirs)
+        self.assertEqual(done.stdout, b"bkaagj\n" * 10)
+        left = []
+        for process in filter(str.isdigit, os.listdir("/proc")):
+            try:
+                with open(f"/proc/{process}/environ", "rb") as file:
+                    if f"TRINORM_MARK={mark}".encode() in file.read():
+                        left.append(process)
+            except OSError:
+                pass
+        self.assertEqual(left, [])
+
     def test_no_place_for_what_was_read(self):
         script = f"TMPDIR=/no/such/folder; export TMPDIR; echo sig bkaagj | {self.launcher} sig"
         self.assertEqual(self.run_with("sh", ["-c", script], b""), (0, b"bkaagj\n", ""))

@@ -19,7 +19,7 @@ from typing import Deque, Dict, Iterable, Iterator, List, NamedTuple, Optional, 
 from .program import Failed
 from .server import Server
 from .tasks import Entry, Task, as_json, head_of, line_of
-from .workers import WorkerEnded, Workers
+from .workers import WorkerEnded
 
 KINDS = ("answer", "refused", "failed")
 # seconds after which a handful begins no more triangulations, and the most that it may have

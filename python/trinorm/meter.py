@@ -5,6 +5,7 @@ the log of a batch job, a line a minute.
 """
 from __future__ import annotations
 
+import contextlib
 import os
 import sys
 import threading
@@ -59,7 +60,7 @@ class Terminal:
 
     def show(self, meter: Meter) -> None:
         try:
-            width = os.get_terminal_size(self.to.fileno()).columns
+            width = os.get_terminal_size(self.to.fileno()).columns or 80
         except (OSError, ValueError):
             width = 80
         print(f"\r\033[K{meter.text()[:max(20, width - 1)]}", end="", file=self.to, flush=True)
@@ -157,12 +158,13 @@ class Meter:
     def end(self, text: str) -> None:
         """Shows no more, but for a last line."""
         self._ended.set()
-        with self._lock:
+        # if nobody reads the signs, the work goes on
+        with self._lock, contextlib.suppress(OSError, ValueError):
             self._shown.end(text)
 
     def _show_on(self) -> None:
         while not self._ended.wait(self._shown.interval):
-            with self._lock:
+            with self._lock, contextlib.suppress(OSError, ValueError):
                 if not self._ended.is_set():
                     self._shown.show(self)
 

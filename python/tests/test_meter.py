@@ -1,0 +1,143 @@
+"""Signs of life: their words, how often they come, and where they are shown."""
+import contextlib
+import io
+import os
+import pty
+import sys
+import threading
+import time
+import types
+import unittest
+import unittest.mock
+
+from trinorm import meter
+from trinorm.meter import Bar, Log, Meter, Terminal, in_words, rate_in_words
+
+KINDS = {"answer": "answered", "failed": "failed"}
+
+
+class Words(unittest.TestCase):
+    def test_times_in_the_unit_that_fits(self):
+        for seconds, words in ((0, "0 s"), (59.6, "60 s"), (119, "119 s"), (120, "2.0 min"), (3599, "60 min"), (7199, "120 min"), (7200, "2.0 h"),
+                               (50000, "14 h"), (172800, "2.0 days"), (8640000, "100 days")):
+            self.assertEqual(in_words(seconds), words)
+
+    def test_rates(self):
+        for count, seconds, words in ((5000, 2, "2,500 a second"), (3, 2, "2 a second"), (1, 2, "30 a minute"), (1, 600, "6.0 an hour"), (0, 5, "0.0 an hour"),
+                                      (1, 0, "1,000,000,000 a second")):
+            self.assertEqual(rate_in_words(count, seconds), words)
+
+    def test_a_sign(self):
+        with unittest.mock.patch.object(meter.time, "monotonic", return_value=100.0):
+            one = Meter(1000, KINDS, at=Log(io.StringIO()))
+        one.before = 50
+        with unittest.mock.patch.object(meter.time, "monotonic", return_value=110.0):
+            self.assertEqual(one.text(), "50 done before; 0 answered, 0 failed; 1,000 left, 0.0 an hour, begun 10 s ago")
+            one.add({"answer": 90, "failed": 10})
+            self.assertEqual(one.text(), "50 done before; 90 answered, 10 failed; 900 left, 10 a second, about 90 s to go")
+            one.total = None
+            self.assertEqual(one.text(), "50 done before; 90 answered, 10 failed in 10 s, 10 a second")
+
+
+class Shown(unittest.TestCase):
+    def test_a_log_has_a_line_a_minute(self):
+        log = io.StringIO()
+        self.assertEqual(Log(log).interval, 60)
+        with unittest.mock.patch.object(meter, "SELDOM", 0.05), unittest.mock.patch.object(Log, "interval", 0.05), \
+                Meter(3, KINDS, to=log) as one:
+            one.add({"answer": 1})
+            time.sleep(0.5)
+            one.end("the end")
+        lines = log.getvalue().splitlines()
+        self.assertGreater(len(lines), 2)
+        self.assertTrue(all(line.startswith("1 answered, 0 failed; 2 left, ") for line in lines[:-1]), lines)
+        self.assertEqual(lines[-1], "the end")
+
+    def test_a_terminal_has_one_line_that_is_written_over(self):
+        ours, theirs = pty.openpty()
+        with os.fdopen(theirs, "w", encoding="utf8") as to, unittest.mock.patch.object(Terminal, "interval", 0.05):
+            with Meter(10 ** 9, KINDS, to=to) as one:
+                one.add({"answer": 1})
+                time.sleep(0.4)
+                one.end("the end")
+            said = ""
+            while not said.endswith("the end\r\n"):
+                said += os.read(ours, 100000).decode()
+        os.close(ours)
+        self.assertEqual(said.count("\n"), 1)
+        self.assertIn("\r\033[K1 answered, 0 failed; 999,999,999 left", said)
+        self.assertTrue(said.endswith("\r\033[Kthe end\r\n"), said)
+        # no line is longer than the terminal, so that it can be written over
+        self.assertLess(max(map(len, said.split("\r\033[K"))), 80)
+
+    def test_a_notebook_has_a_bar(self):
+        """With tqdm a bar, without it lines."""
+        class ZMQInteractiveShell:  # as IPython names the shell of a notebook
+            pass
+        notebook = types.SimpleNamespace(get_ipython=ZMQInteractiveShell)
+        with unittest.mock.patch.dict(sys.modules, {"IPython": notebook, "tqdm.auto": types.SimpleNamespace(tqdm=MadeUpBar)}):
+            to = io.StringIO()
+            with unittest.mock.patch.object(Bar, "interval", 0.02), Meter(7, KINDS, to=to) as one:
+                one.add({"answer": 5})
+                time.sleep(0.3)
+                one.end("the end")
+            self.assertEqual((MadeUpBar.last.total, MadeUpBar.last.n, MadeUpBar.last.is_closed), (7, 5, True))
+            self.assertEqual(to.getvalue(), "the end\n")
+        with unittest.mock.patch.dict(sys.modules, {"IPython": notebook, "tqdm.auto": None}):
+            self.assertIsInstance(meter.shown(7, io.StringIO()), Log)
+        self.assertIsInstance(meter.shown(7, io.StringIO()), Log)
+
+    def test_by_tqdm_itself(self):
+        try:
+            from tqdm import tqdm
+        except ImportError:
+            self.skipTest("tqdm isn't installed")
+        to = io.StringIO()
+        with Meter(7, KINDS, at=Bar(tqdm, 7, to)) as one:
+            one.add({"answer": 7})
+            one._shown.show(one)
+            one.end("the end")
+        self.assertIn("7/7", to.getvalue())
+        self.assertTrue(to.getvalue().endswith("the end\n"))
+
+    def test_a_bad_place_to_write_ends_nothing(self):
+        """A reader of the signs that has gone doesn't end the work."""
+        ours, theirs = os.pipe()
+        os.close(ours)
+        to = os.fdopen(theirs, "w", encoding="utf8")
+        with unittest.mock.patch.object(Log, "interval", 0.02), Meter(7, KINDS, to=to) as one:
+            time.sleep(0.2)
+            one.add({"answer": 7})
+            one.end("the end")
+        with contextlib.suppress(BrokenPipeError):
+            to.close()
+        self.assertEqual(one.done(), 7)
+
+    def test_no_thread_is_left(self):
+        before = threading.active_count()
+        for _ in range(3):
+            with contextlib.suppress(KeyError), Meter(7, KINDS, to=io.StringIO()):
+                raise KeyError
+        self.assertEqual(threading.active_count(), before)
+
+
+class MadeUpBar:
+    """What tqdm's bar has."""
+
+    def __init__(self, total, unit, file):
+        self.total, self.n, self.is_closed = total, 0, False
+        del unit, file
+        MadeUpBar.last = self
+
+    def set_postfix_str(self, words, refresh):
+        self.words, self.refresh = words, refresh
+
+    def update(self, count):
+        self.n += count
+
+    def close(self):
+        self.is_closed = True
+
+
+if __name__ == "__main__":
+    unittest.main()
