@@ -12,7 +12,7 @@
 enum { HEAD = 16, LARGEST_CHUNK = 1 << 20 };
 
 #ifdef _WIN32
-/* C returns a structure of 16 bytes by a pointer there, and the archive in registers; windows/memory.ll joins the two. */
+/* C returns a structure of 16 bytes by a pointer there, and the archive in registers; windows/registers.ll joins the two. */
 #define rattle_alloc trinorm_alloc
 #define rattle_realloc trinorm_realloc
 #endif

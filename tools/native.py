@@ -93,7 +93,7 @@ def build(kit: Path, module: Path, name: str) -> Dict[str, bytes]:
         if name.startswith("macos"):
             linked_for_macos(kit, name, made, folder)
         else:
-            memory = compiled_c(kit, SOURCES / "windows" / "memory.ll", target, folder) if name.startswith("windows") else None
+            memory = compiled_c(kit, SOURCES / "windows" / "registers.ll", target, folder) if name.startswith("windows") else None
             linked_by_gcc(system, made, folder, memory)
         return {file: (folder / file).read_bytes() for file in (system.library, system.program)}
 

@@ -1,0 +1,146 @@
+#!/usr/bin/env python3
+"""Times the module for WebAssembly in Node and in both browsers beside the native library: bench/web.py MODULE
+
+Processor seconds of one call, the least of several rounds, and in brackets how many times the native library's. A call
+has an instance of its own, as the page makes it. Browsers are measured with all of their processes.
+"""
+import functools
+import http.server
+import json
+import os
+import shutil
+import subprocess
+import sys
+import tempfile
+import threading
+import time
+from pathlib import Path
+
+TOP = Path(__file__).resolve().parents[1]
+sys.path[:0] = [str(TOP / "python"), str(TOP / "tools")]
+
+import web_page  # noqa: E402
+from tests import browsers  # noqa: E402
+from trinorm.program import find_library  # noqa: E402
+
+SIGNATURES = {
+    9: "jLvLAQQadhfhfggiibuvfgvncab", 14: "oLLLPwLAQMcbdfhfgiljjmmlnnabuagwehgoxxfjb",
+    18: "sLLLAMvvQLQMQcegfehinkknmpporqrraaaahnalcjavaavavuu",
+    24: "yLLvLAwwwAALAMQMQaeheiikjolrrpuqsrvtwvuxxxbavgaaxoroaalapcssbxvcurr",
+}
+ROUNDS = 3
+TIMES = {"sig": 300, "info": 300}
+TIMES_OF_LISTS = {9: 100, 14: 30, 18: 5, 24: 1}
+
+NODE = """
+import {readFileSync} from 'node:fs';
+import {call} from '%s';
+const module = new WebAssembly.Module(readFileSync(process.argv[2]));
+const {words, text, times} = JSON.parse(process.argv[3]), input = new TextEncoder().encode(text);
+const spent = () => { const {user, system} = process.cpuUsage(); return (user + system) / 1e6; };
+call(module, words, input);
+const begun = spent();
+for (let n = 0; n < times; n++) call(module, words, input);
+console.log((spent() - begun) / times);
+"""
+
+BROWSER = """
+const module = await WebAssembly.compile(await (await fetch('trinorm.wasm')).arrayBuffer());
+const worker = new Worker('worker.js', {type: 'module'});
+const input = new TextEncoder().encode(TEXT);
+const ask = () => new Promise((done) => { worker.onmessage = ({data}) => done(data.status); worker.postMessage({module, words: WORDS, input, limit: 0}); });
+globalThis.ask_once = ask;
+return ask();
+"""
+
+
+def questions():
+    for size, signature in SIGNATURES.items():
+        for command in ("sig", "info", "surfaces"):
+            yield command, size, f"sig {signature}\n", TIMES.get(command) or TIMES_OF_LISTS[size]
+
+
+def native(command, text, times):
+    library = find_library()
+    begun = time.process_time()
+    for _ in range(times):
+        library.answer([command], text)
+    return (time.process_time() - begun) / times
+
+
+def by_node(module, command, text, times):
+    with tempfile.TemporaryDirectory() as folder:
+        script = Path(folder, "speed.mjs")
+        script.write_text(NODE % (TOP / "web" / "engine.js").as_uri(), "utf8")
+        question = json.dumps({"words": [command], "text": text, "times": times})
+        return float(subprocess.run([shutil.which("node"), script, module, question], capture_output=True, text=True, check=True).stdout)
+
+
+def children():
+    """The parents of all processes, and the processor seconds of each."""
+    parents, spent = {}, {}
+    for path in Path("/proc").glob("[0-9]*/stat"):
+        try:
+            fields = path.read_text("utf8", "replace").rpartition(")")[2].split()
+        except OSError:
+            continue
+        parents[int(path.parent.name)] = int(fields[1])
+        spent[int(path.parent.name)] = sum(map(int, fields[11:13])) / os.sysconf("SC_CLK_TCK")
+    return parents, spent
+
+
+def spent_below(process):
+    """Processor seconds of a process and all below it."""
+    parents, spent = children()
+    def is_below(one):
+        while one and one != process:
+            one = parents.get(one)
+        return one == process
+    return sum(seconds for one, seconds in spent.items() if is_below(one))
+
+
+def by_browser(window, process, address, command, text, times):
+    window.open(address)
+    window.run(BROWSER.replace("TEXT", json.dumps(text)).replace("WORDS", json.dumps([command])))
+    begun = spent_below(process)
+    window.run(f"for (let n = 0; n < {times}; n++) await ask_once(); return 0;")
+    return (spent_below(process) - begun) / times
+
+
+def least(measure, *words):
+    return min(measure(*words) for _ in range(ROUNDS))
+
+
+def main():
+    module = os.path.realpath(sys.argv[1])
+    with tempfile.TemporaryDirectory() as folder:
+        web_page.write(Path(module).read_bytes(), Path(folder))
+        handler = functools.partial(Quiet, directory=f"{folder}/web")
+        server = http.server.ThreadingHTTPServer(("127.0.0.1", 0), handler)
+        threading.Thread(target=server.serve_forever, daemon=True).start()
+        address = f"http://127.0.0.1:{server.server_port}/index.html"
+        windows = {"Chromium": browsers.Chromium(), "Firefox": browsers.Firefox()}
+        pids = {"Chromium": windows["Chromium"].driver.service.process.pid, "Firefox": windows["Firefox"].process.pid}
+        try:
+            print("| Question | native, ms | Node | Chromium | Firefox |\n|---|---|---|---|---|")
+            for command, size, text, times in questions():
+                own = least(native, command, text, times)
+                others = [least(by_node, module, command, text, times)]
+                others += [least(by_browser, window, pids[name], address, command, text, times) for name, window in windows.items()]
+                cells = [f"{1000 * seconds:.3g} ({seconds / own:.1f})" for seconds in others]
+                print(f"| `{command}` of {size} | {1000 * own:.3g} | {' | '.join(cells)} |", flush=True)
+        finally:
+            for window in windows.values():
+                window.close()
+            server.shutdown()
+
+
+class Quiet(http.server.SimpleHTTPRequestHandler):
+    """Serves a folder and says nothing."""
+
+    def log_message(self, *_):
+        pass
+
+
+if __name__ == "__main__":
+    main()
