@@ -5,8 +5,8 @@
 
 An example is a line `$ COMMAND` in an indented block, with what it writes to standard output below it, or a Python session
 (`>>> `) in one; the sessions of a page go on from each other. A command of the README's table of commands has to end with
-status 0. Python is the one that runs this script; what needs Regina is left out where it has no module regina. Stops at the
-first that differs; the last line says how many ran.
+status 0. Python is the one that runs this script; what needs a module that it has not, as regina or numpy, is left out. Stops
+at the first that differs; the last line says how many ran.
 """
 import doctest
 import glob
@@ -19,7 +19,9 @@ from typing import Dict, Iterator, List, Optional, Tuple
 
 TOP = os.path.dirname(os.path.dirname(os.path.realpath(__file__)))
 PYTHON = os.path.join(TOP, "python")
-HAS_REGINA = importlib.util.find_spec("regina") is not None
+# words of examples, and the modules that these need
+NEEDED = {"regina": "regina", "crosscheck": "regina", "crush_and_identify": "regina", "numpy": "numpy", "pandas": "pandas"}
+MISSING = [word for word, module in NEEDED.items() if importlib.util.find_spec(module) is None]
 
 
 def blocks(text: str) -> Iterator[List[str]]:
@@ -49,8 +51,9 @@ def examples(text: str) -> Iterator[Tuple[str, Optional[List[str]]]]:
         yield command, None
 
 
-def needs_regina(example: str) -> bool:
-    return "regina" in example or "crosscheck" in example
+def is_left_out(example: str) -> bool:
+    """Whether an example needs a module that isn't there."""
+    return any(word in example for word in MISSING)
 
 
 def is_right(command: str, answer: Optional[List[str]], around: Dict[str, str]) -> bool:
@@ -77,13 +80,12 @@ def runs(page: str, around: Dict[str, str]) -> Iterator[Optional[bool]]:
     with open(page, encoding="utf8") as file:
         text = file.read()
     for command, answer in examples(text):
-        yield None if needs_regina(command) and not HAS_REGINA else is_right(command, answer, around)
+        yield None if is_left_out(command) else is_right(command, answer, around)
     names: Dict[str, object] = {}
     for block in blocks(text):
         if block[0].startswith(">>> "):
             session = "\n".join(block) + "\n"
-            left_out = needs_regina(session) and not HAS_REGINA
-            yield None if left_out else is_right_session(session, names, os.path.relpath(page, TOP))
+            yield None if is_left_out(session) else is_right_session(session, names, os.path.relpath(page, TOP))
 
 
 def main(pages: List[str]) -> int:
@@ -98,7 +100,7 @@ def main(pages: List[str]) -> int:
             if right is False:
                 print(f"in {os.path.relpath(page, TOP)}")
                 return 1
-    print(f"{counts[True]} examples ran, each as it stands in the page; {counts[None]} that need Regina were left out")
+    print(f"{counts[True]} examples ran, each as it stands in the page; {counts[None]} that need a missing module were left out")
     return 0
 
 

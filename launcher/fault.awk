@@ -1,5 +1,6 @@
-# Shows the place of a fault in an input: its line, a caret at the column, and what may stand there.
-# Variables: refusal, the program's line, and document, what the command reads.
+# Says what a refusal most likely means. The fault of an input is shown by its line with a caret under its column.
+# With sentences.awk; its variables, and: status; refusal, the program's line; document, what the command reads;
+# first_bytes, those of the input in hexadecimal. The input is read only for status 3.
 
 # the column of a word, counted from 1
 function column_of(text, number,    at) {
@@ -10,57 +11,38 @@ function column_of(text, number,    at) {
   return at
 }
 
-# what the lines behind a table are
-function behind_table() {
+# the state of the line after a table
+function after_table() {
   tables++
-  if (document == "table" || document == "two-tables" && tables == 2) return "end"
-  if (document == "two-tables" || document == "tables") return "table"
-  return document
+  if (document == "tables" || document == "two-tables" && tables == 1) return "table"
+  if (document == "vectors" || document == "vector" || document == "blocks") return "vector"
+  return document == "steps" || document == "moves" ? document : "end"
 }
 
-# what is wanted at the next line, behind this one
+# the state of the line after this one
 function next_state(state, text,    parted) {
   sub(/\r$/, "", text)
   split(text, parted)
   if (state == "table" && parted[1] == "tri" && parted[2] > 0) { left = parted[2]; return "row" }
-  if (state == "table") return behind_table()
-  if (state == "row") return --left > 0 ? "row" : behind_table()
-  if (state == "vector") return "end"
-  if (state == "blocks") return "times"
+  if (state == "table") return after_table()
+  if (state == "row") return --left > 0 ? "row" : after_table()
+  if (state == "vector") return document == "vector" ? "end" : document == "blocks" ? "times" : "vector"
   if (state == "times") left = parted[3]
   if (state == "term") left--
-  if (state == "times" || state == "term") return left > 0 ? "term" : "blocks"
+  if (state == "times" || state == "term") return left > 0 ? "term" : "vector"
   if (state == "cone") left = parted[2] > 0 ? parted[3] : 0
-  if (state == "cone row") left--
-  if (state == "cone" || state == "cone row") return left > 0 ? "cone row" : "end"
+  if (state == "cone-row") left--
+  if (state == "cone" || state == "cone-row") return left > 0 ? "cone-row" : "end"
   return state
 }
 
-# what may stand at a word of a line
-function wanted(state, word) {
-  if (state == "table") return word == 1 ? "a triangulation begins with `tri N` or `sig SIGNATURE`" : first_word == "sig" ? "a signature" : "the number of tetrahedra"
-  if (state == "row") return "an entry is `-`, or `t:p` as 1:0213 (tetrahedron, and where 0, 1, 2, 3 go)"
-  if (state == "vectors" || state == "vector" || state == "blocks") return word == 1 ? "a vector line begins with `vec`" : "a whole number"
-  if (state == "times") return word == 1 ? "behind a vector comes `times S T`" : "a whole number"
-  if (state == "term") return word == 1 ? "a term line begins with `term K`" : "a whole number"
-  if (state == "steps" && word == 1) return "a move (14, 23, 32, 41), `undo` or `redo`"
-  if (state == "moves" && word == 1) return "a move (14, 23, 32, 41)"
-  if (state == "steps" || state == "moves") return word == 2 ? "a tetrahedron" : "a face or vertex 0 to 3, or an edge as 01"
-  if (state == "cone") return word == 1 ? "a cone begins with `cone COLUMNS ROWS`" : "a whole number up to 10,000"
-  if (state == "cone row") return "a whole number up to 1,000,000 in magnitude"
-  return "nothing more is wanted"
-}
-
-function meaning(kind, state, word, text) {
-  if (kind == "missing-word") return (seen == 0 ? "nothing came" : "something is missing") ": " wanted(state, word)
-  if (kind == "too-wide") return "this number is too large"
-  if (kind == "extra-word") return state == "row" ? "a row has four entries" : state == "table" ? "the line should end here (a comment has a line of its own, which begins with #)" : "the line should end here"
-  if (kind == "bad-byte") return "only plain ASCII text may stand here"
-  return wanted(state, word)
+function say(text) {
+  if (text != "") print "trinorm: " text
 }
 
 # a line and a caret, as far as a terminal has room
 function show(number, text, column, said,    from, shown, head) {
+  if (said == "") return
   from = column > 60 ? column - 50 : 1
   shown = substr(text, from, 70)
   gsub(/[^ -~]/, " ", shown)
@@ -74,55 +56,61 @@ function spaces(count,    text) {
   return text
 }
 
-function say_signature_fault(number, text,    word, start, at) {
+# of an input with one signature or more, the word at fault if it is sure
+function show_signature(number, text,    start, at, known) {
   start = column_of(text, 2)
-  word = substr(text, start)
-  sub(/[ \t\r].*/, "", word)
-  at = start + place
-  if (word ~ /_/) show(number, text, start + index(word, "_") - 1, "leave SnapPy's decoration out: `sig " substr(word, 1, index(word, "_") - 1) "`")
-  else if (word ~ /^["']/) show(number, text, start, "leave the quotation marks out")
-  else if (word ~ /^[a-z]+[0-9]+$/) show(number, text, start, "a signature is wanted, and not the name of a manifold")
-  else if (kind == "short") show(number, text, start + length(word), "the signature ends too early")
-  else if (kind == "trailing") show(number, text, at, "the signature is complete before this")
-  else if (kind == "bad-char") show(number, text, at, "signatures are of letters, digits, + and -")
-  else if (document != "tables" && document != "two-tables") show(number, text, at, "no signature goes on like this")
-}
-
-function say_table_fault(number, text,    said) {
-  said = kind == "no-such-tet" ? "there is no such tetrahedron: they count from 0" : kind == "self-glued" ? "this face is glued to itself" : "the face that is reached doesn't lead back here by the inverse"
-  show(number, text, column_of(text, face + 1), said)
+  fault_word = substr(text, start)
+  sub(/[ \t\r].*/, "", fault_word)
+  known = fault_word ~ /_/ ? start + index(fault_word, "_") - 1 : fault_word ~ /^["']/ ? start : 0
+  at = known ? known : kind == "signature short" ? start + length(fault_word) : start + field_of[0]
+  show(number, text, fault_word ~ /^[a-zA-Z]+[0-9]+[an0-9]*$/ && !known && kind != "signature short" ? start : at, sentence(3, kind))
 }
 
 BEGIN {
-  split(refusal, told, " ")
-  about = told[2]
-  if (about == "input") { line = told[3]; column = told[4]; kind = told[5] }
-  else { kind = told[3]; place = tet = told[4]; face = told[5] }
-  single = document != "tables" && document != "two-tables"
+  read_hints()
+  kind = kind_of(refusal)
+  about = kind
+  sub(/ .*/, "", about)
+  is_sure = document != "tables" && document != "two-tables"
   state = document == "cone" ? "cone" : "table"
-  if (about == "input" && line == "too-long") exit
+  if (status != 3 || kind == "input too-long") {
+    say(sentence(status, kind))
+    is_said = 1
+    exit
+  }
+  if (about == "input") { line = field_of[0]; column = field_of[1] }
 }
 
 { is_comment = $0 ~ /^[ \t]*(#|\r?$)/ }
 
 about == "input" && NR == line {
-  first_word = $1
   text = $0
-  found = 1
+  is_there = 1
   exit
 }
 
-about == "signature" && $1 == "sig" && (single || $2 ~ /_/) { say_signature_fault(NR, $0); exit }
+about == "signature" && $1 == "sig" && (is_sure || $2 ~ /_/) { show_signature(NR, $0); is_said = 1; exit }
 
-about == "table" && single && state == "row" && !is_comment && rows++ == tet { say_table_fault(NR, $0); exit }
+about == "table" && is_sure && state == "row" && !is_comment && rows_read++ == field_of[0] {
+  show(NR, $0, column_of($0, field_of[1] + 1), sentence(3, kind))
+  is_said = 1
+  exit
+}
 
 !is_comment { seen++; state = next_state(state, $0) }
 
 END {
-  if (about != "input" || line == "too-long") exit
-  word = split(substr(text, 1, column - 1), parted) + 1
+  if (is_said) exit
+  if (about != "input") { say(sentence(3, kind)); exit }
+  split(substr(text, 1, column - 1), before)
+  fault_number = split(substr(text, 1, column - 1), parted) + 1
+  fault_state = state == "table" && fault_number > 1 && (before[1] == "sig" || before[1] == "tri") ? before[1] : state
+  fault_word = substr(text, column)
+  sub(/[ \t\r].*/, "", fault_word)
   sub(/\r$/, "", text)
-  if (!found && kind == "missing-word" && seen > 0) print "trinorm: the input ends too early: " wanted(state, 1)
-  else if (!found) print "trinorm: " meaning(kind, state, 1, "")
-  else show(line, text, column, meaning(kind, state, word, text))
+  is_empty = kind == "input missing-word" && seen == 0 && fault_number == 1
+  said = sentence(3, kind)
+  if (fitting && row_condition[fitting] ~ /^begins/) say(said)
+  else if (is_there) show(line, text, column, said)
+  else say(seen ? "the input ends too early: " said : said)
 }

@@ -4,7 +4,7 @@
 # It is read by the launcher, which has set
 #   program   the program
 #   here      the folder of this file
-#   commands  the table of commands
+#   commands  the table of commands; hints.txt is in its folder
 #   told      the file with version, commit and sum of the program
 #   examples  the folder of the examples
 #   pages     where to read more
@@ -61,8 +61,7 @@ say_options() {
   for option in $options; do
     case $option in
       -) written=none ;;
-      *!*) written="$written${written:+ and }--${option%%!*} NUMBER" both=', both wanted' ;;
-      *=*..*) written="$written${written:+, }--${option%%=*} NUMBER" ;;
+      *!*) written="$written${written:+ and }--${option%%!*} ${option#*!}" both=', both needed' ;;
       *) written="$written${written:+, }--${option%%=*} ${option#*=}" ;;
     esac
   done
@@ -76,13 +75,16 @@ say_example() {
   esac
 }
 
-# All commands, where the input comes from, and one example.
+# All commands with a word on each, where the input comes from, and one example.
 say_commands() {
-  listed=$(cut -f 1 "$commands" | grep -v '^#' | tr '\n' ' ' | sed 's/ $//; s/ /, /g; s/, \([^,]*\)$/ and \1/')
-  say "commands are $listed; $pages"
-  say "each reads its input from standard input, and \`$me COMMAND --help\` tells its options"
+  say "commands are listed below; $pages"
+  awk -F '\t' '!/^#/ { printf "trinorm:   %-10s %s\n", $1, $5 }' "$commands" >&2
+  say "each reads its input from standard input, and \`$me COMMAND --help\` prints its options"
   look_up surfaces && say_example "$example" surfaces
 }
+
+# What is wrong with words.
+say_usage() { awk -v hints="${commands%/*}/hints.txt" -v commands="$commands" -f "$here/sentences.awk" -f "$here/usage.awk" -- "$@" >&2; }
 
 say_help() {
   look_up "$1"
@@ -152,45 +154,52 @@ say_words() {
     --version | -V | -v | version) say_version; return ;;
     '' | -*) say_commands; return ;;
   esac
-  look_up "$1" || { say_commands; return; }
+  case $1 in help) say_commands; return ;; esac
+  look_up "$1" || { say_usage "$@"; say "\`$me --help\` lists the commands"; return; }
   for word; do
     case $word in --help | -h | help | '-?') say_help "$1"; return ;; esac
   done
-  [ "$document" != none ] && say_input "$@" || { look_up "$1"; say_options "$1"; }
+  [ "$document" != none ] && say_input "$@" || { look_up "$1"; say_usage "$@"; say_options "$1"; }
 }
 
-# What kind of file this is, where it is one of another program.
-say_kind_of_file() {
-  case $(head -c 8 <"$input" | od -An -tx1 | tr -d ' \n') in
-    efbbbf*) say 'the file begins with a byte order mark: save it as plain text without one' ;;
-    fffe* | feff*) say 'this is UTF-16: save it as plain text (ASCII or UTF-8)' ;;
-    1f8b*) say "this is a compressed file, as Regina's data files are: $from_regina" ;;
-    3c3f786d6c*)
-      head -c 1000 <"$input" | grep -q -i regina || return 1
-      say "this is a data file of Regina: $from_regina" ;;
-    2520547269616e67*) say "this is a file of SnapPea: SnapPy's M.triangulation_isosig(decorated=False) gives a signature" ;;
-    *) return 1 ;;
-  esac
-}
-from_regina="there isoSig() gives a signature, to put behind \`sig\`"
-
-# Where the first word of the input is a signature, what it lacks.
-say_lone_signature() {
-  word=$(LC_ALL=C awk '/^[ \t\r]*(#|$)/ { next } { sub(/\r$/, "", $1); print $1; exit }' <"$input")
-  is_signature "$word" || return 1
-  decoration=${word#"${word%%_*}"}
-  [ -z "$decoration" ] || decoration=", and leave SnapPy's decoration $decoration out"
-  say "put \`sig\` before ${word%%_*}$decoration"
+# Sets coords and width to the coordinates that the words name, else to the first that the command has.
+look_at_coordinates() {
+  coords=standard
+  case " $options " in *' coords='*) coords=${options#*coords=} coords=${coords%%[| ]*} ;; esac
+  is_value=
+  for word; do
+    case $is_value$word in
+      yesstandard | yesquad | yesoctagon) coords=$word ;;
+      --coords=standard | --coords=quad | --coords=octagon) coords=${word#*=} ;;
+    esac
+    is_value=
+    [ "$word" != --coords ] || is_value=yes
+  done
+  case $coords in quad) width=3 ;; octagon) width=10 ;; *) width=7 ;; esac
 }
 
-# What the refusal of an input is about.
+# The line of a refusal, from a second run on the same input; nothing if that takes over a second.
+refusal_of() {
+  if [ "$status" = 3 ]; then
+    "$program" "$@" <"$input"
+  elif command -v timeout >/dev/null; then
+    timeout 1 "$program" "$@" <"$input"
+  fi | head -n 1
+}
+
+# What a refusal is about.
 say_fault() {
   [ -n "$input" ] && look_up "$1" || return
-  refusal=$("$program" "$@" <"$input" | head -n 1)
-  case $refusal in 'refused: input 1 '[12]' '*) say_kind_of_file && return ;; esac
-  case $refusal in 'refused: input '*' bad-word') [ "$document" = cone ] || ! say_lone_signature || return ;; esac
-  LC_ALL=C awk -v refusal="$refusal" -v document="$document" -f "$here/fault.awk" <"$input" >&2
+  refusal=$(refusal_of "$@")
+  [ -n "$refusal" ] || return
+  look_at_coordinates "$@"
+  first=$(head -c 8 <"$input" | od -An -tx1 | tr -d ' \n')
+  LC_ALL=C awk -v hints="${commands%/*}/hints.txt" -v status="$status" -v refusal="$refusal" -v command="$1" -v coords="$coords" -v width="$width" \
+    -v document="$document" -v first_bytes="$first" -f "$here/sentences.awk" -f "$here/fault.awk" <"$input" >&2
 }
+
+# The sentence on a status alone.
+say_status() { awk -v hints="${commands%/*}/hints.txt" -v status="$1" -f "$here/sentences.awk" -f "$here/fault.awk" </dev/null >&2; }
 
 # Whether standard input is a file of which nothing was read yet.
 is_whole_file() {
@@ -204,7 +213,7 @@ run() {
   if is_whole_file; then
     input=/dev/stdin
     "$program" "$@"
-  elif { [ -p /dev/stdin ] || [ -t 0 ]; } && reads_input "$@" && file=$(mktemp); then
+  elif { [ -p /dev/stdin ] || [ -t 0 ]; } && reads_input "$@" && file=$(mktemp 2>/dev/null); then
     exec 3<>"$file"
     rm -f "$file"
     input=/dev/fd/3
@@ -219,8 +228,7 @@ run "$@"
 status=$?
 case $status in
   2) say_words "$@" ;;
-  3) say_fault "$@" ;;
-  7) say 'writing the answer failed' ;;
-  8) say 'out of memory' ;;
+  3 | 4 | 5) say_fault "$@" ;;
+  7 | 8) say_status "$status" ;;
 esac
 exit $status

@@ -4,7 +4,17 @@
 #include "trinorm.h"
 #include <stdbool.h>
 
+#ifdef _WIN32
+#define HIDDEN /* windows/trinorm.def names what is exported */
+#else
 #define HIDDEN __attribute__((visibility("hidden")))
+#endif
+
+#ifdef __GLIBC__
+#define QUICKLY_FOUND __attribute__((tls_model("initial-exec")))
+#else /* other loaders have no room for such a variable of a library that is loaded later */
+#define QUICKLY_FOUND
+#endif
 
 #ifndef SMALL
 #define SMALL 512 /* 0: all blocks are malloc's, so that other tools see each */
@@ -24,7 +34,7 @@ struct call {
 };
 
 /* of the call that runs in this thread, null outside a call */
-extern HIDDEN _Thread_local struct call *current_call __attribute__((tls_model("initial-exec")));
+extern HIDDEN _Thread_local struct call *current_call QUICKLY_FOUND;
 
 /* Reads the clock, and returns whether the call is to end. */
 HIDDEN bool call_reads_clock(struct call *call);

@@ -2,7 +2,11 @@
  * limits of the call. If a limit is reached, memory is refused; the proved function then ends with "no memory" and gives
  * back all that it holds. So a limit needs no leave of what is proved. */
 #include "call.h"
+#ifdef _WIN32
+#include <windows.h>
+#else
 #include <time.h>
+#endif
 
 #define NONE UINT64_MAX
 #define TENTH_OF_A_SECOND 100000000u
@@ -16,9 +20,13 @@ static unsigned char nothing;
 /* ---- limits */
 
 static uint64_t now(void) {
+#ifdef _WIN32
+    return (uint64_t)GetTickCount64() * 1000000u;
+#else
     struct timespec t;
     clock_gettime(CLOCK_MONOTONIC, &t);
     return (uint64_t)t.tv_sec * 1000000000u + (uint64_t)t.tv_nsec;
+#endif
 }
 
 bool call_reads_clock(struct call *call) {
@@ -94,6 +102,10 @@ uint8_t trinorm_run_within(trinorm_limits *limits, const uint8_t *words, size_t 
         return TRINORM_AREAS;
     return answer_within(limits, words_length ? words : &nothing, words_length, input_length ? input : &nothing,
                          input_length, room ? answer : &none, room, to);
+}
+
+uint64_t trinorm_held(void) {
+    return current_call ? current_call->held : 0;
 }
 
 uint8_t trinorm_run(const uint8_t *words, size_t words_length, const uint8_t *input, size_t input_length,

@@ -11,6 +11,12 @@
 
 enum { HEAD = 16, LARGEST_CHUNK = 1 << 20 };
 
+#ifdef _WIN32
+/* C returns a structure of 16 bytes by a pointer there, and the archive in registers; windows/memory.ll joins the two. */
+#define rattle_alloc trinorm_alloc
+#define rattle_realloc trinorm_realloc
+#endif
+
 /* what the functions of memory return: `p` is never null */
 struct tried {
     bool ok;
@@ -33,7 +39,7 @@ _Static_assert(HEAD % STEP == 0 && HEAD >= sizeof(size_t), "a block is aligned a
 _Static_assert(alignof(max_align_t) >= STEP, "malloc aligns blocks to STEP");
 _Static_assert(SMALL % STEP == 0 && sizeof(struct waiting) <= STEP, "a small block of each size can wait");
 
-HIDDEN _Thread_local struct call *current_call __attribute__((tls_model("initial-exec")));
+HIDDEN _Thread_local struct call *current_call QUICKLY_FOUND;
 
 static unsigned char nothing;
 

@@ -3,12 +3,37 @@
 #include "trinorm.h"
 
 struct object;
+#ifdef __ELF__
 extern int PyGILState_Ensure(void) __attribute__((weak));
 extern void PyGILState_Release(int) __attribute__((weak));
 extern int PyErr_CheckSignals(void) __attribute__((weak));
 extern void PyErr_Fetch(struct object **, struct object **, struct object **) __attribute__((weak));
 extern void PyErr_Restore(struct object *, struct object *, struct object *) __attribute__((weak));
 extern void PyErr_Clear(void) __attribute__((weak));
+#else
+/* Elsewhere no name is weak as it is there, so Python gives the addresses of its functions. */
+static struct {
+    int (*ensure)(void);
+    void (*release)(int);
+    int (*check_signals)(void);
+    void (*fetch)(struct object **, struct object **, struct object **);
+    void (*restore)(struct object *, struct object *, struct object *);
+    void (*clear)(void);
+} python;
+#define PyGILState_Ensure python.ensure
+#define PyGILState_Release python.release
+#define PyErr_CheckSignals python.check_signals
+#define PyErr_Fetch python.fetch
+#define PyErr_Restore python.restore
+#define PyErr_Clear python.clear
+
+/* Takes the addresses of these functions, in that order. */
+void trinorm_python_is(void *const *functions) {
+    void **to = (void **)&python;
+    for (unsigned i = 0; i < sizeof python / sizeof *to; i++)
+        to[i] = functions[i];
+}
+#endif
 
 /* the exception that ended the call of this thread */
 static _Thread_local struct object *type, *value, *traceback;

@@ -48,6 +48,9 @@ uint8_t trinorm_run_within(trinorm_limits *limits, const uint8_t *words, size_t 
  * name. */
 const char *trinorm_version(void);
 
+/* The bytes that the call of this thread holds, for a function that it asks whether to stop; 0 outside a call. */
+uint64_t trinorm_held(void);
+
 /* The proved function below trinorm_run and trinorm_run_within: no area may be null, not even one of no bytes, and what it
  * writes may lie over nothing else. */
 uint8_t trinorm_answer(const uint8_t *words, size_t words_length, const uint8_t *input, size_t input_length,

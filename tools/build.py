@@ -36,6 +36,8 @@ from pathlib import Path
 from typing import IO, Dict, Iterator, List, Optional
 
 from archives import NoRelease, read_release
+import modules
+import wasm
 from build_times import Plan, Times, Took, read_times, write_times
 from installed import Installed
 from kept import Libraries, Programs, Unusable
@@ -45,6 +47,8 @@ from repository import (PARTS, PROGRAM, TOP, Crate, Sources, cache_folder, chang
                         products, read_crates, read_other_sources, read_sources, sum_of, sum_of_file, version)
 
 TIMES = TOP / "build_times.txt"
+# what has to be the same, bit for bit, wherever it is made
+COMPARED = ("program", "archive", "module", "wasm")
 # a proof takes 0.5 to 2 GB
 MEMORY_EACH = 2 << 30
 
@@ -163,7 +167,7 @@ class Build:
 
     def linked(self, kit: Optional[Kit], files: Dict[str, bytes]) -> Dict[str, bytes]:
         """What was proved, the program and perhaps the archive, with the library and the server that are linked of it."""
-        proved = {name: files[name] for name in ("program", "archive") if name in files}
+        proved = {name: files[name] for name in ("program", "archive", "module") if name in files}
         if kit is None or "archive" not in files or not (TOP / "tools" / "library.py").is_file():
             return proved
         from library import build_library
@@ -176,7 +180,8 @@ class Build:
             except (NotProved, OSError) as fault:
                 say(f"there is no library for other languages, since it wasn't linked: {fault}")
                 return proved
-            return {**proved, **{name: Path(folder, "made", FILES[name]).read_bytes() for name in ("library", "server")}}
+            linked = {name: Path(folder, "made", FILES[name]).read_bytes() for name in ("library", "server")}
+            return {**proved, **linked, **wasm.made(kit.at, proved.get("module"), say)}
 
     def keep(self, place: Path, files: Dict[str, bytes], told: Manifest) -> None:
         try:
@@ -223,6 +228,7 @@ class Build:
         for name in products(self.crates):
             if name != PROGRAM:
                 files["archive"] = workspace.product_of(name).read_bytes()
+                files.update(modules.kept_at(workspace.product_of(name)))
         return self.linked(kit, files)
 
     def finish(self, kit: Kit, files: Dict[str, bytes], workspace: Workspace) -> None:
@@ -300,7 +306,10 @@ def compare(given: argparse.Namespace, kit: Kit) -> None:
     if told.kit != kit.line:
         say(f"that program was proved by {told.kit}, and here is {kit.line}")
     build_with(given, kit)
-    for name in (name for name in ("program", "archive") if name in told.files):
+    for name in (name for name in COMPARED if name in told.files):
+        if not (build.installed.out / FILES[name]).is_file():
+            say(f"{FILES[name]} can't be compared, since it wasn't made here: {wasm.NAME} needs {' and '.join(wasm.PACKAGES)}")
+            continue
         mine = sum_of_file(build.installed.out / FILES[name])
         if mine != told.files[name]:
             sys.exit(f"{PROGRAM}: another {name}: proved here it has sha256 {mine}, there {told.files[name]}")

@@ -1,6 +1,6 @@
 #!/usr/bin/env python3
-"""Puts crates.txt into the order of the floors, writes the map of the crates by subject into docs/ARCHITECTURE.md, the files
-that the contracts of law crates cite into docs/DEFINITIONS.md, and the longest chain into docs/PROVING.md.
+"""Puts crates.txt into the order of the floors, writes the map of the crates by subject into docs/ARCHITECTURE.md, the
+definitions of code crates into docs/DEFINITIONS.md, and the longest chain into docs/PROVING.md.
 
     tools/floors.py [--check]
 
@@ -10,6 +10,7 @@ whose line lists one that none of its files names, or lacks one that they do, an
 """
 from __future__ import annotations
 
+import itertools
 import re
 import sys
 from typing import Dict, List
@@ -49,7 +50,7 @@ SUBJECTS = {
 }
 MARKS = {
     "subjects": ("<!-- subjects: tools/floors.py -->", "<!-- end of subjects -->"),
-    "laws": ("<!-- laws: tools/floors.py -->", "<!-- end of laws -->"),
+    "own": ("<!-- own definitions: tools/floors.py -->", "<!-- end of own definitions -->"),
     "chain": ("<!-- chain: tools/floors.py -->", "<!-- end of chain -->"),
 }
 # The commands of each subject.
@@ -121,24 +122,28 @@ def list_text(known: Crates, storeys: Storeys) -> str:
     return text
 
 
-def statements(name: str) -> List[str]:
-    """The files of its own specs/ that a law crate's contracts cite, and those that these cite in turn."""
-    cite = rf"Rattle\.{name}\.specs\.(\w+)\."
-    found: List[str] = []
-    left = re.findall(cite, read(f"crates/{name}/src/lib.rt"))
-    while left:
-        file = left.pop(0)
-        if file not in [*found, "declared"]:
-            found.append(file)
-            left += re.findall(cite, read(f"crates/{name}/specs/{file}.antt"))
-    return found
+def own_files(name: str) -> List[str]:
+    """The files of its own specs/ that the sources of a code crate name, in alphabetical order."""
+    folder = TOP / "crates" / name
+    texts = [path.read_text("utf8") for path in sorted((folder / "src").rglob("*.rt"))]
+    cited = {file for text in texts for file in re.findall(rf"Rattle\.{name}\.specs\.(\w+)", text)}
+    return sorted(file for file in cited if (folder / "specs" / f"{file}.antt").exists())
 
 
-def laws_text(storeys: Storeys) -> str:
-    """The files of statements of each crate of laws that has more than Laws."""
-    lines = ["| Crate | Files |", "|---|---|"]
-    laws = {name: statements(name) for names in storeys for name in names if kind(name) == "laws"}
-    return "\n".join(lines + [f"| `{name}` | {', '.join(files)} |" for name, files in laws.items() if files not in ([], ["Laws"])])
+def first_sentence(text: str) -> str:
+    """The first sentence of the comment at the head of a file of specs/, without its full stop."""
+    lines = itertools.takewhile(lambda line: line.startswith("--"), text.split("\n"))
+    said = " ".join(line[2:].strip() for line in lines)
+    return re.split(r"(?<=\.)\s", said)[0].rstrip(".").replace("|", "\\|")
+
+
+def own_text(known: Crates) -> str:
+    """The definitions of code crates: a row for each file of specs/ that the crate's sources name."""
+    rows = ["| Crate: file | Definition |", "|---|---|"]
+    for name in sorted(known):
+        if kind(name) in ("code", "program"):
+            rows += [f"| `{name}`: {file} | {first_sentence(read(f'crates/{name}/specs/{file}.antt'))} |" for file in own_files(name)]
+    return "\n".join(rows)
 
 
 def quoted(names: List[str]) -> str:
@@ -192,7 +197,7 @@ def wanted_files(known: Crates) -> Dict[str, str]:
     return {
         "crates.txt": list_text(known, storeys),
         "docs/ARCHITECTURE.md": with_part(read("docs/ARCHITECTURE.md"), "subjects", subjects_text(known)),
-        "docs/DEFINITIONS.md": with_part(read("docs/DEFINITIONS.md"), "laws", laws_text(storeys)),
+        "docs/DEFINITIONS.md": with_part(read("docs/DEFINITIONS.md"), "own", own_text(known)),
         "docs/PROVING.md": with_part(read("docs/PROVING.md"), "chain", chain_text(), " "),
     }
 

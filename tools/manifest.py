@@ -6,8 +6,9 @@ from typing import Dict, Iterator, List, NamedTuple, Tuple
 from repository import PROGRAM, Sources, sum_of_lines
 
 # what a build makes, by the names in a manifest: the program, the proved archive for other languages, the library that is
-# linked of it, and a server over that
-FILES = {"program": PROGRAM, "archive": "libtrinorm_c.a", "library": "libtrinorm.so.1", "server": "trinorm-server"}
+# linked of it, and a server over that; the LLVM module of the archive, and what is made of it for WebAssembly
+FILES = {"program": PROGRAM, "archive": "libtrinorm_c.a", "library": "libtrinorm.so.1", "server": "trinorm-server",
+         "module": "trinorm_c.bc", "wasm": "trinorm.wasm"}
 # the names under which a linker looks for them
 LINKS = {"libtrinorm.so": FILES["library"]}
 

@@ -18,10 +18,16 @@ from pathlib import Path
 from typing import Dict, List, NamedTuple, Sequence
 
 # the module as `keep` writes it, next to the archive that is made of it
-MODULE = "module.bc"
+MODULE = "trinorm_c.bc"
 # what a module may leave to the linker; more would be a change of the kit's that someone has to look at
 OUTSIDE = {"rattle_alloc", "rattle_realloc", "rattle_dealloc"}
 COMPILED = ["--no-default-config", "-no-canonical-prefixes", "-ffunction-sections", "-fdata-sections", "-Wno-override-module"]
+
+
+def kept_at(product: Path) -> Dict[str, bytes]:
+    """The module that was kept next to a static library, by its name in a manifest, if there is one."""
+    module = product.with_name(MODULE)
+    return {"module": module.read_bytes()} if module.is_file() else {}
 
 
 class NotCompiled(Exception):
@@ -56,9 +62,10 @@ TARGETS: Dict[str, Target] = {
 
 def toolchain(kit: Path, folder: Path, to: Path) -> Path:
     """Makes a toolchain for `rattle` in `folder`, whose clang keeps the module that it compiles as the file `to`."""
-    binaries = folder / "bin"
+    binaries, theirs = folder / "bin", kit / "toolchain"
+    if not (theirs / "bin" / "clang").is_file():
+        return theirs
     binaries.mkdir(parents=True, exist_ok=True)
-    theirs = kit / "toolchain"
     for name in ("lib", *(f"bin/{path.name}" for path in (theirs / "bin").iterdir() if path.name != "clang")):
         link = folder / name
         link.unlink(missing_ok=True)

@@ -68,14 +68,15 @@ def shared(made: Made) -> Files:
         f"bin/{PROGRAM}": ((TOP / "launcher" / "installed.sh").read_bytes(), 0o755),
         f"{libexec}/version": (made.told.encode(), 0o644),
         f"{libexec}/commands.txt": plain(TOP / "python" / PROGRAM / "commands.txt"),
+        f"{libexec}/hints.txt": plain(TOP / "python" / PROGRAM / "hints.txt"),
         f"share/man/man1/{PROGRAM}.1": (pages.manual(commands, made.version, day()).encode(), 0o644),
         f"share/bash-completion/completions/{PROGRAM}": (pages.bash(commands).encode(), 0o644),
         f"share/zsh/site-functions/_{PROGRAM}": (pages.zsh(commands).encode(), 0o644),
     }
     for name, data in made.files.items():
-        if name != "archive":
+        if name in ("program", "library", "server"):
             files[f"{libexec}/{FILES[name]}"] = (data, 0o644 if name == "library" else 0o755)
-    for name in ("hints.sh", "fault.awk"):
+    for name in ("hints.sh", "fault.awk", "sentences.awk", "usage.awk"):
         files[f"{libexec}/{name}"] = plain(TOP / "launcher" / name)
     for name in LICENCES:
         files[f"{doc}/{name}"] = plain(TOP / name)

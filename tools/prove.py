@@ -16,6 +16,7 @@ from contextlib import suppress
 from pathlib import Path
 from typing import IO, Callable, Dict, Iterator, List, NamedTuple, Optional, Sequence
 
+import modules
 from build_times import Took
 from kept import Libraries
 from repository import Crate, files_of_crate, standing_below, sum_of, sum_of_file
@@ -108,6 +109,8 @@ class Workspace:
         """A sum of all that a crate is proved from, once the libraries below it are known."""
         crate, folder = self.crates[name], self.folder(name)
         told = [self.kit.name, repr(tuple(crate)), *(self.sums[below] for below in crate.below)]
+        # a static library from before its module was kept is made again
+        told += [modules.MODULE] if crate.is_static else []
         for path in files_of_crate(folder):
             told += [path.relative_to(folder).as_posix(), sum_of_file(path)]
         return sum_of("\0".join(told).encode())
@@ -160,6 +163,13 @@ class Workspace:
             self.log(name).write_text(f"{self.verdicts[name]}\n", "utf8")
             self.stamp_file(name).write_text(self.stamps[name], "ascii")
 
+    def toolchain(self, name: str) -> Path:
+        """The kit's toolchain, or for a static library one that also keeps the LLVM module next to it."""
+        product = self.product(name)
+        if product is None or not self.crates[name].is_static:
+            return self.kit.at / "toolchain"
+        return modules.toolchain(self.kit.at, self.to / "toolchains" / name, product.with_name(modules.MODULE))
+
     def words(self, name: str, jobs: int) -> List[str]:
         """What rattle is asked, so that it proves a crate and, where it is proved, makes its library or its program."""
         crate, product = self.crates[name], self.product(name)
@@ -176,7 +186,7 @@ class Workspace:
         if crate.is_static:
             words += ["--crate-type", "staticlib"]
         if product is not None:
-            words += ["--backend", "llvm", "--toolchain", f"{self.kit.at}/toolchain", "-o", str(product)]
+            words += ["--backend", "llvm", "--toolchain", str(self.toolchain(name)), "-o", str(product)]
         else:
             words += ["--statements", "-o", str(self.library(name))]
         return [f"{self.kit.at}/bin/rattle", "build", *words]

@@ -16,6 +16,7 @@ from pathlib import Path
 from typing import Dict, List, NoReturn, Tuple
 
 import commands
+import elsewhere
 import packages
 from kept import Programs
 from manifest import Manifest
@@ -63,7 +64,9 @@ def release(gate: str) -> List[Tuple[str, bytes]]:
     manifest = manifest._replace(version=version(TOP), commit=commit(TOP), gate=gate)
     told = "".join(f"{line}\n" for line in ["proved elsewhere", *manifest.head()])
     made = packages.Made(manifest.version, made_files, told, manifest)
-    files = [packages.wheel(made), packages.debian(made), packages.tarball(made), ("MANIFEST", manifest.text().encode())]
+    command = shutil.which("rt")
+    files = [packages.wheel(made), packages.debian(made), packages.tarball(made), *(elsewhere.files(made, Kit(command).at) if command else []),
+             ("MANIFEST", manifest.text().encode())]
     sums = "".join(f"{sum_of(data)}  {name}\n" for name, data in files)
     return [*files, ("SHA256SUMS", sums.encode())]
 

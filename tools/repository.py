@@ -126,8 +126,9 @@ def read_sources(top: Path, crates: Dict[str, Crate]) -> Sources:
     """The sources of some crates, and those that are linked to what is proved."""
     lines = [" ".join([f"{name}:", *crate.below, *crate.of_kit]) for name, crate in sorted(crates.items())]
     paths = [path for name in crates for path in files_of_crate(top / "crates" / name)]
+    tools = [top / "tools" / f"{name}.py" for name in ("library", "modules", "wasm")]
     # the version in pyproject.toml is told by the library
-    linked = [top / "tools" / "library.py", top / "python" / "pyproject.toml", *(top / "library").glob("*.*")]
+    linked = [*tools, top / "python" / "pyproject.toml", *(top / "library").glob("*.*"), *(top / "library" / "wasm").glob("*.c")]
     return Sources(lines, sums_of_files(top, paths), sums_of_files(top, [path for path in linked if path.is_file()]))
 
 

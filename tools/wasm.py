@@ -15,7 +15,7 @@ import shutil
 import sys
 import tempfile
 from pathlib import Path
-from typing import Dict, Iterator, List, Optional, Tuple
+from typing import Callable, Dict, Iterator, List, Optional, Tuple
 
 from modules import TARGETS, NotCompiled, clang, compiled, compiled_c, run
 from repository import TOP, sum_of_file
@@ -23,6 +23,8 @@ from repository import TOP, sum_of_file
 NAME = "trinorm.wasm"
 EXPORTS = ["memory", "trinorm_area", "trinorm_forget", "trinorm_held", "trinorm_limit", "trinorm_run"]
 HELPERS = Path("/usr/lib/llvm-22/lib/clang/22/lib/wasi/libclang_rt.builtins-wasm64.a")
+# of version 1:22.1.8-1~deb12u1, which was tried: another one is refused until somebody has tried it
+HELPERS_SUM = "e84648951a72d16fd58501b064975620a547cbe7795ce2247ebf8c89a2e20b37"
 STACK = 8 << 20
 PACKAGES = ["libclang-rt-22-dev-wasm64", "binaryen"]
 FEATURES = ["memory64", "bulk-memory", "sign-ext", "nontrapping-float-to-int", "mutable-globals"]
@@ -104,6 +106,8 @@ def build(kit: Path, module: Path) -> bytes:
     """The bytes of trinorm.wasm."""
     if missing():
         raise NotCompiled(f"{NAME} needs the Debian packages {' '.join(missing())}")
+    if sum_of_file(HELPERS) != HELPERS_SUM:
+        raise NotCompiled(f"{HELPERS} is another one than was tried: run the tests with it, and write its checksum into tools/wasm.py")
     target = TARGETS["wasm"]
     with tempfile.TemporaryDirectory() as room:
         folder = Path(room)
@@ -113,9 +117,21 @@ def build(kit: Path, module: Path) -> bytes:
     return data
 
 
-def parts() -> Dict[str, str]:
-    """The checksums of what is linked to the module, by name."""
-    return {"library/wasm/heap.c": sum_of_file(TOP / "library" / "wasm" / "heap.c"), HELPERS.name: sum_of_file(HELPERS)}
+def made(kit: Path, module: Optional[bytes], say: Callable[[str], None]) -> Dict[str, bytes]:
+    """The module for WebAssembly by its name in a manifest; nothing if it can't be made here, which is said."""
+    if module is None:
+        return {}
+    if missing():
+        say(f"there is no {NAME}, since {' and '.join(missing())} of Debian are not installed")
+        return {}
+    with tempfile.TemporaryDirectory() as folder:
+        path = Path(folder, "module.bc")
+        path.write_bytes(module)
+        try:
+            return {"wasm": build(kit, path)}
+        except (NotCompiled, OSError) as fault:
+            say(f"there is no {NAME}: {fault}")
+            return {}
 
 
 def main(words: List[str]) -> Optional[str]:

@@ -14,7 +14,7 @@ import unittest.mock
 import trinorm
 from tests.programs import script
 from trinorm.__main__ import main
-from trinorm.census import Ran, Source, by_processes, lines_of, run_census
+from trinorm.census import Ran, Source, by_processes, entry_of, lines_of, run_census
 from trinorm.program import REPOSITORY, Failed
 from trinorm.tasks import Task
 
@@ -54,7 +54,7 @@ class Folder(unittest.TestCase):
 
 class Lines(unittest.TestCase):
     def entries(self, *lines):
-        return [found.entry() for found in lines_of(Source("file", None, lines)) if found is not None]
+        return [entry_of(found) for found in lines_of(Source("file", None, lines)) if found is not None]
 
     def test_entries(self):
         told = self.entries(*SIGNATURES.encode().splitlines(keepends=True))

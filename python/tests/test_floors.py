@@ -10,6 +10,7 @@ from trinorm.program import REPOSITORY
 sys.path.insert(0, str(REPOSITORY / "tools"))
 
 from build_times import Plan, Times, Took  # noqa: E402
+from floors import first_sentence, own_files  # noqa: E402
 from refusals import functions_of, kind, refusals  # noqa: E402
 
 
@@ -113,6 +114,12 @@ class Order(unittest.TestCase):
         below = {"a": [], "b": ["a"], "c": ["a"], "d": ["b", "c"]}
         times = Times(0, {name: Took(seconds, 0) for name, seconds in zip("abcd", (1.0, 5.0, 2.0, 1.0))})
         self.assertEqual(Plan(below, times, 2).longest_chain(), ["a", "b", "d"])
+
+    def test_definitions_of_code(self):
+        self.assertEqual(first_sentence("-- Rows | rays,\n-- of a step. And more.\nuse Rattle.std\n-- a ray"), "Rows \\| rays, of a step")
+        self.assertEqual(first_sentence("use Rattle.std\n"), "")
+        self.assertEqual(own_files("trinorm_c"), ["Calls"])
+        self.assertEqual(own_files("no_crate"), [])
 
     def test_nothing_is_stale(self):
         done = subprocess.run([sys.executable, str(REPOSITORY / "tools" / "floors.py"), "--check"], capture_output=True, text=True, check=False)

@@ -1,12 +1,15 @@
 """The launcher: what it says where standard error is a terminal, and that nothing else of a run changes."""
 import os
 import pty
+import re
 import shutil
 import subprocess
 import tempfile
 import unittest
 
+import trinorm
 from tests import repository
+from trinorm import hints
 
 
 class Launcher(unittest.TestCase):
@@ -48,15 +51,84 @@ class Launcher(unittest.TestCase):
         self.assertEqual(through_pipe[:2], alone[:2])
         return through_pipe[2]
 
-    def test_words(self):
-        for words in ([], ["help"], ["surface"], ["--help"], ["-h"]):
+    def test_all_commands(self):
+        """Without words, and where help is asked for: each command with a word on it."""
+        with open(os.path.join(self.folder.name, "python", "trinorm", "commands.txt"), encoding="utf8") as file:
+            rows = [line.rstrip("\n").split("\t") for line in file if not line.startswith("#")]
+        for words in ([], ["help"], ["--help"], ["-h"]):
             said = self.said(words)
-            self.assertTrue(said.startswith("trinorm: commands are surfaces, "), said)
+            self.assertTrue(said.startswith("trinorm: commands are listed below; "), said)
+            for name, *_, answers in rows:
+                self.assertIn(f"trinorm:   {name:10} {answers}\n", said)
             self.assertIn("reads its input from standard input", said)
             self.assertIn(f"for example: {self.launcher} surfaces < {self.folder.name}/examples/", said)
-        self.assertEqual(self.said(["describe", "--coords", "quad"], b"sig bkaagj\n"), "trinorm: options of describe: --coords standard|octagon\n")
-        self.assertEqual(self.said(["info", "--order", "zeros"]), "trinorm: options of info: none\n")
-        self.assertIn("--seed NUMBER", self.said(["make"]))
+
+    def test_words(self):
+        """What is wrong with the words, and the options that the command has."""
+        help_too = f"trinorm: `{self.launcher} --help` lists the commands\n"
+        for word, near in (("surface", ": is it `surfaces`?"), ("desribe", ": is it `describe`?"), ("crsuh", ": is it `crush`?"), ("x", ""), ("a&b\\", "")):
+            self.assertEqual(self.said([word]), f"trinorm: there is no command `{word}`{near}\n{help_too}")
+        for words, wrong in (
+            (["describe", "--coords", "quad"], "`--coords` is one of standard, octagon, and not `quad`"), (["surfaces", "--coords=quads"], "one of standard, quad, octagon, and not `quads`: is it `quad`?"),
+            (["info", "--order", "zeros"], "`info` has no option `--order`"), (["surfaces", "--cords", "quad"], "`surfaces` has no option `--cords`: is it `--coords`?"),
+            (["make"], "`make` needs `--seed`: a whole number from 0 to 18446744073709551615"), (["make", "--seed", "1"], "`make` needs `--moves`: a whole number from 0 to 1000"),
+            (["make", "--seed", "1", "--moves", "1001"], "`--moves` is a whole number from 0 to 1000, and not `1001`"), (["surfaces", "--max-entry", "0"], "a whole number from 1 to 170141183460469231731687303715884105727, and not `0`"),
+            (["make", "--seed", "18446744073709551616", "--moves", "1"], "and not `18446744073709551616`"), (["surfaces", "--order"], "`--order` needs a value: one of given, short, zeros"),
+            (["make", "--seed=1", "--seed=1"], "`--seed` is given twice"), (["sig", "x"], "takes no word `x`"), (["make", "--seed=1", "--moves=1", "x"], "takes options alone, and not `x`"), (["sig", "--"], "has no option `--`"),
+        ):
+            said = self.said(words).splitlines()
+            self.assertIn(wrong, said[0])
+            self.assertTrue(said[1].startswith(f"trinorm: options of {words[0]}: "), said)
+            self.assertEqual(len(said), 2)
+        self.assertEqual(self.said(["describe", "--coords", "quad"]).splitlines()[1], "trinorm: options of describe: --coords standard|octagon")
+        self.assertEqual(self.said(["info", "--order", "zeros"]).splitlines()[1], "trinorm: options of info: none")
+        self.assertEqual(self.said(["make"]).splitlines()[1], "trinorm: options of make: --seed 0..18446744073709551615 and --moves 0..1000, both needed")
+
+    def test_checks_and_limits(self):
+        """Status 4 and 5."""
+        for words, text, said in (
+            (["describe"], b"sig bkaagj\nvec 0 0 1\n", "vector 0 has 3 entries: standard coordinates have 7 for each tetrahedron; `lift` makes standard vectors of quad vectors"),
+            (["describe", "--coords", "octagon"], b"sig bkaagj\nvec 0 0 1\n", "octagon coordinates have 10"), (["lift"], b"sig bkaagj\nvec 0\n", "`lift` reads quad coordinates, 3 for"),
+            (["decompose", "--coords=quad"], b"sig bkaagj\nvec 0\n", "quad coordinates have 3"), (["lift"], b"sig cPcbbbiht\nvec 2 0 0 0 0 1\n", "vector 0 is spun-normal at vertex 0"),
+            (["crush"], b"sig bkaagj\nvec 0 0 1 1 0 1 1\n", "its discs in columns 5 and 6 intersect"), (["describe"], b"sig bkaagj\nvec 1 0 0 0 0 0 0\n", "doesn't solve equation 0"),
+            (["sig"], b"tri 2\n- - - -\n- - - -\n", "`csig` takes several components"), (["same"], b"tri 2\n- - - -\n- - - -\nsig bkaagj\n", "`csame` takes several components"),
+            (["check"], b"sig bkaagb\n", "lead to bkaagb and not to the standard sphere bkaagj"), (["check"], b"sig bkaagj\n14 0\n41 0 3\n23 0 0\n", "move 3 isn't legal: the tetrahedron across the face opposite label 3"),
+            (["pi1"], b"tri 1\n0:1032 0:1032 - -\n", "is glued to itself in reverse"), (["rays", "--max-entry", "2"], b"cone 3 2\n1 -2 0\n0 1 -2\n", "a number exceeds the limit, which is `--max-entry`"),
+            (["describe"], b"sig bkaagj\nvec 0 0 100001 100001 0 0 0\n", ""),
+        ):
+            self.assertIn(said, self.said(words, text))
+
+    def test_sentences_are_the_package_s(self):
+        """The hints of the package, which reads the same table."""
+        for words, text in (
+            (["describe"], "sig bkaagj\nvec 0 0 1\n"), (["info"], "cPcbbbiht_BaCB\n"), (["info"], "m004\n"), (["info"], "sig m004\n"), (["info"], "sig cPcbbbiht_BaCB\n"), (["info"], "sig bka\n"), (["info"], "tri 1\n- - -\n"),
+            (["info"], "tri 1\n- - - - -\n"), (["info"], "sig bkaagj x\n"), (["info"], "tri x\n"), (["info"], "tri 1\n- - - 4:0123\n"), (["verify"], "sig bkaagj\nvec -1\n"), (["verify"], "sig bkaagj\n1 1\n"), (["play"], "sig bkaagj\nmove\n"),
+            (["check"], "sig bkaagj\n23 0 9\n"), (["addup"], "tri 0\nvec\nterm 1\n"), (["addup"], "tri 0\nvec 1\ntimes 1 1\nvec 1\n"), (["rays"], "cone 2 2\n1 1\n1 x\n"), (["rays"], "tri 1\n"), (["crush"], "sig bkaagj\nvec 1\nvec 1\n"),
+            (["crush"], "sig bkaagj\n"), (["info"], ""), (["rays"], ""), (["info"], "\ufefftri 0\n"), (["info"], '<?xml version="1.0"?>\n'), (["info"], "% Triangulation\n"), (["same"], "sig bkaagj\n"), (["check"], "sig bkaagb\n"),
+            (["sig"], "tri 2\n- - - -\n- - - -\n"), (["surfaces", "--coords", "quads"], ""), (["surface"], ""), (["make", "--seed", "1"], ""), (["info"], "# c\n\ntri 1\n\t99999999999:0123 - - -\r\n"),
+        ):
+            with self.assertRaises(trinorm.Refused) as caught:
+                trinorm.program.run(words, text, program=str(self.program))
+            refused = caught.exception
+            hint = refused.hint or hints.hint(refused, words, text)
+            self.assertGreater(len(hint), 5)
+            self.assertIn(hint, self.said(words, text.encode()), (words, text))
+
+    def test_other_awks(self):
+        """What plays the part of awk elsewhere says the same."""
+        for command in ("mawk", "gawk", "original-awk", "busybox"):
+            if not shutil.which(command):
+                continue
+            with tempfile.TemporaryDirectory() as folder:
+                path = os.path.join(folder, "awk")
+                with open(path, "w", encoding="utf8") as file:
+                    file.write(f'#!/bin/sh\nexec {command}{" awk" if command == "busybox" else ""} "$@"\n')
+                os.chmod(path, 0o755)
+                for words, text in ((["info"], b"cPcbbbiht_BaCB"), (["surface"], b""), (["make", "--seed", "18446744073709551616", "--moves", "1"], b""), (["verify"], b"tri 0\nvec -1\n"),
+                                    (["describe"], b"sig bkaagj\nvec 0 0 1\n"), (["info"], b"tri 1\n- - - 4:0123\n"), (["info"], b"sig b.aagj\n"), (["surfaces", "-f", "a=b"], b"")):
+                    script = f'PATH={folder}:$PATH; export PATH; exec {self.launcher} "$@"'
+                    ours = self.run_with("sh", ["-c", script, self.launcher, *words], text)
+                    self.assertEqual(ours, self.run_with(self.launcher, words, text), (command, words))
 
     def test_help_of_a_command(self):
         for words in (["surfaces", "--help"], ["surfaces", "--coords", "quad", "-h"]):
@@ -94,39 +166,40 @@ class Launcher(unittest.TestCase):
         self.assertEqual(self.said(["surfaces", "-", "--order=zeros"]), f"{head} {me} surfaces --order=zeros < FILE\n")
 
     def test_options_are_the_program_s(self):
-        commands = self.said([]).replace("and ", ", ").partition(" are ")[2].partition(";")[0].split(", ")
-        for command in filter(None, map(str.strip, commands)):
-            said = self.said([command, "--no-option"]).strip()
+        commands = [line.split()[1] for line in self.said([]).splitlines() if line.startswith("trinorm:   ")]
+        self.assertEqual(len(commands), 21)
+        for command in commands:
+            said = self.said([command, "--no-option"]).strip().splitlines()[-1]
             self.assertTrue(said.startswith(f"trinorm: options of {command}: "), said)
             options = [] if said.endswith("none") else said.partition(f"{command}: ")[2].replace(" and ", ", ").split(", ")
-            words = [it.replace("NUMBER", "1") for option in options if option.startswith("--") for it in option.split()]
+            words = [re.sub(r"^\d+\.\.\d+$", "1", it) for option in options if option.startswith("--") for it in option.split()]
             for values in zip(*(it.split("|") * 6 for it in words)) if words else [[]]:
                 status = subprocess.run([self.program, command, *values[:6]], stdin=subprocess.DEVNULL, stdout=subprocess.PIPE, check=False).returncode
                 self.assertNotEqual(status, 2, (command, values))
 
     def test_a_signature_without_its_word(self):
         for text in (b"cPcbbbiht", b"cPcbbbiht\n", b"# a comment\n\n  cPcbbbiht\r\nvec 1\n"):
-            self.assertEqual(self.said(["info"], text), "trinorm: put `sig` before cPcbbbiht\n")
-        self.assertEqual(self.said(["surfaces", "--order", "zeros"], b"bkaagj"), "trinorm: put `sig` before bkaagj\n")
+            self.assertTrue(self.said(["info"], text).endswith("^ put `sig` before cPcbbbiht\n"))
+        self.assertEqual(self.said(["surfaces", "--order", "zeros"], b"bkaagj"), "trinorm: line 1: bkaagj\n                 ^ put `sig` before bkaagj\n")
 
     def test_a_decorated_signature(self):
-        self.assertEqual(self.said(["info"], b"cPcbbbiht_BaCB\n"), "trinorm: put `sig` before cPcbbbiht, and leave SnapPy's decoration _BaCB out\n")
+        self.assertIn("^ put `sig` before cPcbbbiht, and leave SnapPy's decoration _BaCB out\n", self.said(["info"], b"cPcbbbiht_BaCB\n"))
         for text in (b"sig cPcbbbiht_BaCB\n", b"#\n  sig   cPcbbbiht_BaCB"):
-            self.assertIn("^ leave SnapPy's decoration out: `sig cPcbbbiht`\n", self.said(["info"], text))
+            self.assertIn("^ _BaCB is SnapPy's decoration: leave it out, as in `sig cPcbbbiht`\n", self.said(["info"], text))
 
     def test_the_line_is_shown(self):
         """For each place of a fault what is wanted there, and a caret under the column that the program names."""
         for words, text, wanted in (
             (["info"], b"trj 1\n", "a triangulation begins with"), (["info"], b"tri\n", "the number of tetrahedra"),
             (["info"], b"tri 1\nbkaagj\n", "an entry is"), (["info"], b"# c\n\ntri 1\n\t- - - - -\r\n", "a row has four entries"),
-            (["info"], b"sig bkaagj x\n", "the line should end here"), (["info"], b"sig bkaagj\nsig bkaagj\n", "the line should end here"),
+            (["info"], b"sig bkaagj x\n", "the line should end here"), (["info"], b"sig bkaagj\nsig bkaagj\n", "nothing more is expected here"),
             (["info"], b"tri 1\n- - \xff - -\n", "only plain ASCII"), (["info"], b"tri 1\n99999999999:0123 - - -\n", "this number is too large"),
-            (["verify"], b"sig bkaagj\n1 1\n", "begins with `vec`"), (["verify"], b"tri 0\nvec 1 1.5\n", "a whole number"),
-            (["crush"], b"sig bkaagj\nvec 1\nvec 1\n", "the line should end here"), (["play"], b"sig bkaagj\nmove\n", "`undo` or `redo`"),
+            (["verify"], b"sig bkaagj\n1 1\n", "begins with `vec`"), (["verify"], b"tri 0\nvec 1 1.5\n", "are whole numbers"),
+            (["crush"], b"sig bkaagj\nvec 1\nvec 1\n", "nothing more is expected here"), (["play"], b"sig bkaagj\nmove\n", "`undo` or `redo`"),
             (["check"], b"sig bkaagj\n23 0 9\n", "a face or vertex"), (["same"], b"tri 0\nvec 1\n", "a triangulation begins with"),
             (["addup"], b"tri 0\nvec\nterm 1\n", "`times S T`"), (["addup"], b"tri 0\nvec 1\ntimes 1 1\nvec 1\n", "`term K`"),
             (["rays"], b"cone 2 2\n1 1\n1 x\n", "1,000,000 in magnitude"), (["rays"], b"tri 1\n", "a cone begins with"),
-            (["rays"], b"bkaagj\n", "a cone begins with"), (["group"], b"sig bkaagj\nbkaagj\n", "a triangulation begins with"),
+            (["rays"], b"bkaagj\n", "a cone begins with"), (["group"], b"sig bkaagj\nbkaagj\n", "put `sig` before bkaagj"),
             (["info"], b"#" * 200 + b"\n" + b"sig " + b" " * 90 + b"bkaagj x" + b" " * 90 + b"\n", "the line should end here"),
         ):
             refusal = subprocess.run([self.program, *words], input=text, stdout=subprocess.PIPE, check=False).stdout.split()
@@ -141,9 +214,9 @@ class Launcher(unittest.TestCase):
 
     def test_faults_of_tables_and_signatures(self):
         for words, text, column, wanted in (
-            (["info"], b"tri 1\n- - 0:1032  0:0132\n", 5, "doesn't lead back"), (["info"], b"tri 1\n- - - 4:0123\n", 7, "there is no such tetrahedron"),
+            (["info"], b"tri 1\n- - 0:1032  0:0132\n", 5, "isn't glued back by the inverse"), (["info"], b"tri 1\n- - - 4:0123\n", 7, "a tetrahedron that isn't there"),
             (["info"], b"tri 1\n0:0123 - - -\n", 1, "glued to itself"), (["info"], b"sig bkaagjx\n", 11, "complete before this"),
-            (["info"], b"sig bka\n", 8, "ends too early"), (["info"], b"sig b.aagj\n", 6, "letters, digits, + and -"), (["info"], b"sig m004\n", 5, "the name of a manifold"),
+            (["info"], b"sig bka\n", 8, "ends too early"), (["info"], b"sig b!aagj\n", 6, "letters, digits, + and -"), (["info"], b"sig baa.bkaagj\n", 8, "the signatures of several components"), (["info"], b"sig m004\n", 5, "the name of a manifold"),
             (["info"], b'sig "bkaagj"\n', 5, "quotation marks"),
         ):
             said = self.said(words, text).split("\n")
@@ -151,34 +224,35 @@ class Launcher(unittest.TestCase):
             self.assertIn(wanted, said[1])
 
     def test_nothing_came_and_too_little_came(self):
-        self.assertEqual(self.said(["info"], b""), "trinorm: nothing came: a triangulation begins with `tri N` or `sig SIGNATURE`\n")
-        self.assertTrue(self.said(["info"], b"# c\n").startswith("trinorm: nothing came: "))
+        self.assertEqual(self.said(["info"], b""), "trinorm: the input is empty: a triangulation begins with `tri N` or `sig SIGNATURE`\n")
+        self.assertTrue(self.said(["info"], b"# c\n").startswith("trinorm: the input is empty: "))
         self.assertTrue(self.said(["info"], b"tri 1\n").startswith("trinorm: the input ends too early: an entry is"))
         self.assertTrue(self.said(["same"], b"tri 0\n").startswith("trinorm: the input ends too early: a triangulation begins"))
 
     def test_files_of_others(self):
         for text, wanted in (
             (b"\xef\xbb\xbfsig bkaagj\n", "a byte order mark"), ("sig bkaagj\n".encode("utf-16"), "UTF-16"), (b"\x1f\x8b\x08\x00", "compressed"),
-            (b'<?xml version="1.0"?>\n<regina engine="7.3">\n', "a data file of Regina"), (b"% Triangulation\nm004\n", "SnapPy"),
+            (b'<?xml version="1.0"?>\n<regina engine="7.3">\n', "a file of Regina's"), (b"% Triangulation\nm004\n", "SnapPy"),
         ):
             self.assertIn(wanted, self.said(["info"], text))
 
     def test_other_refusals(self):
-        self.assertEqual(self.said(["info"], b"bkaagj\n" + b"#\n" * 600000), "")
-        self.assertEqual(self.said(["group"], b"sig bkaagj\nsig bkaagjx\n"), "")
+        self.assertIn("an input has at most 1,048,576 bytes", self.said(["info"], b"bkaagj\n" + b"#\n" * 600000))
+        self.assertIn("compare the signatures", self.said(["group"], b"sig bkaagj\n" * 100000))
+        self.assertEqual(self.said(["group"], b"sig bkaagj\nsig bkaagjx\n"), "trinorm: the signature is complete before this\n")
 
     def test_reading_and_writing_that_fails(self):
         script = "exec %s info %s; echo $?"
         for given in ("<&-", "</", "<%s/crates.txt" % self.folder.name):
             alone, ours = (self.run_with("sh", ["-c", script % (it, given)], b"") for it in (self.program, self.launcher))
             self.assertEqual(alone[:2], ours[:2])
-        self.assertEqual(self.run_with("sh", ["-c", f"{self.launcher} info >/dev/full"], b"sig bkaagj\n")[2], "trinorm: writing the answer failed\n")
+        self.assertEqual(self.run_with("sh", ["-c", f"{self.launcher} info >/dev/full"], b"sig bkaagj\n")[2], "trinorm: writing the answer failed, or its reader ended\n")
         script = f"ulimit -v 30000; printf 'tri 1000\\n' >&2; {self.launcher} surfaces"
         program = os.path.join(self.folder.name, "eight")
         with open(program, "w", encoding="utf8") as file:
             file.write("#!/bin/sh\nexit 8\n")
         os.chmod(program, 0o755)
-        script = f"set -- sig; program={program} commands=/dev/null; . {self.folder.name}/launcher/hints.sh"
+        script = f"set -- sig; program={program} commands={self.folder.name}/python/trinorm/commands.txt here={self.folder.name}/launcher; . {self.folder.name}/launcher/hints.sh"
         self.assertEqual(self.run_with("sh", ["-c", script], b"")[2], "trinorm: out of memory\n")
 
     def test_a_file_that_was_read_in_part(self):
@@ -202,6 +276,10 @@ class Launcher(unittest.TestCase):
         self.assertEqual(run.communicate(timeout=60)[0], b"bkaagj\n")
         os.close(ours)
         os.close(theirs)
+
+    def test_no_place_for_what_was_read(self):
+        script = f"TMPDIR=/no/such/folder; export TMPDIR; echo sig bkaagj | {self.launcher} sig"
+        self.assertEqual(self.run_with("sh", ["-c", script], b""), (0, b"bkaagj\n", ""))
 
     def test_answers(self):
         self.assertEqual(self.said(["surfaces"], b"sig bkaagj\n"), "")

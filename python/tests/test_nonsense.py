@@ -58,6 +58,25 @@ def values():
     return found
 
 
+class Surface:
+    """Answers as a surface of Regina's does."""
+
+    def triangulation(self):
+        return self
+
+    def size(self):
+        return 1
+
+    def triangles(self, tet, vertex):
+        return TORUS[vertex]
+
+    def quads(self, tet, kind):
+        return TORUS[4 + kind]
+
+    def octs(self, tet, kind):
+        return 0
+
+
 class Nonsense(unittest.TestCase):
     @classmethod
     def setUpClass(cls):
@@ -68,7 +87,9 @@ class Nonsense(unittest.TestCase):
     def right(self, name, parameter):
         if parameter == "program":
             return self.server
-        if parameter == "surface" and regina is not None:
+        if parameter == "surface" and regina is None:
+            return Surface()
+        if parameter == "surface":
             return regina.NormalSurfaces(regina.Triangulation3.fromIsoSig(SPHERE), regina.NS_STANDARD)[0]
         if parameter == "triangulation" and regina is not None:
             return regina.Triangulation3.fromIsoSig(SPHERE)

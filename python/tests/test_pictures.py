@@ -1,18 +1,40 @@
-"""Pictures are well-formed, and have what they are to show."""
+"""Pictures are well-formed, and have what they are to show: each gluing, each disc, each edge once."""
+import collections
+import itertools
 import json
+import math
 import unittest
 import xml.etree.ElementTree as xml
 
-from trinorm import Table
-from trinorm.pictures import face_pairing_dot, face_pairing_svg, face_pairs, growth_points, growth_svg
+import trinorm
+from trinorm import Table, pictures
+from trinorm.disc_pictures import DISCS, EDGES, Discs, edge_classes, place_of_vertex, vertex_links
+from trinorm.graph_layout import APART, places, ports
+from trinorm.html_tables import Shown
+from trinorm.pictures import LABEL, face_pairing_dot, face_pairing_svg, face_pairs, growth_points, growth_svg
+from trinorm.tables import BadArgument
 
 FIGURE_EIGHT = Table.parse("tri 2\n1:0123 1:1203 1:1032 1:3021\n0:0123 0:1320 0:2013 0:1032\n")
 SPHERE = Table.parse("tri 1\n0:1023 0:1023 0:1230 0:3012\n")
 BALL = Table.parse("tri 1\n- - - -\n")
+SIGNATURES = ("bkaagj", "cPcbbbiht", "eLMkabcddbrrag", "uLMzMzMzMzMzMPcbcdefghijklmnopqrsttthhhhhhhhhhhhhhhhhhhah")
 
 
-def count(svg, kind):
-    return len(xml.fromstring(svg).findall(f"{{http://www.w3.org/2000/svg}}{kind}"))
+def elements(svg, kind, **attributes):
+    """The elements of a kind with these attributes."""
+    found = xml.fromstring(svg).iter(f"{{http://www.w3.org/2000/svg}}{kind}")
+    return [it for it in found if all(it.get(name.rstrip("_")) == value for name, value in attributes.items())]
+
+
+def count(svg, kind, **attributes):
+    return len(elements(svg, kind, **attributes))
+
+
+def examples():
+    yield from (Table(()), BALL, SPHERE, FIGURE_EIGHT, Table.parse("tri 3\n- - - -\n2:1023 - - -\n- 1:1023 - -\n"))
+    yield from map(trinorm.table, SIGNATURES)
+    for seed in range(1, 4):
+        yield trinorm.make(seed=seed, moves=40).table
 
 
 class FacePairings(unittest.TestCase):
@@ -24,17 +46,186 @@ class FacePairings(unittest.TestCase):
         self.assertIn('0 -- 1 [taillabel="1", headlabel="2"];', face_pairing_dot(FIGURE_EIGHT))
         self.assertEqual(face_pairing_dot(BALL).count("--"), 0)
 
-    def test_svg(self):
-        self.assertEqual((count(face_pairing_svg(FIGURE_EIGHT), "path"), count(face_pairing_svg(FIGURE_EIGHT), "circle")), (4, 2))
-        self.assertEqual(count(face_pairing_svg(SPHERE), "circle"), 3)
+    def test_each_gluing_face_and_tetrahedron_once(self):
+        for table in examples():
+            svg = face_pairing_svg(table)
+            self.assertEqual(count(svg, "path", class_="gluing"), len(face_pairs(table)))
+            self.assertEqual(count(svg, "circle"), len(table))
+            labels = collections.Counter(it.text for it in elements(svg, "text", class_="face"))
+            self.assertEqual(labels, {str(face): len(table) for face in range(4) if len(table)})
         self.assertIn("stroke-dasharray", face_pairing_svg(BALL))
-        self.assertEqual(count(face_pairing_svg(Table(())), "circle"), 0)
+
+    def test_a_gluing_begins_and_ends_at_its_faces(self):
+        for table in examples():
+            pairs = face_pairs(table)
+            at = [(float(it.get("cx")), float(it.get("cy"))) for it in elements(face_pairing_svg(table), "circle")]
+            for pair, path in zip(pairs, elements(face_pairing_svg(table), "path")):
+                points = [tuple(map(float, word.lstrip("MC").split(","))) for word in path.get("d").split()]
+                self.assertAlmostEqual(math.dist(points[0], at[pair.tet]), 13, delta=0.2)
+                self.assertAlmostEqual(math.dist(points[3], at[pair.other_tet]), 13, delta=0.2)
+
+    def test_thirty_tetrahedra_are_readable(self):
+        """None is on another, and no two numbers of faces are."""
+        made = [trinorm.make(seed=seed, moves=30).table for seed in range(1, 6)]
+        self.assertTrue(any(len(table) >= 30 for table in made) or max(map(len, made)) > 20)
+        for table in [*made, trinorm.table(SIGNATURES[-1])]:
+            pairs = face_pairs(table)
+            at = places(len(table), pairs)
+            for one, other in itertools.combinations(at, 2):
+                self.assertGreater(math.dist(one, other), 0.9 * APART)
+            angles = ports(at, pairs)
+            for tet, center in enumerate(at):
+                labels = [(center[0] + LABEL * math.cos(angles[tet][face] + 0.36), center[1] + LABEL * math.sin(angles[tet][face] + 0.36))
+                          for face in range(4)]
+                for one, other in itertools.combinations(labels, 2):
+                    self.assertGreater(math.dist(one, other), 13)
+
+    def test_the_same_each_time(self):
+        table = trinorm.table(SIGNATURES[-1])
+        self.assertEqual(face_pairing_svg(table), face_pairing_svg(trinorm.table(SIGNATURES[-1])))
+
+    def test_large_ones_take_no_long(self):
+        chain = Table(tuple(trinorm.tables.row_of(
+            ["-", "-", f"{tet - 1}:0132" if tet else "-", f"{tet + 1}:0132" if tet < 399 else "-"]) for tet in range(400)))
+        self.assertEqual(count(face_pairing_svg(chain), "circle"), 400)
+
+    def test_a_notebook_shows_it(self):
+        self.assertEqual(SPHERE._repr_svg_(), face_pairing_svg(SPHERE))
+
+
+class Surfaces(unittest.TestCase):
+    def test_each_disc_once(self):
+        for signature in SIGNATURES[:3]:
+            for coords, first in (("standard", 0), ("quad", 4), ("octagon", 0)):
+                for vector in trinorm.surfaces(signature, coords)[:12]:
+                    svg = pictures.surface_svg(signature, vector)
+                    found = collections.Counter(int(it.get("data-column")) for it in elements(svg, "polygon", class_="disc"))
+                    expected = collections.Counter()
+                    each = len(vector) // len(trinorm.table(signature))
+                    for column, entry in enumerate(vector):
+                        expected[first + column % each] += entry
+                    self.assertEqual(found, +expected, vector)
+
+    def test_discs_have_their_corners(self):
+        """Three, four and eight corners, one after another on edges with a face in common."""
+        self.assertEqual([len(disc["corners"]) for disc in DISCS], [3] * 4 + [4] * 3 + [8] * 3)
+        for disc in DISCS:
+            corners = [set(corner[:2]) for corner in disc["corners"]]
+            for one, other in zip(corners, corners[1:] + corners[:1]):
+                self.assertEqual(len(one | other), 3, disc)
+        for disc in DISCS[7:]:
+            crossed = collections.Counter(tuple(sorted(corner[:2])) for corner in disc["corners"])
+            pair = disc["name"].split()[1].split("/")
+            self.assertEqual({edge: 2 if "".join(map(str, edge)) in pair else 1 for edge in EDGES}, crossed)
+
+    def test_discs_do_not_cross(self):
+        """Discs of one tetrahedron have different corners, and those of an edge are in the same order as in the next."""
+        for counts in ([2, 1, 0, 3, 2, 0, 0, 0, 0, 0], [0, 1, 1, 0, 0, 3, 0, 0, 0, 0], [1, 1, 2, 0, 0, 0, 0, 0, 3, 0], [1, 2, 0, 1, 0, 0, 0, 2, 0, 0]):
+            discs = Discs(0, counts)
+            corners = [discs.corner(column, number, corner) for column, disc in enumerate(DISCS) for number in range(counts[column])
+                       for corner in disc["corners"]]
+            self.assertEqual(len({(round(x, 3), round(y, 3)) for x, y in corners}), len(corners))
+
+    def test_parallel_discs_are_parallel(self):
+        """The arcs of parallel quads and octagons in a face don't cross: their ends are in the same order on both edges."""
+        for column in range(4, 10):
+            counts = [0] * 10
+            counts[column] = 3
+            discs = Discs(0, counts)
+            corners = DISCS[column]["corners"]
+            for one, other in zip(corners, corners[1:] + corners[:1]):
+                [shared] = set(one[:2]) & set(other[:2])
+                ranks = [[self.rank(discs, column, number, corner, shared) for number in range(3)] for corner in (one, other)]
+                self.assertEqual(*[sorted(range(3), key=rank.__getitem__) for rank in ranks])
+
+    @staticmethod
+    def rank(discs, column, number, corner, vertex):
+        """How far a corner is from a vertex of its edge."""
+        return math.dist(discs.corner(column, number, corner), place_of_vertex(0, vertex))
+
+    def test_many_discs(self):
+        svg = pictures.surface_svg("bkaagj", (10 ** 30, 0, 0, 5, 0, 2, 0))
+        self.assertEqual(count(svg, "polygon", class_="disc"), 3)
+        self.assertIn("1,000,000,000,000,000,000,000,000,000,000 × triangle 0", svg)
+
+    def test_vectors_that_are_none(self):
+        for vector in ((1, 2), (0,) * 14, (), (-1, 0, 0, 0, 0, 0, 0), (0.5,) * 7, "1", 7, None):
+            with self.assertRaises(BadArgument):
+                pictures.surface_svg("bkaagj", vector)
+        with self.assertRaises(trinorm.Refused):
+            pictures.surface_svg("bkaagjx", (0,) * 7)
+
+
+class Edges(unittest.TestCase):
+    def test_each_edge_once_with_its_degree(self):
+        for table in examples():
+            degrees = [edge.degree for edge in trinorm.info(table).edges]
+            self.assertEqual(sorted(collections.Counter(n for numbers in edge_classes(table) for n in numbers.values()).items()),
+                             list(enumerate(degrees)))
+            found = collections.Counter(it.text for it in elements(pictures.edges_svg(table), "text", class_="edge"))
+            self.assertEqual(found, {f"{number}: {degree}": degree for number, degree in enumerate(degrees)})
+
+
+class Links(unittest.TestCase):
+    def test_triangles_and_gluings_once(self):
+        for table in examples():
+            vertices = trinorm.info(table).vertices
+            self.assertEqual([len(link) for link in vertex_links(table)], [it.degree for it in vertices])
+            for number, vertex in enumerate(vertices):
+                svg = pictures.vertex_link_svg(table, number)
+                self.assertEqual(count(svg, "polygon", class_="triangle"), vertex.degree)
+                cuts = collections.Counter(it.text for it in elements(svg, "text", class_="glued"))
+                self.assertEqual(set(cuts.values()) | {2}, {2})
+                boundary = count(svg, "line", class_="boundary")
+                self.assertEqual(boundary == 0, vertex.closed)
+                joined = 3 * vertex.degree - boundary - 2 * len(cuts)
+                # all else is side by side: two sides that are one
+                self.assertEqual(joined % 2, 0)
+                sides = collections.Counter()
+                for polygon in elements(svg, "polygon", class_="triangle"):
+                    corners = [tuple(round(float(it)) for it in word.split(",")) for word in polygon.get("points").split()]
+                    sides.update(tuple(sorted(pair)) for pair in itertools.combinations(corners, 2))
+                self.assertLessEqual(max(sides.values()), 2)
+                self.assertGreaterEqual(sum(it == 2 for it in sides.values()), joined // 2)
+
+    def test_no_triangle_is_on_another(self):
+        table = trinorm.make(seed=3, moves=60).table
+        for number in range(len(trinorm.info(table).vertices)):
+            polygons = elements(pictures.vertex_link_svg(table, number), "polygon", class_="triangle")
+            points = [[tuple(map(float, word.split(","))) for word in it.get("points").split()] for it in polygons]
+            middles = [tuple(sum(axis) / 3 for axis in zip(*corners)) for corners in points]
+            for one, other in itertools.combinations(middles, 2):
+                self.assertGreater(math.dist(one, other), 20)
+
+    def test_no_such_vertex(self):
+        for vertex in (-1, 1):
+            with self.assertRaisesRegex(BadArgument, "has 1 vertices"):
+                pictures.vertex_link_svg("bkaagj", vertex)
+
+
+class Tables(unittest.TestCase):
+    def test_info(self):
+        info = trinorm.info("cPcbbbiht")
+        html = xml.fromstring(f"<all>{info._repr_html_()}</all>")
+        self.assertEqual(len(html.findall("table/tr")), 2 + len(info.vertices) + len(info.edges))
+
+    def test_lists(self):
+        described = Shown(trinorm.describe("bkaagj", trinorm.surfaces("bkaagj")))
+        for shown, rows in ((described, 2), (Shown(trinorm.surfaces("bkaagj")), 2), (Shown(), 0), (Shown([(1, 2)] * 300), 100)):
+            html = xml.fromstring(shown._repr_html_())
+            self.assertEqual(len(html.findall("tr")), 1 + rows)
+        self.assertEqual(repr(Shown([(1, 2)])), "[(1, 2)]")
+        self.assertEqual(Shown([1]), [1])
 
 
 class Growth(unittest.TestCase):
     def test_points(self):
-        lines = [{"signature": "cPcbbbiht", "answer": [[1], [2]]}, {"signature": "bkaagj", "refused": {}}, {"signature": "bkaagj", "answer": []}]
-        self.assertEqual(list(growth_points(map(json.dumps, lines))), [(2, 2), (1, 0)])
+        lines = [{"signature": "cPcbbbiht", "answer": [[1], [2]]}, {"signature": "bkaagj", "refused": {}}, {"signature": "bkaagj", "answer": []},
+                 {"signature": "bkaagj", "answer": {"surfaces": 7}}, {"signature": "bkaagj", "answer": "bkaagj"}]
+        self.assertEqual(list(growth_points(map(json.dumps, lines))), [(2, 2), (1, 0), (1, 7)])
+        for line in ("{", "[]", '{"answer": [], "signature": ""}'):
+            with self.assertRaisesRegex(ValueError, "line 2"):
+                list(growth_points([json.dumps(lines[0]), line]))
 
     def test_svg(self):
         picture = growth_svg([(1, 2), (2, 1), (2, 30), (3, 0)])

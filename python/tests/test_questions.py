@@ -1,7 +1,18 @@
 """Spheres, tori, 0-efficiency and counts; beside Regina's where this Python has it."""
+import collections
+import copy
+import json
+import pickle
+import random
+import shutil
+import subprocess
+import tempfile
 import unittest
+from pathlib import Path
 
 import trinorm
+from trinorm.answers import Surface
+from trinorm.program import REPOSITORY
 from trinorm.questions import Contrary
 
 try:
@@ -39,6 +50,35 @@ class Questions(unittest.TestCase):
         self.assertEqual(trinorm.zero_efficient("eLMkabcddbrrag").euler, 1)
         self.assertFalse(trinorm.zero_efficient(["- - - -"]))
 
+    def test_truth_equality_and_json_agree(self):
+        shown, other = (trinorm.zero_efficient(it) for it in ("eLMkabcddbrrag", "cMcabbjaj"))
+        self.assertFalse(shown)
+        self.assertTrue(shown == False and shown == other and shown != True and not shown > False)  # noqa: E712
+        self.assertEqual(hash(shown), hash(False))
+        self.assertEqual(json.loads(json.dumps([shown, True])), [False, True])
+        self.assertEqual(collections.Counter([shown, other, True]), {False: 2, True: 1})
+        self.assertEqual([it for it in ("bkaagj", "eLMkabcddbrrag") if trinorm.zero_efficient(it) == False], ["eLMkabcddbrrag"])  # noqa: E712
+        self.assertNotEqual(shown.surface, other.surface)
+        self.assertEqual((shown.linking, shown.boundary, len(shown.components)), (False, False, 1))
+        self.assertIn("euler=1", repr(shown))
+        for again in (copy.copy(shown), copy.deepcopy(shown), pickle.loads(pickle.dumps(shown))):
+            self.assertIsInstance(again, Contrary)
+            self.assertEqual((again, again.surface), (False, shown.surface))
+        with self.assertRaises(TypeError):
+            Contrary()
+        self.assertIsInstance(shown.surface, Surface)
+
+    @unittest.skipIf(shutil.which("mypy") is None, "mypy isn't there")
+    def test_types(self):
+        with tempfile.TemporaryDirectory() as folder:
+            user = Path(folder) / "user.py"
+            user.write_text("import trinorm\nz = trinorm.zero_efficient('bkaagj')\nif not z:\n    z.vector\n"
+                            "n: int = trinorm.count('bkaagj').surfaces\nv = trinorm.surfaces('bkaagj')\nw: int = v[0][0]\n")
+            words = ["mypy", "--follow-imports=silent", "--ignore-missing-imports", "--no-site-packages", "--cache-dir", folder, str(user)]
+            done = subprocess.run(words, env={"PATH": "/usr/bin:/bin", "MYPYPATH": str(REPOSITORY / "python")}, capture_output=True,
+                                  text=True, check=False)
+            self.assertEqual((done.returncode, done.stderr), (0, ""), done.stdout)
+
     def test_counts(self):
         self.assertEqual(trinorm.count(SPHERE), trinorm.Count(2, {2: 1, 0: 1}, 1, 1))
         self.assertEqual(trinorm.count([]), trinorm.Count(0, {}, 0, 0))
@@ -59,6 +99,35 @@ class BesideRegina(unittest.TestCase):
     def test_zero_efficiency(self):
         for t in self.closed():
             self.assertEqual(bool(trinorm.zero_efficient(t)), t.isZeroEfficient(), t.isoSig())
+
+    def grown(self, t, size, draws):
+        """The triangulation after 2-3 moves at drawn triangles."""
+        t = regina.Triangulation3(t)
+        while t.size() < size:
+            t.pachner(t.triangle(draws.randrange(t.countTriangles())))
+        return t
+
+    def test_zero_efficiency_of_large_ones(self):
+        draws = random.Random(1)
+        for t in (regina.Example3.weeks(), regina.Example3.poincare(), regina.Example3.rp3rp3()):
+            grown = self.grown(t, 12, draws)
+            self.assertEqual(bool(trinorm.zero_efficient(grown)), grown.isZeroEfficient(), grown.isoSig())
+
+    def test_a_handlebody(self):
+        t = regina.Example3.handlebody(4)
+        self.assertEqual(t.size(), 10)
+        vectors = trinorm.surfaces(t)
+        self.assertEqual(trinorm.count(t).surfaces, len(vectors))
+        theirs = regina.NormalSurfaces(t, regina.NS_STANDARD)
+        self.assertEqual(len(vectors), theirs.size())
+        discs = [it for it in theirs if it.eulerChar() == 1 and it.hasRealBoundary() and not it.isVertexLinking()]
+        ours = [it.vector for it in trinorm.described(t) if it.euler == 1 and it.boundary and not it.linking]
+        self.assertEqual(ours, sorted(map(trinorm.vector_of, discs)))
+        self.assertEqual(bool(trinorm.zero_efficient(t)), t.isZeroEfficient())
+
+    def test_a_boundary_component_that_is_a_sphere(self):
+        t = regina.Triangulation3.fromIsoSig("bGab")
+        self.assertEqual((bool(trinorm.zero_efficient(t)), t.isZeroEfficient()), (True, False))
 
     def test_projective_planes_with_two_sides(self):
         t = regina.Example3.rp2xs1()

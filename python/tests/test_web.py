@@ -310,7 +310,7 @@ class Page:
 
     def test_a_surface_is_drawn(self):
         self.open()
-        for command, text, discs in (("surfaces", "sig bkaagj", 3), ("describe", "sig bkaagj\nvec 0 0 0 0 0 2 0", 2)):
+        for command, text, discs in (("surfaces", "sig bkaagj", 3), ("describe", "sig bkaagj\nvec 2 2 0 0 2 0 0", 6)):
             drawn = "document.querySelector('#view td button').click(); return [document.querySelectorAll('#drawing polygon').length, document.activeElement.ariaLabel.slice(0, 9)];"
             self.assertEqual(self.ask(command, text, drawn), [discs, "Surface 0"])
         octagons = "by('command').value = 'describe'; by('command').dispatchEvent(new Event('change')); document.querySelector('[data-option=coords]').value = 'octagon'; by('input').value = 'sig bkaagj\\nvec 0 0 1 1 0 0 0 1 0 0'; by('message').textContent = ''; by('answer').click(); await until(idle); document.querySelector('#view td button').click(); return [...document.querySelectorAll('#drawing polygon')].map((polygon) => polygon.getAttribute('points').split(' ').length);"

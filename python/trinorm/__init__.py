@@ -8,11 +8,13 @@ This package starts the program and reads what it writes; what is proved is said
 """
 from .answers import (Bulk, Component, Cover, Descent, Edge, Generator, Grouping, Info, Isomorphism, Made, Played,
                       Presentation, Relator, Sum, Surface, Term, Verdict, Vertex)
+from .batch import Answered, many
 from .census import census
+from .certificates import Certificate, certify
 from .commands import (addup, bulk, check, cover, crush, csame, csig, decompose, descend, describe, group, info, lift,
                        make, pi1, play, rays, same, sig, surfaces, table, verify)
 from .program import Error, Failed, Refused, TimedOut, find
-from .questions import Contrary, Count, count, spheres, tori, zero_efficient
+from .questions import Contrary, Count, count, described, spheres, tori, zero_efficient
 from .regina_surfaces import normal_surface, to_regina, vector_of
 from .tables import BadArgument, Gluing, Table, from_regina
 from .versions import version
@@ -22,8 +24,9 @@ __version__ = version()
 __all__ = [
     "addup", "bulk", "check", "cover", "crush", "csame", "csig", "decompose", "descend", "describe", "group", "info",
     "lift", "make", "pi1", "play", "rays", "same", "sig", "surfaces", "table", "verify",
-    "census", "count", "spheres", "tori", "zero_efficient",
-    "Bulk", "Component", "Contrary", "Count", "Cover", "Descent", "Edge", "Generator", "Gluing", "Grouping", "Info",
+    "census", "certify", "count", "described", "many", "spheres", "tori", "zero_efficient",
+    "Answered", "Bulk", "Certificate", "Component", "Contrary", "Count", "Cover", "Descent", "Edge", "Generator", "Gluing",
+    "Grouping", "Info",
     "Isomorphism", "Made", "Played", "Presentation", "Relator", "Sum", "Surface", "Table", "Term", "Verdict", "Vertex",
     "BadArgument", "Error", "Failed", "Refused", "TimedOut", "find", "from_regina", "normal_surface", "to_regina",
     "vector_of",

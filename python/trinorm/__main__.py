@@ -1,4 +1,4 @@
-"""python3 -m trinorm: a census on all processors, a comparison with Regina, and pictures."""
+"""python3 -m trinorm: a census on all processors, a comparison with Regina, pictures, and a check of the installation."""
 from __future__ import annotations
 
 import argparse
@@ -7,7 +7,7 @@ import sys
 import threading
 from typing import List, Optional
 
-from . import commands, crosscheck, pictures, versions
+from . import certificates, commands, crosscheck, pictures, selfcheck, versions
 from .census import add_arguments, main as run_census
 from .program import Error, Failed
 from .workers import Terminated, end_as_by_keyboard
@@ -23,7 +23,9 @@ def draw_growth(given: argparse.Namespace) -> int:
     try:
         with open(given.answers, encoding="utf8") as file:
             picture = pictures.growth_svg(pictures.growth_points(file))
-    except (OSError, ValueError) as fault:
+    except OSError as fault:
+        raise Failed(f"{given.answers}: {fault.strerror}") from None
+    except ValueError as fault:
         raise Failed(f"{given.answers}: {fault}") from None
     print(picture, end="")
     return 0
@@ -47,6 +49,11 @@ def reader_of_words() -> argparse.ArgumentParser:
     crosscheck.add_arguments(one)
     one.set_defaults(main=crosscheck.main)
 
+    one = kinds.add_parser("certify", help="moves that show that a triangulation is a 3-sphere, as an input of `check`",
+                           description="Status 1: none were found in time, which says nothing of the manifold.")
+    certificates.add_arguments(one)
+    one.set_defaults(main=certificates.main)
+
     one = kinds.add_parser("graph", help="the face-pairing graph of a triangulation, as DOT or SVG")
     one.add_argument("triangulation", metavar="SIGNATURE",
                      help="a signature, or - for a gluing table on standard input")
@@ -56,6 +63,10 @@ def reader_of_words() -> argparse.ArgumentParser:
     one = kinds.add_parser("growth", help="an SVG picture of how lists grow, from the answers of a census")
     one.add_argument("answers", metavar="ANSWERS.jsonl")
     one.set_defaults(main=draw_growth)
+
+    one = kinds.add_parser("selfcheck", help="check this installation by worked rows and examples, and print what to report",
+                           description="It takes some seconds. Status 1: something differs.")
+    one.set_defaults(main=selfcheck.main)
     return reader
 
 

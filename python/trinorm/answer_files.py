@@ -6,7 +6,6 @@ replaced in one step. A device or a pipe is written to and never read. A link is
 from __future__ import annotations
 
 import contextlib
-import fcntl
 import os
 import stat
 import sys
@@ -154,6 +153,10 @@ def _held(path: str) -> TextIO:
 
 def _try_to_lock(file: TextIO) -> bool:
     """False if another holds it. Some file systems of clusters have no locks; there it is taken for held."""
+    try:
+        import fcntl
+    except ImportError:
+        raise ValueError("a census locks the file that it writes, and this system has no such locks") from None
     try:
         fcntl.flock(file, fcntl.LOCK_EX | fcntl.LOCK_NB)
     except BlockingIOError:

@@ -9,6 +9,7 @@ from __future__ import annotations
 from dataclasses import dataclass
 from typing import Any, Dict, List, Optional, Sequence, Tuple
 
+from .errors import Failed
 from .tables import Table, import_regina
 
 Vector = Tuple[int, ...]
@@ -53,6 +54,11 @@ class Info:
     euler: int
     vertices: Tuple[Vertex, ...]
     edges: Tuple[Edge, ...]
+
+    def _repr_html_(self) -> str:
+        """What a notebook shows: a table of the classes."""
+        from .html_tables import info_html
+        return info_html(self)
 
 
 @dataclass(frozen=True)
@@ -241,6 +247,22 @@ def is_yes(word: str) -> bool:
 
 def read_vectors(lines: List[str]) -> List[Vector]:
     return [read_vector(line) for line in lines if not line.startswith("#")]
+
+
+def check_number(lines: List[str], came: int) -> None:
+    """Failed if an answer that begins with `# surfaces N` or `# rays N` has other than N vectors."""
+    mark, _, number = lines[0].split()
+    if mark != "#":
+        raise ValueError("the number of vectors is missing")
+    if int(number) != came:
+        raise Failed(f"`{lines[0]}` was answered, and {came} vectors came: the answer was cut off")
+
+
+def read_list(lines: List[str]) -> List[Vector]:
+    """The vectors of an answer that begins with their number."""
+    found = read_vectors(lines[1:])
+    check_number(lines, len(found))
+    return found
 
 
 def read_verdicts(lines: List[str]) -> List[Verdict]:

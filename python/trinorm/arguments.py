@@ -45,12 +45,22 @@ def checked_memory(memory: Optional[int]) -> int:
     return number
 
 
-def joined(words: Sequence[str]) -> bytes:
-    """The words of a command line with a zero byte between each two."""
-    if isinstance(words, (str, bytes)) or not all(isinstance(word, str) for word in words):
-        raise BadArgument(f"words are a list of texts, as ['surfaces', '--coords', 'quad'], and not {shown(words)}")
-    if any("\0" in word for word in words):
+def checked_words(words: Sequence[str]) -> List[str]:
+    """The words of a command line, which are texts without a zero character."""
+    if type(words) is list and set(map(type, words)) == {str} and "\0" not in "".join(words):
+        return words  # as those of the commands, at once
+    expected = "words are a list of texts, as ['surfaces', '--coords', 'quad']"
+    given = listed(words, expected)
+    checked = [word for word in given if isinstance(word, str)]
+    if len(checked) < len(given):
+        raise BadArgument(f"{expected}, and not {shown(words)}")
+    if any("\0" in word for word in checked):
         raise BadArgument("a word has an embedded null byte")
+    return checked
+
+
+def joined(words: List[str]) -> bytes:
+    """The words of a command line with a zero byte between each two."""
     return as_bytes("\0".join(words))
 
 

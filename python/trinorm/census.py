@@ -14,7 +14,7 @@ import sys
 from concurrent.futures import Executor
 from dataclasses import dataclass
 from json import dumps as quoted
-from typing import TYPE_CHECKING, Any, BinaryIO, Callable, Dict, Iterable, Iterator, NamedTuple, Optional, Set, Union
+from typing import TYPE_CHECKING, Any, BinaryIO, Callable, Dict, Iterable, Iterator, NamedTuple, Optional, Set, Tuple, Union
 
 from . import executors
 from .answer_files import BadLine, Output, count_lines, decoded, digest, read_lines
@@ -48,15 +48,8 @@ def processors() -> int:
 PLAIN = re.compile(rb"(?:sig +)?([!$-\[\]-~][!#-\[\]-~]*)(?: +([!#-\[\]-~](?:[ !#-\[\]-~]*[!#-\[\]-~])?))? *\n")
 
 
-class Found(NamedTuple):
-    """The triangulation of a line, and what the line of the output begins with."""
-    head: bytes
-    signature: bytes
-    name: bytes
-
-    def entry(self) -> Entry:
-        """The triangulation as text."""
-        return Entry(self.signature.decode(), self.name.decode())
+# the triangulation of a line: what the line of the output begins with, its signature and its name
+Found = Tuple[bytes, bytes, bytes]
 
 
 def found_in(text: str) -> Optional[Found]:
@@ -67,7 +60,12 @@ def found_in(text: str) -> Optional[Found]:
     if not words or words[0].startswith("#"):
         return None
     signature, name = words[0], words[-1].strip()
-    return Found(head_of_answer(signature, name), signature.encode(), name.encode())
+    return head_of_answer(signature, name), signature.encode(), name.encode()
+
+
+def entry_of(found: Found) -> Entry:
+    """A triangulation as text."""
+    return Entry(found[1].decode(), found[2].decode())
 
 
 def head_of_answer(signature: str, name: str) -> bytes:
@@ -112,7 +110,7 @@ def lines_of(source: Source, bad: Optional[Callable[[BadLine], None]] = None) ->
         if plain is not None and plain[1] != b"sig":
             # most lines are such, and it takes a third of the time
             signature, name = plain[1], plain[2] or plain[1]
-            yield Found(b'{"name": "%b", "signature": "%b"' % (name, signature), signature, name)
+            yield b'{"name": "%b", "signature": "%b"' % (name, signature), signature, name
             continue
         try:
             yield found_in(decoded(line, source.name, number))
@@ -128,9 +126,9 @@ def read_entries(path: str) -> Iterator[Entry]:
     met: Set[int] = set()
     with opened(path) as source:
         for found in lines_of(source):
-            if found is not None and digest(found.head) not in met:
-                met.add(digest(found.head))
-                yield found.entry()
+            if found is not None and digest(found[0]) not in met:
+                met.add(digest(found[0]))
+                yield entry_of(found)
 
 
 def read_answer(line: bytes, path: str, number: int) -> Dict[str, Any]:
@@ -213,26 +211,24 @@ class Run:
     def entries(self, skip_bad: bool) -> Iterator[Entry]:
         """The triangulations of the input that aren't done, each once."""
         for found in lines_of(self.source, self._pass_over if skip_bad else None):
-            if found is not None and self._is_new(found):
-                yield found.entry()
+            if found is not None and self._is_new(digest(found[0])):
+                yield entry_of(found)
             elif self.meter.total is not None:
                 self.meter.total -= 1
 
-    def _is_new(self, found: Found) -> bool:
-        """Whether it isn't done. It is known from now on."""
-        known = digest(found.head)
-        if known in self._done:
-            return False
+    def _is_new(self, known: int) -> bool:
+        """Whether a triangulation isn't done, by its digest. It is known from now on."""
+        before = len(self._done)
         self._done.add(known)
-        return True
+        return len(self._done) > before
 
     def _pass_over(self, bad: BadLine) -> None:
         """A line of the output in the place of a bad one of the input."""
         found = found_in(bad.text)
-        if found is not None and self._is_new(found):
+        if found is not None and self._is_new(digest(found[0])):
             if self.meter.total is not None:
                 self.meter.total += 1
-            self.take(executors.done_of([{**head_of(found.entry(), self.task, 0.0), "failed": str(bad)}]))
+            self.take(executors.done_of([{**head_of(entry_of(found), self.task, 0.0), "failed": str(bad)}]))
 
     def take(self, done: Done) -> None:
         """Writes lines of the output, and counts them."""

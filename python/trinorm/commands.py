@@ -11,34 +11,66 @@ program: the program to run, or what runs in its place (a `server.Server`)
 """
 from __future__ import annotations
 
-from typing import Callable, Iterable, List, Optional, Sequence, TypeVar, Union
+import itertools
+from typing import Any, Callable, Iterable, Iterator, List, Literal, Optional, Sequence, TypeVar, Union, overload
 
-from . import answers, hints
+from . import answers, arrays as numpy_arrays, hints, parts
 from .answers import (Bulk, Cover, Descent, Grouping, Info, Isomorphism, Made, Played, Presentation, Sum, Surface, Term,
                       Vector, Verdict, vector_line)
 from .arguments import lines, listed, plain, shown, whole_number, whole_numbers
-from .errors import BadArgument
+from .errors import BadArgument, Error
 from .options import words
 from .program import Failed, Program as Program, Refused, run
+from .progress import Progress, reported
 from .regina_surfaces import ReginaSurface, is_surface, vector_of
 from .tables import Table, Triangulation, document
 
 Answer = TypeVar("Answer")
+Item = TypeVar("Item")
 GivenVector = Union[Sequence[int], ReginaSurface]
 Vectors = Iterable[GivenVector]
+# how numbers are to come: as tuples, as arrays of NumPy's `int64`, or as arrays of the type with this name
+Arrays = Union[bool, str]
+
+
+def ask_text(asked: Sequence[str], text: str, timeout: Optional[float], program: Program) -> str:
+    """What the program writes, whole lines; a refusal gets its hint."""
+    try:
+        answer = run(asked, text, timeout, program)
+    except Refused as refused:
+        refused.hint = hints.hint(refused, asked, text)
+        raise
+    if answer and not answer.endswith("\n"):
+        raise Failed(f"{' '.join(asked)}: the answer was cut off")
+    return answer
+
+
+def read_text(asked: Sequence[str], answer: str, read: Callable[[List[str]], Answer]) -> Answer:
+    """The value that the lines of an answer spell."""
+    lines = answer.splitlines()
+    try:
+        return read(lines)
+    except Error:
+        raise
+    except (ValueError, IndexError, KeyError, TypeError, StopIteration) as fault:
+        raise Failed(f"{' '.join(asked)}: an answer that isn't understood, {lines[:2]}") from fault
 
 
 def _ask(asked: Sequence[str], text: str, read: Callable[[List[str]], Answer],
          timeout: Optional[float], program: Program) -> Answer:
-    try:
-        printed = run(asked, text, timeout, program).splitlines()
-    except Refused as refused:
-        refused.hint = hints.hint(refused, asked, text)
-        raise
-    try:
-        return read(printed)
-    except (ValueError, IndexError, KeyError, TypeError, StopIteration) as fault:
-        raise Failed(f"{' '.join(asked)}: an answer that isn't understood, {printed[:2]}") from fault
+    return read_text(asked, ask_text(asked, text, timeout, program), read)
+
+
+def ask_in_parts(asked: Sequence[str], text: str, read: Callable[[List[str]], parts.Answers],
+                 clock: parts.Clock, program: Program) -> Iterator[parts.Answers]:
+    """What a command answers to each vector of a document of any length, a list for each part of it."""
+    return parts.answers(text, lambda part, left: _ask(asked, part, read, left, program), clock)
+
+
+def _ask_of_each(asked: Sequence[str], text: str, read: Callable[[List[str]], List[Item]],
+                 timeout: Optional[float], program: Program) -> List[Item]:
+    """What a command answers to each vector of a document of any length."""
+    return list(itertools.chain.from_iterable(ask_in_parts(asked, text, read, parts.Clock(timeout), program)))
 
 
 def _vector(vector: object, coords: str) -> str:
@@ -93,16 +125,48 @@ def _cone(rows: object, columns: Optional[int]) -> str:
     return "".join(f"{line}\n" for line in [f"cone {width} {len(given)}", *lines_of_rows])
 
 
+def listing(t: Triangulation, coords: str = "standard", order: Optional[str] = None, max_entry: Optional[int] = None, *,
+            timeout: Optional[float] = None, program: Program = None) -> str:
+    """What `surfaces` writes: a line with the number of vectors, and a line for each. Failed if these differ."""
+    asked = words("surfaces", coords=coords, order=order, max_entry=max_entry)
+    answer = ask_text(asked, document(t), timeout, program)
+    read_text(asked, answer[:answer.find("\n") + 1],
+              lambda lines: answers.check_number(lines, answer.count("\n") - 1))
+    return answer
+
+
+@overload
+def surfaces(t: Triangulation, coords: str = ..., order: Optional[str] = ..., max_entry: Optional[int] = ..., *,
+             timeout: Optional[float] = ..., program: Program = ..., progress: Optional[Progress] = ...,
+             arrays: Literal[False] = ...) -> List[Vector]: ...
+
+
+@overload
+def surfaces(t: Triangulation, coords: str = ..., order: Optional[str] = ..., max_entry: Optional[int] = ..., *,
+             timeout: Optional[float] = ..., program: Program = ..., progress: Optional[Progress] = ...,
+             arrays: Union[Literal[True], str]) -> Any: ...
+
+
 def surfaces(t: Triangulation, coords: str = "standard", order: Optional[str] = None, max_entry: Optional[int] = None, *,
-             timeout: Optional[float] = None, program: Program = None) -> List[Vector]:
+             timeout: Optional[float] = None, program: Program = None, progress: Optional[Progress] = None,
+             arrays: Arrays = False) -> Any:
     """All vertex normal surfaces, each once, in lexicographic order: vectors of the width of the coordinates.
 
     coords: `standard`, `quad` or `octagon`
-    order: `given` (where none is said), `short` or `zeros`, in which the equations are taken; the list doesn't depend on it
-    max_entry: the greatest number that may occur on the way; 2^127 - 1 where it isn't said
+    order: `given` (the default), `short` or `zeros`, in which the equations are taken; the list doesn't depend on it
+    max_entry: the greatest number that may occur on the way; 2^127 - 1 by default
+    progress: called about ten times a second with the seconds since the call began and the bytes that it holds; what it
+        raises ends the call
+    arrays: True for an array of NumPy with a row for each vector, of type `int64`, or `object` if an entry exceeds that;
+        the name of a type, as `int8`, for that type, if all entries fit
     """
     asked = words("surfaces", coords=coords, order=order, max_entry=max_entry)
-    return _ask(asked, document(t), answers.read_vectors, timeout, program)
+    program = reported(program, progress)
+    if arrays is False:
+        return _ask(asked, document(t), answers.read_list, timeout, program)
+    kind = numpy_arrays.integer_type(arrays)
+    listed = listing(t, coords, order, max_entry, timeout=timeout, program=program)
+    return numpy_arrays.read_vectors(listed, kind)
 
 
 def rays(rows: Sequence[Sequence[int]], columns: Optional[int] = None, order: Optional[str] = None,
@@ -114,14 +178,14 @@ def rays(rows: Sequence[Sequence[int]], columns: Optional[int] = None, order: Op
     columns: that width; it must be said where there are no rows
     order, max_entry: as for `surfaces`
     """
-    return _ask(words("rays", order=order, max_entry=max_entry), _cone(rows, columns), answers.read_vectors, timeout, program)
+    return _ask(words("rays", order=order, max_entry=max_entry), _cone(rows, columns), answers.read_list, timeout, program)
 
 
 def verify(t: Triangulation, vectors: Vectors, coords: str = "standard", *,
            timeout: Optional[float] = None, program: Program = None) -> List[Verdict]:
-    """For each vector, in order, whether it is an admissible solution, or what fails first."""
+    """For each vector, in order, whether it is an admissible solution, or what fails first. The list may have any length."""
     text = _with_vectors(t, vectors, coords)
-    return _ask(words("verify", coords=coords), text, answers.read_verdicts, timeout, program)
+    return _ask_of_each(words("verify", coords=coords), text, answers.read_verdicts, timeout, program)
 
 
 def info(t: Triangulation, *, timeout: Optional[float] = None, program: Program = None) -> Info:
@@ -170,17 +234,41 @@ def pi1(t: Triangulation, *, timeout: Optional[float] = None, program: Program =
     return _ask(["pi1"], document(t), answers.read_presentation, timeout, program)
 
 
-def describe(t: Triangulation, vectors: Vectors, coords: str = "standard", *,
-             timeout: Optional[float] = None, program: Program = None) -> List[Surface]:
-    """For each vector, in order, its Euler characteristic and its components; in standard or octagon coordinates."""
-    text = _with_vectors(t, vectors, coords)
-    return _ask(words("describe", coords=coords), text, answers.read_surfaces, timeout, program)
+@overload
+def describe(t: Triangulation, vectors: Vectors, coords: str = ..., *, timeout: Optional[float] = ...,
+             program: Program = ..., arrays: Literal[False] = ...) -> List[Surface]: ...
+
+
+@overload
+def describe(t: Triangulation, vectors: Vectors, coords: str = ..., *, timeout: Optional[float] = ...,
+             program: Program = ..., arrays: Union[Literal[True], str]) -> numpy_arrays.Described: ...
+
+
+def describe(t: Triangulation, vectors: Vectors, coords: str = "standard", *, timeout: Optional[float] = None,
+             program: Program = None, arrays: Arrays = False) -> Union[List[Surface], numpy_arrays.Described]:
+    """For each vector, in order, its Euler characteristic and its components; in standard or octagon coordinates. The
+    list may have any length.
+
+    arrays: as of `surfaces`, for a `Described` with arrays in place of a list
+    """
+    asked, text = words("describe", coords=coords), _with_vectors(t, vectors, coords)
+    if arrays is False:
+        return _ask_of_each(asked, text, answers.read_surfaces, timeout, program)
+    return described_arrays(asked, text, arrays, parts.Clock(timeout), program)
+
+
+def described_arrays(asked: Sequence[str], text: str, arrays: Arrays, clock: parts.Clock,
+                     program: Program) -> numpy_arrays.Described:
+    """What `describe` answers to each vector of a document of any length, as arrays."""
+    kind = numpy_arrays.integer_type(arrays)
+    found = ask_in_parts(asked, text, lambda lines: numpy_arrays.read_described(lines, kind), clock, program)
+    return numpy_arrays.joined(list(found))
 
 
 def lift(t: Triangulation, vectors: Vectors, *, timeout: Optional[float] = None, program: Program = None) -> List[Vector]:
     """For each vector of width 3n, in order, the standard one over it, of width 7n and without a vertex link; where one has
-    none, `Refused` names it and a vertex class."""
-    return _ask(["lift"], _with_vectors(t, vectors, "quad"), answers.read_vectors, timeout, program)
+    none, `Refused` names it and a vertex class. The list may have any length."""
+    return _ask_of_each(["lift"], _with_vectors(t, vectors, "quad"), answers.read_vectors, timeout, program)
 
 
 def crush(t: Triangulation, vector: GivenVector, *, timeout: Optional[float] = None, program: Program = None) -> Table:

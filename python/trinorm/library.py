@@ -8,15 +8,16 @@ from __future__ import annotations
 import ctypes
 import mmap
 import os
+import sys
 import threading
 from pathlib import Path
-from typing import Any, Dict, List, Optional, Sequence, Tuple
+from typing import Any, Callable, Dict, Generator, List, Optional, Sequence, Tuple
 
-from .arguments import as_bytes, checked_memory, checked_timeout, joined
+from .arguments import as_bytes, checked_memory, checked_timeout, checked_words, joined
 from .errors import Failed, TimedOut
 from .program import read_outcome
 
-NAME = "libtrinorm.so.1"
+NAME = {"win32": "trinorm.dll", "darwin": "libtrinorm.dylib"}.get(sys.platform, "libtrinorm.so.1")
 # of a call: no room, no memory; of what ended it: memory, time, a handler of a signal
 TOO_LITTLE_ROOM, NO_MEMORY = 7, 8
 MOST_MEMORY, MOST_TIME, STOPPED = 1, 2, 3
@@ -24,6 +25,16 @@ MOST_MEMORY, MOST_TIME, STOPPED = 1, 2, 3
 ROOM, LONG = 1 << 26, 1 << 20
 
 _Stop = ctypes.CFUNCTYPE(ctypes.c_int, ctypes.c_void_p)
+
+
+# in this order, as library/python_stop.c has them
+_PYTHON_FUNCTIONS = ("PyGILState_Ensure", "PyGILState_Release", "PyErr_CheckSignals", "PyErr_Fetch", "PyErr_Restore", "PyErr_Clear")
+
+
+def _python_functions() -> Any:
+    """The addresses of Python's functions that the library calls, for systems where it can't find them by name."""
+    addresses = [ctypes.cast(getattr(ctypes.pythonapi, name), ctypes.c_void_p) for name in _PYTHON_FUNCTIONS]
+    return (ctypes.c_void_p * len(addresses))(*addresses)
 
 
 class _Limits(ctypes.Structure):
@@ -45,14 +56,20 @@ class _Room:
 
     def grow(self, size: int) -> None:
         """Takes pages of this size in place of the ones before; a forked child gets pages of its own."""
-        self.pages = mmap.mmap(-1, size, flags=mmap.MAP_PRIVATE | mmap.MAP_ANONYMOUS)
+        # Windows has pages of a process alone
+        self.pages = mmap.mmap(-1, size) if os.name == "nt" else mmap.mmap(-1, size, flags=mmap.MAP_PRIVATE | mmap.MAP_ANONYMOUS)
         self.at = ctypes.addressof(ctypes.c_char.from_buffer(self.pages))
         self.size = size
+
+    def limit(self, seconds: Optional[float], most_bytes: int) -> None:
+        """Sets the limits of the next call."""
+        self.limits.most_bytes = most_bytes
+        self.limits.most_nanoseconds = 0 if seconds is None else max(1, int(seconds * 1e9))
 
     def answer(self) -> bytes:
         """The answer that was written into it."""
         text = ctypes.string_at(self.at, self.needed.value)
-        if len(text) > LONG:
+        if len(text) > LONG and hasattr(mmap, "MADV_DONTNEED"):
             self.pages.madvise(mmap.MADV_DONTNEED)
         return text
 
@@ -62,6 +79,23 @@ class _Rooms(threading.local):
 
     def __init__(self) -> None:
         self.unused: List[_Room] = []
+
+
+# called some ten times a second with the bytes that a call holds
+Progress = Callable[[int], object]
+
+
+def _reports(progress: Progress, held: Callable[[], int], faults: List[BaseException]) -> Generator[int, object, None]:
+    """Yields each time whether the call is to stop: 1 once `progress`, or a handler of a signal, has raised something,
+    which is put into `faults`. What a handler raises is caught too, since the generator waits inside the `try`."""
+    while True:
+        try:
+            yield len(faults)
+            progress(held())
+        except GeneratorExit:
+            return
+        except BaseException as fault:  # pylint: disable=broad-except
+            faults[:] = [fault]
 
 
 class Library:
@@ -76,31 +110,50 @@ class Library:
             self._call.argtypes = [ctypes.c_void_p, *area, *area, ctypes.c_void_p, ctypes.c_size_t, ctypes.c_void_p]
             # asked some ten times a second: in the main thread Python runs its handlers of signals
             self._stop = _Stop(("trinorm_python_stops", library))
+            if hasattr(library, "trinorm_python_is"):
+                library.trinorm_python_is(_python_functions())
             self._rooms = _Rooms()
             # by a second look at the same library, which keeps Python's lock and raises what is raised in it
             self._raise = ctypes.PyDLL(path).trinorm_python_raises
             self._raise.restype = None
+            self._held = getattr(library, "trinorm_held", None)
+            if self._held is not None:
+                self._held.restype = ctypes.c_uint64
         except (OSError, AttributeError) as fault:
             raise Failed(f"{path}: {fault}") from None
         self.path = path
 
     def answer(self, words: Sequence[str], text: str = "", timeout: Optional[float] = None,
-               memory: Optional[int] = None) -> Tuple[int, bytes, int]:
+               memory: Optional[int] = None, progress: Optional[Progress] = None) -> Tuple[int, bytes, int]:
         """The status, the bytes of the answer, and the limit that ended the call, or 0.
 
         An exception that a handler of signals raises during the call, as KeyboardInterrupt, is raised here.
 
         timeout: seconds after which it is to end; memory: bytes that it may hold at a time
+        progress: called some ten times a second with the bytes that the call holds; what it raises ends the call
         """
-        said, given, rooms = joined(words), as_bytes(text), self._rooms.unused
+        said, given, rooms = joined(checked_words(words)), as_bytes(text), self._rooms.unused
         seconds, most_bytes = checked_timeout(timeout), checked_memory(memory)
+        if progress is not None:
+            faults: List[BaseException] = []
+            reports = _reports(progress, self.held, faults)
+            next(reports)
+            room = _Room(_Stop(reports.send))
+            room.limit(seconds, most_bytes)
+            answered = self._answer_in(room, said, given)
+            if faults:
+                raise faults[0]
+            return answered
         room = rooms.pop() if rooms else _Room(self._stop)
         try:
-            room.limits.most_bytes = most_bytes
-            room.limits.most_nanoseconds = 0 if seconds is None else max(1, int(seconds * 1e9))
+            room.limit(seconds, most_bytes)
             return self._answer_in(room, said, given)
         finally:
             rooms.append(room)
+
+    def held(self) -> int:
+        """The bytes that the call of this thread holds, for a function that it calls; 0 if the library doesn't say."""
+        return 0 if self._held is None else int(self._held())
 
     def _answer_in(self, room: _Room, said: bytes, given: bytes) -> Tuple[int, bytes, int]:
         at_limits, at_needed = room.places
@@ -116,9 +169,10 @@ class Library:
                 return NO_MEMORY, b"", 0
 
     def run(self, words: Sequence[str], text: str = "", timeout: Optional[float] = None,
-            memory: Optional[int] = None) -> str:
+            memory: Optional[int] = None, progress: Optional[Progress] = None) -> str:
         """As `program.run`: what the program writes; a refusal or a call that was ended is raised."""
-        status, said, reached = self.answer(words, text, timeout, memory)
+        words = checked_words(words)
+        status, said, reached = self.answer(words, text, timeout, memory, progress)
         if reached == MOST_TIME:
             raise TimedOut(f"{' '.join(words)}: no answer in {timeout} s")
         if reached == MOST_MEMORY:

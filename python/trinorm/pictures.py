@@ -1,22 +1,22 @@
-"""Pictures as text: the face-pairing graph of a triangulation as DOT or SVG, and how lists grow, as SVG."""
+"""Pictures as text: the face-pairing graph of a triangulation as DOT or SVG; the discs of a surface, the edges of the
+tetrahedra and the vertex links, as SVG; and how lists grow."""
 from __future__ import annotations
 
 import json
 import math
 from collections import Counter
-from typing import Dict, Iterable, Iterator, List, NamedTuple, Sequence, Tuple
+from typing import Any, Dict, Iterable, Iterator, List, Sequence, Tuple, Union
 
-from .tables import Table, size_of_signature
+from . import commands
+from .arguments import whole_numbers
+from .disc_pictures import edges_picture, link_picture, surface_picture
+from .drawing import BLUE, GREY, Point, svg, text, towards
+from .graph_layout import Pair, places, ports
+from .regina_surfaces import ReginaSurface, is_surface, vector_of
+from .tables import Table, Triangulation, size_of_signature
 
-BLUE, GREY = "#1f6fb4", "#888"
-
-
-class Pair(NamedTuple):
-    """Two glued faces, the lesser one first."""
-    tet: int
-    face: int
-    other_tet: int
-    other_face: int
+# the radius of a tetrahedron in the face-pairing graph, and where the number of a face is
+RADIUS, LABEL = 13.0, 23.0
 
 
 def face_pairs(table: Table) -> List[Pair]:
@@ -34,68 +34,90 @@ def face_pairing_dot(table: Table) -> str:
     return "\n".join(["graph face_pairing {", "  node [shape=circle];", *nodes, *edges, "}"]) + "\n"
 
 
-def _svg(wide: float, high: float, parts: Iterable[str]) -> str:
-    size = f'width="{wide:.0f}" height="{high:.0f}"'
-    head = f'<svg xmlns="http://www.w3.org/2000/svg" {size} font-family="sans-serif" font-size="13">'
-    return "\n".join([head, f'<rect {size} fill="white"/>', *parts, "</svg>"]) + "\n"
+def _curve(pair: Pair, at: Sequence[Point], angles: Sequence[Dict[int, float]]) -> str:
+    """A gluing, from the face of one tetrahedron to that of the other."""
+    one, other = at[pair.tet], at[pair.other_tet]
+    angle, other_angle = angles[pair.tet][pair.face], angles[pair.other_tet][pair.other_face]
+    far = 62.0 if pair.tet == pair.other_tet else max(30.0, 0.38 * math.hypot(other[0] - one[0], other[1] - one[1]))
+    points = [towards(one, angle, RADIUS), towards(one, angle, RADIUS + far), towards(other, other_angle, RADIUS + far),
+              towards(other, other_angle, RADIUS)]
+    begin, bend, other_bend, end = (f"{x:.1f},{y:.1f}" for x, y in points)
+    return f'<path class="gluing" d="M{begin} C{bend} {other_bend} {end}" fill="none" stroke="{GREY}"/>'
 
 
-Point = Tuple[float, float]
-
-
-def _arc(one: Point, other: Point, bend: float) -> str:
-    """A curve between two points that leaves the straight line by so much."""
-    across, up = other[0] - one[0], other[1] - one[1]
-    length = math.hypot(across, up)
-    middle = ((one[0] + other[0]) / 2 - bend * up / length, (one[1] + other[1]) / 2 + bend * across / length)
-    begin, over, end = (f"{x:.1f},{y:.1f}" for x, y in (one, middle, other))
-    return f'<path d="M{begin} Q{over} {end}" fill="none" stroke="{GREY}"/>'
-
-
-def _loop(at: Point, centre: Point, radius: float) -> str:
-    """A circle through a point, on the side away from the centre."""
-    across, up = at[0] - centre[0], at[1] - centre[1]
-    length = math.hypot(across, up)
-    way = (across / length, up / length) if length else (0.0, -1.0)
-    x, y = at[0] + radius * way[0], at[1] + radius * way[1]
-    return f'<circle cx="{x:.1f}" cy="{y:.1f}" r="{radius:.1f}" fill="none" stroke="{GREY}"/>'
-
-
-def _edges(pairs: Sequence[Pair], at: Sequence[Point], centre: Point) -> Iterator[str]:
-    """Curves side by side for the pairs of two tetrahedra, and circles one in another for those of one."""
-    counts = Counter((it.tet, it.other_tet) for it in pairs)
-    drawn: Counter[Tuple[int, int]] = Counter()
-    for pair in pairs:
-        ends = one, other = pair.tet, pair.other_tet
-        if one == other:
-            yield _loop(at[one], centre, 20.0 + 6 * drawn[ends])
-        else:
-            yield _arc(at[one], at[other], 34 * (drawn[ends] - (counts[ends] - 1) / 2))
-        drawn[ends] += 1
-
-
-def _node(tet: int, at: Point, has_boundary: bool) -> str:
-    dashes = ' stroke-dasharray="3 3"' if has_boundary else ""
-    return (f'<circle cx="{at[0]:.1f}" cy="{at[1]:.1f}" r="12" fill="white" stroke="black"{dashes}/>'
-            f'<text x="{at[0]:.1f}" y="{at[1] + 4.5:.1f}" text-anchor="middle">{tet}</text>')
+def _node(tet: int, at: Point, row: Sequence[object], angles: Dict[int, float]) -> Iterator[str]:
+    """A tetrahedron with the numbers of its faces; a boundary face is a stroke that ends, and its tetrahedron is dashed."""
+    dashes = ' stroke-dasharray="3 3"' if None in row else ""
+    for face, gluing in enumerate(row):
+        if gluing is None:
+            x, y = towards(at, angles[face], RADIUS)
+            end_x, end_y = towards(at, angles[face], RADIUS + 6)
+            yield f'<line x1="{x:.1f}" y1="{y:.1f}" x2="{end_x:.1f}" y2="{end_y:.1f}" stroke="{GREY}" stroke-dasharray="2 2"/>'
+        label = towards(at, angles[face] + (0.0 if gluing is None else 0.36), LABEL)
+        yield text(label, face, f'text-anchor="middle" font-size="10" fill="{BLUE}" class="face"')
+    yield f'<circle cx="{at[0]:.1f}" cy="{at[1]:.1f}" r="{RADIUS:.0f}" fill="white" stroke="black"{dashes}/>'
+    yield text(at, tet)
 
 
 def face_pairing_svg(table: Table) -> str:
-    """The face-pairing graph with its tetrahedra on a circle; one with boundary faces is drawn with a dashed rim."""
-    ring = 0.0 if len(table) == 1 else max(60.0, 11.0 * len(table))
-    centre = (ring + 70, ring + 70)
-    angles = [2 * math.pi * tet / len(table) - math.pi / 2 for tet in range(len(table))]
-    at = [(centre[0] + ring * math.cos(it), centre[1] + ring * math.sin(it)) for it in angles]
-    nodes = [_node(tet, at[tet], None in row) for tet, row in enumerate(table.rows)]
-    return _svg(2 * centre[0], 2 * centre[1], [*_edges(face_pairs(table), at, centre), *nodes])
+    """The face-pairing graph: a circle for each tetrahedron, a curve for each pair of glued faces, with the numbers of the
+    faces. A tetrahedron with boundary faces has a dashed rim."""
+    pairs = face_pairs(table)
+    margin = 85.0
+    at = [(x + margin, y + margin) for x, y in places(len(table), pairs)]
+    angles = ports(at, pairs)
+    parts = [_curve(pair, at, angles) for pair in pairs]
+    for tet, row in enumerate(table.rows):
+        parts += _node(tet, at[tet], row, angles[tet])
+    wide, high = (max((point[axis] for point in at), default=0.0) + margin for axis in range(2))
+    return svg(wide, high, parts)
+
+
+def surface_svg(t: Triangulation, vector: Union[Sequence[int], ReginaSurface]) -> str:
+    """A normal surface as discs in its tetrahedra: each disc once, or, in a tetrahedron with more than 60, one of each type.
+    Below are what its faces are glued to, and how many discs of each type it has.
+
+    vector: in standard, quad or octagon coordinates, by its length
+    """
+    table = commands.table(t)
+    if is_surface(vector):
+        return surface_picture(table, vector_of(vector, "octagon"))
+    return surface_picture(table, whole_numbers(vector, "a vector is a list of whole numbers or a regina.NormalSurface"))
+
+
+def edges_svg(t: Triangulation) -> str:
+    """The tetrahedra with the class of each edge and its degree, as `CLASS: DEGREE`; classes as `info` numbers them."""
+    return edges_picture(commands.table(t))
+
+
+def vertex_link_svg(t: Triangulation, vertex: int = 0) -> str:
+    """The link of a vertex as glued triangles, laid out in the plane. `3(1)` is the triangle at vertex 1 of tetrahedron 3;
+    sides with the same number are glued too, and thick sides are boundary.
+
+    vertex: its number, as `info` lists the vertices
+    """
+    return link_picture(commands.table(t), vertex)
+
+
+def _list_length(answer: Any) -> int:
+    """The number of surfaces of an answer of `surfaces`, `describe` or `count`; -1 of any other."""
+    if isinstance(answer, list):
+        return len(answer)
+    if isinstance(answer, dict) and isinstance(answer.get("surfaces"), int):
+        return int(answer["surfaces"])
+    return -1
 
 
 def growth_points(lines: Iterable[str]) -> Iterator[Tuple[int, int]]:
-    """For each answered line of a census of `surfaces` or `describe`: the tetrahedra, and the length of the list."""
-    for line in lines:
-        told = json.loads(line)
-        if isinstance(told.get("answer"), list):
-            yield size_of_signature(told["signature"]), len(told["answer"])
+    """For each answered line of a census of `surfaces`, `describe` or `count`: the tetrahedra, and the length of the list."""
+    for number, answered in enumerate(lines, 1):
+        try:
+            told = json.loads(answered)
+            length = _list_length(told.get("answer"))
+            if length >= 0:
+                yield size_of_signature(told["signature"]), length
+        except (ValueError, KeyError, AttributeError, IndexError) as fault:
+            raise ValueError(f"line {number} is none of a census: {fault}") from None
 
 
 def _median(counts: Sequence[int]) -> float:
@@ -145,4 +167,4 @@ def growth_svg(points: Iterable[Tuple[int, int]]) -> str:
             for at, count in them]
     way = " ".join(f"{plane.x(at):.1f},{plane.y(_median(counts)):.1f}" for at, counts in by_size.items())
     line = f'<polyline points="{way}" fill="none" stroke="{BLUE}"/>'
-    return _svg(plane.WIDE, plane.HIGH, [*plane.axes(), line, *dots])
+    return svg(plane.WIDE, plane.HIGH, [*plane.axes(), line, *dots])

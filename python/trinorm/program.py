@@ -10,7 +10,7 @@ import threading
 from pathlib import Path
 from typing import TYPE_CHECKING, Dict, Optional, Protocol, Sequence, Tuple, Union
 
-from .arguments import as_bytes, checked_timeout, joined, shown
+from .arguments import as_bytes, checked_timeout, checked_words, shown
 from .errors import BadArgument as BadArgument, Error as Error, Failed as Failed, Place as Place, Refused as Refused
 from .errors import REFUSED, USAGE, TimedOut as TimedOut, how_it_ended as how_it_ended, kind_and_places as kind_and_places
 
@@ -58,7 +58,7 @@ def find(program: Union[str, "os.PathLike[str]", None] = None) -> str:
     if (REPOSITORY / "trinorm").is_file() and (REPOSITORY / "crates" / "trinorm").is_dir():
         return _built_in_repository()
     for folder in Path(__file__).resolve().parents:
-        installed = folder / "libexec" / "trinorm" / "trinorm"
+        installed = folder / "libexec" / "trinorm" / ("trinorm.exe" if os.name == "nt" else "trinorm")
         if installed.is_file():
             return str(installed)
     path = shutil.which("trinorm")
@@ -120,8 +120,9 @@ def run(words: Sequence[str], text: str = "", timeout: Optional[float] = None, p
 def run_process(words: Sequence[str], text: str = "", timeout: Optional[float] = None,
                 program: Union[str, "os.PathLike[str]", None] = None) -> str:
     """As `run`, by a process of its own."""
-    joined(words)  # raises what is wrong with them
-    given, seconds, path = as_bytes(text), checked_timeout(timeout), find(program)
+    words, given, seconds = checked_words(words), as_bytes(text), checked_timeout(timeout)
+    as_bytes(" ".join(words))
+    path = find(program)
     try:
         done = subprocess.run([path, *words], input=given, stdout=subprocess.PIPE, stderr=subprocess.PIPE, timeout=seconds,
                               check=False)

@@ -1,26 +1,71 @@
 """Questions that are asked of all vertex surfaces of a triangulation at once: spheres, tori, 0-efficiency, and counts.
 
-They go by numbers alone: a sphere is a connected surface without boundary and of Euler characteristic 2. Each function takes
-`timeout` and `program` as those of `commands` do, for each of its two runs.
+They go by numbers alone: a sphere is a connected surface without boundary and of Euler characteristic 2. Lists may have any
+length: `describe` is asked in parts (see `parts`). Each function takes `timeout`, in seconds for all of its runs together,
+and `program` as those of `commands` do.
 """
 from __future__ import annotations
 
 import collections
+import itertools
 from dataclasses import dataclass
-from typing import Dict, List, Optional, Union
+from typing import (Any, Callable, Counter, Dict, Iterable, Iterator, List, Literal, NamedTuple, Optional, Tuple, Union,
+                    overload)
 
-from . import commands
-from .answers import Surface
-from .commands import Program
-from .tables import Triangulation
+from . import arrays as numpy_arrays, commands
+from .answers import Component, Surface, Vector, is_yes, read_surfaces, read_vector
+from .commands import Arrays
+from .options import words
+from .parts import Answers, Clock
+from .program import Program
+from .progress import Progress, reported
+from .tables import Triangulation, document
 
 
-@dataclass(frozen=True)
-class Contrary(Surface):
-    """A listed surface by which a triangulation is not 0-efficient. It counts as False."""
+class Contrary(int):
+    """A listed surface by which a triangulation is not 0-efficient. It is the number 0, so it counts as False, is equal to
+    False, and is `0` in JSON; it has what a `Surface` has."""
 
-    def __bool__(self) -> bool:
+    surface: Surface
+
+    def __new__(cls, surface: Surface) -> Contrary:
+        made = super().__new__(cls, 0)
+        made.surface = surface
+        return made
+
+    def __bool__(self) -> Literal[False]:
         return False
+
+    @property
+    def vector(self) -> Vector:
+        """Its vector, in standard coordinates."""
+        return self.surface.vector
+
+    @property
+    def euler(self) -> int:
+        """Its Euler characteristic: 2 for a sphere, 1 for a projective plane or a disc."""
+        return self.surface.euler
+
+    @property
+    def linking(self) -> bool:
+        """Always False: it is no vertex link."""
+        return self.surface.linking
+
+    @property
+    def boundary(self) -> bool:
+        """Whether it meets a boundary face."""
+        return self.surface.boundary
+
+    @property
+    def components(self) -> Tuple[Component, ...]:
+        """Its one component."""
+        return self.surface.components
+
+    def __repr__(self) -> str:
+        return f"Contrary({self.surface!r})"
+
+    def __reduce__(self) -> Tuple[Any, ...]:
+        return Contrary, (self.surface,)
 
 
 @dataclass(frozen=True)
@@ -33,43 +78,155 @@ class Count:
     greatest: int
 
 
-def described(t: Triangulation, coords: str = "standard", *,
-              timeout: Optional[float] = None, program: Program = None) -> List[Surface]:
-    """What `describe` says of each vertex surface, in standard or octagon coordinates."""
-    vectors = commands.surfaces(t, coords, timeout=timeout, program=program)
-    return commands.describe(t, vectors, coords, timeout=timeout, program=program)
+@dataclass(frozen=True, eq=False)
+class CountArrays:
+    """A `Count` in which `euler` is an array of the Euler characteristics, descending, and `number` says of each how many
+    surfaces have it."""
+    surfaces: int
+    euler: Any
+    number: Any
+    linking: int
+    greatest: int
+
+    @property
+    def columns(self) -> Dict[str, Any]:
+        """Both arrays, as `pandas.DataFrame` takes them."""
+        return {"euler": self.euler, "surfaces": self.number}
 
 
-def count(t: Triangulation, coords: str = "standard", *,
-          timeout: Optional[float] = None, program: Program = None) -> Count:
-    """The vertex surfaces counted, in standard or octagon coordinates."""
-    surfaces = described(t, coords, timeout=timeout, program=program)
-    by_euler = collections.Counter(it.euler for it in surfaces)
-    greatest = max((max(it.vector) for it in surfaces), default=0)
-    return Count(len(surfaces), dict(sorted(by_euler.items(), reverse=True)), sum(it.linking for it in surfaces), greatest)
+class _Numbers(NamedTuple):
+    """What a count takes from one surface."""
+    euler: int
+    linking: bool
+    greatest: int
 
 
-def spheres(t: Triangulation, *, timeout: Optional[float] = None, program: Program = None) -> List[Surface]:
-    """The vertex surfaces that are spheres, but not vertex links. A projective plane is none, though its double is one."""
-    surfaces = described(t, timeout=timeout, program=program)
-    return [it for it in surfaces if it.euler == 2 and not it.linking and not it.boundary]
+def _read_numbers(lines: List[str]) -> List[_Numbers]:
+    greatest = [max(read_vector(line), default=0) for line in lines if line.startswith("vec")]
+    surfaces = [line.split() for line in lines if line.startswith("euler")]
+    if len(greatest) != len(surfaces):
+        raise ValueError("a line is missing")
+    return [_Numbers(int(it[1]), is_yes(it[3]), most) for it, most in zip(surfaces, greatest)]
 
 
-def tori(t: Triangulation, *, timeout: Optional[float] = None, program: Program = None) -> List[Surface]:
-    """The vertex surfaces that are tori, but not vertex links. A Klein bottle is none, though its double may be one."""
-    surfaces = described(t, timeout=timeout, program=program)
-    return [it for it in surfaces if it.euler == 0 and not it.linking and not it.boundary and it.components[0].orientable]
+def _described(t: Triangulation, coords: str, read: Callable[[List[str]], Answers], clock: Clock,
+               program: Program) -> Iterator[Answers]:
+    """What `describe` says of each vertex surface, read part by part."""
+    asked, head = words("describe", coords=coords), document(t)
+    listed = commands.listing(head, coords, timeout=clock.left(), program=program)
+    return commands.ask_in_parts(asked, head + listed, read, clock, program)
 
 
-def zero_efficient(t: Triangulation, *,
-                   timeout: Optional[float] = None, program: Program = None) -> Union[bool, Contrary]:
-    """True where each connected normal surface of positive Euler characteristic is a vertex link; else a listed one that
-    is none, which counts as False: a sphere, a projective plane or a disc.
+@overload
+def described(t: Triangulation, coords: str = ..., *, timeout: Optional[float] = ..., program: Program = ...,
+              progress: Optional[Progress] = ..., arrays: Literal[False] = ...) -> List[Surface]: ...
 
-    That the list decides it is proved. For closed orientable triangulations it is the 0-efficiency of Jaco and Rubinstein;
-    in others a projective plane with two sides counts too, though its double is no sphere.
+
+@overload
+def described(t: Triangulation, coords: str = ..., *, timeout: Optional[float] = ..., program: Program = ...,
+              progress: Optional[Progress] = ..., arrays: Union[Literal[True], str]) -> numpy_arrays.Described: ...
+
+
+def described(t: Triangulation, coords: str = "standard", *, timeout: Optional[float] = None, program: Program = None,
+              progress: Optional[Progress] = None, arrays: Arrays = False) -> Union[List[Surface], numpy_arrays.Described]:
+    """What `describe` says of each vertex surface, in standard or octagon coordinates.
+
+    progress, arrays: as of `surfaces` and `describe`
     """
-    for it in described(t, timeout=timeout, program=program):
-        if it.euler > 0 and not it.linking:
-            return Contrary(it.vector, it.euler, it.linking, it.boundary, it.components)
+    clock, program = Clock(timeout), reported(program, progress)
+    if arrays is False:
+        return list(itertools.chain.from_iterable(_described(t, coords, read_surfaces, clock, program)))
+
+    asked, head, kind = words("describe", coords=coords), document(t), numpy_arrays.integer_type(arrays)
+    listed = commands.listing(head, coords, timeout=clock.left(), program=program)
+    return commands.described_arrays(asked, head + listed, kind, clock, program)
+
+
+@overload
+def count(t: Triangulation, coords: str = ..., *, timeout: Optional[float] = ..., program: Program = ...,
+          progress: Optional[Progress] = ..., arrays: Literal[False] = ...) -> Count: ...
+
+
+@overload
+def count(t: Triangulation, coords: str = ..., *, timeout: Optional[float] = ..., program: Program = ...,
+          progress: Optional[Progress] = ..., arrays: Literal[True]) -> CountArrays: ...
+
+
+def count(t: Triangulation, coords: str = "standard", *, timeout: Optional[float] = None, program: Program = None,
+          progress: Optional[Progress] = None, arrays: bool = False) -> Union[Count, CountArrays]:
+    """The vertex surfaces counted, in standard or octagon coordinates. None of them is kept.
+
+    In octagon coordinates the list has vectors without octagons, vectors with one octagon, and vectors with several of one
+    type: only those with one are octagonal almost normal surfaces.
+
+    progress: as of `surfaces`
+    arrays: True for a `CountArrays`
+    """
+    by_euler: Counter[int] = collections.Counter()
+    surfaces = linking = greatest = 0
+    for part in _described(t, coords, _read_numbers, Clock(timeout), reported(program, progress)):
+        by_euler.update(it.euler for it in part)
+        surfaces += len(part)
+        linking += sum(it.linking for it in part)
+        greatest = max(greatest, max((it.greatest for it in part), default=0))
+    in_order = sorted(by_euler.items(), reverse=True)
+    if not arrays:
+        return Count(surfaces, dict(in_order), linking, greatest)
+    import numpy
+    euler, number = (numpy.array(column, numpy.int64) for column in (zip(*in_order) if in_order else ((), ())))
+    return CountArrays(surfaces, euler, number, linking, greatest)
+
+
+def spheres(t: Triangulation, *, timeout: Optional[float] = None, program: Program = None,
+            progress: Optional[Progress] = None) -> List[Surface]:
+    """The vertex surfaces that are spheres, but not vertex links. A projective plane is none, though its double is one."""
+    return [it for it in described(t, timeout=timeout, program=program, progress=progress)
+            if it.euler == 2 and not it.linking and not it.boundary]
+
+
+def tori(t: Triangulation, *, timeout: Optional[float] = None, program: Program = None,
+         progress: Optional[Progress] = None) -> List[Surface]:
+    """The vertex surfaces that are tori, but not vertex links. A Klein bottle is none, though its double may be one."""
+    return [it for it in described(t, timeout=timeout, program=program, progress=progress)
+            if it.euler == 0 and not it.linking and not it.boundary and it.components[0].orientable]
+
+
+def _contrary(parts: Iterable[List[Surface]]) -> Union[Literal[True], Contrary]:
+    """The first of these surfaces that has positive Euler characteristic and is no vertex link; True if there is none."""
+    for surface in itertools.chain.from_iterable(parts):
+        if surface.euler > 0 and not surface.linking:
+            return Contrary(surface)
     return True
+
+
+def _by_list(text: str, clock: Clock, program: Program) -> Union[Literal[True], Contrary]:
+    """0-efficiency by the list in standard coordinates (`list_decides_efficiency`)."""
+    return _contrary(_described(text, "standard", read_surfaces, clock, program))
+
+
+def _by_quads(text: str, clock: Clock, program: Program) -> Union[Literal[True], Contrary]:
+    """0-efficiency by the lifts of the quad list, if all vertex links are spheres or discs (`quad_list_decides_efficiency`)."""
+    listed = commands.listing(text, "quad", timeout=clock.left(), program=program)
+    lifts = commands.ask_in_parts(["lift"], text + listed, lambda lines: lines, clock, program)
+    lifted = "".join(f"{line}\n" for line in itertools.chain.from_iterable(lifts))
+    return _contrary(commands.ask_in_parts(["describe"], text + lifted, read_surfaces, clock, program))
+
+
+def zero_efficient(t: Triangulation, *, timeout: Optional[float] = None, program: Program = None,
+                   progress: Optional[Progress] = None) -> Union[Literal[True], Contrary]:
+    """True if each connected normal surface of positive Euler characteristic is a vertex link; else a `Contrary`, a vertex
+    surface that is none: a sphere, a projective plane or a disc. It counts as False and is equal to False.
+
+    That lists decide this is proved: the quad list with its lifts, which is far shorter, if all vertex links are spheres or
+    discs and all edges valid; else the list in standard coordinates. For a closed orientable triangulation it is the
+    0-efficiency of Jaco and Rubinstein: each normal sphere is a vertex link. In a non-orientable one a projective plane
+    with two sides counts too, though its double is no sphere. For a triangulation with boundary they ask it of each normal
+    disc, and Regina's `isZeroEfficient()` also says no if a boundary component is a sphere; here it is asked of spheres,
+    projective planes and discs. A list in octagon coordinates decides another property: a sphere with an octagon is no
+    vertex link, and 0-efficient triangulations of the 3-sphere have one.
+    """
+    text, clock = document(t), Clock(timeout)
+    program = reported(program, progress)
+    info = commands.info(text, timeout=clock.left(), program=program)
+    has_lifts = all(it.kind in ("sphere", "disc") for it in info.vertices) and all(it.valid for it in info.edges)
+    return (_by_quads if has_lifts else _by_list)(text, clock, program)

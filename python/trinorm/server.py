@@ -14,7 +14,7 @@ from collections import deque
 from pathlib import Path
 from typing import Any, Deque, Dict, Optional, Sequence, Set, Tuple
 
-from .arguments import as_bytes, checked_timeout, joined
+from .arguments import as_bytes, checked_timeout, checked_words, joined
 from .errors import Failed, TimedOut, how_it_ended
 from .program import find, read_outcome
 
@@ -173,11 +173,13 @@ class Server:
 
     def run(self, words: Sequence[str], text: str = "", timeout: Optional[float] = None) -> str:
         """As `program.run`: what the program writes; a refusal, a failure or a run past its limit is raised."""
+        words = checked_words(words)
         status, said = self.ask(words, text, timeout)
         return read_outcome(words, status, said)
 
     def ask(self, words: Sequence[str], text: str = "", timeout: Optional[float] = None) -> Tuple[int, bytes]:
         """The status and the bytes of the answer. A process that doesn't answer in time is ended, and `TimedOut` raised."""
+        words = checked_words(words)
         request, given, seconds = joined(words), as_bytes(text), checked_timeout(timeout)
         if len(given) > _LONGEST:
             raise Failed(f"{' '.join(words)}: an input of {len(given)} bytes is too long for the server")

@@ -55,6 +55,11 @@ class Table:
         lines = [" ".join("-" if it is None else str(it) for it in row) for row in self.rows]
         return "".join(line + "\n" for line in [f"tri {len(lines)}", *lines])
 
+    def _repr_svg_(self) -> str:
+        """What a notebook shows: the face-pairing graph."""
+        from .pictures import face_pairing_svg
+        return face_pairing_svg(self)
+
     @classmethod
     def parse(cls, text: str) -> Table:
         """A table as the program writes it."""

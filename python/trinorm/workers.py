@@ -80,7 +80,8 @@ class Worker:
             send(asked, self._to)
         except BrokenPipeError:
             raise EOFError from None
-        return pickle.loads(receive(self._from))
+        answer: Tuple[bool, Any] = pickle.loads(receive(self._from))
+        return answer
 
     def kill(self) -> None:
         """Ends it at once, with all that it runs: they are a group of their own. Its number is its own until `status`."""
@@ -119,7 +120,7 @@ class Workers(Executor):
         self._lock = threading.Lock()
         self._is_closed = False
 
-    def submit(self, function, /, *arguments, **named):  # type: ignore[no-untyped-def, override]
+    def submit(self, function, /, *arguments, **named):  # type: ignore[no-untyped-def]
         """Calls a function in one of the processes."""
         future: "Future[Any]" = Future()
         call = pickle.dumps((function, arguments, named))

@@ -1,0 +1,1 @@
+#define alignof _Alignof

@@ -1,0 +1,127 @@
+"""One command on many triangulations: in order and as they are done, failures as values, by threads and by processes."""
+import concurrent.futures
+import itertools
+import os
+import signal
+import threading
+import time
+import unittest
+
+import trinorm
+
+SIGNATURES = ["bkaagj", "cPcbbbiht", "bkaajj", "cMcabbgaj", "gLLPQccdfeefqffaqnw", "eLMkabcddbrrag"] * 20
+
+
+def length(text):
+    """A function of one text that other processes can import."""
+    return len(text)
+
+
+def raises(_text):
+    raise KeyError("not a failure of the program's")
+
+
+def ends_its_process(text):
+    if "cPcbbbiht" in text:
+        os.kill(os.getpid(), signal.SIGKILL)
+    return text
+
+
+class Many(unittest.TestCase):
+    def test_in_order(self):
+        for command, options in (("sig", {}), ("surfaces", {"coords": "quad"}), ("count", {}), ("zero_efficient", {})):
+            found = list(trinorm.many(SIGNATURES, command, **options))
+            self.assertEqual([it.index for it in found], list(range(len(SIGNATURES))))
+            self.assertEqual([it.triangulation for it in found], SIGNATURES)
+            self.assertEqual([it.value for it in found], [getattr(trinorm, command)(it, **options) for it in SIGNATURES])
+
+    def test_as_they_are_done(self):
+        found = list(trinorm.many(SIGNATURES, "sig", in_order=False))
+        self.assertEqual(sorted(it.index for it in found), list(range(len(SIGNATURES))))
+        self.assertTrue(all(it.answer == trinorm.sig(it.triangulation) for it in found))
+
+    def test_failures_are_values(self):
+        given = ["bkaagj", "bkaagjx", None, "cPcbbbiht", "a.txt", trinorm.table("bkaagj")]
+        found = list(trinorm.many(given, "sig"))
+        self.assertEqual([it.answer for it in found], ["bkaagj", None, None, "cPcbbbiht", None, "bkaagj"])
+        self.assertEqual([type(it.failure) for it in found],
+                         [type(None), trinorm.Refused, trinorm.BadArgument, type(None), trinorm.BadArgument, type(None)])
+        with self.assertRaises(trinorm.Refused):
+            found[1].value  # pylint: disable=pointless-statement
+        self.assertIsInstance(next(trinorm.many(["bkaagj"], raises)).failure, KeyError)
+        self.assertIsInstance(next(trinorm.many(["bkaagj"], "surfaces", coords="quads")).failure, trinorm.BadArgument)
+
+    def test_bad_arguments(self):
+        for given, command in ((SIGNATURES, "surface"), ("bkaagj", "sig"), (7, "sig"), (None, "sig")):
+            with self.assertRaises(trinorm.BadArgument):
+                trinorm.many(given, command)
+
+    def test_nothing(self):
+        self.assertEqual(list(trinorm.many([], "sig")), [])
+
+    def test_as_many_as_are_needed(self):
+        taken = []
+
+        def endless():
+            for number in itertools.count():
+                taken.append(number)
+                yield SIGNATURES[number % 6]
+
+        found = list(itertools.islice(trinorm.many(endless(), "sig"), 500))
+        self.assertEqual([it.answer for it in found], [trinorm.sig(SIGNATURES[it % 6]) for it in range(500)])
+        self.assertLess(len(taken), 500 + 64 * 256 + 1)
+
+    def test_progress(self):
+        counts = []
+        list(trinorm.many(["bkaagj", "bkaagjx", "cPcbbbiht"], "sig", progress=lambda *it: counts.append(it)))
+        self.assertEqual(counts, [(1, 0), (2, 1), (3, 1)])
+
+        def ends(*_):
+            raise InterruptedError
+
+        with self.assertRaises(InterruptedError):
+            list(trinorm.many(SIGNATURES, "sig", progress=ends))
+
+    def test_timeouts(self):
+        long = trinorm.make(6, 24).table
+        found = list(trinorm.many(["bkaagj", long, "cPcbbbiht"], "described", timeout=0.15))
+        self.assertIsInstance(found[1].failure, trinorm.TimedOut)
+        self.assertEqual([len(it.answer) for it in (found[0], found[2])], [2, 1])
+
+    def test_processes(self):
+        for way in ("fork", "spawn"):
+            import multiprocessing
+            with concurrent.futures.ProcessPoolExecutor(2, multiprocessing.get_context(way)) as executor:
+                found = list(trinorm.many(SIGNATURES + ["bkaagjx"], "surfaces", executor, coords="quad"))
+                self.assertEqual([it.answer for it in found[:-1]], [trinorm.surfaces(it, "quad") for it in SIGNATURES])
+                self.assertIsInstance(found[-1].failure, trinorm.Refused)
+                self.assertEqual([it.answer for it in trinorm.many(["bkaagj"], length, executor)], [11])
+
+    def test_a_killed_worker(self):
+        given = ["bkaagj", "cPcbbbiht", "bkaajj"]
+        with concurrent.futures.ProcessPoolExecutor(1) as executor:
+            found = list(trinorm.many(given, ends_its_process, executor))
+        self.assertEqual([it.index for it in found], [0, 1, 2])
+        self.assertIsInstance(found[1].failure, trinorm.Failed)
+        self.assertTrue(all(it.answer or isinstance(it.failure, trinorm.Failed) for it in found))
+
+    def test_interrupts(self):
+        long = trinorm.make(6, 24).table
+        timer = threading.Timer(0.5, os.kill, (os.getpid(), signal.SIGINT))
+        timer.start()
+        begun = time.monotonic()
+        with self.assertRaises(KeyboardInterrupt):
+            for _ in trinorm.many(itertools.repeat(long), "described"):
+                pass
+        timer.cancel()
+        self.assertLess(time.monotonic() - begun, 30)
+
+    def test_an_end_in_the_middle(self):
+        answers = trinorm.many(itertools.repeat("cPcbbbiht"), "sig")
+        self.assertEqual(next(answers).answer, "cPcbbbiht")
+        answers.close()
+        self.assertEqual(list(answers), [])
+
+
+if __name__ == "__main__":
+    unittest.main()

@@ -1,0 +1,226 @@
+"""Lists of any length: documents in parts, answers that were cut off, and refusals by the number in the whole list."""
+import concurrent.futures
+import functools
+import multiprocessing
+import os
+import signal
+import tempfile
+import threading
+import time
+import unittest
+
+import trinorm
+from trinorm import commands, parts, questions
+
+from .programs import script
+
+SPHERE = "bkaagj"
+TORUS = (1, 1, 0, 0, 1, 0, 0)
+CLASH = (0, 0, 1, 1, 0, 1, 1)
+
+
+@functools.lru_cache(None)
+def long_one():
+    """A triangulation of 19 tetrahedra with 11,027 vertex surfaces: their list is longer than an input may be."""
+    return trinorm.make(6, 20).table
+
+
+def verify_many(number):
+    """How often each kind of verdict came for a list of several parts, in which one vector is none."""
+    vectors = [TORUS] * 60000
+    vectors.insert(55000 + number, CLASH)
+    said = trinorm.verify(SPHERE, vectors)
+    return [at for at, it in enumerate(said) if it.kind == "clash"], len(said)
+
+
+class Documents(unittest.TestCase):
+    def check_parts(self, text, most):
+        """The parts of a document hold its lines, each once, behind its head."""
+        found = list(parts.parts(text, most))
+        head = text[:len(text) - len("".join(text.partition("vec")[1:]))] if "vec" in text else text
+        self.assertEqual(head + "".join(it.text[len(head):] for it in found), text)
+        self.assertEqual(sum(it.vectors for it in found), parts.count_vectors(text))
+        for number, part in enumerate(found):
+            self.assertTrue(part.text.startswith(head))
+            self.assertEqual(part.before, sum(it.vectors for it in found[:number]))
+            self.assertEqual(part.skipped, sum(it.text[len(head):].count("\n") for it in found[:number]))
+        return found
+
+    def test_parts(self):
+        lines = "".join(f"vec {it} {it * it}\n" for it in range(300))
+        for head in ("sig bkaagj\n", "# comment\n\ntri 1\n- - - -\n# one\n", ""):
+            for most in (40, 64, 200, 1000, 1 << 20):
+                found = self.check_parts(head + lines, most)
+                self.assertTrue(all(len(it.text) <= max(most, len(head) + 16) for it in found), (head, most))
+
+    def test_odd_documents(self):
+        for text in ("", "\n", "vec", "vec 1", "sig bkaagj", "sig bkaagj\nvec 1 2\nvec 3", "sig a\nvec 1\r\n# two\n\n\tvec 2\n",
+                     "sig bkaagj\n" + "vec " + "1 " * 1000 + "\nvec 2\n"):
+            for most in (1, 10, 100):
+                self.check_parts(text, most)
+
+    def test_bytes_are_counted(self):
+        text = "# " + "é" * 100 + "\nsig bkaagj\n" + "# ü\udcff\nvec 1\n" * 400
+        for part in parts.parts(text, 1024):
+            self.assertLessEqual(len(part.text.encode("utf8", "surrogateescape")), 1024)
+
+    def test_a_head_that_is_too_long_is_one_part(self):
+        text = "# " + "x" * (1 << 20) + "\nsig bkaagj\n"
+        self.assertEqual([it.text for it in parts.parts(text)], [text])
+        with self.assertRaises(trinorm.Refused) as caught:
+            trinorm.verify(text, [])
+        self.assertEqual(caught.exception.kind, "input too-long")
+
+    def test_refusals_name_the_whole_list(self):
+        text = "sig bkaagj\n" + "vec 1\n" * 100
+        for line, whole in (("refused: vector 2 length 1", "refused: vector 5 length 1"), ("refused: input 2 5 bad-word", "refused: input 5 5 bad-word"),
+                            ("refused: input 1 1 bad-word", "refused: input 1 1 bad-word"), ("refused: invalid-edge 2", "refused: invalid-edge 2"),
+                            ("refused: vector 2 no-lift 0", "refused: vector 5 no-lift 0"), ("refused: input too-long", "refused: input too-long")):
+            asked = []
+
+            def ask(part, _left, asked=asked, line=line):
+                asked.append(part)
+                if len(asked) == 2:
+                    raise trinorm.Refused(4, line, "a hint")
+                return [0] * parts.count_vectors(part)
+
+            with self.assertRaises(trinorm.Refused) as caught:
+                list(parts.answers(text, ask, parts.Clock(None), 29))
+            self.assertEqual((caught.exception.line, caught.exception.hint), (whole, "a hint"))
+
+    def test_clock(self):
+        self.assertIsNone(parts.Clock(None).left())
+        clock = parts.Clock(0.05)
+        self.assertEqual(clock.left(), 0.05)
+        self.assertLess(clock.left(), 0.05)
+        time.sleep(0.06)
+        with self.assertRaisesRegex(trinorm.TimedOut, "no answer in 0.05 s"):
+            clock.left()
+
+
+class CutAnswers(unittest.TestCase):
+    """Programs that answer less than they should."""
+
+    def fails(self, text, answer, call, *words, **named):
+        with tempfile.TemporaryDirectory() as folder, self.assertRaisesRegex(trinorm.Failed, text):
+            call(*words, program=script(folder, f"printf '{answer}'\n"), **named)
+
+    def test_lists(self):
+        self.fails("2 vectors came: the answer was cut off", "# surfaces 3\\nvec 1 0\\nvec 0 1\\n", trinorm.surfaces, SPHERE)
+        self.fails("1 vectors came: the answer was cut off", "# rays 2\\nvec 1\\n", trinorm.rays, [[0]])
+        self.fails("the answer was cut off", "# surfaces 2\\nvec 1 0\\nvec 0 1", trinorm.surfaces, SPHERE)
+        self.fails("isn't understood", "", trinorm.surfaces, SPHERE)
+        self.fails("isn't understood", "vec 1 0\\n", trinorm.surfaces, SPHERE)
+        self.fails("isn't understood", "# surfaces many\\nvec 1 0\\n", trinorm.surfaces, SPHERE)
+        for call in (trinorm.count, trinorm.spheres, trinorm.tori, trinorm.described):
+            self.fails("1 vectors came", "# surfaces 3\\nvec 1 0\\n", call, SPHERE)
+
+    def test_answers_to_vectors(self):
+        self.fails("2 vectors were asked, and 1 were answered", "solution\\n", trinorm.verify, SPHERE, [TORUS, TORUS])
+        self.fails("1 vectors were asked, and 0 were answered", "", trinorm.describe, SPHERE, [TORUS])
+        self.fails("1 vectors were asked, and 0 were answered", "", trinorm.lift, SPHERE, [(1, 0, 0)])
+        self.fails("the answer was cut off", "solution", trinorm.verify, SPHERE, [TORUS])
+
+    def test_no_program_is_no_list(self):
+        with self.assertRaises(trinorm.Failed):
+            trinorm.surfaces(SPHERE, program="/bin/true")
+
+
+class LongLists(unittest.TestCase):
+    @classmethod
+    def setUpClass(cls):
+        cls.t = long_one()
+        cls.vectors = trinorm.surfaces(cls.t)
+
+    def test_counts(self):
+        self.assertEqual(len(self.vectors), 11027)
+        count = trinorm.count(self.t)
+        self.assertEqual((count.surfaces, sum(count.euler.values())), (11027, 11027))
+        self.assertEqual(count.greatest, max(map(max, self.vectors)))
+
+    def test_describe_and_verify(self):
+        said = trinorm.describe(self.t, self.vectors)
+        self.assertEqual([it.vector for it in said], self.vectors)
+        self.assertEqual(sum(it.euler > 0 and not it.linking for it in said), 95)
+        self.assertEqual(len(trinorm.spheres(self.t)), sum(it.euler == 2 and not it.linking for it in said))
+        self.assertEqual(len(trinorm.tori(self.t)), sum(it.euler == 0 and it.components[0].orientable for it in said))
+        self.assertTrue(all(it.is_solution for it in trinorm.verify(self.t, self.vectors)))
+
+    def test_zero_efficiency(self):
+        shown = trinorm.zero_efficient(self.t)
+        self.assertFalse(shown)
+        self.assertIn(shown.vector, self.vectors)
+        self.assertGreater(shown.euler, 0)
+
+    def test_refusals(self):
+        for call, wrong, kind, places in ((trinorm.describe, (1,), "vector length", (11027, 1)), (trinorm.describe, (1,) + (0,) * 132, "vector fails", None)):
+            with self.assertRaises(trinorm.Refused) as caught:
+                call(self.t, self.vectors + [wrong])
+            self.assertEqual((caught.exception.kind, caught.exception.places[0]), (kind, 11027))
+            if places:
+                self.assertEqual(caught.exception.places, places)
+        with self.assertRaises(trinorm.Refused) as caught:
+            trinorm.verify(self.t, self.vectors + [(-1,)])
+        self.assertEqual(caught.exception.places, (1 + len(self.t) + 11027 + 1, 5))
+
+    def test_a_text_with_vectors(self):
+        text = f"sig {SPHERE}\n" + "vec 1 1 0 0 1 0 0\n" * 70000
+        self.assertEqual(len(trinorm.verify(text, [CLASH])), 70001)
+        self.assertEqual(trinorm.verify(text, [CLASH])[-1].kind, "clash")
+
+    def test_lifts(self):
+        quads = [(1, 0, 0)] * 150000
+        self.assertEqual(trinorm.lift(SPHERE, quads), [TORUS] * 150000)
+
+    def test_a_limit_of_time_is_one_for_all_parts(self):
+        begun = time.monotonic()
+        with self.assertRaisesRegex(trinorm.TimedOut, "no answer in 0.2 s"):
+            trinorm.count(self.t, timeout=0.2)
+        self.assertLess(time.monotonic() - begun, 5)
+
+    def test_threads_and_processes(self):
+        expected = [([55000 + it], 60001) for it in range(4)]
+        for way in ("fork", "spawn"):
+            with concurrent.futures.ProcessPoolExecutor(2, multiprocessing.get_context(way)) as processes:
+                self.assertEqual(list(processes.map(verify_many, range(4))), expected)
+        with concurrent.futures.ThreadPoolExecutor(4) as threads:
+            self.assertEqual(list(threads.map(verify_many, range(4))), expected)
+
+    def test_interrupts(self):
+        class Ended(Exception):
+            pass
+
+        def end(*_):
+            raise Ended
+
+        before = signal.signal(signal.SIGUSR1, end)
+        timer = threading.Timer(0.3, os.kill, (os.getpid(), signal.SIGUSR1))
+        try:
+            timer.start()
+            with self.assertRaises(Ended):
+                while True:
+                    trinorm.count(self.t)
+        finally:
+            timer.cancel()
+            signal.signal(signal.SIGUSR1, before)
+        self.assertEqual(trinorm.count(SPHERE).surfaces, 2)
+
+
+class BothWays(unittest.TestCase):
+    """0-efficiency by the list and by the quad list is the same."""
+
+    def test_are_the_same(self):
+        tables = [trinorm.make(seed, moves).table for seed in range(12) for moves in (1, 3, 6, 9)]
+        tables += ["cMcabbjaj", "cMcabbgaj", "cPcbbbaai", "cPcbbbahh", "cMcabbgqw", "eLMkabcddbrrag", SPHERE, "bkaagb", "tri 0\n"]
+        for t in tables:
+            text = commands.document(t)
+            by_list = questions._by_list(text, parts.Clock(None), None)
+            by_quads = questions._by_quads(text, parts.Clock(None), None)
+            self.assertEqual(bool(by_list), bool(by_quads))
+            if not by_quads:
+                self.assertIn(by_quads.vector, trinorm.surfaces(t))
+                self.assertEqual(by_quads.surface, trinorm.describe(t, [by_quads.vector])[0])
+
+
+if __name__ == "__main__":
+    unittest.main()

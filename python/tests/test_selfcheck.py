@@ -1,0 +1,99 @@
+"""The check of an installation: what it finds, and what it says."""
+import contextlib
+import io
+import json
+import tempfile
+import threading
+import unittest
+from argparse import Namespace
+from unittest import mock
+
+from trinorm import program, selfcheck
+from trinorm.errors import Failed
+
+from .programs import script
+
+
+class Rows(unittest.TestCase):
+    def test_rows_are_questions_with_answers_of_all_commands(self):
+        rows = selfcheck.read_rows()
+        self.assertEqual(len(rows), 220)
+        table = (selfcheck.HERE / "commands.txt").read_text("utf8").splitlines()
+        commands = {line.split("\t")[0] for line in table if line and not line.startswith("#")}
+        self.assertLessEqual(commands, {row.words[0] for row in rows if row.words})
+        self.assertEqual({row.status for row in rows}, {0, 2, 3, 4, 5})
+        self.assertTrue(any(len(row.input) > 1048576 for row in rows))
+
+    def test_each_difference_is_found(self):
+        rows = selfcheck.read_rows()[:5]
+        by_row = {row: (row.status, row.output) for row in rows}
+        self.assertEqual(selfcheck.check_rows(by_row.__getitem__, rows).differences, [])
+        for wrong in ((8, rows[2].output), (rows[2].status, rows[2].output + b"x"), (rows[2].status, b"")):
+            by_row[rows[2]] = wrong
+            [difference] = selfcheck.check_rows(by_row.__getitem__, rows).differences
+            self.assertIn(" ".join(rows[2].words), difference)
+
+    def test_the_library_answers_all_rows_in_several_threads(self):
+        library = program.find_library()
+        if library is None:
+            self.skipTest("there is no library")
+        rows, outcomes = selfcheck.read_rows(), []
+        threads = [threading.Thread(target=lambda: outcomes.append(selfcheck.check_rows(selfcheck.by_library(library), rows))) for _ in range(4)]
+        for thread in threads:
+            thread.start()
+        for thread in threads:
+            thread.join()
+        self.assertEqual([outcome.differences for outcome in outcomes], [[]] * 4)
+
+    def test_limits_and_interruption(self):
+        library = program.find_library()
+        if library is None:
+            self.skipTest("there is no library")
+        outcome = selfcheck.check_limits(library)
+        self.assertEqual((outcome.count, outcome.differences), (3, []))
+
+
+class Report(unittest.TestCase):
+    def report(self):
+        said = io.StringIO()
+        with contextlib.redirect_stdout(said):
+            status = selfcheck.main(Namespace())
+        return status, said.getvalue()
+
+    def test_all_is_as_expected(self):
+        status, said = self.report()
+        self.assertEqual(status, 0, said)
+        self.assertTrue(said.startswith("trinorm "))
+        self.assertTrue(said.endswith("all is as expected\n"))
+
+    def test_a_wrong_program_is_reported(self):
+        with tempfile.TemporaryDirectory() as folder, mock.patch.object(program, "find_library", return_value=None):
+            wrong = script(folder, "echo refused: nonsense; exit 3\n")
+            with mock.patch.dict("os.environ", {"TRINORM": wrong}):
+                status, said = self.report()
+        self.assertEqual(status, 1)
+        self.assertRegex(said, "differs: surfaces < ")
+        self.assertRegex(said.splitlines()[-1], "^[0-9]+ differences: please report all of the above$")
+
+    def test_without_a_program_the_library_is_checked_alone(self):
+        if program.find_library() is None:
+            self.skipTest("there is no library")
+        missing = mock.patch.object(program, "find", side_effect=Failed("nowhere"))
+        rows = mock.patch.object(selfcheck, "read_rows", return_value=selfcheck.read_rows()[:3])
+        with missing, rows:
+            status, said = self.report()
+        self.assertEqual(status, 0, said)
+        self.assertIn("no program: nowhere", said)
+
+    def test_without_anything_it_fails(self):
+        with mock.patch.object(program, "find", side_effect=Failed("nowhere")), mock.patch.object(program, "find_library", return_value=None):
+            with self.assertRaises(Failed):
+                self.report()
+
+    def test_the_data_is_not_changed_by_hand_to_nonsense(self):
+        rows = json.loads((selfcheck.HERE / "worked_rows.json").read_text("utf8"))
+        self.assertTrue(all(set(row) == {"words", "input", "output", "status"} for row in rows))
+
+
+if __name__ == "__main__":
+    unittest.main()

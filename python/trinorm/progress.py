@@ -1,0 +1,89 @@
+"""Signs of life of a single long call: how long it has run, and how many bytes it holds."""
+from __future__ import annotations
+
+import os
+import subprocess
+import time
+from typing import Callable, Optional, Sequence, Union
+
+from . import program
+from .arguments import as_bytes, checked_timeout, checked_words, joined, shown
+from .errors import BadArgument, Failed, TimedOut
+from .program import Program
+
+# called with the seconds since the call began, and the bytes that it holds
+Progress = Callable[[float, int], object]
+# seconds between two reports
+INTERVAL = 0.1
+
+
+# a program by its path; None for the one that is found
+Named = Union[str, "os.PathLike[str]", None]
+
+
+class Reported:
+    """Runs words as `program.run` does, in this process or in one of its own, and reports on it.
+
+    named: the program, if it isn't the one that is found
+    """
+
+    def __init__(self, named: Named, progress: Progress) -> None:
+        self.named = named
+        self._progress, self._begun = progress, time.monotonic()
+
+    def report(self, held: int) -> None:
+        """Reports the bytes that a run holds."""
+        self._progress(time.monotonic() - self._begun, held)
+
+    def run(self, words: Sequence[str], text: str = "", timeout: Optional[float] = None) -> str:
+        """As `program.run`."""
+        library = program.find_library() if self.named is None and timeout is None else None
+        if library is not None:
+            return library.run(words, text, progress=self.report)
+        return self._run_process(words, text, timeout)
+
+    def _run_process(self, words: Sequence[str], text: str, timeout: Optional[float]) -> str:
+        joined(checked_words(words))  # raises what is wrong with them
+        begun, limit, path = time.monotonic(), checked_timeout(timeout), program.find(self.named)
+        given: Optional[bytes] = as_bytes(text)
+        try:
+            run = subprocess.Popen([path, *words], stdin=subprocess.PIPE, stdout=subprocess.PIPE, stderr=subprocess.PIPE)
+        except OSError as fault:
+            if fault.errno is None:  # of a handler of signals
+                raise
+            raise Failed(f"{path}: {fault.strerror}") from None
+        with run:
+            try:
+                while True:
+                    left = INTERVAL if limit is None else min(INTERVAL, limit - (time.monotonic() - begun))
+                    try:
+                        said, _ = run.communicate(given, max(0.0, left))
+                        return program.read_outcome(words, run.returncode, said)
+                    except subprocess.TimeoutExpired:
+                        given = None
+                    if limit is not None and time.monotonic() - begun >= limit:
+                        raise TimedOut(f"{' '.join(words)}: no answer in {timeout} s")
+                    self.report(held_by(run.pid))
+            except BaseException:
+                run.kill()
+                raise
+
+
+def held_by(process: int) -> int:
+    """The bytes of memory of a process; 0 if the system doesn't say."""
+    try:
+        with open(f"/proc/{process}/statm", encoding="ascii") as file:
+            return int(file.read().split()[1]) * os.sysconf("SC_PAGE_SIZE")
+    except (OSError, IndexError, ValueError):
+        return 0
+
+
+def reported(named: Program, progress: Optional[Progress]) -> Program:
+    """What runs words in place of a program: that program itself if there is nothing to report to."""
+    if progress is None:
+        return named
+    if not callable(progress):
+        raise BadArgument(f"progress is a function of seconds and bytes, and not {shown(progress)}")
+    if named is not None and not isinstance(named, (str, os.PathLike)):
+        raise BadArgument("progress is reported by the library or by a program, and not by a server")
+    return Reported(named, progress)

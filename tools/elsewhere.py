@@ -1,0 +1,71 @@
+"""The files of a release for a browser and for other systems than Linux with glibc on x86-64.
+
+They are made from the LLVM module and the module for WebAssembly that a build kept, if the tools for them are installed;
+what a release lacks is said.
+"""
+from __future__ import annotations
+
+import sys
+import tempfile
+from pathlib import Path
+from typing import Dict, List, Tuple
+
+import native
+import packages
+import wasm
+import web_page
+from modules import NotCompiled
+from repository import PROGRAM, sum_of
+
+Named = Tuple[str, bytes]
+
+
+def page(made: packages.Made) -> List[Named]:
+    """The page as one file, its folder packed, and the module."""
+    if "wasm" not in made.files:
+        print(f"{PROGRAM}: the release lacks {web_page.PAGE}, since the build made no {wasm.NAME}", file=sys.stderr)
+        return []
+    module, name = made.files["wasm"], f"{PROGRAM}-{made.version}-web"
+    files: packages.Files = {path: (data, 0o644) for path, data in web_page.folder(module).items()}
+    return [(web_page.PAGE, web_page.one_file(module).encode("utf8")), (f"{name}.tar.gz", packages.tar(files, f"{name}/")),
+            (wasm.NAME, module)]
+
+
+def told(made: packages.Made, name: str, files: Dict[str, bytes]) -> str:
+    """The lines of the file `version` in a wheel for another system: those of the build but for its files."""
+    lines = [line for line in made.told.splitlines() if line.split(" ")[0] not in made.files]
+    lines += [f"system {name}", *(f"file {file} {sum_of(data)}" for file, data in files.items())]
+    return "".join(f"{line}\n" for line in lines)
+
+
+def wheel(made: packages.Made, name: str, files: Dict[str, bytes]) -> Named:
+    """The wheel of a system: the package, with library and program where it looks for them."""
+    system, place = native.SYSTEMS[name], f"{PROGRAM}-{made.version}.data"
+    packed = packages.modules()
+    for path, content in packages.shared(packages.Made(made.version, {}, told(made, name, files), made.manifest)).items():
+        is_launcher = path == f"bin/{PROGRAM}"
+        if not (is_launcher and name.startswith("windows")):
+            packed[f"{place}/scripts/{PROGRAM}" if is_launcher else f"{place}/data/{path}"] = content
+    for file, data in files.items():
+        packed[f"{place}/data/libexec/{PROGRAM}/{file}"] = (data, 0o755)
+    return packages.wheel_of(packed, f"py3-none-{system.tag}")
+
+
+def wheels(made: packages.Made, kit: Path) -> List[Named]:
+    """A wheel for each system whose compiler is installed."""
+    if "module" not in made.files:
+        print(f"{PROGRAM}: the release lacks wheels for other systems, since the build kept no module", file=sys.stderr)
+        return []
+    with tempfile.TemporaryDirectory() as folder:
+        module = Path(folder, "module.bc")
+        module.write_bytes(made.files["module"])
+        try:
+            return [wheel(made, name, files) for name, files in native.build_all(kit, module, list(native.SYSTEMS))]
+        except NotCompiled as fault:
+            print(f"{PROGRAM}: the release lacks wheels for other systems: {fault}", file=sys.stderr)
+            return []
+
+
+def files(made: packages.Made, kit: Path) -> List[Named]:
+    """All of these files, by name."""
+    return [*page(made), *wheels(made, kit)]
