@@ -105,7 +105,7 @@ def run(part: Part, seconds: float = LONGEST) -> Result:
     around.update(PYTHONPATH=str(PYTHON), PYTHONDONTWRITEBYTECODE="1")
     with tempfile.TemporaryFile() as log:
         running = subprocess.Popen(part.words, cwd=part.folder, env=around, stdin=subprocess.DEVNULL, stdout=log,
-                                   stderr=subprocess.STDOUT, start_new_session=True)
+                                   stderr=subprocess.STDOUT, start_new_session=True, preexec_fn=take_signals)
         try:
             status: Optional[int] = running.wait(seconds)
         except subprocess.TimeoutExpired:
@@ -117,6 +117,13 @@ def run(part: Part, seconds: float = LONGEST) -> Result:
     if status is None:
         wrote += f"\nit had not ended after {seconds:.0f} s\n"
     return Result(status == 0, note_of(wrote), wrote)
+
+
+def take_signals() -> None:
+    """Lets a part get the signals that its tests send. A shell ignores some for what it runs in the background, and so would all
+    that is started from there."""
+    for number in (signal.SIGINT, signal.SIGHUP, signal.SIGQUIT, signal.SIGTERM):
+        signal.signal(number, signal.SIG_DFL)
 
 
 def end(running: "subprocess.Popen[bytes]") -> None:
@@ -143,7 +150,8 @@ class Tests:
     """A run of the tests: the parts that are asked for, and those that failed."""
 
     def __init__(self, only: Sequence[str]) -> None:
-        self.only, self.failed = only, [""] * 0
+        self.only = only
+        self.failed: List[str] = []
 
     def is_asked(self, name: str) -> bool:
         """Whether a part of this name is to run."""

@@ -5,6 +5,7 @@ import importlib.util
 import io
 import os
 import re
+import signal
 import sys
 import tempfile
 import time
@@ -70,6 +71,17 @@ class Parts(unittest.TestCase):
             self.assertIn("it had not ended after", result.wrote)
             time.sleep(4)
             self.assertFalse(mark.exists())
+
+    def test_signals(self):
+        """A part gets Ctrl-C also where a shell in the background has it ignored."""
+        script = "import signal; print(signal.getsignal(signal.SIGINT) is signal.default_int_handler, signal.getsignal(signal.SIGHUP) == signal.SIG_DFL)"
+        before = [signal.signal(number, signal.SIG_IGN) for number in (signal.SIGINT, signal.SIGHUP)]
+        try:
+            result = tool.run(tool.Part("signals", [sys.executable, "-c", script]))
+        finally:
+            for number, handler in zip((signal.SIGINT, signal.SIGHUP), before):
+                signal.signal(number, handler)
+        self.assertEqual((result.passed, result.wrote), (True, "True True\n"))
 
     def test_each_test_module_is_in_one_group(self):
         there = {f"tests.{path.stem}" for path in (REPOSITORY / "python" / "tests").glob("test_*.py")}
