@@ -1,8 +1,10 @@
-"""The scripts of examples/ that readers copy."""
+"""The scripts of examples/ that readers copy; those for Regina are left out if this Python has no module regina."""
 import os
 import subprocess
+import sys
 import tempfile
 import unittest
+from pathlib import Path
 
 import trinorm
 from trinorm.program import REPOSITORY
@@ -10,7 +12,13 @@ from trinorm.program import REPOSITORY
 from .programs import script
 from .test_parts import long_one
 
+try:
+    import regina
+except ImportError:
+    regina = None
+
 SCRIPT = str(REPOSITORY / "examples" / "zero-efficient.sh")
+CENSUS = "/usr/share/regina-normal/examples/closed-or-census.rga"
 
 
 class ZeroEfficient(unittest.TestCase):
@@ -76,6 +84,85 @@ class ZeroEfficient(unittest.TestCase):
         for shell in ("dash", "bash", "busybox"):
             if any(os.access(os.path.join(it, shell), os.X_OK) for it in os.get_exec_path()) and shell != "busybox":
                 self.assertEqual(self.said("sig bkaagj\n", shell=shell)[0], 0)
+
+
+@unittest.skipIf(regina is None, "this Python has no module regina")
+class OfRegina(unittest.TestCase):
+    """The scripts that take a file of Regina's."""
+
+    @classmethod
+    def setUpClass(cls):
+        cls.folder = tempfile.TemporaryDirectory()
+        root = regina.Container()
+        for number, signature in enumerate(("bkaagb", "bkaagj", "cMcabbjaj", "eLMkabcddbrrag", "dLQbcbcaafn", "cPcbbbiht", "bkaagj")):
+            packet = regina.PacketOfTriangulation3(regina.Triangulation3.fromIsoSig(signature))
+            packet.setLabel(f"number {number}")
+            root.insertChildLast(packet)
+        root.insertChildLast(regina.Text("no triangulation"))
+        cls.census = os.path.join(cls.folder.name, "census.rga")
+        root.save(cls.census)
+
+    @classmethod
+    def tearDownClass(cls):
+        cls.folder.cleanup()
+
+    def said(self, name, *words):
+        around = {**os.environ, "PYTHONPATH": str(REPOSITORY / "python")}
+        done = subprocess.run([sys.executable, str(REPOSITORY / "examples" / name), *words], env=around, capture_output=True,
+                              text=True, check=False)
+        return done.returncode, done.stdout.splitlines(), done.stderr
+
+    def test_efficiency_table(self):
+        status, lines, error = self.said("efficiency_table.py", self.census, "4")
+        self.assertEqual((status, error), (0, ""))
+        self.assertEqual(lines[1:], ["1\t3\t3\t0\t3", "2\t2\t1\t1\t1", "3\t1\t0\t1\t1", "4\t1\t0\t0\t1"])
+        self.assertEqual(self.said("efficiency_table.py", self.census, "0")[1], lines[:1])
+
+    def test_count_census(self):
+        status, lines, error = self.said("count_census.py", self.census)
+        self.assertEqual((status, error), (0, ""))
+        self.assertEqual([it.split()[0] for it in lines], ["bkaagb", "bkaagj", "cMcabbjaj", "cPcbbbiht", "dLQbcbcaafn", "eLMkabcddbrrag"])
+        self.assertEqual(lines[1], "bkaagj surfaces 2 euler 2:1,0:1 linking 1 greatest 1")
+        self.assertEqual(self.said("count_census.py", self.census, "2")[1], lines[:4])
+
+    def test_certify_spheres(self):
+        with tempfile.TemporaryDirectory() as folder:
+            made = Path(folder) / "certificates"
+            status, lines, error = self.said("certify_spheres.py", self.census, str(made))
+            self.assertEqual((status, len(lines), error), (0, 4, ""))
+            for file in made.iterdir():
+                done = subprocess.run([trinorm.find(), "check"], input=file.read_bytes(), stdout=subprocess.PIPE, check=False)
+                self.assertEqual(done.stdout, b"accepted\n")
+            self.assertEqual(sorted(it.stem for it in made.iterdir()), ["bkaagb", "bkaagj", "dLQbcbcaafn"])
+
+    def test_crush_and_identify(self):
+        given = ("eLMkabcddbrrag", "bkaagb", "cMcabbjaj", "cPcbbbaai")
+        status, lines, error = self.said("crush_and_identify.py", *given)
+        self.assertEqual((status, error), (0, ""))
+        self.assertEqual([it for it in lines if not it.startswith(" ")],
+                         ["eLMkabcddbrrag: RP3 # RP3", "bkaagb: S3", "cMcabbjaj: S2 x S1", "cPcbbbaai: L(3,1)"])
+        self.assertIn("lost by crushing, and known by homology: RP3, RP3", lines[1])
+        self.assertIn("no closed connected orientable", self.said("crush_and_identify.py", "cPcbbbiht")[2])
+
+    def test_summands(self):
+        whole = regina.Example3.poincare()
+        for other in (regina.Example3.lens(7, 2), regina.Example3.lens(3, 1)):
+            whole.connectedSumWith(other)
+        whole.intelligentSimplify()
+        [first, second] = self.said("crush_and_identify.py", whole.isoSig())[1]
+        self.assertEqual(sorted(first.partition(": ")[2].split(" # ")), ["L(3,1)", "L(7,2)", "SFS [S2: (2,1) (3,1) (5,-4)]"])
+        self.assertIn("L(3,1)", second)
+
+    def test_files_that_are_none(self):
+        for name, more in (("efficiency_table.py", []), ("count_census.py", []), ("certify_spheres.py", [self.folder.name])):
+            status, lines, error = self.said(name, "/no/such/file", *more)
+            self.assertEqual((status != 0, lines), (True, []))
+            self.assertIn("no file of Regina's", error)
+
+    @unittest.skipUnless(os.path.isfile(CENSUS), "Regina's census isn't there")
+    def test_the_closed_census(self):
+        self.assertEqual(self.said("efficiency_table.py", CENSUS, "3")[1][1:], ["1\t4\t4\t0\t2", "2\t10\t5\t3\t7", "3\t7\t7\t0\t7"])
+        self.assertEqual(len(self.said("count_census.py", CENSUS, "3")[1]), 21)
 
 
 if __name__ == "__main__":
