@@ -156,10 +156,13 @@ class Census(Folder):
 
     def test_other_commands(self):
         with contextlib.redirect_stderr(io.StringIO()):
-            for command in ("info", "sig", "csig", "cover", "pi1", "descend", "describe", "count"):
+            for command in ("info", "sig", "csig", "cover", "pi1", "descend", "certify", "describe", "count"):
                 self.assertEqual(main(["census", self.given, "--command", command, "--jobs", "2"]), 0)
         self.assertEqual(self.answers(f"{self.given}.descend.jsonl")["sphere"]["answer"],
                          {"reached": True, "moves": [], "table": "tri 1\n0:1023 0:1023 0:1230 0:3012\n"})
+        told = self.answers(f"{self.given}.certify.jsonl")
+        self.assertTrue(trinorm.check(told["bkaagb"]["answer"]["table"], told["bkaagb"]["answer"]["moves"]))
+        self.assertIsNone(told["figure-eight"]["answer"])
         told = self.answers(f"{self.given}.describe.jsonl")
         self.assertEqual([it["euler"] for it in told["sphere"]["answer"]], [0, 2])
         told = self.answers(f"{self.given}.count.jsonl")

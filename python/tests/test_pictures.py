@@ -210,8 +210,8 @@ class Tables(unittest.TestCase):
         self.assertEqual(len(html.findall("table/tr")), 2 + len(info.vertices) + len(info.edges))
 
     def test_lists(self):
-        described = Shown(trinorm.describe("bkaagj", trinorm.surfaces("bkaagj")))
-        for shown, rows in ((described, 2), (Shown(trinorm.surfaces("bkaagj")), 2), (Shown(), 0), (Shown([(1, 2)] * 300), 100)):
+        described = trinorm.describe("bkaagj", trinorm.surfaces("bkaagj"))
+        for shown, rows in ((described, 2), (trinorm.surfaces("bkaagj"), 2), (trinorm.spheres("bkaagj"), 0), (trinorm.described("bkaagj"), 2), (Shown(), 0), (Shown([(1, 2)] * 300), 100)):
             html = xml.fromstring(shown._repr_html_())
             self.assertEqual(len(html.findall("tr")), 1 + rows)
         self.assertEqual(repr(Shown([(1, 2)])), "[(1, 2)]")

@@ -19,6 +19,7 @@ from .answers import (Bulk, Cover, Descent, Grouping, Info, Isomorphism, Made, P
                       Vector, Verdict, vector_line)
 from .arguments import lines, listed, plain, shown, whole_number, whole_numbers
 from .errors import BadArgument, Error
+from .html_tables import Shown
 from .options import words
 from .program import Failed, Program as Program, Refused, run
 from .progress import Progress, reported
@@ -163,7 +164,7 @@ def surfaces(t: Triangulation, coords: str = "standard", order: Optional[str] = 
     asked = words("surfaces", coords=coords, order=order, max_entry=max_entry)
     program = reported(program, progress)
     if arrays is False:
-        return _ask(asked, document(t), answers.read_list, timeout, program)
+        return Shown(_ask(asked, document(t), answers.read_list, timeout, program))
     kind = numpy_arrays.integer_type(arrays)
     listed = listing(t, coords, order, max_entry, timeout=timeout, program=program)
     return numpy_arrays.read_vectors(listed, kind)
@@ -253,7 +254,7 @@ def describe(t: Triangulation, vectors: Vectors, coords: str = "standard", *, ti
     """
     asked, text = words("describe", coords=coords), _with_vectors(t, vectors, coords)
     if arrays is False:
-        return _ask_of_each(asked, text, answers.read_surfaces, timeout, program)
+        return Shown(_ask_of_each(asked, text, answers.read_surfaces, timeout, program))
     return described_arrays(asked, text, arrays, parts.Clock(timeout), program)
 
 

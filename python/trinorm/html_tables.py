@@ -1,7 +1,6 @@
 """What a notebook shows of answers: tables in HTML."""
 from __future__ import annotations
 
-from html import escape
 from typing import TYPE_CHECKING, Iterable, List, Sequence, TypeVar
 
 if TYPE_CHECKING:
@@ -10,6 +9,11 @@ if TYPE_CHECKING:
 Item = TypeVar("Item")
 # of a longer list the first ones are shown, and how many there are
 MOST = 100
+
+
+def escape(text: str) -> str:
+    """A text as HTML has it."""
+    return text.replace("&", "&amp;").replace("<", "&lt;").replace(">", "&gt;")
 
 
 def _row(cells: Iterable[object], kind: str = "td") -> str:

@@ -15,6 +15,7 @@ from typing import (Any, Callable, Counter, Dict, Iterable, Iterator, List, Lite
 from . import arrays as numpy_arrays, commands
 from .answers import Component, Surface, Vector, is_yes, read_surfaces, read_vector
 from .commands import Arrays
+from .html_tables import Shown
 from .options import words
 from .parts import Answers, Clock
 from .program import Program
@@ -135,7 +136,7 @@ def described(t: Triangulation, coords: str = "standard", *, timeout: Optional[f
     """
     clock, program = Clock(timeout), reported(program, progress)
     if arrays is False:
-        return list(itertools.chain.from_iterable(_described(t, coords, read_surfaces, clock, program)))
+        return Shown(itertools.chain.from_iterable(_described(t, coords, read_surfaces, clock, program)))
 
     asked, head, kind = words("describe", coords=coords), document(t), numpy_arrays.integer_type(arrays)
     listed = commands.listing(head, coords, timeout=clock.left(), program=program)
@@ -180,15 +181,15 @@ def count(t: Triangulation, coords: str = "standard", *, timeout: Optional[float
 def spheres(t: Triangulation, *, timeout: Optional[float] = None, program: Program = None,
             progress: Optional[Progress] = None) -> List[Surface]:
     """The vertex surfaces that are spheres, but not vertex links. A projective plane is none, though its double is one."""
-    return [it for it in described(t, timeout=timeout, program=program, progress=progress)
-            if it.euler == 2 and not it.linking and not it.boundary]
+    return Shown(it for it in described(t, timeout=timeout, program=program, progress=progress)
+                 if it.euler == 2 and not it.linking and not it.boundary)
 
 
 def tori(t: Triangulation, *, timeout: Optional[float] = None, program: Program = None,
          progress: Optional[Progress] = None) -> List[Surface]:
     """The vertex surfaces that are tori, but not vertex links. A Klein bottle is none, though its double may be one."""
-    return [it for it in described(t, timeout=timeout, program=program, progress=progress)
-            if it.euler == 0 and not it.linking and not it.boundary and it.components[0].orientable]
+    return Shown(it for it in described(t, timeout=timeout, program=program, progress=progress)
+                 if it.euler == 0 and not it.linking and not it.boundary and it.components[0].orientable)
 
 
 def _contrary(parts: Iterable[List[Surface]]) -> Union[Literal[True], Contrary]:

@@ -6,7 +6,7 @@ import json
 import time
 from typing import Callable, Dict, NamedTuple, Optional
 
-from . import commands, comparisons, questions
+from . import certificates, commands, comparisons, questions
 from .program import Error, Refused
 from .tables import Table
 
@@ -67,6 +67,7 @@ COMMANDS: Dict[str, Callable[[str, Task], object]] = {
     "cover": _plainly(commands.cover),
     "pi1": _plainly(commands.pi1),
     "descend": _plainly(commands.descend),
+    "certify": _plainly(certificates.certify),
 }
 
 
