@@ -29,6 +29,8 @@ def checked_timeout(timeout: Optional[float]) -> Optional[float]:
     """Seconds as a limit of time, or None for no limit."""
     if timeout is None:
         return None
+    if type(timeout) in (int, float) and 0 < timeout < LONGEST:
+        return timeout
     is_number = isinstance(timeout, numbers.Real) and not isinstance(timeout, bool)
     if not is_number or not math.isfinite(timeout) or timeout <= 0:
         raise BadArgument(f"timeout is a positive number of seconds or None, and not {shown(timeout)}")

@@ -55,7 +55,7 @@ def by_server(task: Task) -> Iterator[Task]:
     if Server.find(program) is None:
         yield task
     else:
-        with Server(program, own_session=False) as server:  # so that it ends with the group of this process
+        with Server(program, own_group=False) as server:  # so that it ends with the group of this process
             yield dataclasses.replace(task, program=server)
 
 

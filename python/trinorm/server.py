@@ -8,6 +8,7 @@ import os
 import select
 import struct
 import subprocess
+import sys
 import time
 import weakref
 from collections import deque
@@ -22,10 +23,12 @@ NAME = "trinorm-server"
 # a request: its number, the lengths of words and input; an answer: that number, the status, the length of the text
 _REQUEST, _ANSWER = struct.Struct("=QII"), struct.Struct("=QBI")
 _LONGEST = (1 << 32) - 1
-# how much is read at a time, and the longest wait that the system takes, in milliseconds
-_PART, _LONGEST_WAIT = 1 << 20, (1 << 31) - 1
+# how much is read at a time, which is what a pipe holds, and the longest wait that the system takes, in milliseconds
+_PART, _LONGEST_WAIT = 1 << 16, (1 << 31) - 1
 # in seconds: a process that answered before, and is gone so soon after a request, most likely was gone before it
 _SOON = 1.0
+_MOST_IDLE = os.cpu_count() or 1
+_LAST_NUMBER = (1 << 64) - 1
 
 
 class _Late(Exception):
@@ -43,18 +46,21 @@ class _OtherAnswer(Exception):
 class _Process:
     """A server process with its pipes, which are never waited for past a deadline. One thread asks it at a time."""
 
-    def __init__(self, path: str, own_session: bool, all_of_server: Set[_Process]) -> None:
+    def __init__(self, path: str, own_group: bool, all_of_server: Set[_Process]) -> None:
         self._all = all_of_server
-        self.run = subprocess.Popen([path], bufsize=0, stdin=subprocess.PIPE, stdout=subprocess.PIPE,
-                                    start_new_session=own_session)
+        self.run = _started(path, own_group)
         assert self.run.stdin is not None and self.run.stdout is not None
         self.pipes = self.run.stdin, self.run.stdout
         self._requests, self._answers = (pipe.fileno() for pipe in self.pipes)
         for file in (self._requests, self._answers):
             os.set_blocking(file, False)
+        self._to_send, self._to_receive = select.poll(), select.poll()
+        self._to_send.register(self._requests, select.POLLOUT)
+        self._to_receive.register(self._answers, select.POLLIN)
         all_of_server.add(self)
-        # the first number is 0, which a server without numbers takes for two lengths, and refuses at once
-        self._number = 0
+        # the number of the first request is 0, which a server without numbers takes for two lengths and refuses at once; the
+        # next ones count from a number that no other process draws
+        self._number, self._first_number = 0, int.from_bytes(os.urandom(8), "little")
 
     @property
     def has_answered(self) -> bool:
@@ -64,17 +70,16 @@ class _Process:
     def ask(self, words: bytes, text: bytes, deadline: Optional[float]) -> Tuple[int, bytes]:
         """The status and the text of an answer. Raises `_Late`, `_Ended` or `_OtherAnswer`."""
         self._send(_REQUEST.pack(self._number, len(words), len(text)) + words + text, deadline)
-        received = bytearray()
-        self._receive(received, _ANSWER.size, deadline)
+        received = self._receive(b"", _ANSWER.size, deadline)
         number, status, length = _ANSWER.unpack_from(received)
         if number != self._number:
             raise _OtherAnswer
-        self._receive(received, _ANSWER.size + length, deadline)
+        if len(received) < _ANSWER.size + length:
+            received = self._receive(received, _ANSWER.size + length, deadline)
         if len(received) != _ANSWER.size + length:
             raise _OtherAnswer
-        # no other process that may have these pipes draws the same number
-        self._number = int.from_bytes(os.urandom(8), "little") | 1
-        return status, bytes(received[_ANSWER.size:])
+        self._number = (self._number or self._first_number) + 1 & _LAST_NUMBER or 1
+        return status, received[_ANSWER.size:]
 
     def end(self) -> int:
         """Ends the process, and returns the status with which it ended."""
@@ -104,25 +109,38 @@ class _Process:
             try:
                 rest = rest[os.write(self._requests, rest):]
             except BlockingIOError:
-                _wait(self._requests, select.POLLOUT, deadline)
+                _wait(self._to_send, deadline)
             except BrokenPipeError:
                 raise _Ended from None
 
-    def _receive(self, received: bytearray, size: int, deadline: Optional[float]) -> None:
-        """Appends what comes until there are so many bytes."""
-        while len(received) < size:
-            _wait(self._answers, select.POLLIN, deadline)
-            with contextlib.suppress(BlockingIOError):
+    def _receive(self, received: bytes, size: int, deadline: Optional[float]) -> bytes:
+        """What was received, and what comes until there are so many bytes."""
+        parts, missing = [received], size - len(received)
+        while missing > 0:
+            _wait(self._to_receive, deadline)
+            try:
                 part = os.read(self._answers, _PART)
-                if not part:
-                    raise _Ended
-                received += part
+            except BlockingIOError:
+                continue
+            if not part:
+                raise _Ended
+            parts.append(part)
+            missing -= len(part)
+        return b"".join(parts)
 
 
-def _wait(file: int, event: int, deadline: Optional[float]) -> None:
+def _started(path: str, own_group: bool) -> subprocess.Popen[bytes]:
+    """A process of a server, whose pipes have no buffers here."""
+    pipe = subprocess.PIPE
+    if sys.version_info >= (3, 11):
+        if own_group:
+            return subprocess.Popen([path], bufsize=0, stdin=pipe, stdout=pipe, process_group=0)
+    # a session of its own is a group of its own too, but the system schedules it apart from this one
+    return subprocess.Popen([path], bufsize=0, stdin=pipe, stdout=pipe, start_new_session=own_group)
+
+
+def _wait(poll: select.poll, deadline: Optional[float]) -> None:
     """Waits until something can be read or written, or the other end is closed. Raises `_Late` at the deadline."""
-    poll = select.poll()
-    poll.register(file, event)
     while True:
         left = None if deadline is None else max(0.0, deadline - time.monotonic())
         if poll.poll(None if left is None else min(_LONGEST_WAIT, math.ceil(left * 1000))):
@@ -138,15 +156,15 @@ class Server:
     Any threads may share a server: calls at the same time have a process each.
 
     program: the program whose server is taken; the one that `program.find` finds if it is None
-    own_session: whether Ctrl-C on a terminal, and what else is sent to the group of this process, leaves them alone
+    own_group: whether Ctrl-C on a terminal, and what else is sent to the group of this process, leaves them alone
     """
 
-    def __init__(self, program: Optional[str] = None, *, own_session: bool = True) -> None:
+    def __init__(self, program: Optional[str] = None, *, own_group: bool = True) -> None:
         path = self.find(program)
         if path is None:
             raise Failed(f"there is no {NAME} next to the program")
         self.path = path
-        self._own_session = own_session
+        self._own_group = own_group
         self._closed = False
         self._begin()
 
@@ -159,7 +177,7 @@ class Server:
         _servers.add(self)
 
     def __getstate__(self) -> Dict[str, Any]:
-        return {"path": self.path, "_own_session": self._own_session, "_closed": self._closed}
+        return {"path": self.path, "_own_group": self._own_group, "_closed": self._closed}
 
     def __setstate__(self, state: Dict[str, Any]) -> None:
         self.__dict__.update(state)
@@ -174,8 +192,8 @@ class Server:
     def run(self, words: Sequence[str], text: str = "", timeout: Optional[float] = None) -> str:
         """As `program.run`: what the program writes; a refusal, a failure or a run past its limit is raised."""
         words = checked_words(words)
-        status, said = self.ask(words, text, timeout)
-        return read_outcome(words, status, said)
+        status, answer = self.ask(words, text, timeout)
+        return read_outcome(words, status, answer)
 
     def ask(self, words: Sequence[str], text: str = "", timeout: Optional[float] = None) -> Tuple[int, bytes]:
         """The status and the bytes of the answer. A process that doesn't answer in time is ended, and `TimedOut` raised."""
@@ -233,17 +251,14 @@ class Server:
         self._check_open()
         if self._owner != os.getpid():
             self._forget()
-        with contextlib.suppress(IndexError):
-            while True:
-                process = self._idle.pop()
-                if process.run.poll() is None:
-                    return process
-                process.end()
-        return self._start()
+        try:
+            return self._idle.pop()  # if it has died, `ask` takes notice
+        except IndexError:
+            return self._start()
 
     def _start(self) -> _Process:
         try:
-            return _Process(self.path, self._own_session, self._all)
+            return _Process(self.path, self._own_group, self._all)
         except OSError as fault:
             if fault.errno is None:  # of a handler of signals
                 raise
@@ -252,7 +267,7 @@ class Server:
     def _give_back(self, process: _Process) -> None:
         """Keeps a process for the next call, if there are not more than processors."""
         self._idle.append(process)
-        if self._closed or len(self._idle) > (os.cpu_count() or 1):
+        if self._closed or len(self._idle) > _MOST_IDLE:
             with contextlib.suppress(IndexError):
                 self._idle.popleft().end()
 
