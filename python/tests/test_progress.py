@@ -136,6 +136,14 @@ class ByProcess(Both, unittest.TestCase):
         trinorm.surfaces(LONG, "octagon", progress=reports, program=trinorm.find())
         self.assertGreater(max(held for _, held in reports.seen), 0)
 
+    def test_long_inputs(self):
+        """The input of a program that reads after its first report is still given to it."""
+        with tempfile.TemporaryDirectory() as folder:
+            slow = script(folder, f"sleep 0.5\nexec {trinorm.find()} \"$@\"\n")
+            runner = progress.Reported(slow, Reports())
+            text = "sig bkaagj\n" + "vec 1 1 0 0 1 0 0\n" * 50000
+            self.assertEqual(runner.run(["verify"], text).count("solution"), 50000)
+
     def test_limits_of_time(self):
         with tempfile.TemporaryDirectory() as folder:
             reports, begun = Reports(), time.monotonic()

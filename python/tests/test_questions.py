@@ -112,6 +112,14 @@ class BesideRegina(unittest.TestCase):
         for t in (regina.Example3.weeks(), regina.Example3.poincare(), regina.Example3.rp3rp3()):
             grown = self.grown(t, 12, draws)
             self.assertEqual(bool(trinorm.zero_efficient(grown)), grown.isZeroEfficient(), grown.isoSig())
+        # Regina decides these spheres at once, and takes minutes for a 0-efficient triangulation of this size
+        sizes = []
+        for seed in range(40):
+            table = trinorm.make(seed, 26).table
+            if 20 <= len(table) <= 26 and len(sizes) < 8:
+                sizes.append(len(table))
+                self.assertEqual(bool(trinorm.zero_efficient(table)), table.to_regina().isZeroEfficient(), seed)
+        self.assertEqual(len(sizes), 8)
 
     def test_a_handlebody(self):
         t = regina.Example3.handlebody(4)

@@ -3,6 +3,7 @@ from __future__ import annotations
 
 import os
 import subprocess
+import tempfile
 import time
 from typing import Callable, Optional, Sequence, Union
 
@@ -43,30 +44,37 @@ class Reported:
         return self._run_process(words, text, timeout)
 
     def _run_process(self, words: Sequence[str], text: str, timeout: Optional[float]) -> str:
-        joined(checked_words(words))  # raises what is wrong with them
-        begun, limit, path = time.monotonic(), checked_timeout(timeout), program.find(self.named)
-        given: Optional[bytes] = as_bytes(text)
-        try:
-            run = subprocess.Popen([path, *words], stdin=subprocess.PIPE, stdout=subprocess.PIPE, stderr=subprocess.PIPE)
-        except OSError as fault:
-            if fault.errno is None:  # of a handler of signals
-                raise
-            raise Failed(f"{path}: {fault.strerror}") from None
+        line, limit, path = checked_words(words), checked_timeout(timeout), program.find(self.named)
+        # a file, since `communicate` goes on writing to a pipe only from Python 3.12 on once its time was over
+        with tempfile.TemporaryFile() as given:
+            given.write(as_bytes(text))
+            given.seek(0)
+            try:
+                run = subprocess.Popen([path, *line], stdin=given, stdout=subprocess.PIPE, stderr=subprocess.PIPE)
+            except OSError as fault:
+                if fault.errno is None:  # of a handler of signals
+                    raise
+                raise Failed(f"{path}: {fault.strerror}") from None
         with run:
             try:
-                while True:
-                    left = INTERVAL if limit is None else min(INTERVAL, limit - (time.monotonic() - begun))
-                    try:
-                        said, _ = run.communicate(given, max(0.0, left))
-                        return program.read_outcome(words, run.returncode, said)
-                    except subprocess.TimeoutExpired:
-                        given = None
-                    if limit is not None and time.monotonic() - begun >= limit:
-                        raise TimedOut(f"{' '.join(words)}: no answer in {timeout} s")
-                    self.report(held_by(run.pid))
+                return self._wait(line, run, limit)
             except BaseException:
                 run.kill()
                 raise
+
+    def _wait(self, words: Sequence[str], run: subprocess.Popen[bytes], limit: Optional[float]) -> str:
+        """What a process writes; it is reported on until it ends, or its time is over."""
+        begun = time.monotonic()
+        while True:
+            left = INTERVAL if limit is None else min(INTERVAL, limit - (time.monotonic() - begun))
+            try:
+                said, _ = run.communicate(timeout=max(0.0, left))
+                return program.read_outcome(words, run.returncode, said)
+            except subprocess.TimeoutExpired:
+                pass
+            if limit is not None and time.monotonic() - begun >= limit:
+                raise TimedOut(f"{' '.join(words)}: no answer in {limit} s")
+            self.report(held_by(run.pid))
 
 
 def held_by(process: int) -> int:
