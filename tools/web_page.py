@@ -14,7 +14,7 @@ import re
 import shutil
 import sys
 from pathlib import Path
-from typing import Dict, List, Optional
+from typing import Dict, List, Optional, Tuple
 
 from repository import PROGRAM, TOP, version
 
@@ -30,7 +30,7 @@ POLICY = ("default-src 'none'; script-src '{script}' 'wasm-unsafe-eval'; worker-
 
 def examples(table: str) -> Dict[str, Dict[str, str]]:
     """The examples of the commands, by the names of their files."""
-    found = {}
+    found: Dict[str, Dict[str, str]] = {}
     for command, name in re.findall(r"\./trinorm (\S+) < examples/(\S+)\.txt", table):
         found.setdefault(name, {"command": command, "text": (TOP / "examples" / f"{name}.txt").read_text("utf8")})
     return found
@@ -78,6 +78,12 @@ def element(name: str, text: str) -> str:
     return f'<script type="text/plain" data-file="{name}">{text}</script>'
 
 
+def replace(pattern: str, text: str, page: str) -> Tuple[str, int]:
+    """The page with each match replaced by a text, which may begin with the match's first group, and their number."""
+    keeps = text.startswith("\\1")
+    return re.subn(pattern, lambda match: match[1] + text[2:] if keeps else text, page)
+
+
 def one_file(module: bytes) -> str:
     """The page as one file, which fetches nothing."""
     script, style = joined(SCRIPTS), (SOURCES / "page.css").read_text("utf8")
@@ -91,7 +97,7 @@ def one_file(module: bytes) -> str:
         r"</body>": "\n".join(parts) + "\n</body>",
     }
     for pattern, text in replaced.items():
-        page, count = re.subn(pattern, text if r"\1" in text else lambda _, text=text: text, page)
+        page, count = replace(pattern, text, page)
         if count != 1:
             raise ValueError(f"web/index.html has {count} of {pattern}")
     return page

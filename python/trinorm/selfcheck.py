@@ -47,12 +47,12 @@ class Row(NamedTuple):
 class Outcome(NamedTuple):
     """What was checked: how many checks there were, what differed, and the seconds that they took."""
 
-    count: int
+    checks: int
     differences: List[str]
     seconds: float
 
     def __str__(self) -> str:
-        return f"{self.count - len(self.differences)} of {self.count}, {self.seconds:.1f} s"
+        return f"{self.checks - len(self.differences)} of {self.checks}, {self.seconds:.1f} s"
 
 
 Answer = Callable[[Row], Tuple[int, bytes]]
@@ -61,7 +61,7 @@ Answer = Callable[[Row], Tuple[int, bytes]]
 def _bytes_of(spelled: object) -> bytes:
     """Bytes as the file of rows has them: latin-1 text, or a text with a number of times."""
     if isinstance(spelled, dict):
-        return _bytes_of(spelled["repeat"]) * spelled["times"]
+        return _bytes_of(spelled["repeat"]) * int(spelled["times"])
     return str(spelled).encode("latin-1")
 
 
