@@ -14,7 +14,7 @@ import re
 import shutil
 import sys
 from pathlib import Path
-from typing import Dict, List, Optional
+from typing import Dict, List, Optional, Tuple
 
 from repository import PROGRAM, TOP, version
 
@@ -78,6 +78,12 @@ def element(name: str, text: str) -> str:
     return f'<script type="text/plain" data-file="{name}">{text}</script>'
 
 
+def replace(pattern: str, text: str, page: str) -> Tuple[str, int]:
+    """The page with each match replaced by a text, which may begin with the match's first group, and their number."""
+    keeps = text.startswith("\\1")
+    return re.subn(pattern, lambda match: match[1] + text[2:] if keeps else text, page)
+
+
 def one_file(module: bytes) -> str:
     """The page as one file, which fetches nothing."""
     script, style = joined(SCRIPTS), (SOURCES / "page.css").read_text("utf8")
@@ -91,8 +97,7 @@ def one_file(module: bytes) -> str:
         r"</body>": "\n".join(parts) + "\n</body>",
     }
     for pattern, text in replaced.items():
-        # only the policy names a group of its pattern
-        page, count = re.subn(pattern, text if text.startswith(r"\1") else text.replace("\\", r"\\"), page)
+        page, count = replace(pattern, text, page)
         if count != 1:
             raise ValueError(f"web/index.html has {count} of {pattern}")
     return page

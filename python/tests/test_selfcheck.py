@@ -50,7 +50,7 @@ class Rows(unittest.TestCase):
         if library is None:
             self.skipTest("there is no library")
         outcome = selfcheck.check_limits(library)
-        self.assertEqual((outcome.count, outcome.differences), (3, []))
+        self.assertEqual((outcome.checks, outcome.differences), (3, []))
 
 
 class Report(unittest.TestCase):

@@ -183,6 +183,11 @@ class Quiet(http.server.SimpleHTTPRequestHandler):
     def log_message(self, *_):
         self.asked.append(self.path)
 
+    def end_headers(self):
+        # so that each file is asked for again
+        self.send_header("Cache-Control", "no-store")
+        super().end_headers()
+
 
 # what the scripts of the tests use
 HELPERS = """

@@ -47,12 +47,12 @@ class Row(NamedTuple):
 class Outcome(NamedTuple):
     """What was checked: how many checks there were, what differed, and the seconds that they took."""
 
-    count: int  # type: ignore[assignment]  # of tuples
+    checks: int
     differences: List[str]
     seconds: float
 
     def __str__(self) -> str:
-        return f"{self.count - len(self.differences)} of {self.count}, {self.seconds:.1f} s"
+        return f"{self.checks - len(self.differences)} of {self.checks}, {self.seconds:.1f} s"
 
 
 Answer = Callable[[Row], Tuple[int, bytes]]
