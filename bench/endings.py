@@ -2,7 +2,7 @@
 """Writes python/trinorm/endings.txt: for each 3-sphere of up to three tetrahedra that moves join to the standard one
 without more than five tetrahedra, moves that lead to it.
 
-    tools/endings.py
+    bench/endings.py
 
 They are found from the standard sphere, breadth first, and turned round. What the file says is checked by the tests: `check`
 has to accept each line.
