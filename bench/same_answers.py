@@ -23,7 +23,7 @@ COMMANDS = [["surfaces", "--coords", it] for it in ("standard", "quad", "octagon
 
 def main() -> int:
     program = named_program()
-    here, statuses, differ = library.beside(program), collections.Counter(), 0
+    here, statuses, differ = library.next_to(program), collections.Counter(), 0
     if here is None:
         sys.exit(f"there is no {library.NAME} beside {program}")
     with open(os.path.join(HERE, "census_signatures.txt"), encoding="utf8") as file:
