@@ -95,7 +95,7 @@ class Linked(unittest.TestCase):
         self.assertEqual(os.readlink(made / "libtrinorm.so"), "libtrinorm.so.1")
         rows = [line.split() for line in said("--dyn-syms", str(made / "libtrinorm.so.1")).splitlines()]
         exported = sorted(row[7] for row in rows if len(row) > 7 and row[6] not in ("UND", "Ndx") and row[4] in ("GLOBAL", "WEAK"))
-        self.assertEqual(exported, ["trinorm_answer", "trinorm_python_raises", "trinorm_python_stops", "trinorm_run", "trinorm_run_within", "trinorm_version"])
+        self.assertEqual(exported, ["trinorm_answer", "trinorm_held", "trinorm_python_raises", "trinorm_python_stops", "trinorm_run", "trinorm_run_within", "trinorm_version"])
 
     def run_program(self, *flags, before=()):
         (self.folder / "main.c").write_text(MAIN)
