@@ -37,7 +37,7 @@ def summands(signature: str) -> List[str]:
 def rank(t: regina.Triangulation3, prime: int) -> int:
     """The rank of the first homology, or how many of its torsion summands the prime divides."""
     group = t.homology()
-    return group.torsionRank(prime) if prime else group.rank()
+    return int(group.torsionRank(prime) if prime else group.rank())
 
 
 def name(t: regina.Triangulation3) -> str:
@@ -45,7 +45,7 @@ def name(t: regina.Triangulation3) -> str:
     if t.isSphere():
         return "S3"
     t.intelligentSimplify()
-    hits = [it.name().split(" : ")[0] for it in regina.Census.lookup(t)]
+    hits = [str(it.name()).split(" : ")[0] for it in regina.Census.lookup(t)]
     return hits[0] if hits else f"not in the census ({t.isoSig()})"
 
 

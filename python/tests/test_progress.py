@@ -5,6 +5,7 @@ import tempfile
 import threading
 import time
 import unittest
+import unittest.mock
 
 import trinorm
 from trinorm import library, program, progress
@@ -157,6 +158,9 @@ class ByProcess(Both, unittest.TestCase):
             trinorm.surfaces("bkaagj", progress=Reports(), program="/no/such/program")
         with tempfile.TemporaryDirectory() as folder, self.assertRaises(trinorm.Failed):
             trinorm.surfaces("bkaagj", progress=Reports(), program=script(folder, "exit 8\n"))
+        with unittest.mock.patch.object(tempfile, "TemporaryFile", side_effect=OSError(28, "No space left on device", "/tmp/x")):
+            with self.assertRaisesRegex(trinorm.Failed, "/tmp/x: No space left"):
+                trinorm.surfaces("bkaagj", progress=Reports(), program=trinorm.find())
 
     @unittest.skipIf(Server.find() is None, "the server isn't built")
     def test_servers_report_nothing(self):

@@ -8,7 +8,7 @@ import time
 from typing import Callable, Optional, Sequence, Union
 
 from . import program
-from .arguments import as_bytes, checked_timeout, checked_words, joined, shown
+from .arguments import as_bytes, checked_timeout, checked_words, shown
 from .errors import BadArgument, Failed, TimedOut
 from .program import Program
 
@@ -16,8 +16,6 @@ from .program import Program
 Progress = Callable[[float, int], object]
 # seconds between two reports
 INTERVAL = 0.1
-
-
 # a program by its path; None for the one that is found
 Named = Union[str, "os.PathLike[str]", None]
 
@@ -45,16 +43,16 @@ class Reported:
 
     def _run_process(self, words: Sequence[str], text: str, timeout: Optional[float]) -> str:
         line, limit, path = checked_words(words), checked_timeout(timeout), program.find(self.named)
-        # a file, since `communicate` goes on writing to a pipe only from Python 3.12 on once its time was over
-        with tempfile.TemporaryFile() as given:
-            given.write(as_bytes(text))
-            given.seek(0)
-            try:
+        try:
+            # a file, since `communicate` goes on writing to a pipe only from Python 3.12 on once its time was over
+            with tempfile.TemporaryFile() as given:
+                given.write(as_bytes(text))
+                given.seek(0)
                 run = subprocess.Popen([path, *line], stdin=given, stdout=subprocess.PIPE, stderr=subprocess.PIPE)
-            except OSError as fault:
-                if fault.errno is None:  # of a handler of signals
-                    raise
-                raise Failed(f"{path}: {fault.strerror}") from None
+        except OSError as fault:
+            if fault.errno is None:  # of a handler of signals
+                raise
+            raise Failed(f"{fault.filename or path}: {fault.strerror}") from None
         with run:
             try:
                 return self._wait(line, run, limit)
