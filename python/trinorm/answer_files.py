@@ -11,6 +11,7 @@ import stat
 import sys
 import tempfile
 from hashlib import blake2b
+from struct import Struct
 from typing import BinaryIO, Callable, Iterable, Iterator, TextIO
 
 UTF16 = (b"\xff\xfe", b"\xfe\xff")
@@ -54,9 +55,13 @@ def count_lines(file: BinaryIO, name: str, accept_bad: bool = False) -> int:
     return number
 
 
-def digest(text: bytes) -> int:
-    """The number by which a text is known again, of 16 bytes: two different ones among ten million have the same with a probability below 2^-80."""
-    return int.from_bytes(blake2b(text, digest_size=16).digest(), "little")
+_halves = Struct("<2q").unpack
+
+
+def digest(text: bytes) -> complex:
+    """The number by which a text is known again, of 16 bytes. Two different texts among ten million have the same with a
+    probability below 2^-60. It is a complex number since that takes 32 bytes, and a whole one of 16 bytes 48."""
+    return complex(*_halves(blake2b(text, digest_size=16).digest()))
 
 
 class Output:

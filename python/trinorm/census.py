@@ -123,7 +123,7 @@ def lines_of(source: Source, bad: Optional[Callable[[BadLine], None]] = None) ->
 
 def read_entries(path: str) -> Iterator[Entry]:
     """The triangulations of a file, each once."""
-    met: Set[int] = set()
+    met: Set[complex] = set()
     with opened(path) as source:
         for found in lines_of(source):
             if found is not None and digest(found[0]) not in met:
@@ -149,7 +149,7 @@ class Earlier:
     def __init__(self, path: str, task: Task, retry: bool) -> None:
         self.path, self.task, self.retry = path, task, retry
         # the digests of what the lines begin with
-        self.done: Set[int] = set()
+        self.done: Set[complex] = set()
         words = re.escape(quoted(task.words).encode())
         # a line as this package writes it; such a one is not read as JSON, which takes ten times as long
         self._plain = re.compile(rb'(\{"name": "[ !#-\[\]-~]*", "signature": "[ !#-\[\]-~]*"), "command": ' + words
@@ -216,7 +216,7 @@ class Run:
             elif self.meter.total is not None:
                 self.meter.total -= 1
 
-    def _is_new(self, known: int) -> bool:
+    def _is_new(self, known: complex) -> bool:
         """Whether a triangulation isn't done, by its digest. It is known from now on."""
         before = len(self._done)
         self._done.add(known)
