@@ -48,7 +48,8 @@ def wheel(made: packages.Made, name: str, files: Dict[str, bytes]) -> Named:
             packed[f"{place}/scripts/{PROGRAM}" if is_launcher else f"{place}/data/{path}"] = content
     for file, data in files.items():
         packed[f"{place}/data/libexec/{PROGRAM}/{file}"] = (data, 0o755)
-    return packages.wheel_of(packed, f"py3-none-{system.tag}")
+    glibc = packages.Made(made.version, files, "").glibc()
+    return packages.wheel_of(packed, f"py3-none-{system.tag.format(glibc)}")
 
 
 def wheels(made: packages.Made, kit: Path) -> List[Named]:

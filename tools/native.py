@@ -29,7 +29,7 @@ LINKED = ["-s", "-Wl,--gc-sections", "-Wl,--build-id=none"]
 class System(NamedTuple):
     """A system for which a library and a program are made.
 
-    tag: of its wheel; library, program: the names of its files; compiler: the command that must be there; package: of
+    tag: of its wheel, with a place for the N of glibc 2.N; library, program: the names of its files; compiler: the command that must be there; package: of
     Debian, with that compiler
     """
 
@@ -42,7 +42,7 @@ class System(NamedTuple):
 
 SYSTEMS: Dict[str, System] = {
     "linux-x86_64": System("musllinux_1_2_x86_64", f"lib{PROGRAM}.so.1", PROGRAM, "musl-gcc", "musl-tools"),
-    "linux-aarch64": System("manylinux_2_17_aarch64", f"lib{PROGRAM}.so.1", PROGRAM, "aarch64-linux-gnu-gcc", "gcc-aarch64-linux-gnu"),
+    "linux-aarch64": System("manylinux_2_{}_aarch64", f"lib{PROGRAM}.so.1", PROGRAM, "aarch64-linux-gnu-gcc", "gcc-aarch64-linux-gnu"),
     "windows-x86_64": System("win_amd64", f"{PROGRAM}.dll", f"{PROGRAM}.exe", "x86_64-w64-mingw32-gcc", "gcc-mingw-w64-x86-64-win32"),
     "macos-arm64": System("macosx_11_0_arm64", f"lib{PROGRAM}.dylib", PROGRAM, "", ""),
     "macos-x86_64": System("macosx_11_0_x86_64", f"lib{PROGRAM}.dylib", PROGRAM, "", ""),
