@@ -87,7 +87,7 @@ def late_parts() -> List[Part]:
              for group in ("tools", "launcher", "library", "rust", "python") if tests_of(group)]
     tools = sorted(path.name for path in (TOP / "tools").glob("*.py"))
     return parts + [
-        Part("types", ["mypy", "--strict", "--cache-dir", os.devnull, *tools], TOP / "tools", "mypy"),
+        Part("types", ["mypy", "--strict", "--follow-imports=silent", "--cache-dir", os.devnull, *tools], TOP / "tools", "mypy"),
         Part("worked rows", python("-m", "trinorm.selfcheck"), PYTHON, str(PYTHON / "trinorm" / "selfcheck")),
         Part("examples", python("bench/examples.py")),
     ]
@@ -102,7 +102,7 @@ def lacks(part: Part) -> str:
 def run(part: Part, seconds: float = LONGEST) -> Result:
     """Runs a part, in a process group of its own, which is ended after some seconds."""
     around = {name: value for name, value in os.environ.items() if name not in ("TRINORM", "TRINORM_LIBRARY")}
-    around.update(PYTHONPATH=str(PYTHON), PYTHONDONTWRITEBYTECODE="1")
+    around.update(PYTHONPATH=str(PYTHON), MYPYPATH=str(PYTHON), PYTHONDONTWRITEBYTECODE="1")
     with tempfile.TemporaryFile() as log:
         running = subprocess.Popen(part.words, cwd=part.folder, env=around, stdin=subprocess.DEVNULL, stdout=log,
                                    stderr=subprocess.STDOUT, start_new_session=True, preexec_fn=take_signals)
