@@ -112,7 +112,7 @@ say_version() {
   say "version $version, commit $commit, program sha256 $sum, proved $proved by $kit"
 }
 
-# Whether a word is a signature; those of SnapPy may have a decoration behind a `_`.
+# Whether a word is a signature; those of SnapPy may have a decoration from a `_` on.
 is_signature() {
   case ${1%%_*} in '' | *[!A-Za-z0-9+-]*) return 1 ;; esac
   printf 'sig %s\n' "${1%%_*}" | "$program" csig >/dev/null
@@ -148,7 +148,7 @@ say_input() {
   fi
 }
 
-# What is wanted in place of these words.
+# What is wrong with these words, and what may be in their place.
 say_words() {
   case ${1-} in
     --version | -V | -v | version) say_version; return ;;

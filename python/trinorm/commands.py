@@ -1,8 +1,8 @@
 """A function for each command of the program, with its name.
 
-Where a triangulation is wanted, each takes a signature, the text of a gluing table, a list of rows, a Table, or one of
-Regina's or SnapPy's (see `tables.document`); it has n tetrahedra below. A vector is a tuple of whole numbers, where it is
-given a list or a `regina.NormalSurface` too, and its width is 7n in standard, 3n in quad and 10n in octagon coordinates.
+A triangulation is a signature, the text of a gluing table, a list of rows, a Table, or one of Regina's or SnapPy's (see
+`tables.document`); it has n tetrahedra below. A vector that is returned is a tuple of whole numbers; one that is passed may
+be a list, an array or a `regina.NormalSurface` too. Its width is 7n in standard, 3n in quad and 10n in octagon coordinates.
 A refusal is `Refused`, an argument that is none `BadArgument`, and anything else that goes wrong `Failed`. Each takes two
 more arguments by name:
 
@@ -217,7 +217,7 @@ def csame(one: Triangulation, other: Triangulation, *,
 
 
 def group(tables: Iterable[Triangulation], *, timeout: Optional[float] = None, program: Program = None) -> Grouping:
-    """The isomorphism classes of connected triangulations, numbered as they are first met: one for each of `tables`."""
+    """The isomorphism classes of connected triangulations, numbered as they first occur: one for each of `tables`."""
     if isinstance(tables, Table):
         raise BadArgument("a list of triangulations is expected, and not one alone: [t] is a list of one")
     given = listed(tables, "a list of triangulations is expected (one alone is a list too, as [t])")

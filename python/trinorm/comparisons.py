@@ -34,16 +34,17 @@ class Comparison:
 
 def compare(t: Triangulation, coords: Optional[str] = None, *,
             timeout: Optional[float] = None, program: Program = None) -> Dict[str, Comparison]:
-    """The lists beside each other in these coordinates, or in each of the three."""
+    """Both lists compared in these coordinates, or in each of the three."""
     table = commands.table(t, timeout=timeout, program=program)
     theirs = table.to_regina()
     compared = {}
     for name in [coords] if coords else COORDS:
         ours = commands.surfaces(table, name, timeout=timeout, program=program)
-        compared[name] = _beside(ours, vertex_surfaces(theirs, name))
+        compared[name] = _compared(ours, vertex_surfaces(theirs, name))
     return compared
 
 
-def _beside(ours: List[Vector], theirs: List[Vector]) -> Comparison:
-    known, met = set(theirs), set(ours)
-    return Comparison(len(ours), len(theirs), [it for it in ours if it not in known], [it for it in theirs if it not in met])
+def _compared(ours: List[Vector], theirs: List[Vector]) -> Comparison:
+    in_theirs, in_ours = set(theirs), set(ours)
+    return Comparison(len(ours), len(theirs), [vector for vector in ours if vector not in in_theirs],
+                      [vector for vector in theirs if vector not in in_ours])

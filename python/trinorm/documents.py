@@ -48,7 +48,7 @@ class Reader:
         return self._after_vector(words)
 
     def _after_vector(self, words: List[str]) -> str:
-        """The state after a line behind the tables."""
+        """The state after a line that comes after the tables."""
         if self.state == "vector":
             return {"vector": "end", "blocks": "times"}.get(self.reads, "vector")
         if self.state == "times":

@@ -63,7 +63,7 @@ def find(program: Union[str, "os.PathLike[str]", None] = None) -> str:
             return str(installed)
     path = shutil.which("trinorm")
     if path is None:
-        raise Failed("the program trinorm is neither named by TRINORM, nor beside this package, nor on the path")
+        raise Failed("the program trinorm is neither named by TRINORM, nor installed with this package, nor on the path")
     return path
 
 
