@@ -80,7 +80,7 @@ def shared(made: Made) -> Files:
         files[f"{libexec}/{name}"] = plain(TOP / "launcher" / name)
     for name in LICENCES:
         files[f"{doc}/{name}"] = plain(TOP / name)
-    files.update(below(f"{doc}/examples", "examples", ".txt"))
+    files.update(below(f"{doc}/examples", "examples", ".txt", ".sh"))
     if made.manifest is not None:
         files[f"{libexec}/MANIFEST"] = (made.manifest.text().encode(), 0o644)
     return {**files, **for_c()} if "library" in made.files else files

@@ -120,6 +120,19 @@ class Certificates(unittest.TestCase):
         with mock.patch.object(certificates, "search", return_value=["no move"]), self.assertRaises(trinorm.Refused):
             trinorm.certify("bkaagb", timeout=60)
 
+    def test_no_table_is_larger_than_the_program_takes(self):
+        t = Triangulation.of(trinorm.table(STUCK[-1]))
+        sizes, play = [], Triangulation.play
+
+        def noted(self, move):
+            made = play(self, move)
+            sizes.append(len(self))
+            return made
+
+        with mock.patch.object(certificates, "MOST", len(t) + 2), mock.patch.object(Triangulation, "play", noted):
+            certificates.search(t.table(), 0, 1)
+        self.assertLessEqual(max(sizes), len(t) + 2)
+
     def test_groups(self):
         def group(generators, *relators):
             return trinorm.Presentation((trinorm.Generator(0, False),) * generators,

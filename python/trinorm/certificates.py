@@ -26,8 +26,8 @@ from .tables import Table, Triangulation as Given
 
 # the seconds of a search for which none are given
 SECONDS = 10.0
-# the most tetrahedra of an ending, and how many moves are played up at a time
-LISTED, MOST_UP = 3, 5
+# the most tetrahedra of an ending, how many moves are played up at a time, and the most tetrahedra of a table
+LISTED, MOST_UP, MOST = 3, 5, 1000
 
 
 @dataclass(frozen=True)
@@ -106,7 +106,8 @@ class Search:
         """Plays moves 2-3 near each other, and 1-4 in a triangulation of few tetrahedra. Returns what is new, too."""
         moves: List[str] = []
         near: List[int] = []
-        for _ in range(count):
+        while count > 0 and len(t) + 3 <= MOST:
+            count -= 1
             tet = self._random.choice(near if near and self._random.random() < 0.7 else t.order)
             is_small = len(t) == 1 or (len(t) <= LISTED and self._random.random() < 0.3)
             move = t.move(tet, self._random.choice(CORES[4 if is_small else 3]))
