@@ -2,7 +2,8 @@
 """Times the module for WebAssembly in Node and in both browsers beside the native library: bench/web.py MODULE
 
 Processor seconds of one call, the least of several rounds, and in brackets how many times the native library's. A call
-has an instance of its own, as the page makes it. Browsers are measured with all of their processes.
+has an instance of its own, as the page makes it. As many calls go before those that are measured, since engines compile a
+module better while it runs. Browsers are measured with all of their processes.
 """
 import functools
 import http.server
@@ -38,7 +39,7 @@ import {call} from '%s';
 const module = new WebAssembly.Module(readFileSync(process.argv[2]));
 const {words, text, times} = JSON.parse(process.argv[3]), input = new TextEncoder().encode(text);
 const spent = () => { const {user, system} = process.cpuUsage(); return (user + system) / 1e6; };
-call(module, words, input);
+for (let n = 0; n < times; n++) call(module, words, input);
 const begun = spent();
 for (let n = 0; n < times; n++) call(module, words, input);
 console.log((spent() - begun) / times);
@@ -50,7 +51,8 @@ const worker = new Worker('worker.js', {type: 'module'});
 const input = new TextEncoder().encode(TEXT);
 const ask = () => new Promise((done) => { worker.onmessage = ({data}) => done(data.status); worker.postMessage({module, words: WORDS, input, limit: 0}); });
 globalThis.ask_once = ask;
-return ask();
+for (let n = 0; n < TIMES; n++) await ask();
+return 0;
 """
 
 
@@ -101,7 +103,7 @@ def spent_below(process):
 
 def by_browser(window, process, address, command, text, times):
     window.open(address)
-    window.run(BROWSER.replace("TEXT", json.dumps(text)).replace("WORDS", json.dumps([command])))
+    window.run(BROWSER.replace("TEXT", json.dumps(text)).replace("WORDS", json.dumps([command])).replace("TIMES", str(times)))
     begun = spent_below(process)
     window.run(f"for (let n = 0; n < {times}; n++) await ask_once(); return 0;")
     return (spent_below(process) - begun) / times

@@ -57,14 +57,16 @@ def wheels(made: packages.Made, kit: Path) -> List[Named]:
     if "module" not in made.files:
         print(f"{PROGRAM}: the release lacks wheels for other systems, since the build kept no module", file=sys.stderr)
         return []
+    found = []
     with tempfile.TemporaryDirectory() as folder:
         module = Path(folder, "module.bc")
         module.write_bytes(made.files["module"])
-        try:
-            return [wheel(made, name, files) for name, files in native.build_all(kit, module, list(native.SYSTEMS))]
-        except NotCompiled as fault:
-            print(f"{PROGRAM}: the release lacks wheels for other systems: {fault}", file=sys.stderr)
-            return []
+        for name in native.SYSTEMS:
+            try:
+                found += [wheel(made, name, files) for _, files in native.build_all(kit, module, [name])]
+            except NotCompiled as fault:
+                print(f"{PROGRAM}: the release lacks a wheel for {name}: {fault}", file=sys.stderr)
+    return found
 
 
 def files(made: packages.Made, kit: Path) -> List[Named]:

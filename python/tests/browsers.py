@@ -9,11 +9,14 @@ import json
 import os
 import shutil
 import subprocess
+import sys
 import tempfile
 import threading
 import time
 from pathlib import Path
 
+# where Debian puts what another Python does not look for
+PACKAGES = "/usr/lib/python3/dist-packages"
 # a wide window, and that of a phone
 WIDE, NARROW = (1100, 1250), (390, 840)
 FLAGS = ["--headless=new", "--no-sandbox", "--disable-dev-shm-usage", "--disable-background-networking", "--disable-component-update"]
@@ -25,6 +28,8 @@ class Missing(Exception):
 
 def require(commands, modules):
     """Raises `Missing` unless all commands and modules are there."""
+    if PACKAGES not in sys.path:
+        sys.path.append(PACKAGES)
     lacking = [name for name in commands if shutil.which(name) is None]
     lacking += [name for name in modules if importlib.util.find_spec(name) is None]
     if lacking:
