@@ -31,7 +31,7 @@ SUM = trinorm.Sum(TORUS, 1, (trinorm.Term(1, TORUS),))
 # a right value of each parameter, by its name
 RIGHT = {"t": SPHERE, "one": SPHERE, "other": SPHERE, "tables": [SPHERE], "vectors": [TORUS], "vector": TORUS, "coords": None, "order": None, "max_entry": None,
          "rows": [[1, -1]], "columns": None, "sums": [SUM], "steps": [], "moves": [], "seed": 1, "timeout": None, "program": None, "triangulation": SPHERE,
-         "surface": None, "words": ["sig"], "text": "sig bkaagj\n", "word": "0:0123", "memory": None}
+         "arrays": None, "progress": None, "surface": None, "triangulations": None, "command": None, "executor": None, "in_order": None, "words": ["sig"], "text": "sig bkaagj\n", "word": "0:0123", "memory": None}
 # where a parameter has another meaning
 OTHERS = {("make", "moves"): 1, ("bulk", "moves"): 1, ("parse", "text"): str(TABLE)}
 
@@ -141,6 +141,12 @@ class Nonsense(unittest.TestCase):
             self.try_all("run", self.server.run, ["words", "text", "timeout"])
             self.try_all("run", lambda **named: program.run(**{"program": self.server, **named}), ["words", "text", "timeout", "program"])
         self.try_all("find", program.find, ["program"])
+
+    def test_many(self):
+        def many(**named):
+            return list(trinorm.many(**{"triangulations": [SPHERE], "command": "sig", "program": self.server, **named}))
+
+        self.try_all("many", many, ["triangulations", "command", "executor", "timeout", "in_order", "program"], (trinorm.Failed,))
 
     def test_the_library(self):
         found = program.find_library()

@@ -12,6 +12,7 @@ from dataclasses import dataclass
 from typing import Any, Callable, Dict, Iterable, Iterator, List, NamedTuple, Optional, Tuple, Union
 
 from . import certificates, commands, questions
+from .arguments import plain, shown
 from .errors import BadArgument, Failed
 from .program import Program
 from .progress import Reported
@@ -203,10 +204,17 @@ def many(triangulations: Iterable[Triangulation], command: Command = "surfaces",
     """
     if isinstance(command, str) and command not in COMMANDS:
         raise BadArgument(f"command is a function or one of {', '.join(COMMANDS)}, and not {command!r}")
-    if isinstance(triangulations, (str, bytes)) or not hasattr(triangulations, "__iter__"):
+    given = plain(triangulations)
+    if isinstance(given, (str, bytes)) or not isinstance(given, Iterable):
         raise BadArgument("a list of triangulations is expected; for one alone call the command itself")
+    if progress is not None and not callable(progress):
+        raise BadArgument(f"progress is a function or None, and not {shown(progress)}")
+    if not isinstance(in_order, bool):
+        raise BadArgument(f"in_order is True or False, and not {shown(in_order)}")
+    if executor is not None and not callable(getattr(executor, "submit", None)):
+        raise BadArgument(f"executor is a concurrent.futures.Executor or None, and not {shown(executor)}")
     task = Task(command, timeout, program, options)
-    return _many(enumerate(triangulations), task, executor, progress, in_order)
+    return _many(enumerate(given), task, executor, progress, in_order)
 
 
 def _many(given: Iterator[Tuple[int, Triangulation]], task: Task, executor: Optional[Executor], progress: Optional[Counts],

@@ -14,7 +14,9 @@ from typing import (Any, Callable, Counter, Dict, Iterable, Iterator, List, Lite
 
 from . import arrays as numpy_arrays, commands
 from .answers import Component, Surface, Vector, is_yes, read_surfaces, read_vector
+from .arguments import shown
 from .commands import Arrays
+from .errors import BadArgument
 from .html_tables import Shown
 from .options import words
 from .parts import Answers, Clock
@@ -163,6 +165,8 @@ def count(t: Triangulation, coords: str = "standard", *, timeout: Optional[float
     progress: as of `surfaces`
     arrays: True for a `CountArrays`
     """
+    if not isinstance(arrays, bool):
+        raise BadArgument(f"arrays is True or False, and not {shown(arrays)}")
     by_euler: Counter[int] = collections.Counter()
     surfaces = linking = greatest = 0
     for part in _described(t, coords, _read_numbers, Clock(timeout), reported(program, progress)):
