@@ -188,7 +188,7 @@ class Ends(Folder):
         return []
 
     def until(self, is_so):
-        end = time.monotonic() + 20
+        end = time.monotonic() + 120
         while not is_so():
             self.assertLess(time.monotonic(), end)
             time.sleep(0.02)

@@ -266,7 +266,7 @@ class Processes(unittest.TestCase):
             time.sleep(0.02)
         begun = time.monotonic()
         workers.kill_workers()
-        self.assertLess(time.monotonic() - begun, 10)
+        self.assertLess(time.monotonic() - begun, 60)
         self.assertTrue(all(call.cancelled() or isinstance(call.exception(10), (WorkerEnded, concurrent.futures.BrokenExecutor))
                             for call in calls))
         with self.assertRaises(RuntimeError):

@@ -130,7 +130,7 @@ class Library(unittest.TestCase):
         begun = time.monotonic()
         with self.assertRaises(trinorm.TimedOut):
             self.library.run(["surfaces"], LONG, timeout=0.01)
-        self.assertLess(time.monotonic() - begun, 2)
+        self.assertLess(time.monotonic() - begun, 30)
         self.assertEqual(self.library.run(["sig"], "sig bkaagj\n", timeout=60), "bkaagj\n")
 
     def test_a_limit_of_memory(self):

@@ -176,7 +176,7 @@ class LongLists(unittest.TestCase):
         begun = time.monotonic()
         with self.assertRaisesRegex(trinorm.TimedOut, "no answer in 0.2 s"):
             trinorm.count(self.t, timeout=0.2)
-        self.assertLess(time.monotonic() - begun, 5)
+        self.assertLess(time.monotonic() - begun, 60)
 
     def test_threads_and_processes(self):
         expected = [([55000 + it], 60001) for it in range(4)]

@@ -62,7 +62,7 @@ class Both:
             with self.assertRaises(raised):
                 while True:
                     trinorm.surfaces(LONG, "octagon", progress=ends, **self.way)
-            self.assertLess(time.monotonic() - begun, 20)
+            self.assertLess(time.monotonic() - begun, 120)
         self.assertEqual(len(trinorm.surfaces("bkaagj", progress=ends, **self.way)), 2)
 
     def test_a_call_within_a_report(self):
@@ -150,7 +150,7 @@ class ByProcess(Both, unittest.TestCase):
             reports, begun = Reports(), time.monotonic()
             with self.assertRaisesRegex(trinorm.TimedOut, "no answer in 0.5 s"):
                 trinorm.surfaces("bkaagj", progress=reports, timeout=0.5, program=script(folder, "exec sleep 60\n"))
-            self.assertLess(time.monotonic() - begun, 10)
+            self.assertLess(time.monotonic() - begun, 50)
             self.assertGreaterEqual(len(reports.seen), 2)
 
     def test_what_fails(self):

@@ -145,7 +145,7 @@ class Answers(Folder):
         for text in ("one", "x" * 3_000_000):
             with self.assertRaises(trinorm.TimedOut):
                 self.echo(text, "sleep", timeout=0.2)
-        self.assertLess(time.monotonic() - begun, 5)
+        self.assertLess(time.monotonic() - begun, 60)
         self.assertEqual(self.echo("two"), "two")
 
     def test_one_that_does_not_read(self):
@@ -236,7 +236,7 @@ class Answers(Folder):
         self.assertEqual(run.stdout.readline(), "one\n")
         time.sleep(0.2)
         os.killpg(run.pid, signal.SIGINT)
-        self.assertEqual(run.communicate(timeout=20)[0], "two True\n")
+        self.assertEqual(run.communicate(timeout=120)[0], "two True\n")
 
     def test_more_than_1024_descriptors(self):
         soft, hard = resource.getrlimit(resource.RLIMIT_NOFILE)
@@ -383,11 +383,11 @@ class Shared(Folder):
 
     def test_a_limit_holds_beside_a_long_request(self):
         with concurrent.futures.ThreadPoolExecutor(2) as threads:
-            long = threads.submit(self.echo, "long", "sleep", 2)
+            long = threads.submit(self.echo, "long", "sleep", 10)
             begun = time.monotonic()
             with self.assertRaises(trinorm.TimedOut):
                 self.echo("short", "sleep", timeout=0.2)
-            self.assertLess(time.monotonic() - begun, 1.5)
+            self.assertLess(time.monotonic() - begun, 8)
             with self.assertRaises(trinorm.TimedOut):
                 long.result()
 
