@@ -178,12 +178,12 @@ look_at_coordinates() {
   case $coords in quad) width=3 ;; octagon) width=10 ;; *) width=7 ;; esac
 }
 
-# The line of a refusal, from a second run on the same input; nothing if that takes over a second.
+# The line of a refusal, from a second run on the same input; nothing if that takes over two seconds.
 refusal_of() {
   if [ "$status" = 3 ]; then
     "$program" "$@" <"$input"
   elif command -v timeout >/dev/null; then
-    timeout 1 "$program" "$@" <"$input"
+    timeout 2 "$program" "$@" <"$input"
   fi | head -n 1
 }
 
