@@ -320,6 +320,19 @@ class FromPython(Programs):
             self.census("/no/such/file")
         self.assertFalse(os.path.exists(self.out))
 
+    def test_nonsense(self):
+        for wrong in (7, b"a", object(), 0.5, [7], [None], [b"bkaagj"], int):
+            with self.subTest(wrong), self.assertRaises(BadArgument):
+                self.census(wrong, jobs=1)
+        for name in ("command", "coords", "timeout", "jobs", "executor", "out"):
+            for wrong in (7.5, b"a", [], object(), "", -1, int, {}):
+                with self.subTest((name, wrong)), self.assertRaises((BadArgument, Failed)):
+                    self.census(**{"jobs": 1, name: wrong})
+                    if name == "timeout" and wrong == 7.5 or name == "out" and not wrong:
+                        raise Failed("a limit as any other")
+        with self.assertRaises(Failed):
+            self.census(["a \ud800"], jobs=1)
+
     def test_lines_that_are_not_utf8(self):
         with open(self.given, "wb") as file:
             file.write(b"s1 one\ns2 b\xe4d\n# a comm\xe4nt\ns3 three\ns4 l\xe4st")

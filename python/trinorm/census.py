@@ -21,7 +21,7 @@ from .answer_files import BadLine, Output, count_lines, decoded, digest, read_li
 from .arguments import checked_timeout, shown, whole_number
 from .executors import Done, Engine
 from .options import add_run_arguments, coordinates
-from .program import Failed, find
+from .program import Error, Failed, find
 from .meter import Meter
 from .tables import BadArgument
 from .tasks import COMMANDS, Entry, Task, head_of
@@ -91,7 +91,14 @@ def opened(signatures: Signatures, accept_bad: bool = False) -> Iterator[Source]
         with open(signatures, "rb") as file:
             yield Source(signatures, _counted(file, signatures, accept_bad), read_lines(file, signatures))
     else:
-        yield Source("the signatures", None, (line.encode() for line in signatures))
+        yield Source("the signatures", None, map(_encoded, signatures))
+
+
+def _encoded(line: str) -> bytes:
+    """A line that was given as text."""
+    if not isinstance(line, str):
+        raise BadArgument(f"a line is a text, as 'cPcbbbiht figure-eight', and not {shown(line)}")
+    return line.encode()
 
 
 def _counted(file: BinaryIO, name: str, accept_bad: bool) -> Optional[int]:
@@ -184,6 +191,8 @@ def faults_of_files(path: str) -> Iterator[None]:
     """What is wrong with files, as a failed run that names the file."""
     try:
         yield
+    except Error:
+        raise
     except OSError as fault:
         raise Failed(f"{fault.filename or path}: {fault.strerror}") from None
     except ValueError as fault:
@@ -192,7 +201,7 @@ def faults_of_files(path: str) -> Iterator[None]:
 
 @contextlib.contextmanager
 def by_processes(jobs: int) -> Iterator[Engine]:
-    """So many processes on this machine, which are ended with what they run at the end of the block."""
+    """`jobs` processes on this machine, which are ended with what they run at the end of the block."""
     workers = Workers(jobs)
     try:
         yield Engine(workers, 2 * jobs)
@@ -262,10 +271,10 @@ def run_census(signatures: Signatures, out: str, task: Task, engine: Engine, *, 
 
 def task_of(command: str, coords: Optional[str], timeout: Optional[float], program: Optional[str]) -> Task:
     """What is asked of each triangulation, or `BadArgument`."""
-    if command not in NAMES:
+    if not isinstance(command, str) or command not in NAMES:
         raise BadArgument(f"command is one of {', '.join(NAMES)}, and not {shown(command)}")
     may_be = COORDS.get(command, ())
-    if coords is not None and coords not in may_be:
+    if coords is not None and (not isinstance(coords, str) or coords not in may_be):
         raise BadArgument(f"{command} takes {' or '.join(may_be) or 'no'} coordinates")
     return Task(command, (coords or "standard") if may_be else None, checked_timeout(timeout), find(program))
 
@@ -284,6 +293,12 @@ def census(signatures: Signatures, out: str, command: str = "surfaces", coords: 
     executor: any executor of `concurrent.futures`, as Dask's or MPI's, in the place of processes of this machine
     """
     task = task_of(command, coords, timeout, program)
+    if isinstance(signatures, (bytes, type)) or not (isinstance(signatures, os.PathLike) or hasattr(signatures, "__iter__")):
+        raise BadArgument(f"signatures are the path of a file or a list of lines, and not {shown(signatures)}")
+    if not isinstance(out, (str, os.PathLike)):
+        raise BadArgument(f"out is the path of a file, and not {shown(out)}")
+    if executor is not None and (isinstance(executor, type) or not callable(getattr(executor, "submit", None))):
+        raise BadArgument(f"executor is one of concurrent.futures, and not {shown(executor)}")
     if jobs is not None and (whole_number(jobs) or 0) < 1:
         raise BadArgument(f"jobs is a whole number from 1 on, and not {shown(jobs)}")
     if executor is not None:

@@ -24,7 +24,7 @@ from .workers import WorkerEnded
 KINDS = ("answer", "refused", "failed")
 # seconds after which a handful begins no more triangulations, and the most that it may have
 SECONDS, MOST = 1.0, 2048
-# of a handful with which a worker died, so many parts are tried next
+# the number of parts in which a handful is tried again with which a worker died
 PARTS = 64
 
 

@@ -107,7 +107,7 @@ class _Asked(NamedTuple):
 
 
 class Workers(Executor):
-    """An executor of so many processes, which are started as calls come. A call whose process dies raises `WorkerEnded`.
+    """An executor of at most `jobs` processes, which are started as calls come. A call whose process dies raises `WorkerEnded`.
     Functions are those of modules, not of the script that runs."""
 
     def __init__(self, jobs: int) -> None:
