@@ -29,7 +29,7 @@ SIGNATURES = {
     18: "sLLLAMvvQLQMQcegfehinkknmpporqrraaaahnalcjavaavavuu",
     24: "yLLvLAwwwAALAMQMQaeheiikjolrrpuqsrvtwvuxxxbavgaaxoroaalapcssbxvcurr",
 }
-ROUNDS = 3
+ROUNDS = 2
 TIMES = {"sig": 300, "info": 300}
 TIMES_OF_LISTS = {9: 100, 14: 30, 18: 5, 24: 1}
 

@@ -9,7 +9,10 @@ export const NO_MEMORY = 8;
 
 const TOO_LITTLE_ROOM = 7;
 const AREAS = 10;
-const USUAL_ROOM = 1 << 26; // pages that no answer reaches cost nothing
+const LITTLE_ROOM = 1 << 20;
+const MUCH_ROOM = 1 << 26;
+const LISTS = ['surfaces', 'rays'];
+const SHORT_INPUT = 48; // bytes: a signature of up to 15 tetrahedra
 const NOTHING = new Uint8Array(0);
 
 /** Copies `bytes` into a new area of at least `length` bytes. Returns its address, or 0 if memory runs out. */
@@ -17,6 +20,15 @@ function place(exports, bytes, length = bytes.length) {
     const address = Number(exports.trinorm_area(BigInt(Math.max(length, 8))));
     if (address) new Uint8Array(exports.memory.buffer, address, bytes.length).set(bytes);
     return address;
+}
+
+/**
+ * Bytes of room for an answer. They affect speed alone: much room takes some milliseconds of the host's, and if it is too
+ * little the call is made again, which takes as long as the first one.
+ */
+function room_for([command], input) {
+    if (LISTS.includes(command)) return input.length > SHORT_INPUT ? MUCH_ROOM : LITTLE_ROOM;
+    return Math.max(LITTLE_ROOM, 4 * input.length);
 }
 
 /**
@@ -31,7 +43,7 @@ function place(exports, bytes, length = bytes.length) {
  * Returns {status, answer, held}: the program's exit status, the bytes that it prints, and the bytes of memory that the
  * instance had. If memory runs out the status is 8. A trap is thrown, as what the host makes of it.
  */
-export function call(module, words, input, limit = 0, room = USUAL_ROOM) {
+export function call(module, words, input, limit = 0, room = room_for(words, input)) {
     const spelled = new TextEncoder().encode(words.join('\0'));
     const read = input.subarray(0, MOST_INPUT + 1);
     const {exports} = new WebAssembly.Instance(module);
