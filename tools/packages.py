@@ -12,7 +12,7 @@ import time
 import zipfile
 from dataclasses import dataclass
 from pathlib import Path
-from typing import Dict, List, Optional, Tuple
+from typing import Dict, Iterator, List, Optional, Tuple
 
 import pages
 from commands import read_table
@@ -250,7 +250,17 @@ def fields() -> Dict[str, str]:
     found["keywords"] = ",".join(re.findall(r'"([^"]+)"', keywords[1])) if keywords else ""
     scripts = re.search(r"^\[project\.scripts\]\n((?:.+\n)*)", text, re.M)
     found["scripts"] = scripts[1].replace('"', "") if scripts else ""
+    extras = re.search(r"^\[project\.optional-dependencies\]\n((?:.+\n)*)", text, re.M)
+    found["extras"] = extras[1] if extras else ""
     return found
+
+
+def extra_lines(extras: str) -> Iterator[str]:
+    """The lines of a wheel's metadata for optional dependencies, as `dask = ["distributed"]`."""
+    for extra, names in re.findall(r"^(\w+) = \[(.*)\]$", extras, re.M):
+        yield f"Provides-Extra: {extra}"
+        for name in re.findall(r'"([^"]+)"', names):
+            yield f'Requires-Dist: {name}; extra == "{extra}"'
 
 
 def metadata() -> str:
@@ -259,7 +269,7 @@ def metadata() -> str:
         "Metadata-Version: 2.1", f"Name: {told['name']}", f"Version: {told['version']}", f"Summary: {told['description']}",
         "Author: the trinorm authors", "License: MIT OR Apache-2.0", f"Keywords: {told['keywords']}", *(f"License-File: {name}" for name in LICENCES),
         *(f"Classifier: {line}" for line in told["classifiers"].splitlines()),
-        f"Requires-Python: {told['requires-python']}", "Description-Content-Type: text/markdown",
+        f"Requires-Python: {told['requires-python']}", "Description-Content-Type: text/markdown", *extra_lines(told["extras"]),
     ]
     return "\n".join(head) + "\n\n" + (TOP / "python" / told["readme"]).read_text("utf8")
 

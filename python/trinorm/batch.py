@@ -70,7 +70,7 @@ class Task(NamedTuple):
 
     def run(self, texts: List[str], program: Program = None) -> Tuple[List[Tuple[Any, Optional[Exception]]], float]:
         """What comes out for a handful, and how long it took. A limit of time is kept by a server, if there is one."""
-        begun, program = time.monotonic(), program or self.program
+        begun, program = time.monotonic(), self.program if program is None else program
         is_named = program is None or isinstance(program, (str, os.PathLike))
         named = os.fspath(program) if isinstance(program, (str, os.PathLike)) else None
         if self.timeout is not None and isinstance(self.command, str) and is_named and Server.find(named) is not None:

@@ -167,6 +167,8 @@ def count(t: Triangulation, coords: str = "standard", *, timeout: Optional[float
     """
     if not isinstance(arrays, bool):
         raise BadArgument(f"arrays is True or False, and not {shown(arrays)}")
+    if arrays:
+        numpy_arrays.integer_type(True)  # fails without NumPy, before the list is asked
     by_euler: Counter[int] = collections.Counter()
     surfaces = linking = greatest = 0
     for part in _described(t, coords, _read_numbers, Clock(timeout), reported(program, progress)):
