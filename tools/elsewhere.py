@@ -31,7 +31,7 @@ def page(made: packages.Made) -> List[Named]:
             (wasm.NAME, module)]
 
 
-def told(made: packages.Made, name: str, files: Dict[str, bytes]) -> str:
+def version_lines(made: packages.Made, name: str, files: Dict[str, bytes]) -> str:
     """The lines of the file `version` in a wheel for another system: those of the build but for its files."""
     lines = [line for line in made.told.splitlines() if line.split(" ")[0] not in made.files]
     lines += [f"system {name}", *(f"file {file} {sum_of(data)}" for file, data in files.items())]
@@ -42,7 +42,7 @@ def wheel(made: packages.Made, name: str, files: Dict[str, bytes]) -> Named:
     """The wheel of a system: the package, with library and program where it looks for them."""
     system, place = native.SYSTEMS[name], f"{PROGRAM}-{made.version}.data"
     packed = packages.modules()
-    for path, content in packages.shared(packages.Made(made.version, {}, told(made, name, files), made.manifest)).items():
+    for path, content in packages.shared(packages.Made(made.version, {}, version_lines(made, name, files), made.manifest)).items():
         is_launcher = path == f"bin/{PROGRAM}"
         if not (is_launcher and name.startswith("windows")):
             packed[f"{place}/scripts/{PROGRAM}" if is_launcher else f"{place}/data/{path}"] = content
@@ -57,16 +57,16 @@ def wheels(made: packages.Made, kit: Path) -> List[Named]:
     if "module" not in made.files:
         print(f"{PROGRAM}: the release lacks wheels for other systems, since the build kept no module", file=sys.stderr)
         return []
-    found = []
+    wheels_made = []
     with tempfile.TemporaryDirectory() as folder:
         module = Path(folder, "module.bc")
         module.write_bytes(made.files["module"])
         for name in native.SYSTEMS:
             try:
-                found += [wheel(made, name, files) for _, files in native.build_all(kit, module, [name])]
+                wheels_made += [wheel(made, name, files) for _, files in native.build_all(kit, module, [name])]
             except NotCompiled as fault:
                 print(f"{PROGRAM}: the release lacks a wheel for {name}: {fault}", file=sys.stderr)
-    return found
+    return wheels_made
 
 
 def files(made: packages.Made, kit: Path) -> List[Named]:

@@ -61,12 +61,12 @@ def linked_by_gcc(system: System, module: Path, folder: Path, windows_memory: Op
     for name in C_FILES:
         run([system.compiler, *FLAGS, *([] if windows_memory else ["-fPIC"]), "-c", str(SOURCES / f"{name}.c"), "-o", f"{name}.o"], folder)
     if windows_memory:
-        names, found = [str(SOURCES / "windows" / f"{PROGRAM}.def"), "-static-libgcc"], []
+        names, search = [str(SOURCES / "windows" / f"{PROGRAM}.def"), "-static-libgcc"], []
     else:
         names = [f"-Wl,--version-script={SOURCES}/exports.map", f"-Wl,-soname,{system.library}", "-Wl,-z,relro", "-Wl,-z,now"]
-        found = ["-Wl,-rpath,$ORIGIN"]
+        search = ["-Wl,-rpath,$ORIGIN"]
     run([system.compiler, "-shared", "-o", system.library, *(f"{name}.o" for name in C_FILES), *objects, *names, *LINKED], folder)
-    run([system.compiler, *FLAGS, "-o", system.program, str(SOURCES / "program.c"), system.library, *found, *LINKED,
+    run([system.compiler, *FLAGS, "-o", system.program, str(SOURCES / "program.c"), system.library, *search, *LINKED,
          *(["-static-libgcc"] if windows_memory else [])], folder)
 
 

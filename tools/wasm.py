@@ -66,12 +66,12 @@ def without_table(data: bytes) -> bytes:
 def names_in(content: bytes) -> List[str]:
     """The names in the content of an export section."""
     count, at = number_at(content, 0)
-    found = []
+    names = []
     for _ in range(count):
         length, at = number_at(content, at)
-        found.append(content[at:at + length].decode("utf8"))
+        names.append(content[at:at + length].decode("utf8"))
         _, at = number_at(content, at + length + 1)
-    return found
+    return names
 
 
 def check(data: bytes) -> None:

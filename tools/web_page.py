@@ -30,10 +30,10 @@ POLICY = ("default-src 'none'; script-src '{script}' 'wasm-unsafe-eval'; worker-
 
 def examples(table: str) -> Dict[str, Dict[str, str]]:
     """The examples of the commands, by the names of their files."""
-    found: Dict[str, Dict[str, str]] = {}
+    examples_by_name: Dict[str, Dict[str, str]] = {}
     for command, name in re.findall(r"\./trinorm (\S+) < examples/(\S+)\.txt", table):
-        found.setdefault(name, {"command": command, "text": (TOP / "examples" / f"{name}.txt").read_text("utf8")})
-    return found
+        examples_by_name.setdefault(name, {"command": command, "text": (TOP / "examples" / f"{name}.txt").read_text("utf8")})
+    return examples_by_name
 
 
 def data_files() -> Dict[str, str]:

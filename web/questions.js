@@ -32,18 +32,18 @@ async function ask_about(ask, table, lines, coordinates) {
  * out, and the others are asked for again.
  */
 export async function described(ask, input, lines, coordinates) {
-    const table = first_table(input), found = new Array(lines.length);
+    const table = first_table(input), surfaces = new Array(lines.length);
     let left = lines.map((line, place) => ({line, place}));
     while (left.length) {
         const {status, text} = await ask_about(ask, table, left.map(({line}) => line), coordinates);
         const refused = status === 0 ? null : refused_vector(text);
-        if (status === 0) read_descriptions(text).forEach((surface, number) => { found[left[number].place] = surface; });
-        else if (!refused) left.forEach(({place}) => { found[place] = {why: text.replace(/^refused: /, '').trim() || 'out of memory'}; });
+        if (status === 0) read_descriptions(text).forEach((surface, number) => { surfaces[left[number].place] = surface; });
+        else if (!refused) left.forEach(({place}) => { surfaces[place] = {why: text.replace(/^refused: /, '').trim() || 'out of memory'}; });
         if (!refused) break;
-        found[left[refused.index].place] = {why: reason(refused.why)};
+        surfaces[left[refused.index].place] = {why: reason(refused.why)};
         left = left.filter((_, number) => number !== refused.index);
     }
-    return found;
+    return surfaces;
 }
 
 const is_contrary = (surface) => surface.euler > 0 && !surface.linking;

@@ -107,10 +107,10 @@ export const SHAPES = {standard: [4, 3], quad: [0, 3], octagon: [4, 3, 3]};
 
 /** The entries of a vector by tetrahedron, and there by triangles, quads and octagons. */
 export function by_tetrahedron(entries, coordinates) {
-    const counts = SHAPES[coordinates], width = counts.reduce((sum, count) => sum + count, 0), found = [];
+    const counts = SHAPES[coordinates], width = counts.reduce((sum, count) => sum + count, 0), tetrahedra = [];
     for (let at = 0; at < entries.length; at += width) {
         let from = at;
-        found.push(counts.map((count) => entries.slice(from, from += count)));
+        tetrahedra.push(counts.map((count) => entries.slice(from, from += count)));
     }
-    return found;
+    return tetrahedra;
 }

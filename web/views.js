@@ -167,8 +167,8 @@ function topology_of({facts}) {
 /** The verdict on 0-efficiency. */
 export function efficiency_view({info, count, contrary}, discs) {
     const verdict = contrary ? `Not 0-efficient by its numbers: surface ${contrary.index} is a ${name_of(contrary)} and no vertex link.` : '0-efficient by its numbers.';
-    const found = `${count} vertex normal surface${count === 1 ? '' : 's'} in standard coordinates; ${contrary ? 'this one has positive Euler characteristic.' : 'each one of positive Euler characteristic is a vertex link.'}`;
-    const parts = [make('p', {className: 'verdict'}, verdict), make('p', {}, found), make('p', {}, LAW, topology_of(info))];
+    const about = `${count} vertex normal surface${count === 1 ? '' : 's'} in standard coordinates; ${contrary ? 'this one has positive Euler characteristic.' : 'each one of positive Euler characteristic is a vertex link.'}`;
+    const parts = [make('p', {className: 'verdict'}, verdict), make('p', {}, about), make('p', {}, LAW, topology_of(info))];
     if (contrary) parts.push(surface_picture(discs, entries_of(contrary.line), 'standard', `Surface ${contrary.index}: ${name_of(contrary)}`));
     return parts;
 }
