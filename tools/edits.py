@@ -1,7 +1,7 @@
 #!/usr/bin/env python3
 """Looks at the edits that the prover must refuse, `crates/*/must-fail/*.edit`.
 
-    tools/edits.py [--counts] [--must-fail] [LOG]
+    tools/edits.py [--counts] [--must-fail] [--notes] [LOG]
 
 Without LOG it checks in seconds that each edit has whole pairs `old:` and `new:`, that each text `old:` occurs once in its
 file, that the edit changes code and no contract and no definition, that the edited file parses, and that each wrong body of
@@ -11,7 +11,8 @@ LOG is the output of `rt ci` (a file, or - for standard input). Each edit needs 
 its contract. Named are also edits that could not be compiled or read (BAD EDIT), that were not tried (NOT TRIED), that are
 still proved (NOT REFUSED), that are refused only because a proof file names what the edit took away, and that are refused
 only by a limit of the prover. The last line has to say that nothing failed. `rt must-fail` prints no such line: --must-fail
-says that LOG is its output.
+says that LOG is its output. With --notes the last two kinds are printed as notes and are not counted: the prover has refused
+these edits, and which of its reasons a log has is not the same in each run.
 
 The exit status is 1 if something is named, and 0 otherwise.
 """
@@ -32,7 +33,8 @@ from repository import TOP
 
 REFUSED = "refused, as it must be"
 # what `rt` says of an edit that shows nothing of the contracts
-SHOWS_NOTHING = ("BAD EDIT", "NOT TRIED", "NOT REFUSED", "only because a proof file names", "only by a limit of the prover")
+SHOWS_LITTLE = ("only because a proof file names", "only by a limit of the prover")
+SHOWS_NOTHING = ("BAD EDIT", "NOT TRIED", "NOT REFUSED", *SHOWS_LITTLE)
 LABEL = re.compile(r"^(?:rt: )?must-fail ([\w-]+/[\w.-]+)\.edit: (.*)")
 LAST = re.compile(r"[1-9]\d* passed, 0 failed")
 # how a line begins that belongs to a contract, to a definition, or to what the prover is asked
@@ -222,6 +224,7 @@ def main() -> int:
     parser.add_argument("log", nargs="?", help="the output of rt ci; - for standard input")
     parser.add_argument("--must-fail", action="store_true", help="the log is of rt must-fail, which prints no last line")
     parser.add_argument("--counts", action="store_true", help="print how many edits each crate has")
+    parser.add_argument("--notes", action="store_true", help="do not count edits that were refused for a reason that shows little")
     words = parser.parse_args()
     edits, formatter = edits_of(TOP), formatter_of_kit()
     if words.counts:
@@ -232,6 +235,11 @@ def main() -> int:
     found = [*unapplied(TOP, edits, formatter), *without_edit(TOP, edits)]
     if words.log is not None:
         found += not_shown(read_log(words.log), edits, not words.must_fail)
+    if words.notes:
+        notes = [line for line in found if REFUSED in line and any(why in line for why in SHOWS_LITTLE)]
+        found = [line for line in found if line not in notes]
+        for line in notes:
+            print(f"note: {line}")
     for line in found:
         print(line)
     print(f"{len(edits)} edits; {len(found)} of which something is to be mended")

@@ -141,6 +141,11 @@ def note_of(wrote: str) -> str:
     return (f", {ran[1]} tests" if ran else "") + (f", {skipped[1]} of them skipped" if skipped else "")
 
 
+def notes_of(wrote: str) -> str:
+    """The lines of what a part wrote that are notes."""
+    return "".join(f"{line}\n" for line in wrote.splitlines() if line.startswith("note: "))
+
+
 def say(text: str) -> None:
     """Prints a line at once."""
     print(f"test: {text}", flush=True)
@@ -149,8 +154,9 @@ def say(text: str) -> None:
 class Tests:
     """A run of the tests: the parts that are asked for, and those that failed."""
 
-    def __init__(self, only: Sequence[str]) -> None:
+    def __init__(self, only: Sequence[str], again: bool = False) -> None:
         self.only = only
+        self.again = again
         self.failed: List[str] = []
 
     def is_asked(self, name: str) -> bool:
@@ -174,8 +180,13 @@ class Tests:
                 continue
             begun = time.monotonic()
             result = run(part)
+            if not result.passed and self.again:
+                say(f"{part.name}: failed, and is run once more")
+                print(result.wrote.rstrip(), flush=True)
+                result = run(part)
             if result.passed:
                 say(f"{part.name}: ok{result.note}, {time.monotonic() - begun:.0f} s")
+                print(notes_of(result.wrote), end="", flush=True)
             else:
                 self.fail(part.name, result.wrote)
 
@@ -193,7 +204,7 @@ class Tests:
                 self.fail("gate", f"rt ci ended with status {status}")
                 return False
             say(f"gate: ok, {time.monotonic() - begun:.0f} s")
-            self.run_all([Part("edits refused", python("tools/edits.py", str(log)))])
+            self.run_all([Part("edits refused", python("tools/edits.py", "--notes", str(log)))])
         return self.install(gate.install)
 
     def install(self, make: Callable[[], str]) -> bool:
@@ -218,8 +229,9 @@ def main() -> int:
     parser.add_argument("--only", metavar="PARTS", default="", help="the parts with these names, parted by commas")
     parser.add_argument("--without-gate", action="store_true", help="try what tools/build.py builds, and do not run rt ci")
     parser.add_argument("--quick", action="store_true", help="the checks before the gate alone")
+    parser.add_argument("--again", action="store_true", help="run a part that fails once more, and print what both runs wrote")
     given = parser.parse_args()
-    tests = Tests([name.strip() for name in given.only.split(",") if name.strip()])
+    tests = Tests([name.strip() for name in given.only.split(",") if name.strip()], given.again)
     known = [part.name for part in [*quick_parts(), *late_parts()]]
     unknown = [name for name in tests.only if name not in known]
     if unknown:

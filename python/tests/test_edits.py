@@ -147,6 +147,10 @@ class Logs(unittest.TestCase):
         whole = "".join(f"rt: must-fail {edit}.edit: refused, as it must be: x\n" for edit in edits.edits_of(REPOSITORY)) + "7 passed, 0 failed\n"
         done = subprocess.run([*tool, "-"], input=whole, capture_output=True, text=True, check=False)
         self.assertEqual(done.returncode, 0, done.stdout)
+        little = whole.replace(": x\n", " (only because a proof file names what the edit took away): x\n", 1)
+        for words, status in (([], 1), (["--notes"], 0)):
+            done = subprocess.run([*tool, *words, "-"], input=little, capture_output=True, text=True, check=False)
+            self.assertEqual((done.returncode, done.stdout.count("only because")), (status, 1), done.stdout)
 
 
 if __name__ == "__main__":

@@ -39,8 +39,8 @@ except NotBuilt as fault:
 
 
 class Parts(unittest.TestCase):
-    def printed(self, parts, only=()):
-        tests, out = tool.Tests(list(only)), io.StringIO()
+    def printed(self, parts, only=(), again=False):
+        tests, out = tool.Tests(list(only), again), io.StringIO()
         with contextlib.redirect_stdout(out):
             tests.run_all(parts)
             status = tests.report()
@@ -51,6 +51,16 @@ class Parts(unittest.TestCase):
         self.assertEqual(self.printed([good]), (0, ["test: good: ok, N s", "test: all passed"]))
         self.assertEqual(self.printed([bad, good]), (1, ["test: bad: FAILED", "out", "err", "test: good: ok, N s", "test: FAILED: bad"]))
         self.assertEqual(self.printed([bad, good], ["good"])[0], 0)
+
+    def test_a_second_run(self):
+        """It is asked for, prints what the first one wrote, and fails if it fails too."""
+        bad = tool.Part("bad", ["sh", "-c", "echo out; exit 3"])
+        first = ["test: bad: failed, and is run once more", "out"]
+        self.assertEqual(self.printed([bad], again=True), (1, [*first, "test: bad: FAILED", "out", "test: FAILED: bad"]))
+        with tempfile.TemporaryDirectory() as folder:
+            mends = tool.Part("bad", ["sh", "-c", f"cat '{folder}/mark' || {{ echo note: x >'{folder}/mark'; echo out; exit 3; }} 2>&1"])
+            status, lines = self.printed([mends], again=True)
+        self.assertEqual((status, lines[0], lines[-3:]), (0, first[0], ["test: bad: ok, N s", "note: x", "test: all passed"]))
 
     def test_what_is_not_there_is_left_out(self):
         parts = [tool.Part("one", ["false"], needs="no-such-command"), tool.Part("two", ["false"], needs="/no/such/file")]
