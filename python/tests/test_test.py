@@ -162,7 +162,7 @@ class Gate(unittest.TestCase):
 
     def test_the_script_of_the_merge_gate(self):
         self.assertTrue(os.access(REPOSITORY / ".ci" / "run", os.X_OK))
-        self.assertIn("\nexec python3 tools/test.py\n", (REPOSITORY / ".ci" / "run").read_text())
+        self.assertIn("\nexec python3 tools/test.py --again\n", (REPOSITORY / ".ci" / "run").read_text())
 
 
 if __name__ == "__main__":
