@@ -9,8 +9,8 @@ ghost use Rattle.move_link_laws.specs.Certified.{CertifiedHaveValidEdges, Certif
 ghost use Rattle.move_link_laws.specs.ClosedEuler.{ClosedCharacteristicsAreOfLinks, ClosedManifoldsHaveCharacteristicZero};
 ghost use Rattle.move_link_laws.specs.Manifolds.{CertifiedHaveManifoldNumbers, AcceptedHaveManifoldNumbers};
 
-/// A move leads to a table with valid edges exactly from tables with valid edges, and leaves the number of invalid edge
-/// classes.
+/// Theorem: a move's result has valid edges if and only if the table that is moved has, and a move keeps the number of
+/// invalid edge classes.
 pub fn moves_keep_valid()
     ensures moves { MovesKeepValid }
     ensures plays { PlaysKeepValid }

@@ -12,11 +12,11 @@ use Rattle.outcome_definitions.specs.Outcomes.{Outcome}
 use Rattle.surface_agreement_laws.specs.VertexSurfaces.{in_octagons, has_no_octagon}
 use Rattle.outcome_answer_laws.specs.Requests.{IsOutcomeTo}
 
--- the text behind what is written for the table is read as the table and this list
+-- the text after that of the table is read as the table and this list
 abbrev pub IsListText : List Row → List ℕ → List (List ℕ) → Type 0
 IsListText rows text list = vectors_document (table_text rows ++ text) ≡ Ok (rows, list)
 
--- each vector of the one text stands in the other
+-- each vector of the first text is in the second
 pub record AreAmong (rows : List Row) (text other : List ℕ) : Type 0 where
   pub vectors : List (List ℕ)
   pub read : IsListText rows text vectors
@@ -24,7 +24,7 @@ pub record AreAmong (rows : List Row) (text other : List ℕ) : Type 0 where
   pub list_read : IsListText rows other list
   pub among : All (Contains list) vectors
 
--- so do the lifts that `lift` answers of the quad list, where it answers them, in the standard list
+-- the lifts that `lift` prints for the quad list, if it is done, are in the standard list
 abbrev pub LiftedListsAreListed : Type 0
 LiftedListsAreListed =
     (words lifting asked : List (List ℕ)) (bytes more : List ℕ) (quads lifts standard : Outcome) (order other : Order) (most greatest : ℕ) (rows : List Row)

@@ -1,4 +1,4 @@
-//! What the lists that `surfaces` answers tell of a table, stated over the outcomes of the commands: whether it is
+//! What the lists that `surfaces` prints say about a table, stated over the outcomes of the commands: whether it is
 //! 0-efficient by its numbers, and that the lists of all coordinates agree. The functions here have no code: their
 //! contracts are laws over the definitions.
 #![tactic(auto)]
@@ -28,7 +28,8 @@ pub fn described_octagons_decide_spheres()
     ensures { DescribedOctagonsDecide }
 {}
 
-/// What `lift` answers of what `surfaces` listed in quad coordinates stands in what it lists in standard ones.
+/// Theorem: if `surfaces` is done in quad and in standard coordinates, and `lift` with the quad list, each vector that
+/// `lift` prints is in the standard list.
 pub fn lifted_lists_are_listed()
     ensures { LiftedListsAreListed }
 {}
