@@ -26,21 +26,24 @@ pub fn moves_keep_links()
     ensures put_in { PutInAreSpheres }
 {}
 
-/// Twice the Euler characteristic of a closed table without invalid edges is what the vertex links have less than 2, in
-/// all. So it is at least 0, and 0 exactly where each link has Euler characteristic 2, as a sphere has.
+/// Theorem: for a closed table without invalid edges, twice its Euler characteristic is the sum over its vertex links
+/// of 2 minus their Euler characteristics. It is at least 0, and it is 0 if and only if each link has Euler
+/// characteristic 2, as a sphere has.
 pub fn closed_characteristics()
     ensures links { ClosedCharacteristicsAreOfLinks }
     ensures zero { ClosedManifoldsHaveCharacteristicZero }
 {}
 
-/// A table with a certificate has valid edges, its vertex links are spheres, and its Euler characteristic is 0.
+/// Theorem: a table with a certificate has valid edges, its vertex links are spheres, and it has Euler characteristic
+/// 0.
 pub fn certified_manifolds()
     ensures valid { CertifiedHaveValidEdges }
     ensures links { CertifiedHaveSphereLinks }
     ensures characteristic { CertifiedHaveCharacteristicZero }
 {}
 
-/// So it has the numbers of a connected, closed and orientable 3-manifold, and `check` accepts no table that hasn't.
+/// Theorem: a table with a certificate has the numbers of a connected, closed and orientable 3-manifold. So has each
+/// table that `check` accepts.
 pub fn accepted_manifolds()
     ensures certified { CertifiedHaveManifoldNumbers }
     ensures accepted { AcceptedHaveManifoldNumbers }

@@ -34,8 +34,7 @@ pub fn lifted_lists_are_listed()
     ensures { LiftedListsAreListed }
 {}
 
-/// What `surfaces` lists in standard coordinates is the part without octagons of what it lists in octagon ones, in the
-/// same order.
+/// Theorem: the standard list of `surfaces` is the part without octagons of its octagon list, in the same order.
 pub fn octagon_lists_have_standard()
     ensures { OctagonListsHaveStandard }
 {}

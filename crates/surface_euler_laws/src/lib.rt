@@ -5,18 +5,18 @@
 ghost use Rattle.surface_euler_laws.specs.Laws.{SurfacesHaveAtMostTwoEach, ConnectedHaveAtMostTwo, ComponentsAreConnected, ComponentsHaveAtMostTwo, VertexSurfacesHaveAtMostTwo, LinksHaveAtMostTwo, PositiveIsOneOrTwo, OctagonalSphereNumbersAreOneAndTwo, AlmostNormalSphereIsListed};
 ghost use Rattle.surface_euler_laws.specs.Polygons.{PolygonsHaveAtMostTwo};
 
-/// Polygons that are glued along sides have Euler characteristic at most 2 for each part.
+/// Theorem: polygons that are glued along sides and have k components have Euler characteristic at most 2k.
 pub fn polygons_have_at_most_two()
     ensures { PolygonsHaveAtMostTwo }
 {}
 
-/// The vector of a component is a connected surface.
+/// Theorem: the vector of a component of a surface is a connected surface.
 pub fn components_are_connected()
     ensures { ComponentsAreConnected }
 {}
 
-/// Where no edge is invalid a surface has at most 2 for each component: a connected one at most 2, and so each
-/// component, each vertex surface and each vertex link.
+/// Theorem: if no edge is invalid, the Euler characteristic of a surface with k components is at most 2k. That of a
+/// connected surface, of a component, of a vertex surface and of a vertex link is at most 2.
 pub fn surfaces_have_at_most_two_each()
     ensures each { SurfacesHaveAtMostTwoEach }
     ensures connected { ConnectedHaveAtMostTwo }
