@@ -244,17 +244,30 @@ def sums_of(files: Dict[str, bytes]) -> Dict[str, str]:
     return {name: sum_of(data) for name, data in files.items()}
 
 
+def is_file_of(path: Path, file: IO[str]) -> bool:
+    """Whether an open file is the one of this path."""
+    try:
+        return os.path.samestat(os.fstat(file.fileno()), path.stat())
+    except OSError:
+        return False
+
+
 @contextmanager
 def held(path: Path, wait: str) -> Iterator[IO[str]]:
-    """Holds the lock of a file. Where another process has it this waits, and says so."""
+    """Holds the lock of a file. Where another process has it this waits, and says so. If the file was removed in the meantime,
+    its lock keeps nobody out, and that of the new file is taken."""
     path.parent.mkdir(parents=True, exist_ok=True)
-    with open(path, "w", encoding="utf8") as lock:
-        try:
-            fcntl.flock(lock, fcntl.LOCK_EX | fcntl.LOCK_NB)
-        except BlockingIOError:
-            say(wait)
-            fcntl.flock(lock, fcntl.LOCK_EX)
-        yield lock
+    is_held = False
+    while not is_held:
+        with open(path, "w", encoding="utf8") as lock:
+            try:
+                fcntl.flock(lock, fcntl.LOCK_EX | fcntl.LOCK_NB)
+            except BlockingIOError:
+                say(wait)
+                fcntl.flock(lock, fcntl.LOCK_EX)
+            is_held = is_file_of(path, lock)
+            if is_held:
+                yield lock
 
 
 def build_with(given: argparse.Namespace, kit: Kit) -> None:

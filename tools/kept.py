@@ -1,6 +1,7 @@
 """What is kept in the user's cache: finished programs, and proved libraries packed, each by the sum of all that it was made from."""
 from __future__ import annotations
 
+import fcntl
 import gzip
 import os
 import shutil
@@ -25,6 +26,16 @@ class Unusable(Exception):
 
 def last_used(path: Path) -> int:
     return path.stat().st_mtime_ns
+
+
+def drop_lock(path: Path) -> None:
+    """Removes a lock file, unless a build holds its lock."""
+    try:
+        with open(path, "r+", encoding="utf8") as lock:
+            fcntl.flock(lock, fcntl.LOCK_EX | fcntl.LOCK_NB)
+            path.unlink(missing_ok=True)
+    except OSError:
+        pass
 
 
 class Programs:
@@ -76,7 +87,7 @@ class Programs:
         kept = sorted((it for it in self.folder.iterdir() if it.is_dir()), key=last_used, reverse=True)
         for old in kept[MOST_PROGRAMS:]:
             shutil.rmtree(old, ignore_errors=True)
-            Path(f"{old}.lock").unlink(missing_ok=True)
+            drop_lock(Path(f"{old}.lock"))
 
 
 class Libraries:

@@ -1,9 +1,12 @@
 """The build, over a made-up repository and a kit that proves nothing: the right program, and nothing proved twice."""
+import contextlib
+import io
 import os
 import shutil
 import subprocess
 import sys
 import tempfile
+import threading
 import time
 import unittest
 from pathlib import Path
@@ -14,6 +17,35 @@ from trinorm.program import REPOSITORY
 ALL = sorted(set(CRATES) - {"beside"})
 EVERY = sorted(CRATES)
 ANSWER = "ground\nleft\nright\ntrinorm\n"
+
+
+sys.path.insert(0, str(REPOSITORY / "tools"))
+from build import held, is_file_of  # noqa: E402
+from kept import drop_lock  # noqa: E402
+
+
+class Locks(unittest.TestCase):
+    def test_a_file_that_is_removed_while_another_waits(self):
+        """Who waited holds the lock of the new file; a lock that is held is not removed, and one that is free is."""
+        with tempfile.TemporaryDirectory() as folder, contextlib.redirect_stderr(io.StringIO()), contextlib.redirect_stdout(io.StringIO()):
+            path, found = Path(folder, "lock"), []
+
+            def wait():
+                with held(path, "waiting") as lock:
+                    found.append(is_file_of(path, lock))
+
+            waiting = threading.Thread(target=wait)
+            with held(path, "nobody has it"):
+                drop_lock(path)
+                self.assertTrue(path.exists())
+                waiting.start()
+                time.sleep(0.3)
+                path.unlink()
+            waiting.join(60)
+            self.assertEqual(found, [True])
+            drop_lock(path)
+            self.assertFalse(path.exists())
+            drop_lock(path)
 
 
 class Build(unittest.TestCase):
