@@ -62,16 +62,15 @@ def page() -> str:
     return "\n".join([INTRODUCTION, *filter(None, map(section, names))])
 
 
-def main() -> int:
-    text = page()
-    if "--check" in sys.argv[1:]:
-        if not PAGE.exists() or PAGE.read_text("utf8") != text:
-            print("docs/LAWS.md is not what tools/laws.py writes")
-            return 1
-        return 0
-    PAGE.write_text(text, "utf8")
+def written(path: Path, text: str, is_checked: bool) -> int:
+    """Writes a page, or with `is_checked` compares it with its text. Returns the exit status: 1 if they differ."""
+    if not is_checked:
+        path.write_text(text, "utf8")
+    elif not path.exists() or path.read_text("utf8") != text:
+        print(f"{path.relative_to(TOP)} is not what {Path(sys.argv[0]).name} writes")
+        return 1
     return 0
 
 
 if __name__ == "__main__":
-    sys.exit(main())
+    sys.exit(written(PAGE, page(), "--check" in sys.argv[1:]))

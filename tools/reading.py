@@ -15,6 +15,7 @@ import sys
 from pathlib import Path
 from typing import Dict, Iterator, List, NamedTuple, Set, Tuple
 
+from laws import written
 from repository import TOP
 
 PAGE = TOP / "docs" / "READING.md"
@@ -240,16 +241,5 @@ This page is written by `tools/reading.py` from the sources: the clause of `run`
 In words: if the command line asks for `surfaces` in the coordinates `coords`, the source reports its bytes, these are at most 1,048,576 and spell the gluing table `rows`, then the answer is the list below (`ListsSurfaces`), or the first number of a stated elimination step above the limit `most`, or the run ended with a failed source, a failed sink or without memory (`crates/workbench/specs/Prints.antt`)."""
 
 
-def main() -> int:
-    text = page()
-    if "--check" in sys.argv[1:]:
-        if not PAGE.exists() or PAGE.read_text("utf8") != text:
-            print("docs/READING.md is not what tools/reading.py writes")
-            return 1
-        return 0
-    PAGE.write_text(text, "utf8")
-    return 0
-
-
 if __name__ == "__main__":
-    sys.exit(main())
+    sys.exit(written(PAGE, page(), "--check" in sys.argv[1:]))
