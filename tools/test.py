@@ -30,7 +30,7 @@ from repository import TOP  # noqa: E402
 PYTHON = TOP / "python"
 # the tests of python/tests that are of tools, launcher and library; all others are of the package
 TESTS = {
-    "tools": ("test_build", "test_edits", "test_floors", "test_language", "test_links", "test_release", "test_test", "test_twice"),
+    "tools": ("test_build", "test_edits", "test_floors", "test_language", "test_links", "test_prose", "test_release", "test_test", "test_twice"),
     "launcher": ("test_launcher",),
     "library": ("test_c_library", "test_installing", "test_library", "test_server"),
     "rust": ("test_rust",),
@@ -77,6 +77,7 @@ def quick_parts() -> List[Part]:
         Part("page of laws", python("tools/laws.py", "--check")),
         Part("page to read", python("tools/reading.py", "--check")),
         Part("links of pages", python("tools/links.py")),
+        Part("sentences of pages", python("tools/prose.py", "--check")),
         Part("comments", python("tools/language.py", "--check")),
     ]
 
