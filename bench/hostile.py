@@ -189,7 +189,8 @@ def described(program: str, words: Words, text: bytes, answer: bytes) -> None:
 
 
 def presented(program: str, words: Words, text: bytes, answer: bytes) -> None:
-    match = re.fullmatch(rb"generators (\d+)\n((?:generator \d+ face \d+ turns (?:yes|no)\n)*)relators (\d+)\n((?:relator \d+(?: -?\d+)*\n)*)", answer)
+    match = re.fullmatch(rb"generators (\d+)\n((?:generator \d+ face \d+ turns (?:yes|no)\n)*)"
+                         rb"relators (\d+)\n((?:relator \d+(?: -?\d+)*\n)*)", answer)
     if not match or int(match[1]) != match[2].count(b"\n") or int(match[3]) != match[4].count(b"\n"):
         raise Wrong(f"no presentation: {answer[:200]!r}")
 

@@ -49,16 +49,19 @@ def picture(series: Series) -> str:
     parts = [f'<svg xmlns="http://www.w3.org/2000/svg" width="{WIDE}" height="{HIGH}" font-family="sans-serif" font-size="13">']
     for power in range(least, most + 1):
         _, y = place(first, 10 ** power, first, last, least, most)
-        parts.append(f'<line x1="{LEFT}" x2="{WIDE - 20}" y1="{y:.0f}" y2="{y:.0f}" stroke="#ddd"/><text x="{LEFT - 8}" y="{y + 4:.0f}" text-anchor="end">{10 ** power:g} s</text>')
+        parts.append(f'<line x1="{LEFT}" x2="{WIDE - 20}" y1="{y:.0f}" y2="{y:.0f}" stroke="#ddd"/>'
+                     f'<text x="{LEFT - 8}" y="{y + 4:.0f}" text-anchor="end">{10 ** power:g} s</text>')
     for at in range(math.ceil(first), math.floor(last) + 1):
         x, _ = place(at, 10 ** least, first, last, least, most)
         parts.append(f'<text x="{x:.0f}" y="{HIGH - BELOW + 18}" text-anchor="middle">{at}</text>')
-    parts.append(f'<text x="{(LEFT + WIDE) / 2:.0f}" y="{HIGH - 12}" text-anchor="middle">tetrahedra (closed tables, and ideal ones a little to the right)</text>')
+    parts.append(f'<text x="{(LEFT + WIDE) / 2:.0f}" y="{HIGH - 12}" text-anchor="middle">'
+                 'tetrahedra (closed tables, and ideal ones a little to the right)</text>')
     for number, (name, them) in enumerate(series.items()):
         for at, seconds in them:
             x, y = place(at, seconds, first, last, least, most)
             parts.append(f'<circle cx="{x:.1f}" cy="{y:.1f}" r="4.5" fill="{COLOURS[name]}"/>')
-        parts.append(f'<circle cx="{LEFT + 20}" cy="{30 + 22 * number}" r="4.5" fill="{COLOURS[name]}"/><text x="{LEFT + 32}" y="{34 + 22 * number}">{name}</text>')
+        parts.append(f'<circle cx="{LEFT + 20}" cy="{30 + 22 * number}" r="4.5" fill="{COLOURS[name]}"/>'
+                     f'<text x="{LEFT + 32}" y="{34 + 22 * number}">{name}</text>')
     return "\n".join(parts + ["</svg>"]) + "\n"
 
 

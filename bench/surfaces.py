@@ -10,7 +10,7 @@ longer than the cut is ended, and counts as the cut.
 """
 import argparse
 import math
-from typing import Iterator, List, Optional, Tuple
+from typing import Iterator, List, Optional, Sequence, Tuple
 
 from common import ENDED, layered_loop, regina_python, regina_says, run
 from tables import BOUNDARY, CLOSED, HYPERBOLIC, IDEAL, LARGE, SLOW
@@ -125,38 +125,51 @@ def words() -> argparse.Namespace:
     return asked.parse_args()
 
 
-def main() -> None:
-    told = words()
-    chosen = told.families.split(",")
-    bench = Bench(find(told.program), told.best, told.cut)
-    names = {"default": "standard, Regina's default", "straight": "standard, Regina's straight way", "twenty": "20, Regina's default",
+class Families:
+    """The families that were chosen: each is compared with its peers, and its ratios are kept."""
+
+    NAMES = {"default": "standard, Regina's default", "straight": "standard, Regina's straight way", "twenty": "20, Regina's default",
              "quad": "quad, Regina's default", "octagon": "octagon, Regina's default", "decompose": "decompose, the list",
              "large": "over 50,000 surfaces, Regina's default"}
-    ratios = {key: Ratios(name) for key, name in names.items()}
-    peers = [(ratios["default"], DEFAULT)] + ([(ratios["straight"], STRAIGHT)] if told.straight else [])
-    for family, name, text in tables(12, 18):
-        if family in chosen:
-            bench.compare(name, text, "standard", peers)
-    for family, name, text in tables(20, 20):
-        if "twenty" in chosen and family != "loop":
-            bench.compare(name, text, "standard", [(ratios["twenty"], DEFAULT)])
-    for family, name, text in tables(14, 18):
-        if "quad" in chosen:
-            bench.compare(f"{name}, quad", text, "quad", [(ratios["quad"], DEFAULT)])
-    for family, name, text in tables(9, 12):
-        if "octagon" in chosen:
-            bench.compare(f"{name}, octagon", text, "octagon", [(ratios["octagon"], DEFAULT)])
-    for family, name, text in tables(12, 16):
-        if "decompose" in chosen:
-            bench.decompose(name, text, ratios["decompose"])
-    for count, text in SLOW.items():
-        if "slow" in chosen:
-            bench.compare(f"{count} numbered badly", text, "standard", [])
-    for count, signature in LARGE.items():
-        if "large" in chosen:
-            bench.compare(f"{count} large", f"sig {signature}\n", "standard", [(ratios["large"], DEFAULT)])
-    for them in ratios.values():
-        them.tell()
+
+    def __init__(self, bench: "Bench", chosen: Sequence[str], straight: bool) -> None:
+        self.bench, self.chosen = bench, chosen
+        self.ratios = {key: Ratios(name) for key, name in self.NAMES.items()}
+        self.peers = [(self.ratios["default"], DEFAULT)] + ([(self.ratios["straight"], STRAIGHT)] if straight else [])
+
+    def standard(self) -> None:
+        """Lists in standard coordinates, by family and by size."""
+        for family, name, text in tables(12, 18):
+            if family in self.chosen:
+                self.bench.compare(name, text, "standard", self.peers)
+        for family, name, text in tables(20, 20) if "twenty" in self.chosen else ():
+            if family != "loop":
+                self.bench.compare(name, text, "standard", [(self.ratios["twenty"], DEFAULT)])
+
+    def other_coordinates(self) -> None:
+        """Lists in quad and in octagon coordinates."""
+        for coords, least, most in (("quad", 14, 18), ("octagon", 9, 12)):
+            for _, name, text in tables(least, most) if coords in self.chosen else ():
+                self.bench.compare(f"{name}, {coords}", text, coords, [(self.ratios[coords], DEFAULT)])
+
+    def others(self) -> None:
+        """Sums, tables that are numbered badly, and lists of over 50,000 surfaces."""
+        for _, name, text in tables(12, 16) if "decompose" in self.chosen else ():
+            self.bench.decompose(name, text, self.ratios["decompose"])
+        for count, text in SLOW.items() if "slow" in self.chosen else ():
+            self.bench.compare(f"{count} numbered badly", text, "standard", [])
+        for count, signature in LARGE.items() if "large" in self.chosen else ():
+            self.bench.compare(f"{count} large", f"sig {signature}\n", "standard", [(self.ratios["large"], DEFAULT)])
+
+
+def main() -> None:
+    given = words()
+    families = Families(Bench(find(given.program), given.best, given.cut), given.families.split(","), given.straight)
+    families.standard()
+    families.other_coordinates()
+    families.others()
+    for ratios in families.ratios.values():
+        ratios.tell()
 
 
 if __name__ == "__main__":

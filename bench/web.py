@@ -49,7 +49,10 @@ BROWSER = """
 const module = await WebAssembly.compile(await (await fetch('trinorm.wasm')).arrayBuffer());
 const worker = new Worker('worker.js', {type: 'module'});
 const input = new TextEncoder().encode(TEXT);
-const ask = () => new Promise((done) => { worker.onmessage = ({data}) => done(data.status); worker.postMessage({module, words: WORDS, input, limit: 0}); });
+const ask = () => new Promise((done) => {
+  worker.onmessage = ({data}) => done(data.status);
+  worker.postMessage({module, words: WORDS, input, limit: 0});
+});
 globalThis.ask_once = ask;
 for (let n = 0; n < TIMES; n++) await ask();
 return 0;
@@ -94,6 +97,7 @@ def children():
 def spent_below(process):
     """Processor seconds of a process and all below it."""
     parents, spent = children()
+
     def is_below(one):
         while one and one != process:
             one = parents.get(one)

@@ -6,7 +6,6 @@ libraries of earlier checks stood has these back after the run, so there `tools/
 """
 from __future__ import annotations
 
-import os
 import shutil
 import subprocess
 import sys

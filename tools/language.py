@@ -91,7 +91,8 @@ def parameters_of(head: str) -> List[str]:
 
 def error_of(head: str) -> str:
     """The type of a function's error, or "" if it returns none or can only run out of memory."""
-    result = re.match(r"\s*->\s*Result<([^{]*?)>\s*(?:\{|requires\b|ensures\b|where\b)", head[end_of_block(head, head.index("(", head.index("fn "))):])
+    after = head[end_of_block(head, head.index("(", head.index("fn "))):]
+    result = re.match(r"\s*->\s*Result<([^{]*?)>\s*(?:\{|requires\b|ensures\b|where\b)", after)
     error = result[1].rpartition(", ")[2].strip() if result else ""
     return "" if error in OF_MEMORY else error
 

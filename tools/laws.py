@@ -18,7 +18,10 @@ LAW = re.compile(r"((?:^///[^\n]*\n)+)pub fn (\w+)\(\)\n((?:    [^\n]*\n|\n)+?)\
 
 INTRODUCTION = """# Laws
 
-This page is written by `tools/laws.py` from the doc comments of the law functions. Each function has an empty body, and its contract is the theorem: the statements named in the last column, which are defined in `specs/` of its crate. The file of a crate is `crates/CRATE/src/lib.rt`. The definitions are in [DEFINITIONS.md](DEFINITIONS.md), what follows for the program in [CLAIMS.md](CLAIMS.md).
+This page is written by `tools/laws.py` from the doc comments of the law functions. Each function has an empty body, and its \
+contract is the theorem: the statements named in the last column, which are defined in `specs/` of its crate. The file of a \
+crate is `crates/CRATE/src/lib.rt`. The definitions are in [DEFINITIONS.md](DEFINITIONS.md), what follows for the program in \
+[CLAIMS.md](CLAIMS.md).
 """
 
 
@@ -32,7 +35,7 @@ class Law(NamedTuple):
 
 def comment(lines: str, mark: str) -> str:
     """The text of comment lines that begin with `mark`."""
-    return " ".join(line[len(mark) :].strip() for line in lines.strip().split("\n")).strip()
+    return " ".join(line[len(mark):].strip() for line in lines.strip().split("\n")).strip()
 
 
 def laws_of(text: str) -> Iterator[Law]:

@@ -29,8 +29,8 @@ LINKED = ["-s", "-Wl,--gc-sections", "-Wl,--build-id=none"]
 class System(NamedTuple):
     """A system for which a library and a program are made.
 
-    tag: of its wheel, with a place for the N of glibc 2.N; library, program: the names of its files; compiler: the command that must be there; package: of
-    Debian, with that compiler
+    tag: of its wheel, with a place for the N of glibc 2.N; library, program: the names of its files; compiler: the command
+    that is needed; package: Debian's, with that compiler
     """
 
     tag: str

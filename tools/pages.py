@@ -40,7 +40,8 @@ def synopsis(command: Command) -> str:
 
 def entry(command: Command) -> List[str]:
     lines = [".TP", synopsis(command), roff(f"Prints {command.answers}. Reads {DOCUMENTS[command.document]}.")]
-    numbers = [roff(f"--{option.name} is a number from {option.numbers[0]} to {option.numbers[1]}.") for option in command.options if not option.values]
+    numbers = [roff(f"--{option.name} is a number from {option.numbers[0]} to {option.numbers[1]}.")
+               for option in command.options if not option.values]
     return lines + numbers
 
 
@@ -57,8 +58,8 @@ def manual(commands: Sequence[Command], version: str, day: str) -> str:
     for command in commands:
         lines += entry(command)
     lines += [
-        ".SH OPTIONS", r"Each at most once, in any order, as \fB\-\-\fIname value\fR or \fB\-\-\fIname\fR=\fIvalue\fR. Of several values the first is taken where none is given,",
-        "and of numbers the greatest; options without brackets have to be given.", ".SH EXIT STATUS",
+        ".SH OPTIONS", r"Each at most once, in any order, as \fB\-\-\fIname value\fR or \fB\-\-\fIname\fR=\fIvalue\fR.",
+        "The default is the first of several values, and the greatest number. Options without brackets are required.", ".SH EXIT STATUS",
     ]
     for status, meaning in STATUSES:
         lines += [".TP", rf"\fB{status}\fR", roff(meaning)]

@@ -12,7 +12,6 @@ from __future__ import annotations
 
 import re
 import sys
-from pathlib import Path
 from typing import Dict, Iterator, List, NamedTuple, Set, Tuple
 
 from laws import written
@@ -50,7 +49,8 @@ ORDINARY = {
     "position_or_len": "`position_or_len p xs`: the index of the first member with `p x` true, or the length of `xs`",
     "list_all": "`list_all p xs`: whether `p` is true of each member",
     "list_any": "`list_any p xs`: whether `p` is true of some member",
-    "ℕ": "`ℕ`: the natural numbers, 0 among them, without a bound; `zero` is 0, `suc n` is n + 1, `-` is subtraction that ends at 0, `/` and `%` are quotient and remainder",
+    "ℕ": "`ℕ`: the natural numbers, 0 among them, without a bound; `zero` is 0, `suc n` is n + 1, `-` is subtraction that ends at 0, "
+         "`/` and `%` are quotient and remainder",
     "ℤ": "`ℤ`: the integers; `pos n` is n, `negsuc n` is -(n + 1)",
     "nat_lt": "`nat_lt m n`: whether m < n; `nat_le m n`: whether m ≤ n",
     "reverse": "`reverse xs`: the members of `xs` in the opposite order",
@@ -66,7 +66,8 @@ SIGNS = {
     "⊥": "`⊥`: what is false; `P → ⊥` and `¬ P`: not P",
     "↔": "`P ↔ Q`: P if and only if Q",
     "λ": "`λ x. e`: the function that maps x to e",
-    "record": "`record R .. where`: R holds if there are values of all its fields, each of the type after its colon; of a value r the field f is `r.f`",
+    "record": "`record R .. where`: R holds if there are values of all its fields, each of the type after its colon; "
+              "of a value r the field f is `r.f`",
     "abbrev": "`abbrev`, `unfoldable`, `computed`: a definition by the equations below it",
 }
 
@@ -230,7 +231,10 @@ def page() -> str:
 
 INTRODUCTION = """# The theorem on `surfaces`, in full
 
-This page is written by `tools/reading.py` from the sources: the clause of `run` that is the theorem, and each definition that its list of surfaces and its gluing tables (`IsTable`) rest on, {lines} lines in {files} files. Nothing else has to be read to know what the list is. [FORMATS.md](FORMATS.md) says how a gluing table is written, and [CLAIMS.md](CLAIMS.md) what is proved besides.
+This page is written by `tools/reading.py` from the sources: the clause of `run` that is the theorem, and each definition that \
+its list of surfaces and its gluing tables (`IsTable`) rest on, {lines} lines in {files} files. Nothing else has to be read to \
+know what the list is. [FORMATS.md](FORMATS.md) says how a gluing table is written, and [CLAIMS.md](CLAIMS.md) what is proved \
+besides.
 
 ## The clause
 
@@ -238,7 +242,10 @@ This page is written by `tools/reading.py` from the sources: the clause of `run`
 {clause}
 ```
 
-In words: if the command line asks for `surfaces` in the coordinates `coords`, the source reports its bytes, these are at most 1,048,576 and spell the gluing table `rows`, then the answer is the list below (`ListsSurfaces`), or the first number of a stated elimination step above the limit `most`, or the run ended with a failed source, a failed sink or without memory (`crates/workbench/specs/Prints.antt`)."""
+In words: if the command line asks for `surfaces` in the coordinates `coords`, the source reports its bytes, these are at most \
+1,048,576 and spell the gluing table `rows`, then the answer is the list below (`ListsSurfaces`), or the first number of a stated \
+elimination step above the limit `most`, or the run ended with a failed source, a failed sink or without memory \
+(`crates/workbench/specs/Prints.antt`)."""
 
 
 if __name__ == "__main__":

@@ -88,6 +88,7 @@ def late_parts() -> List[Part]:
              for group in ("tools", "launcher", "library", "rust", "python") if tests_of(group)]
     tools = sorted(path.name for path in (TOP / "tools").glob("*.py"))
     return parts + [
+        Part("style", ["flake8", "python", "tools", "bench", "examples", "library"], TOP, "flake8"),
         Part("types", ["mypy", "--strict", "--follow-imports=silent", "--cache-dir", os.devnull, *tools], TOP / "tools", "mypy"),
         Part("worked rows", python("-m", "trinorm.selfcheck"), PYTHON, str(PYTHON / "trinorm" / "selfcheck")),
         Part("examples", python("bench/examples.py")),

@@ -13,7 +13,7 @@ import unittest
 from unittest import mock
 
 import trinorm
-from trinorm import certificates, pachner
+from trinorm import certificates
 from trinorm.__main__ import main
 from trinorm.pachner import CORES, Alike, Triangulation, labelling
 

@@ -4,7 +4,6 @@ from __future__ import annotations
 
 import json
 import math
-from collections import Counter
 from typing import Any, Dict, Iterable, Iterator, List, Sequence, Tuple, Union
 
 from . import commands

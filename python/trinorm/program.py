@@ -11,8 +11,8 @@ from pathlib import Path
 from typing import TYPE_CHECKING, Dict, Optional, Protocol, Sequence, Tuple, Union
 
 from .arguments import as_bytes, checked_timeout, checked_words, shown
-from .errors import BadArgument as BadArgument, Error as Error, Failed as Failed, Place as Place, Refused as Refused
-from .errors import REFUSED, USAGE, TimedOut as TimedOut, how_it_ended as how_it_ended, kind_and_places as kind_and_places
+from .errors import BadArgument as BadArgument, Error as Error, Failed as Failed, Place as Place, Refused as Refused  # noqa: F401
+from .errors import REFUSED, USAGE, TimedOut as TimedOut, how_it_ended as how_it_ended, kind_and_places as kind_and_places  # noqa: F401
 
 if TYPE_CHECKING:
     from .library import Library
