@@ -51,7 +51,7 @@ def words(sentence: str) -> int:
 def long_sentences(text: str) -> Iterator[str]:
     """The sentences of a page that have more than LONGEST words."""
     for block in blocks(text):
-        line = re.sub(r"\s+", " ", re.sub(r"`[^`]*`", lambda name: name[0].replace(". ", "._"), block)).strip()
+        line = re.sub(r"\s+", " ", re.sub(r"`[^`]*`", lambda name: str(name[0]).replace(". ", "._"), block)).strip()
         yield from (sentence for sentence in END.split(line) if words(sentence) > LONGEST)
 
 
