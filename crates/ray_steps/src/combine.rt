@@ -16,8 +16,8 @@ use crate::signs::Sign;
 use crate::step::Step;
 use crate::thirds::is_single;
 use crate::turned::has_positive;
-use residual_pairs::{RayTable, minimal_places};
 use std::alloc::Global;
+use support_table::{RayTable, minimal_places};
 
 impl<'a, C: Compatible> Step<'a, C> {
     /// Appends the combinations of ray `i`, if it is positive, with each adjacent negative ray, by a search for third

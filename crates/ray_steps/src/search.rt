@@ -13,9 +13,9 @@ use crate::step::Step;
 use crate::thirds::{has_single, third_inside};
 use crate::turned::positive_count;
 use no_memory::NoMemory;
-use residual_pairs::RayTable;
 use std::alloc::Global;
 use support_bits::Support;
+use support_table::RayTable;
 
 /// Adjacent pairs are found by residuals only in steps with at least this many rays.
 const MANY_RAYS: usize = 1000;
