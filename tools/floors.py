@@ -35,7 +35,7 @@ SUBJECTS = {
     "presentation": "presentation_definitions presentation_laws edge_group",
     "component": "component_definitions component_laws component_signature",
     "cone": "cone_definitions cone_text_definitions cone_laws cone_bound_laws cone_square_laws cone_ray_laws cone_row_laws"
-    " support_bits support_table residual_pairs cone_arithmetic cone_core ray_steps double_description late_columns number_bounds"
+    " support_bits support_table cone_arithmetic cone_core ray_steps double_description late_columns number_bounds"
     " solved_rows bounded_list ray_answers vector_text enumeration_commands",
     "surface": "surface_definitions surface_vector_definitions surface_coordinate_laws surface_laws surface_equation_laws"
     " surface_quad_laws surface_quad_lift_laws surface_octagon_laws surface_link_laws"

@@ -11,9 +11,9 @@ use Rattle.support_bits.specs.Columns.{support_of, IsInsideUnionOf, Meets}
 use Rattle.support_table.specs.Counts.{columns_in_either}
 use Rattle.support_table.specs.Joins.{AreClashingColumns}
 use Rattle.support_table.specs.Tables.{Table}
-use Rattle.residual_pairs.specs.Residuals.{support_at, IsResidualInside, IsRival, IsMinimal, AreMinimal}
-use Rattle.residual_pairs.proofs.CandidateLemmas.{inside_union, inside_residual}
-use Rattle.residual_pairs.proofs.SizeLemmas.{size_within}
+use Rattle.support_table.specs.Residuals.{support_at, IsResidualInside, IsRival, IsMinimal, AreMinimal}
+use Rattle.support_table.proofs.CandidateLemmas.{inside_union, inside_residual}
+use Rattle.support_table.proofs.SizeLemmas.{size_within}
 use Rattle.ray_steps.specs.declared.signs.Sign.{Sign}
 use Rattle.ray_steps.specs.declared.signs.Sign.TheVariants.{Zero}
 use Rattle.ray_steps.specs.Rivals.{HasAllSupports}

@@ -3,6 +3,7 @@
 #![tactic(auto)]
 
 mod combinations;
+mod combine;
 mod compatible;
 mod input;
 mod lists;
@@ -13,6 +14,7 @@ mod partners;
 mod ray_list;
 mod rays;
 mod rivals;
+mod search;
 mod signs;
 mod step;
 mod thirds;

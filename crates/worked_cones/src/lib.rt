@@ -40,8 +40,6 @@ mod ray_answers_calls;
 #[cfg(test)]
 mod ray_decompose_calls;
 #[cfg(test)]
-mod residual_pairs_calls;
-#[cfg(test)]
 mod sample_cones;
 #[cfg(test)]
 mod solved_rows_calls;

@@ -2,7 +2,7 @@ use Rattle.std.proofs.Common.{◌≡◌, ◌+◌, ◌<◌, length, subst, subst�
 use Rattle.std.proofs.lemmas.List.{get_or_default}
 use Rattle.cone_definitions.specs.Vectors.{ray_at}
 use Rattle.support_table.specs.Joins.{AreClashingColumns}
-use Rattle.residual_pairs.specs.Residuals.{AreMinimal}
+use Rattle.support_table.specs.Residuals.{AreMinimal}
 use Rattle.ray_steps.specs.declared.signs.Sign.TheVariants.{Zero}
 use Rattle.ray_steps.specs.Rays.{rays_of}
 use Rattle.ray_steps.specs.Unions.{HaveSmallUnions}

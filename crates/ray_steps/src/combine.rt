@@ -1,0 +1,195 @@
+//! The combinations of all adjacent pairs of a positive and a negative ray.
+
+ghost use Rattle.std.specs.Prelude.{◌+◌, ◌<◌, length, IfOk, IfErr, IfSome, OnOk};
+ghost use Rattle.ray_steps.specs.Faults.{IfLarge};
+ghost use Rattle.ray_steps.specs.Negatives.{AreNegatives};
+ghost use Rattle.ray_steps.specs.Rivals.{HasAllSupports};
+ghost use Rattle.ray_steps.specs.Steps.{AreMadeBelow, AreMadeTo, AreMadeOf, IsAdjacentIfAdmissible, IsFirstLargeOf};
+
+use crate::combinations::CombinationsSoFar;
+use crate::compatible::Compatible;
+use crate::negatives::{Negatives, first_near, negatives_of};
+use crate::pairs::combine_pair;
+use crate::ray_list::RayList;
+use crate::rays::{RayWithSupport, StepFault};
+use crate::signs::Sign;
+use crate::step::Step;
+use crate::thirds::is_single;
+use crate::turned::has_positive;
+use std::alloc::Global;
+use support_table::{RayTable, minimal_places};
+
+impl<'a, C: Compatible> Step<'a, C> {
+    /// Appends the combinations of ray `i`, if it is positive, with each adjacent negative ray, by a search for third
+    /// rays. Fails with the first pair of which an entry exceeds the limit.
+    fn combine_with(
+        &self,
+        alloc: Global,
+        i: usize,
+        negatives: &Negatives,
+        made: &mut CombinationsSoFar,
+    ) -> Result<(), StepFault>
+        requires in_range { i < length self.now.rays }
+        requires negatives { AreNegatives self.now.rays self.now.signs self.now.columns negatives.now }
+        requires made { AreMadeBelow self.now i made.old }
+        ensures ok { OnOk result (AreMadeBelow self.now (i + 1) made.new) }
+        ensures err { IfErr result (IfLarge (IsFirstLargeOf self.now)) }
+    {
+        let Sign::Positive(at_u) = self.signs[i] else {
+            return Ok(());
+        };
+        let u = &self.ray_list[i];
+        let mut search = self.search_at(alloc, i, made.rivals.take())?;
+        let places = negatives.places.as_slice();
+        let table = &negatives.table;
+        let mut m = first_near(table, &u.support, &search.joined, self.most, 0);
+        while m < places.len() {
+            let j = places[m];
+            if let Sign::Negative(at_w) = self.signs[j] {
+                if self.is_face(alloc, i, j, &mut search)? {
+                    let kept = combine_pair(alloc, u, &self.ray_list[j], at_u, at_w, self.limit)?;
+                    made.ray_list.push(kept)?;
+                }
+            }
+            m = first_near(table, &u.support, &search.joined, self.most, m + 1);
+        }
+        made.rivals = search.rivals;
+        Ok(())
+    }
+
+    /// Appends the combination of rays `i` and `j`, if they are positive and negative and the union of their supports
+    /// contains no clashing pair; then they are known to be adjacent. Fails with `Large` if an entry exceeds the limit.
+    fn combine_found(
+        &self,
+        alloc: Global,
+        i: usize,
+        j: usize,
+        made: &mut Vec<RayWithSupport>,
+    ) -> Result<(), StepFault>
+        requires first { i < length self.now.rays }
+        requires second { j < length self.now.rays }
+        requires face { IsAdjacentIfAdmissible self.now i j }
+        requires made { AreMadeTo self.now i j made.old.items }
+        ensures ok { OnOk result (AreMadeTo self.now i (j + 1) made.new.items) }
+        ensures err { IfErr result (IfLarge (IsFirstLargeOf self.now)) }
+    {
+        let Sign::Positive(at_u) = self.signs[i] else {
+            return Ok(());
+        };
+        let Sign::Negative(at_w) = self.signs[j] else {
+            return Ok(());
+        };
+        let clashes = self.clashes;
+        let u = &self.ray_list[i];
+        let w = &self.ray_list[j];
+        if clashes.allows(&u.support, &w.support) {
+            let kept = combine_pair(alloc, u, w, at_u, at_w, self.limit)?;
+            made.push(kept)?;
+        }
+        Ok(())
+    }
+
+    /// Appends the combinations of ray `i`, if it is positive, with each adjacent negative ray, which are found by
+    /// minimal residuals: one pass over all rays for each positive ray. Skipped if no negative ray passes the test of
+    /// `first_near`. Fails with `Large` at the first pair of which an entry exceeds the limit.
+    fn combine_minimal(
+        &self,
+        alloc: Global,
+        i: usize,
+        negatives: &Negatives,
+        supports: &RayTable,
+        made: &mut Vec<RayWithSupport>,
+    ) -> Result<(), StepFault>
+        requires in_range { i < length self.now.rays }
+        requires negatives { AreNegatives self.now.rays self.now.signs self.now.columns negatives.now }
+        requires supports { HasAllSupports self.now.rays self.now.columns supports.now }
+        requires made { AreMadeTo self.now i 0 made.old.items }
+        ensures ok { OnOk result (AreMadeTo self.now (i + 1) 0 made.new.items) }
+        ensures err { IfErr result (IfLarge (IsFirstLargeOf self.now)) }
+    {
+        let Sign::Positive(_) = self.signs[i] else {
+            return Ok(());
+        };
+        let clashes = self.clashes;
+        let u = &self.ray_list[i];
+        let joined = clashes.joined(alloc, &u.support)?;
+        let near = first_near(&negatives.table, &u.support, &joined, self.most, 0);
+        if near == negatives.places.len() {
+            return Ok(());
+        }
+        let places = minimal_places(alloc, supports, &u.support, &joined, i, self.most)?;
+        for place in &places {
+            self.combine_found(alloc, i, *place, made)?;
+        }
+        Ok(())
+    }
+
+    /// Appends the combinations of ray `i`: by residuals if `supports` is given and the ray has more than one column,
+    /// otherwise by a search for third rays. Fails with `Large` at the first pair of which an entry exceeds the limit.
+    fn combine_one(
+        &self,
+        alloc: Global,
+        i: usize,
+        negatives: &Negatives,
+        supports: &Option<RayTable>,
+        made: &mut CombinationsSoFar,
+    ) -> Result<(), StepFault>
+        requires in_range { i < length self.now.rays }
+        requires negatives { AreNegatives self.now.rays self.now.signs self.now.columns negatives.now }
+        requires supports { IfSome supports.now (HasAllSupports self.now.rays self.now.columns) }
+        requires made { AreMadeBelow self.now i made.old }
+        ensures ok { OnOk result (AreMadeBelow self.now (i + 1) made.new) }
+        ensures err { IfErr result (IfLarge (IsFirstLargeOf self.now)) }
+    {
+        if let Some(table) = supports {
+            if !is_single(&self.ray_list[i].support) {
+                return self.combine_minimal(alloc, i, negatives, table, &mut made.ray_list);
+            }
+        }
+        self.combine_with(alloc, i, negatives, made)
+    }
+
+    /// The combinations of all adjacent pairs, each once, by the negative rays `negatives` and, if they are to be used,
+    /// the supports of all rays `supports`. Fails with `Large` at the first pair of which an entry exceeds the limit.
+    fn combine_each(
+        &self,
+        alloc: Global,
+        negatives: &Negatives,
+        supports: &Option<RayTable>,
+    ) -> Result<Vec<RayWithSupport>, StepFault>
+        requires negatives { AreNegatives self.now.rays self.now.signs self.now.columns negatives.now }
+        requires supports { IfSome supports.now (HasAllSupports self.now.rays self.now.columns) }
+        ensures ok { IfOk result (λ made. AreMadeOf self.now made.items) }
+        ensures err { IfErr result (IfLarge (IsFirstLargeOf self.now)) }
+    {
+        let mut made = CombinationsSoFar {
+            ray_list: Vec::with_capacity(alloc, self.ray_list.len())?,
+            rivals: None,
+        };
+        for i in 0..self.ray_list.len() {
+            self.combine_one(alloc, i, negatives, supports, &mut made)?;
+        }
+        Ok(made.ray_list)
+    }
+
+    /// The combinations of all adjacent pairs of a positive and a negative ray, each once. Fails with the first pair of
+    /// which an entry exceeds the limit.
+    pub fn combine_all(&self, alloc: Global) -> Result<Vec<RayWithSupport>, StepFault>
+        ensures ok { IfOk result (λ made. AreMadeOf self.now made.items) }
+        ensures err { IfErr result (IfLarge (IsFirstLargeOf self.now)) }
+    {
+        if !has_positive(&self.signs) {
+            // there are no pairs, and every ray may be kept: make room for all
+            let made = Vec::with_capacity(alloc, self.ray_list.len())?;
+            return Ok(made);
+        }
+        let clashes = self.clashes;
+        let rays = RayList {
+            columns: clashes.columns(),
+            items: &self.ray_list,
+        };
+        let negatives = negatives_of(alloc, rays, &self.signs)?;
+        let supports = self.supports_if_large(alloc)?;
+        self.combine_each(alloc, &negatives, &supports)
+    }
+}

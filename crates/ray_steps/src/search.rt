@@ -1,0 +1,131 @@
+//! The search for adjacent pairs: whether two rays have no third ray between them, and whether residuals are used.
+
+ghost use Rattle.std.specs.Prelude.{◌≡◌, ◌<◌, ◌↔◌, length, IsTrue, IfOk, IfSome, OnOk};
+ghost use Rattle.ray_steps.specs.Rivals.{HaveCompatible, HasAllSupports};
+ghost use Rattle.ray_steps.specs.Signs.{IsAdjacentPair};
+ghost use Rattle.ray_steps.specs.Steps.{IsSearchAt};
+
+use crate::combinations::Search;
+use crate::compatible::Compatible;
+use crate::ray_list::RayList;
+use crate::rivals::{Rivals, all_supports, rivals_with};
+use crate::step::Step;
+use crate::thirds::{has_single, third_inside};
+use crate::turned::positive_count;
+use no_memory::NoMemory;
+use std::alloc::Global;
+use support_bits::Support;
+use support_table::RayTable;
+
+/// Adjacent pairs are found by residuals only in steps with at least this many rays.
+const MANY_RAYS: usize = 1000;
+
+impl<'a, C: Compatible> Step<'a, C> {
+    /// A search for the third rays of ray `i`, given compatible rays that an earlier search gathered.
+    pub(crate) fn search_at(
+        &self,
+        alloc: Global,
+        i: usize,
+        rivals: Option<Rivals>,
+    ) -> Result<Search, NoMemory>
+        requires in_range { i < length self.now.rays }
+        requires rivals { IfSome rivals (HaveCompatible self.now.rays self.now.columns) }
+        ensures { IfOk result (IsSearchAt self.now i) }
+    {
+        let clashes = self.clashes;
+        let joined = clashes.joined(alloc, &self.ray_list[i].support)?;
+        Ok(Search {
+            joined,
+            rivals,
+            hint: 0,
+        })
+    }
+
+    /// The compatible rays of a ray that clashes with the columns `joined`: those in `before` if they are for the same
+    /// columns, or else gathered anew.
+    fn gather(
+        &self,
+        alloc: Global,
+        joined: &Support,
+        before: Option<Rivals>,
+    ) -> Result<Rivals, NoMemory>
+        requires count { length joined.now ≡ self.now.columns }
+        requires before { IfSome before (HaveCompatible self.now.rays self.now.columns) }
+        ensures joined { IfOk result (λ rivals. rivals.joined ≡ joined.now) }
+        ensures rivals { IfOk result (HaveCompatible self.now.rays self.now.columns) }
+    {
+        if let Some(rivals) = before {
+            if rivals.joined.same(joined) {
+                return Ok(rivals);
+            }
+        }
+        let clashes = self.clashes;
+        let joined = joined.copy(alloc)?;
+        let rays = RayList {
+            columns: clashes.columns(),
+            items: &self.ray_list,
+        };
+        rivals_with(alloc, rays, joined)
+    }
+
+    /// Whether rays `i` and `j` are adjacent. Gathers the compatible rays of ray `i` only if both have more than one
+    /// column.
+    pub(crate) fn is_face(
+        &self,
+        alloc: Global,
+        i: usize,
+        j: usize,
+        search: &mut Search,
+    ) -> Result<bool, NoMemory>
+        requires second { j < length self.now.rays }
+        requires search { IsSearchAt self.now i search.old }
+        ensures face { IfOk result (λ face. IsTrue face ↔ IsAdjacentPair self.now.pairs self.now.rays i j) }
+        ensures search { OnOk result (IsSearchAt self.now i search.new) }
+        ensures joined { search.new.joined ≡ search.old.joined }
+    {
+        let clashes = self.clashes;
+        let u = &self.ray_list[i];
+        let w = &self.ray_list[j];
+        if has_single(&u.support, &w.support) {
+            return Ok(clashes.allows(&u.support, &w.support));
+        }
+        let rivals = self.gather(alloc, &search.joined, search.rivals.take())?;
+        let third = third_inside(&rivals, &u.support, &w.support, i, j, search.hint);
+        search.rivals = Some(rivals);
+        match third {
+            Some(m) => {
+                search.hint = m;
+                Ok(false)
+            }
+            None => Ok(clashes.allows(&u.support, &w.support)),
+        }
+    }
+
+    /// Whether to find adjacent pairs by residuals: if there are many rays, and at least as many positive ones as
+    /// columns. Affects speed alone, so the contract says nothing.
+    fn is_large(&self) -> bool {
+        let clashes = self.clashes;
+        self.ray_list.len() >= MANY_RAYS
+            && positive_count(&self.signs) >= clashes.columns() as usize
+    }
+
+    /// The supports of all rays if `is_large` holds, and else `None`. Both ways find the same pairs.
+    pub(crate) fn supports_if_large(&self, alloc: Global) -> Result<Option<RayTable>, NoMemory>
+        ensures { IfOk result (λ supports. IfSome supports (HasAllSupports self.now.rays self.now.columns)) }
+    {
+        if !self.is_large() {
+            return Ok(None);
+        }
+        let Ok(count) = u32::try_from(self.ray_list.len()) else {
+            return Ok(None);
+        };
+        let clashes = self.clashes;
+        let rays = RayList {
+            columns: clashes.columns(),
+            items: &self.ray_list,
+        };
+        let table = all_supports(alloc, rays)?;
+        let supports = RayTable::of(alloc, table, count)?;
+        Ok(Some(supports))
+    }
+}

@@ -1,7 +1,0 @@
--- none of the rivals so far lies inside
-use Rattle.std.proofs.Common.{ℕ, ◌<◌}
-use Rattle.residual_pairs.specs.Rivals.{IsInsideAt}
-use Rattle.residual_pairs.proofs.least.one_inside.Given as goal
-
-abbrev pub invariant-loop-at : goal.invariant-loop-at
-invariant-loop-at l = (k : ℕ) → k < l.at → ¬ IsInsideAt l.table.supports l.outer l.rivals l.place k

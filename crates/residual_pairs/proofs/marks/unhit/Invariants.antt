@@ -1,6 +1,0 @@
--- those of the rivals so far that aren't hit
-use Rattle.residual_pairs.proofs.MarkLemmas.{AreUnhitBelow}
-use Rattle.residual_pairs.proofs.marks.unhit.Given as goal
-
-abbrev pub invariant-loop-rival : goal.invariant-loop-rival
-invariant-loop-rival l = AreUnhitBelow l.table.supports l.marks l.single l.rivals l.rival-index l.left.items

@@ -1,6 +1,0 @@
--- the places of those so far
-use Rattle.residual_pairs.specs.Rivals.{AreUnrepeated}
-use Rattle.residual_pairs.proofs.minimal.alone.Given as goal
-
-abbrev pub invariant-loop-at : goal.invariant-loop-at
-invariant-loop-at l = AreUnrepeated l.least l.at l.places.items

@@ -1,3 +1,0 @@
-pub mod Residuals
-pub mod Rivals
-pub mod Holders

@@ -1,0 +1,23 @@
+use Rattle.std.proofs.Common.{subst, sym, ap, ◌+◌, ◌∙◌}
+use Rattle.std.proofs.lemmas.Bool.{false≢true}
+use Rattle.std.proofs.lemmas.List.{get_or_default}
+use Rattle.support_table.proofs.MarkLemmas.{AreUnhitBelow, unhit_push, unhit_skip, unhit_all}
+use Rattle.support_table.proofs.marks.unhit.Goals.{then-not-is_hit+in_ok-push, else-not-is_hit}
+use Rattle.support_table.proofs.marks.unhit.Goals as goal
+
+pub loop-rival-preserved : goal.loop-rival-preserved
+loop-rival-preserved c =
+    let supports = c.args.table.now.supports in
+    let marks = c.args.marks.now in
+    let rivals = c.args.rivals.now in
+    let n = c.loop-rival.rival-index in
+    let left = c.loop-rival.left.items in
+    elim c.if-not-is_hit.branch [
+      | then-not-is_hit+in_ok-push w ↦ subst (AreUnhitBelow supports marks c.args.single rivals (n + 1)) (sym (ap (λ v. v.items) w.left-is ∙ w.in_ok-push.ensures.items))
+          (unhit_push supports marks c.args.single rivals n left _ c.loop-rival.invariant c.loop-rival-test.true (get_or_default rivals n _ _ c.loop-rival-test.true) (λ hit. false≢true (sym w.if-not-is_hit.true ∙ c.is_hit.ensures.1 hit)))
+      | else-not-is_hit w ↦ subst (AreUnhitBelow supports marks c.args.single rivals (n + 1)) (sym (ap (λ v. v.items) w.left-is))
+          (unhit_skip supports marks c.args.single rivals n left _ c.loop-rival.invariant c.loop-rival-test.true (get_or_default rivals n _ _ c.loop-rival-test.true) (c.is_hit.ensures.0 w.if-not-is_hit.false))
+    ]
+
+pub returns : goal.returns
+returns c = unhit_all c.args.table.now.supports c.args.marks.now c.args.single c.args.rivals.now c.loop-rival.rival-index c.loop-rival.left.items c.loop-rival.invariant c.loop-rival-test.false

@@ -1,0 +1,17 @@
+-- the rivals before the place stand in the list, and the bits that are left name those from it on
+use Rattle.std.proofs.Common.{◌+◌, ◌≤◌, Bool, List}
+use Rattle.support_table.specs.Holders.{TellsMeeting, NamesApart}
+use Rattle.support_table.specs.Rivals.{AreRivals}
+use Rattle.support_table.proofs.HolderLemmas.{AreBefore}
+use Rattle.support_table.proofs.rivals.push_rivals.Given as goal
+
+abbrev pub invariant-loop-rest : goal.invariant-loop-rest
+invariant-loop-rest l = record {
+  within : l.place ≤ l.first + 64;
+  before : AreBefore l.place (l.first + 64) l.rest;
+  names : (joined : List Bool) → TellsMeeting l.table.supports joined l.first l.word → NamesApart l.table.supports joined l.place (l.first + 64) l.rest;
+  so_far : (joined : List Bool) → TellsMeeting l.table.supports joined l.first l.word → AreRivals l.table.supports l.outer joined l.own l.most l.first l.initial.rivals.items → AreRivals l.table.supports l.outer joined l.own l.most l.place l.rivals.items;
+}
+
+abbrev pub decreases-loop-rest : goal.decreases-loop-rest
+decreases-loop-rest l = l.rest

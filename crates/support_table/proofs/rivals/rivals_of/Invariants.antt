@@ -1,0 +1,7 @@
+-- the rivals at the places of the words so far
+use Rattle.std.proofs.Common.{◌*◌}
+use Rattle.support_table.specs.Rivals.{AreRivals}
+use Rattle.support_table.proofs.rivals.rivals_of.Given as goal
+
+abbrev pub invariant-loop-k : goal.invariant-loop-k
+invariant-loop-k l = AreRivals l.rays.supports l.outer l.joined l.own l.most (64 * l.k) l.rivals.items
