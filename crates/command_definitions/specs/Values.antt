@@ -4,6 +4,7 @@ use Rattle.std.specs.Option.{option_and_then}
 use Rattle.text_definitions.specs.Reading.{same_word}
 use Rattle.text_definitions.specs.Text.{is_decimal, digits_value}
 use Rattle.text_definitions.specs.Written.{limit}
+use Rattle.surface_definitions.specs.Coordinates.{has_triangles}
 use Rattle.surface_definitions.specs.declared.Coords.{Coords}
 use Rattle.surface_definitions.specs.declared.Coords.TheVariants.{Standard, Quad, Octagon}
 use Rattle.command_definitions.specs.Options.{Given, value_of}
@@ -47,9 +48,7 @@ coordinates_named w =
     else None
 
 abbrev pub has_pieces : Coords → Option Coords
-has_pieces Standard = Some Standard
-has_pieces Quad = None
-has_pieces Octagon = Some Octagon
+has_pieces coords = if has_triangles coords then Some coords else None
 
 -- coordinates in which surfaces have pieces
 abbrev pub piece_coordinates_named : List ℕ → Option Coords

@@ -1,11 +1,14 @@
 -- What a command's options ask for is a request that holds their values.
-use Rattle.std.proofs.Common.{◌≡◌, ◌≢◌, inl, inr, refl, sym, ap, ◌∙◌, subst, List, [], ◌∷◌, Option, Some, None, codes}
+use Rattle.std.proofs.Common.{◌≡◌, ◌≢◌, Bool, true, false, inl, inr, refl, sym, ap, ◌∙◌, subst, List, [], ◌∷◌, Option, Some, None, codes}
+use Rattle.std.specs.Prelude.{if◌then◌else◌}
+use Rattle.std.proofs.lemmas.Bool.{true≢false}
 use Rattle.std.specs.List.{Contains}
 use Rattle.std.specs.Option.{option_map, option_and_then}
 use Rattle.std.proofs.lemmas.List.Elements.{All-from_recursion, recursion_from_All}
 use Rattle.plain_facts.proofs.Options.{some≢none}
 use Rattle.text_definitions.specs.Written.{limit}
 use Rattle.cone_definitions.specs.declared.Order.TheVariants as orders
+use Rattle.surface_definitions.specs.Coordinates.{has_triangles}
 use Rattle.surface_definitions.specs.declared.Coords.{Coords}
 use Rattle.surface_definitions.specs.declared.Coords.TheVariants.{Standard, Quad, Octagon}
 use Rattle.command_definitions.specs.declared.Request.{Request}
@@ -76,9 +79,11 @@ module _ {A : Type 0} (name : Text) (meaning : Text → Option A) (given : List 
 
 pieces_of : (m : Option Coords) (coords : Coords) → option_and_then has_pieces m ≡ Some coords → (m ≡ Some coords) × (coords ≢ Quad)
 pieces_of None coords e = absurd (some≢none coords (sym e))
-pieces_of (Some Standard) coords e = (e, λ quad. absurd (let same : Some Standard ≡ Some Quad = e ∙ ap (λ (c : Coords). Some c) quad in cc))
-pieces_of (Some Quad) coords e = absurd (some≢none coords (sym e))
-pieces_of (Some Octagon) coords e = (e, λ quad. absurd (let same : Some Octagon ≡ Some Quad = e ∙ ap (λ (c : Coords). Some c) quad in cc))
+pieces_of (Some kind) coords = go (has_triangles kind) refl
+  where
+    go : (t : Bool) → has_triangles kind ≡ t → (if t then Some kind else None) ≡ Some coords → (Some kind ≡ Some coords) × (coords ≢ Quad)
+    go true has e = (e, λ quad. let same : Some kind ≡ Some Quad = e ∙ ap (λ (c : Coords). Some c) quad in let is : kind ≡ Quad = cc in true≢false (sym has ∙ ap has_triangles is))
+    go false none e = absurd (some≢none coords (sym e))
 
 pieces_named : (coords : Coords) (m : Option Coords) → m ≡ Some coords → coords ≢ Quad → option_and_then has_pieces m ≡ Some coords
 pieces_named Standard m e named = ap (option_and_then has_pieces) e

@@ -4,19 +4,17 @@ ghost use Rattle.std.specs.Prelude.{◌≡◌, ◌+◌, ◌<◌, ◌≤◌, ◌�
 ghost use Rattle.table_definitions.specs.Table.{max_tets};
 ghost use Rattle.surface_definitions.specs.Coordinates as coordinates;
 
-use normal_discs::{first_column, triangles_each};
+use normal_discs::{before_octagons, first_column, octagons_each, triangles_each};
 use surface_definitions::{Coords, Piece};
 
-/// the number of columns of a tetrahedron before its octagons
-const BEFORE_OCTAGONS: u32 = 7;
-
 /// `before` + `number`, or `None` if `number` is not below `count`.
-fn place(number: u8, count: u8, before: u32) -> Option<u32>
+fn place(number: u8, count: u32, before: u32) -> Option<u32>
     requires { before ≤ 7 }
     ensures { result ≡ (if nat_lt number count then Some (before + number) else None) }
 {
+    let number = u32::from(number);
     if number < count {
-        Some(before + u32::from(number))
+        Some(before + number)
     } else {
         None
     }
@@ -29,17 +27,9 @@ fn local_column(coords: Coords, piece: Piece) -> Option<u32>
     ensures in_range { IfSome result (λ place. place < coordinates.columns_each coords) }
 {
     match piece {
-        Piece::Tri(vertex) => match coords {
-            Coords::Quad => None,
-            Coords::Standard => place(vertex, 4, 0),
-            Coords::Octagon => place(vertex, 4, 0),
-        },
+        Piece::Tri(vertex) => place(vertex, triangles_each(coords), 0),
         Piece::Quad(kind) => place(kind, 3, triangles_each(coords)),
-        Piece::Oct(kind) => match coords {
-            Coords::Octagon => place(kind, 3, BEFORE_OCTAGONS),
-            Coords::Standard => None,
-            Coords::Quad => None,
-        },
+        Piece::Oct(kind) => place(kind, octagons_each(coords), before_octagons(coords)),
     }
 }
 

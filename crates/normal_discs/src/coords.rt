@@ -8,19 +8,25 @@ ghost use Rattle.surface_definitions.specs.Pieces.{type_in};
 use crate::disc_coords::DiscCoords;
 use surface_definitions::Coords;
 
-/// the number of columns of a tetrahedron before its octagons
-const BEFORE_OCTAGONS: u32 = 7;
-
-/// The number of columns of one tetrahedron in the coordinates `coords`.
-pub fn columns_each(coords: Coords) -> u32
-    ensures value { result ≡ coordinates.columns_each coords }
-    ensures some { 1 ≤ result }
-    ensures few { result ≤ 10 }
+/// Whether the coordinates `coords` count triangles.
+pub fn has_triangles(coords: Coords) -> bool
+    ensures { result ≡ coordinates.has_triangles coords }
 {
     match coords {
-        Coords::Standard => 7,
-        Coords::Quad => 3,
-        Coords::Octagon => 10,
+        Coords::Standard => true,
+        Coords::Quad => false,
+        Coords::Octagon => true,
+    }
+}
+
+/// Whether the coordinates `coords` count octagons.
+pub fn has_octagons(coords: Coords) -> bool
+    ensures { result ≡ coordinates.has_octagons coords }
+{
+    match coords {
+        Coords::Standard => false,
+        Coords::Quad => false,
+        Coords::Octagon => true,
     }
 }
 
@@ -29,11 +35,33 @@ pub fn triangles_each(coords: Coords) -> u32
     ensures value { result ≡ coordinates.triangles_each coords }
     ensures few { result ≤ 4 }
 {
-    match coords {
-        Coords::Standard => 4,
-        Coords::Quad => 0,
-        Coords::Octagon => 4,
-    }
+    if has_triangles(coords) { 4 } else { 0 }
+}
+
+/// The number of columns of a tetrahedron in the coordinates `coords` before its octagons: those of its triangles and
+/// quads.
+pub fn before_octagons(coords: Coords) -> u32
+    ensures value { result ≡ coordinates.before_octagons coords }
+    ensures few { result ≤ 7 }
+{
+    triangles_each(coords) + 3
+}
+
+/// The number of octagon columns of a tetrahedron in the coordinates `coords`.
+pub fn octagons_each(coords: Coords) -> u32
+    ensures value { result ≡ coordinates.octagons_each coords }
+    ensures few { result ≤ 3 }
+{
+    if has_octagons(coords) { 3 } else { 0 }
+}
+
+/// The number of columns of one tetrahedron in the coordinates `coords`.
+pub fn columns_each(coords: Coords) -> u32
+    ensures value { result ≡ coordinates.columns_each coords }
+    ensures some { 1 ≤ result }
+    ensures few { result ≤ 10 }
+{
+    before_octagons(coords) + octagons_each(coords)
 }
 
 /// The number of columns of a vector for `tets` tetrahedra in the coordinates `coords`.
@@ -86,13 +114,13 @@ pub fn quad_column(coords: Coords, tet: u32, kind: u8) -> u32
     first_column(coords, tet) + triangles_each(coords) + u32::from(kind)
 }
 
-/// The column of the octagons of type `kind` of tetrahedron `tet` in octagon coordinates.
-pub fn octagon_column(tet: u32, kind: u8) -> u32
+/// The column of the octagons of type `kind` of tetrahedron `tet`, if the coordinates `coords` count octagons.
+pub fn octagon_column(coords: Coords, tet: u32, kind: u8) -> u32
     requires tet { tet ≤ max_tets }
     requires a_type { kind < 3 }
-    ensures { result ≡ coordinates.oct_column Coords.Octagon tet kind }
+    ensures { result ≡ coordinates.oct_column coords tet kind }
 {
-    first_column(Coords::Octagon, tet) + BEFORE_OCTAGONS + u32::from(kind)
+    first_column(coords, tet) + before_octagons(coords) + u32::from(kind)
 }
 
 /// Whether `column` counts quads or octagons.
@@ -106,7 +134,7 @@ pub fn is_quad_or_octagon(coords: Coords, column: u32) -> bool
 pub fn is_octagon(coords: Coords, column: u32) -> bool
     ensures { result ≡ coordinates.is_octagon coords column }
 {
-    place_of(coords, column) >= BEFORE_OCTAGONS
+    place_of(coords, column) >= before_octagons(coords)
 }
 
 /// The type of the quads or octagons that `column` counts; `column` counts no triangles.
@@ -116,9 +144,10 @@ pub fn type_of(coords: DiscCoords, column: u32) -> u8
     ensures in_range { result < 3 }
 {
     let place = place_of(coords.system, column);
-    if place < BEFORE_OCTAGONS {
+    let before = before_octagons(coords.system);
+    if place < before {
         (place - triangles_each(coords.system)) as u8
     } else {
-        (place - BEFORE_OCTAGONS) as u8
+        (place - before) as u8
     }
 }

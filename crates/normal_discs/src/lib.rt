@@ -8,8 +8,9 @@ mod meetings;
 mod types;
 
 pub use coords::{
-    columns, columns_each, first_column, is_octagon, is_quad_or_octagon, octagon_column, place_of,
-    quad_column, tet_of, triangle_column, triangles_each, type_of,
+    before_octagons, columns, columns_each, first_column, has_octagons, has_triangles, is_octagon,
+    is_quad_or_octagon, octagon_column, octagons_each, place_of, quad_column, tet_of,
+    triangle_column, triangles_each, type_of,
 };
 pub use disc_coords::DiscCoords;
 pub use meetings::{arc_columns, edge_columns, octagon_arcs};

@@ -5,14 +5,14 @@ ghost use Rattle.table_definitions.specs.Table.{max_tets};
 ghost use Rattle.surface_definitions.specs.Coordinates as coordinates;
 ghost use Rattle.surface_definitions.specs.Characteristic.{crossings};
 
-use crate::coords::{octagon_column, quad_column, triangle_column};
+use crate::coords::{has_octagons, octagon_column, quad_column, triangle_column};
 use crate::disc_coords::DiscCoords;
 use crate::types::{keeping, other_types};
 use arrayvec::ArrayVec;
 use surface_definitions::Coords;
 
-/// The columns of the octagons of tetrahedron `tet` with an arc around `vertex` in `face`: two in octagon coordinates,
-/// otherwise none. `vertex` is not `face`.
+/// The columns of the octagons of tetrahedron `tet` with an arc around `vertex` in `face`: two if the coordinates
+/// `coords` count octagons, otherwise none. `vertex` is not `face`.
 pub fn octagon_arcs(coords: Coords, tet: u32, face: u8, vertex: u8) -> ArrayVec<u32, 2>
     requires tet { tet ≤ max_tets }
     requires a_vertex { vertex < 4 }
@@ -21,10 +21,10 @@ pub fn octagon_arcs(coords: Coords, tet: u32, face: u8, vertex: u8) -> ArrayVec<
     ensures { result.items ≡ coordinates.octagon_arcs coords tet face vertex }
 {
     let mut columns = ArrayVec::new();
-    if let Coords::Octagon = coords {
+    if has_octagons(coords) {
         let (first, second) = other_types(keeping(vertex, face));
-        columns.push(octagon_column(tet, first));
-        columns.push(octagon_column(tet, second));
+        columns.push(octagon_column(coords, tet, first));
+        columns.push(octagon_column(coords, tet, second));
     }
     columns
 }
@@ -64,11 +64,11 @@ pub fn edge_columns(coords: DiscCoords, tet: u32, vertex: u8, other: u8) -> Arra
     columns.push(triangle_column(coords, tet, other));
     columns.push(quad_column(coords.system, tet, first));
     columns.push(quad_column(coords.system, tet, second));
-    if let Coords::Octagon = coords.system {
-        columns.push(octagon_column(tet, kind));
-        columns.push(octagon_column(tet, 0));
-        columns.push(octagon_column(tet, 1));
-        columns.push(octagon_column(tet, 2));
+    if has_octagons(coords.system) {
+        columns.push(octagon_column(coords.system, tet, kind));
+        columns.push(octagon_column(coords.system, tet, 0));
+        columns.push(octagon_column(coords.system, tet, 1));
+        columns.push(octagon_column(coords.system, tet, 2));
     }
     columns
 }

@@ -5,10 +5,12 @@ use Rattle.std.specs.List.{All}
 use Rattle.std.specs.declared.alloc.Global.{Global}
 use Rattle.std.proofs.lemmas.List.{length_push, get_or_push, get_or_append_left}
 use Rattle.std.proofs.lemmas.Bool.{cases_lt, eqb-true, eq-eqb, ltb-true, lt-ltb, le-ltb, leb-true, le-leb, and_parts, and_from, and_left, or_left, or_right, cases_eq, cases_order, false≢true, false_from_ne_true, or_cases, and_right}
+use Rattle.std.proofs.lemmas.Nat.{div-mul-add}
+use Rattle.std.proofs.Math.Nat.{div-add-mod, mod-lt, mod-eq_of_lt, mul_comm, mul-add-mod_self_left}
 use Rattle.support_bits.specs.Words.{bit_of, AreWordsOf}
-use Rattle.surface_definitions.specs.Coordinates.{columns, columns_each, triangles_each, is_octagon, is_quad_or_octagon, clash_test, clash_list}
+use Rattle.surface_definitions.specs.Coordinates.{before_octagons, columns, columns_each, triangles_each, is_octagon, is_quad_or_octagon, clash_test, clash_list}
 use Rattle.surface_definitions.specs.declared.Coords.{Coords}
-use Rattle.surface_definitions.specs.declared.Coords.TheVariants.{Standard, Quad, Octagon}
+use Rattle.surface_definitions.proofs.ColumnCounts.{index_below, tet_below, column_of_index}
 use Rattle.ray_steps.specs.Clashes.{AreClashes, IsInUnion, IsClashFree}
 use Rattle.surface_coordinate_laws.specs.ClashPairs.{is_clash}
 use Rattle.quad_condition.specs.Partners.{partners}
@@ -96,25 +98,41 @@ record IsPairOfOne (coords : Coords) (n c e : ℕ) : Type 0 where
   same : c / columns_each coords ≡ e / columns_each coords
   low : triangles_each coords ≤ e % columns_each coords
 
+-- columns that are d apart in one row of w
+row_ahead : (w c d : ℕ) → c % w + d < w → (c / w ≡ (c + d) / w) × ((c + d) % w ≡ c % w + d)
+row_ahead w c d room =
+    let some : 0 < w = omega arith in
+    let at : w * (c / w) + (c % w + d) ≡ c + d = let whole = div-add-mod c w in omega (arith, whole) in
+    let turned : c / w * w ≡ w * (c / w) = mul_comm (c / w) w in (
+      sym (subst (λ k. k / w ≡ c / w) (ap (λ k. k + (c % w + d)) turned ∙ at) (div-mul-add (c / w) w (c % w + d) room)),
+      subst (λ k. k % w ≡ c % w + d) at (mul-add-mod_self_left w (c / w) (c % w + d) ∙ mod-eq_of_lt room),
+    )
+
+room_ahead : (w c e k : ℕ) → 0 < w → c / w ≡ e / w → e ≡ c + (k + 1) → c % w + (k + 1) < w
+room_ahead w c e k some same is =
+    let first : w * (c / w) + c % w ≡ c = div-add-mod c w in
+    let second : w * (e / w) + e % w ≡ e = div-add-mod e w in
+    let rows : w * (c / w) ≡ w * (e / w) = ap (λ q. w * q) same in
+    let below : e % w < w = mod-lt e some in
+    omega (arith, first, second, rows, below, is)
+
 pair_ahead : (coords : Coords) (n c d : ℕ) → IsAt coords n (triangles_each coords) d c → IsPairOfOne coords n c (c + d)
-pair_ahead Standard n c d h =
-    let w : c < 7 * n = h.within in let l : 4 ≤ c % 7 = h.low in let r : c % 7 + d < 7 = h.room in
-    let same : c / 7 ≡ (c + d) / 7 = omega arith in let place : (c + d) % 7 ≡ c % 7 + d = omega arith in
-    record { within = omega arith; same = same; low = omega arith }
-pair_ahead Quad n c d h =
-    let w : c < 3 * n = h.within in let r : c % 3 + d < 3 = h.room in
-    let same : c / 3 ≡ (c + d) / 3 = omega arith in let place : (c + d) % 3 ≡ c % 3 + d = omega arith in
-    record { within = omega arith; same = same; low = omega arith }
-pair_ahead Octagon n c d h =
-    let w : c < 10 * n = h.within in let l : 4 ≤ c % 10 = h.low in let r : c % 10 + d < 10 = h.room in
-    let same : c / 10 ≡ (c + d) / 10 = omega arith in let place : (c + d) % 10 ≡ c % 10 + d = omega arith in
-    record { within = omega arith; same = same; low = omega arith }
+pair_ahead coords n c d h =
+    let w : ℕ = columns_each coords in
+    let ahead = row_ahead w c d h.room in
+    let place : (c + d) % w ≡ c % w + d = ahead.1 in
+    let at : w * (c / w) + (c % w + d) ≡ c + d = let whole = div-add-mod c w in omega (arith, whole) in
+    record {
+      within = subst (λ k. k < columns coords n) at (column_of_index coords n (c / w) (c % w + d) (tet_below coords n c h.within) h.room);
+      same = ahead.0;
+      low = let low = h.low in omega (arith, low, place);
+    }
 
 ahead_of_pair : (coords : Coords) (n c e k : ℕ) → c < e → e < columns coords n → c / columns_each coords ≡ e / columns_each coords → triangles_each coords ≤ c % columns_each coords → e ≡ c + (k + 1)
     → IsAt coords n (triangles_each coords) (k + 1) c × (k + 2 ≤ columns_each coords - triangles_each coords)
-ahead_of_pair Standard n c e k less w same low is = (record { within = omega arith; low = low; room = omega arith }, omega arith)
-ahead_of_pair Quad n c e k less w same low is = (record { within = omega arith; low = low; room = omega arith }, omega arith)
-ahead_of_pair Octagon n c e k less w same low is = (record { within = omega arith; low = low; room = omega arith }, omega arith)
+ahead_of_pair coords n c e k less within same low is =
+    let room : c % columns_each coords + (k + 1) < columns_each coords = room_ahead (columns_each coords) c e k (omega arith) same is in
+    (record { within = omega arith; low = low; room = room }, omega (arith, room, low))
 
 -- clashes
 near_clash : (coords : Coords) (c e : ℕ) → c / columns_each coords ≡ e / columns_each coords → triangles_each coords ≤ c % columns_each coords → triangles_each coords ≤ e % columns_each coords → clash_test coords c e ≡ true
@@ -124,10 +142,10 @@ near_clash coords c e same low_c low_e =
     (and_from (c / columns_each coords == e / columns_each coords) (is_quad_or_octagon coords c) (eq-eqb (c / columns_each coords) (e / columns_each coords) same) (le-leb (triangles_each coords) (c % columns_each coords) low_c))
     (le-leb (triangles_each coords) (e % columns_each coords) low_e))
 
-octagon_clash : (coords : Coords) (c e : ℕ) → 7 ≤ c % columns_each coords → 7 ≤ e % columns_each coords → clash_test coords c e ≡ true
+octagon_clash : (coords : Coords) (c e : ℕ) → before_octagons coords ≤ c % columns_each coords → before_octagons coords ≤ e % columns_each coords → clash_test coords c e ≡ true
 octagon_clash coords c e low_c low_e =
     or_left (is_octagon coords c && is_octagon coords e) (((c / columns_each coords == e / columns_each coords) && is_quad_or_octagon coords c) && is_quad_or_octagon coords e)
-    (and_from (is_octagon coords c) (is_octagon coords e) (le-leb 7 (c % columns_each coords) low_c) (le-leb 7 (e % columns_each coords) low_e))
+    (and_from (is_octagon coords c) (is_octagon coords e) (le-leb (before_octagons coords) (c % columns_each coords) low_c) (le-leb (before_octagons coords) (e % columns_each coords) low_e))
 
 -- supports and their words
 in_union : (sa sb : List Bool) (a b : List ℕ) (column : ℕ) → AreWordsOf sa a → AreWordsOf sb b → IsOfEither a b column → IsInUnion sa sb column
@@ -149,12 +167,12 @@ near_is_clash coords n near sa sb a b marks p q h free =
     pair_of_all (λ x. ¬ (IsInUnion sa sb x.0 × IsInUnion sa sb x.1)) coords n free c (c + d) (omega arith) pair.within (near_clash coords c (c + d) pair.same at.low pair.low)
     (in_union sa sb a b c p q h.pair.here, in_union sa sb a b (c + d) p q h.pair.ahead)
 
-pub two_is_clash : (coords : Coords) (n : ℕ) (mask : List ℕ) (sa sb : List Bool) (a b : List ℕ) → AreMarks coords n 7 0 mask → AreWordsOf sa a → AreWordsOf sb b → HasTwo mask a b
+pub two_is_clash : (coords : Coords) (n : ℕ) (mask : List ℕ) (sa sb : List Bool) (a b : List ℕ) → AreMarks coords n (before_octagons coords) 0 mask → AreWordsOf sa a → AreWordsOf sb b → HasTwo mask a b
     → IsClashFree (clash_list coords n) sa sb → ⊥
 two_is_clash coords n mask sa sb a b marks p q h free = go (cases_order h.first h.second)
   where
-    at : (column : ℕ) → IsMarkedIn mask a b column → IsAt coords n 7 0 column
-    at column m = marked_is_at coords n 7 0 column mask marks m.marked
+    at : (column : ℕ) → IsMarkedIn mask a b column → IsAt coords n (before_octagons coords) 0 column
+    at column m = marked_is_at coords n (before_octagons coords) 0 column mask marks m.marked
 
     pair : (c e : ℕ) → c < e → IsMarkedIn mask a b c → IsMarkedIn mask a b e → ⊥
     pair c e less one other =
@@ -178,16 +196,11 @@ free_of_clashes coords n near mask sa sb a b marks p q no_near no_two =
     ⊎_elim (octagon c e less within both) (one_tet c e less within both)
     (or_cases (is_octagon coords c && is_octagon coords e) (((c / columns_each coords == e / columns_each coords) && is_quad_or_octagon coords c) && is_quad_or_octagon coords e) clashes))
   where
-    place_below : (coords : Coords) (c : ℕ) → c % columns_each coords + 0 < columns_each coords
-    place_below Standard c = omega arith
-    place_below Quad c = omega arith
-    place_below Octagon c = omega arith
-
     octagon : (c e : ℕ) → c < e → e < columns coords n → IsInUnion sa sb c × IsInUnion sa sb e → (is_octagon coords c && is_octagon coords e) ≡ true → ⊥
     octagon c e less within both h =
         let parts : (is_octagon coords c ≡ true) × (is_octagon coords e ≡ true) = and_parts (is_octagon coords c) (is_octagon coords e) h in
         let at : (column : ℕ) → column < columns coords n → is_octagon coords column ≡ true → bit_of mask column ≡ true =
-        λ column l t. at_is_marked coords n 7 0 column mask marks.octagon_marks (record { within = l; low = leb-true 7 (column % columns_each coords) t; room = place_below coords column }) in
+        λ column l t. at_is_marked coords n (before_octagons coords) 0 column mask marks.octagon_marks (record { within = l; low = leb-true (before_octagons coords) (column % columns_each coords) t; room = let b : column % columns_each coords < columns_each coords = index_below coords column in omega (arith, b) }) in
         no_two (record {
           first = c;
           second = e;
@@ -251,14 +264,7 @@ are_clashes coords n =
 
 -- the places of a tetrahedron behind its triangles
 pub some_quads : (coords : Coords) → triangles_each coords + 1 ≤ columns_each coords
-some_quads Standard = omega arith
-some_quads Quad = omega arith
-some_quads Octagon = omega arith
-
-pub few_places : (coords : Coords) → columns_each coords ≤ 10
-few_places Standard = omega arith
-few_places Quad = omega arith
-few_places Octagon = omega arith
+some_quads coords = omega arith
 
 -- the mask of one distance more
 pub marks_more : (coords : Coords) (n least distance : ℕ) (near new : List (Vec ℕ Global)) (mask : Vec ℕ Global) → new ≡ near ++ mask ∷ [] → least ≡ triangles_each coords → length near + 1 ≡ distance → AreMarks coords n least distance mask.items

@@ -1,7 +1,7 @@
 -- Masks of columns.
 use Rattle.std.specs.Prelude.{◌≡◌, ℕ, ◌+◌, ◌-◌, ◌/◌, ◌%◌, ◌<◌, List, Bool, ◌&&◌, Vec, length, nat_lt, nat_le, slice_index_or}
 use Rattle.std.specs.declared.alloc.Global.{Global}
-use Rattle.surface_definitions.specs.Coordinates.{columns, columns_each, triangles_each}
+use Rattle.surface_definitions.specs.Coordinates.{before_octagons, columns, columns_each, triangles_each}
 use Rattle.surface_definitions.specs.declared.Coords.{Coords}
 use Rattle.support_bits.specs.Words.{bit_of}
 use Rattle.quad_condition.specs.Bits.{HasPairAhead}
@@ -28,7 +28,7 @@ pub record AreDistanceMasks (coords : Coords) (n : ℕ) (near : List (Vec ℕ Gl
 
 pub record AreMasks (coords : Coords) (n : ℕ) (near : List (Vec ℕ Global)) (octagons : List ℕ) : Type 0 where
   pub near_marks : AreDistanceMasks coords n near
-  pub octagon_marks : AreMarks coords n 7 0 octagons
+  pub octagon_marks : AreMarks coords n (before_octagons coords) 0 octagons
 
 -- a column of a mask and the one at its distance ahead both are in the union of a and b
 pub record HasPairAtDistance (near : List (Vec ℕ Global)) (a b : List ℕ) : Type 0 where

@@ -10,7 +10,7 @@ ghost use Rattle.quad_condition.specs.Marks.{AreMarks, AreDistanceMasks, HasPair
 
 use crate::words::{has_pair_ahead, has_two};
 use no_memory::NoMemory;
-use normal_discs::{columns, columns_each, triangles_each};
+use normal_discs::{before_octagons, columns, columns_each, triangles_each};
 use std::alloc::Global;
 use std::marker::Model;
 use support_bits::{Support, set_bit};
@@ -106,7 +106,7 @@ impl Masks {
         ensures { IfOk result (λ masks. masks ≡ record { coords = coords; tets = tets }) }
     {
         let near = near_masks(alloc, coords, tets)?;
-        let octagons = mask(alloc, coords, tets, 7, 0)?;
+        let octagons = mask(alloc, coords, tets, before_octagons(coords), 0)?;
         Ok(Masks {
             coords,
             tets,

@@ -1,5 +1,6 @@
 -- Each table has equations in any coordinates: in quad coordinates the walk round each inner edge gives a row.
-use Rattle.std.proofs.Common.{◌≡◌, ℕ, ◌<◌, true, false, not, List, length, slice_index, refl, subst}
+use Rattle.std.proofs.Common.{◌≡◌, ℕ, ◌<◌, Bool, true, false, not, List, length, slice_index, refl, subst}
+use Rattle.std.specs.Prelude.{MatchBool}
 use Rattle.std.proofs.lemmas.Bool.{not-true}
 use Rattle.std.proofs.lemmas.List.Elements.{Contains-get_or}
 use Rattle.cone_definitions.specs.Rows.{Row as EquationRow}
@@ -9,9 +10,9 @@ use Rattle.table_definitions.specs.Places.{is_boundary_edge}
 use Rattle.table_definitions.proofs.TableLaws.{Among}
 use Rattle.skeleton_definitions.specs.Corners.{internal_edges}
 use Rattle.skeleton_definitions.specs.Skeleton.{Skeleton, IsSkeleton}
-use Rattle.surface_definitions.specs.Coordinates.{columns}
+use Rattle.surface_definitions.specs.Coordinates.{has_triangles, columns}
 use Rattle.surface_definitions.specs.declared.Coords.{Coords}
-use Rattle.surface_definitions.specs.declared.Coords.TheVariants.{Standard, Quad, Octagon}
+use Rattle.surface_definitions.specs.declared.Coords.TheVariants.{Quad}
 use Rattle.surface_definitions.specs.Equations.{row_of, matching_rows}
 use Rattle.surface_definitions.specs.QuadEquations.{quad_equation, IsQuadRow, AreQuadEquations, AreEquations}
 use Rattle.skeleton_class_laws.proofs.EdgeCorners.{IsRound, round_of}
@@ -42,9 +43,11 @@ module _ (s : Skeleton) (k : IsSkeleton s) where
       (z.0, record { classes = s.edges.classes; count = s.edges.count; numbered = k.edges; each = z.1 })
 
 pub some_equations : (coords : Coords) (rows : List Row) → IsTable rows → (equations : List EquationRow) × AreEquations coords rows equations
-some_equations Standard rows table = (matching_rows Standard rows, refl)
-some_equations Quad rows table =
-    let s = some_skeleton rows table in
-    let q = quad_rows s.0 s.2 in
-    (q.0, subst (λ (r : List Row). AreQuadEquations r q.0) s.1 q.1)
-some_equations Octagon rows table = (matching_rows Octagon rows, refl)
+some_equations coords rows table = go (has_triangles coords)
+  where
+    go : (t : Bool) → (equations : List EquationRow) × MatchBool t (equations ≡ matching_rows coords rows) (AreQuadEquations rows equations)
+    go true = (matching_rows coords rows, refl)
+    go false =
+        let s = some_skeleton rows table in
+        let q = quad_rows s.0 s.2 in
+        (q.0, subst (λ (r : List Row). AreQuadEquations r q.0) s.1 q.1)

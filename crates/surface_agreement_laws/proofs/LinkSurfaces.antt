@@ -19,7 +19,8 @@ use Rattle.surface_laws.proofs.Vertices.{number-vertex}
 use Rattle.surface_laws.proofs.ColumnKinds.{column_below}
 use Rattle.surface_quad_laws.specs.LinkLaws.{link_of, IsLinkSurface, IsCanonical, IsVertexLink}
 use Rattle.surface_quad_laws.proofs.LinkSums.{by_column, triangles-sum, linking_links}
-use Rattle.surface_quad_laws.proofs.VertexLinks.{four_triangles, length-link, others-link, link_surface, link-one, link-none}
+use Rattle.surface_laws.proofs.ColumnKinds.{four_triangles}
+use Rattle.surface_quad_laws.proofs.VertexLinks.{length-link, others-link, link_surface, link-one, link-none}
 use Rattle.surface_quad_laws.proofs.Canonical.{canonical_or_full}
 use Rattle.surface_agreement_laws.specs.VertexSurfaces.{IsVertexSurfaceOf}
 

@@ -7,3 +7,4 @@ pub mod EquationLaws
 pub mod QuadExamples
 pub mod VectorLaws
 pub mod OneSystem
+pub mod ColumnCounts

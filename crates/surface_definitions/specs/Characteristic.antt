@@ -1,11 +1,10 @@
 -- The Euler characteristic of a surface: points less arcs plus pieces. Coordinates are standard or octagons.
-use Rattle.std.specs.Prelude.{ℕ, ◌+◌, ◌/◌, ◌%◌, Bool, ◌&&◌, not, ℤ, pos, ◌-ℤ◌, List, [], ◌∷◌, length, map, filter, ◌==◌, nat_lt, sum_by, slice_index}
+use Rattle.std.specs.Prelude.{ℕ, ◌+◌, ◌/◌, ◌%◌, Bool, ◌&&◌, not, ℤ, pos, ◌-ℤ◌, List, [], ◌∷◌, length, map, filter, ◌==◌, nat_lt, sum_by, slice_index, if◌then◌else◌}
 use Rattle.std.specs.List.{list_all, list_any}
 use Rattle.table_definitions.specs.Lists.{below}
 use Rattle.table_definitions.specs.Table.{Row, Face, glue, faces}
-use Rattle.surface_definitions.specs.Coordinates.{quad_column, oct_column, tri_column, keeping, three, is_quad_or_octagon}
+use Rattle.surface_definitions.specs.Coordinates.{has_octagons, quad_column, oct_column, tri_column, keeping, three, is_quad_or_octagon}
 use Rattle.surface_definitions.specs.declared.Coords.{Coords}
-use Rattle.surface_definitions.specs.declared.Coords.TheVariants.{Standard, Quad, Octagon}
 use Rattle.table_definitions.specs.Permutation.{others}
 use Rattle.table_definitions.specs.Classes.{least}
 use Rattle.table_definitions.specs.Places.{ends, is_boundary}
@@ -14,9 +13,7 @@ use Rattle.surface_definitions.specs.Pieces.{arcs_around}
 
 -- the columns that meet the edge ab, as often as they do so: the octagon of its type twice
 abbrev pub octagon_crossings : Coords → ℕ → ℕ → List ℕ
-octagon_crossings Standard t k = []
-octagon_crossings Quad t k = []
-octagon_crossings Octagon t k = oct_column Octagon t k ∷ map (oct_column Octagon t) three
+octagon_crossings coords t k = if has_octagons coords then oct_column coords t k ∷ map (oct_column coords t) three else []
 
 abbrev pub crossings : Coords → ℕ → ℕ → ℕ → List ℕ
 crossings coords t a b =

@@ -1,5 +1,5 @@
 -- The columns of a vector: triangles, quads and octagons of each tetrahedron.
-use Rattle.std.specs.Prelude.{ℕ, ◌+◌, ◌*◌, ◌/◌, ◌%◌, ◌<◌, Bool, ◌&&◌, ◌||◌, not, List, [], ◌∷◌, map, filter, ◌==◌, nat_lt, nat_le, Option, Some, None, option_map, if◌then◌else◌}
+use Rattle.std.specs.Prelude.{ℕ, ◌+◌, ◌*◌, ◌/◌, ◌%◌, ◌<◌, Bool, true, false, ◌&&◌, ◌||◌, not, List, [], ◌∷◌, map, filter, ◌==◌, nat_lt, nat_le, Option, Some, None, option_map, if◌then◌else◌}
 use Rattle.std.specs.List.{position_or_len, slice_index_or}
 use Rattle.table_definitions.specs.Lists.{below, pairs_of}
 use Rattle.table_definitions.specs.Permutation.{image}
@@ -8,45 +8,48 @@ use Rattle.surface_definitions.specs.declared.Coords.TheVariants.{Standard, Quad
 use Rattle.surface_definitions.specs.declared.Piece.{Piece}
 use Rattle.surface_definitions.specs.declared.Piece.TheVariants as pieces
 
+-- whether the coordinates count triangles, and whether they count octagons; all count quads
+abbrev pub has_triangles : Coords → Bool
+has_triangles Standard = true
+has_triangles Quad = false
+has_triangles Octagon = true
+
+abbrev pub has_octagons : Coords → Bool
+has_octagons Standard = false
+has_octagons Quad = false
+has_octagons Octagon = true
+
+-- the number of columns of a tetrahedron before its quads, which are those of its triangles
+abbrev pub triangles_each : Coords → ℕ
+triangles_each coords = if has_triangles coords then 4 else 0
+
+-- the number of columns of a tetrahedron before its octagons, which are those of its triangles and quads
+abbrev pub before_octagons : Coords → ℕ
+before_octagons coords = triangles_each coords + 3
+
+-- the number of octagon columns of a tetrahedron
+abbrev pub octagons_each : Coords → ℕ
+octagons_each coords = if has_octagons coords then 3 else 0
+
 -- the columns of one tetrahedron
 abbrev pub columns_each : Coords → ℕ
-columns_each Standard = 7
-columns_each Quad = 3
-columns_each Octagon = 10
+columns_each coords = before_octagons coords + octagons_each coords
 
 -- the columns of n tetrahedra
 abbrev pub columns : Coords → ℕ → ℕ
 columns coords n = columns_each coords * n
 
--- the number of columns of a tetrahedron before its quads
-abbrev pub triangles_each : Coords → ℕ
-triangles_each Standard = 4
-triangles_each Quad = 0
-triangles_each Octagon = 4
-
 -- whether the coordinates have such a piece
 abbrev pub HasPiece : Coords → Piece → Type 0
-HasPiece Standard (pieces.Tri v) = v < 4
-HasPiece Standard (pieces.Quad k) = k < 3
-HasPiece Standard (pieces.Oct k) = ⊥
-HasPiece Quad (pieces.Tri v) = ⊥
-HasPiece Quad (pieces.Quad k) = k < 3
-HasPiece Quad (pieces.Oct k) = ⊥
-HasPiece Octagon (pieces.Tri v) = v < 4
-HasPiece Octagon (pieces.Quad k) = k < 3
-HasPiece Octagon (pieces.Oct k) = k < 3
+HasPiece coords (pieces.Tri v) = v < triangles_each coords
+HasPiece coords (pieces.Quad k) = k < 3
+HasPiece coords (pieces.Oct k) = k < octagons_each coords
 
 -- the index of a disc type among the columns of its tetrahedron, if it has one
 abbrev pub local_column : Coords → Piece → Option ℕ
-local_column Standard (pieces.Tri v) = if nat_lt v 4 then Some v else None
-local_column Standard (pieces.Quad k) = if nat_lt k 3 then Some (4 + k) else None
-local_column Standard (pieces.Oct k) = None
-local_column Quad (pieces.Tri v) = None
-local_column Quad (pieces.Quad k) = if nat_lt k 3 then Some k else None
-local_column Quad (pieces.Oct k) = None
-local_column Octagon (pieces.Tri v) = if nat_lt v 4 then Some v else None
-local_column Octagon (pieces.Quad k) = if nat_lt k 3 then Some (4 + k) else None
-local_column Octagon (pieces.Oct k) = if nat_lt k 3 then Some (7 + k) else None
+local_column coords (pieces.Tri v) = if nat_lt v (triangles_each coords) then Some v else None
+local_column coords (pieces.Quad k) = if nat_lt k 3 then Some (triangles_each coords + k) else None
+local_column coords (pieces.Oct k) = if nat_lt k (octagons_each coords) then Some (before_octagons coords + k) else None
 
 -- the column of a disc type of tetrahedron t, if the coordinates have it
 abbrev pub column_of : Coords → ℕ → Piece → Option ℕ
@@ -60,7 +63,7 @@ abbrev pub quad_column : Coords → ℕ → ℕ → ℕ
 quad_column coords t k = columns_each coords * t + triangles_each coords + k
 
 abbrev pub oct_column : Coords → ℕ → ℕ → ℕ
-oct_column coords t k = columns_each coords * t + 7 + k
+oct_column coords t k = columns_each coords * t + before_octagons coords + k
 
 -- which vertices the types 01/23, 02/13 and 03/12 keep on one side
 abbrev pub partners : List (List ℕ)
@@ -77,11 +80,13 @@ keeping x y = position_or_len (λ p. image p x == y) partners
 abbrev pub three : List ℕ
 three = 0 ∷ 1 ∷ 2 ∷ []
 
+-- the types of the octagons that the coordinates count
+abbrev pub octagon_types : Coords → List ℕ
+octagon_types coords = if has_octagons coords then three else []
+
 -- the columns of the octagons with an arc around v in face f
 abbrev pub octagon_arcs : Coords → ℕ → ℕ → ℕ → List ℕ
-octagon_arcs Standard t f v = []
-octagon_arcs Quad t f v = []
-octagon_arcs Octagon t f v = map (oct_column Octagon t) (filter (λ k. not (k == keeping v f)) three)
+octagon_arcs coords t f v = map (oct_column coords t) (filter (λ k. not (k == keeping v f)) (octagon_types coords))
 
 -- the columns of the discs with an arc around v in face f of tetrahedron t
 abbrev pub arc_columns : Coords → ℕ → ℕ → ℕ → List ℕ
@@ -92,7 +97,7 @@ abbrev pub is_quad_or_octagon : Coords → ℕ → Bool
 is_quad_or_octagon coords c = nat_le (triangles_each coords) (c % columns_each coords)
 
 abbrev pub is_octagon : Coords → ℕ → Bool
-is_octagon coords c = nat_le 7 (c % columns_each coords)
+is_octagon coords c = nat_le (before_octagons coords) (c % columns_each coords)
 
 -- whether two columns clash: quads or octagons of one tetrahedron, or any two octagons
 abbrev pub clash_test : Coords → ℕ → ℕ → Bool

@@ -5,7 +5,7 @@ use Rattle.std.specs.List.{flat_map, position_or_len, slice_index_or}
 use Rattle.table_definitions.specs.Lists.{below}
 use Rattle.table_definitions.specs.Permutation.{image, is_odd}
 use Rattle.table_definitions.specs.Table.{Gluing, Row, glue}
-use Rattle.surface_definitions.specs.Coordinates.{columns_each, tri_column, quad_column, partner, keeping, octagon_arcs, arc_columns}
+use Rattle.surface_definitions.specs.Coordinates.{before_octagons, columns_each, tri_column, quad_column, partner, keeping, octagon_arcs, arc_columns}
 use Rattle.surface_definitions.specs.declared.Coords.{Coords}
 use Rattle.table_definitions.specs.Classes.{IsNumbering}
 
@@ -38,7 +38,9 @@ further_column coords xs a =
 
 -- the type 0, 1 or 2 of the quad or octagon in a column
 abbrev pub type_in : Coords → ℕ → ℕ
-type_in coords c = if nat_lt (c % columns_each coords) 7 then c % columns_each coords - 4 else c % columns_each coords - 7
+type_in coords c =
+    if nat_lt (c % columns_each coords) (before_octagons coords) then c % columns_each coords - 4
+    else c % columns_each coords - before_octagons coords
 
 -- whether a type keeps v on the side of vertex 0
 abbrev pub keeps_by_zero : ℕ → ℕ → Bool

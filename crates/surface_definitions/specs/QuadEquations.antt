@@ -1,10 +1,10 @@
--- The equations of a table in any coordinates. In quad coordinates they are a row for each inner edge.
-use Rattle.std.specs.Prelude.{◌≡◌, ℕ, ◌*◌, List, length, map}
+-- The equations of a table in any coordinates. In quad coordinates they are a row for each internal edge.
+use Rattle.std.specs.Prelude.{◌≡◌, ℕ, ◌*◌, MatchBool, List, length, map}
 use Rattle.std.specs.List.{AllZip}
 use Rattle.table_definitions.specs.Table.{Row}
-use Rattle.surface_definitions.specs.Coordinates.{columns, quad_column, keeping}
+use Rattle.surface_definitions.specs.Coordinates.{has_triangles, columns, quad_column, keeping}
 use Rattle.surface_definitions.specs.declared.Coords.{Coords}
-use Rattle.surface_definitions.specs.declared.Coords.TheVariants.{Standard, Quad, Octagon}
+use Rattle.surface_definitions.specs.declared.Coords.TheVariants.{Quad}
 use Rattle.surface_definitions.specs.Equations.{Equation, row_of, matching_rows}
 use Rattle.table_definitions.specs.Classes.{IsNumbering, least}
 use Rattle.table_definitions.specs.Places.{SameEdge}
@@ -37,6 +37,5 @@ pub record AreQuadEquations (rows : List Row) (quad_rows : List EquationRow) : T
 
 -- the equations of a table: matching equations, and in quad coordinates those of the internal edges
 abbrev pub AreEquations : Coords → List Row → List EquationRow → Type 0
-AreEquations Standard rows equations = equations ≡ matching_rows Standard rows
-AreEquations Quad rows equations = AreQuadEquations rows equations
-AreEquations Octagon rows equations = equations ≡ matching_rows Octagon rows
+AreEquations coords rows equations =
+    MatchBool (has_triangles coords) (equations ≡ matching_rows coords rows) (AreQuadEquations rows equations)

@@ -1,16 +1,16 @@
 -- The certificate of a table's equations.
-use Rattle.std.proofs.Common.{◌≡◌, ℕ, ◌+◌, ◌/◌, ◌%◌, ◌<◌, ◌≤◌, Bool, true, false, List, length, All, Contains, refl, sym, subst, arith}
+use Rattle.std.proofs.Common.{◌≡◌, ℕ, ◌+◌, ◌*◌, ◌/◌, ◌<◌, ◌≤◌, Bool, true, false, List, length, All, Contains, refl, sym, subst, arith}
 use Rattle.std.specs.Prelude.{◌==◌, ◌&&◌, if◌then◌else◌, nat_lt}
-use Rattle.std.proofs.lemmas.Bool.{and_from, or_left, or_right, eq-eqb, lt-ltb, leb-true, not-false}
+use Rattle.std.proofs.lemmas.Bool.{and_from, and_parts, or_left, or_right, eq-eqb, lt-ltb, not-false}
 use Rattle.std.proofs.lemmas.List.Elements.{All-from_recursion}
 use Rattle.table_definitions.specs.Lists.{below, pairs_of}
 use Rattle.table_definitions.specs.Table.{Row, IsTable}
 use Rattle.table_definitions.proofs.TableLaws.{Among, Among-below, Among-pairs}
 use Rattle.table_definitions.proofs.Listed.{contains_among, Among-filter, all_from}
 use Rattle.cone_definitions.specs.Rows.{Row as EquationRow}
-use Rattle.surface_definitions.specs.Coordinates.{columns, columns_each, is_quad_or_octagon, is_octagon, clash_test, clash_list}
+use Rattle.surface_definitions.specs.Coordinates.{has_triangles, has_octagons, columns, columns_each, is_quad_or_octagon, is_octagon, clash_test, clash_list}
 use Rattle.surface_definitions.specs.declared.Coords.{Coords}
-use Rattle.surface_definitions.specs.declared.Coords.TheVariants.{Standard, Quad, Octagon}
+use Rattle.surface_definitions.proofs.ColumnCounts.{tet_below, octagon_has}
 use Rattle.surface_definitions.specs.Equations.{Equation, row_of}
 use Rattle.surface_definitions.specs.QuadEquations.{AreEquations}
 use Rattle.surface_equation_laws.specs.Entries.{entry, column_sum}
@@ -41,58 +41,62 @@ two_octagons coords a b x y = or_left (is_octagon coords a && is_octagon coords 
 -- columns of one group clash
 one_group : (coords : Coords) (n a b : ℕ) → a < columns coords n → b < columns coords n → is_quad_or_octagon coords a ≡ true → is_quad_or_octagon coords b ≡ true
     → group_of coords n a ≡ group_of coords n b → clash_test coords a b ≡ true
-one_group Standard n a b la lb x y same = in_one Standard a b same x y
-one_group Quad n a b la lb x y same = in_one Quad a b same x y
-one_group Octagon n a b la lb x y same = go (is_octagon Octagon a) (is_octagon Octagon b) refl refl same
+one_group coords n a b la lb x y same = go (has_octagons coords && is_octagon coords a) (has_octagons coords && is_octagon coords b) refl refl same
   where
-    go : (s t : Bool) → is_octagon Octagon a ≡ s → is_octagon Octagon b ≡ t → (if s then n else a / 10) ≡ (if t then n else b / 10) → clash_test Octagon a b ≡ true
-    go true true s t e = two_octagons Octagon a b s t
-    go true false s t e = let w : n ≡ b / 10 = e in absurd (omega arith)
-    go false true s t e = let w : a / 10 ≡ n = e in absurd (omega arith)
-    go false false s t e = in_one Octagon a b e x y
+    octagon : (c : ℕ) → (has_octagons coords && is_octagon coords c) ≡ true → is_octagon coords c ≡ true
+    octagon c h = (and_parts (has_octagons coords) (is_octagon coords c) h).1
+
+    go : (s t : Bool) → (has_octagons coords && is_octagon coords a) ≡ s → (has_octagons coords && is_octagon coords b) ≡ t
+        → (if s then n else a / columns_each coords) ≡ (if t then n else b / columns_each coords) → clash_test coords a b ≡ true
+    go true true s t e = two_octagons coords a b (octagon a s) (octagon b t)
+    go true false s t e = let w : n ≡ b / columns_each coords = e in let l = tet_below coords n b lb in absurd (omega (arith, w, l))
+    go false true s t e = let w : a / columns_each coords ≡ n = e in let l = tet_below coords n a la in absurd (omega (arith, w, l))
+    go false false s t e = in_one coords a b e x y
 
 group_below : (coords : Coords) (n c : ℕ) → c < columns coords n → group_of coords n c < groups_of coords n
-group_below Standard n c l = omega arith
-group_below Quad n c l = omega arith
-group_below Octagon n c l = go (is_octagon Octagon c)
+group_below coords n c l = go (has_octagons coords) (is_octagon coords c)
   where
-    go : (s : Bool) → (if s then n else c / 10) < n + 1
-    go true = omega arith
-    go false = omega arith
+    tet : c / columns_each coords < n
+    tet = tet_below coords n c l
+
+    go : (o s : Bool) → (if o && s then n else c / columns_each coords) < (if o then n + 1 else n)
+    go true true = omega arith
+    go true false = omega (arith, tet)
+    go false s = tet
 
 some_cap : (coords : Coords) (n g : ℕ) → 1 ≤ cap_of coords n g
-some_cap Standard n g = omega arith
-some_cap Quad n g = omega arith
-some_cap Octagon n g = go (g == n)
+some_cap coords n g = go (has_octagons coords && (g == n))
   where
     go : (s : Bool) → 1 ≤ (if s then 8 else 4)
     go true = omega arith
     go false = omega arith
 
-four_at_most : (octagon quad : Bool) → (octagon ≡ true → ⊥) → (if octagon then 8 else (if quad then 4 else 1)) ≤ 4
-four_at_most true quad no_octagon = absurd (no_octagon refl)
-four_at_most false true no_octagon = omega arith
-four_at_most false false no_octagon = omega arith
-
 -- no column weighs more than the cap of its group
 weight_capped : (coords : Coords) (n c : ℕ) → weight coords c ≤ cap_of coords n (group_of coords n c)
-weight_capped Standard n c = four_at_most (is_octagon Standard c) (is_quad_or_octagon Standard c) (λ t. let l : 7 ≤ c % 7 = leb-true 7 (c % 7) t in omega arith)
-weight_capped Quad n c = four_at_most (is_octagon Quad c) (is_quad_or_octagon Quad c) (λ t. let l : 7 ≤ c % 3 = leb-true 7 (c % 3) t in omega arith)
-weight_capped Octagon n c = go (is_octagon Octagon c) (is_quad_or_octagon Octagon c)
+weight_capped coords n c = go (is_octagon coords c) (is_quad_or_octagon coords c) (octagon_has coords c)
   where
     four_or_eight : (s : Bool) → 4 ≤ (if s then 8 else 4)
     four_or_eight true = omega arith
     four_or_eight false = omega arith
 
-    go : (s t : Bool) → (if s then 8 else (if t then 4 else 1)) ≤ (if (if s then n else c / 10) == n then 8 else 4)
-    go true t = subst (λ b. 8 ≤ (if b then 8 else 4)) (sym (eq-eqb n n refl)) (omega arith)
-    go false true = four_or_eight (c / 10 == n)
-    go false false = let l = four_or_eight (c / 10 == n) in omega arith
+    cap_with : Bool → Bool → ℕ
+    cap_with o s = if o && ((if o && s then n else c / columns_each coords) == n) then 8 else 4
+
+    go : (s t : Bool) → (s ≡ true → has_octagons coords ≡ true) → (if s then 8 else (if t then 4 else 1)) ≤ cap_with (has_octagons coords) s
+    go true t has = subst (λ (o : Bool). 8 ≤ cap_with o true) (sym (has refl)) (subst (λ b. 8 ≤ (if b then 8 else 4)) (sym (eq-eqb n n refl)) (omega arith))
+    go false true has = four_or_eight (has_octagons coords && ((if has_octagons coords && false then n else c / columns_each coords) == n))
+    go false false has = let l = four_or_eight (has_octagons coords && ((if has_octagons coords && false then n else c / columns_each coords) == n)) in omega arith
 
 size_most : (coords : Coords) (n p m : ℕ) → p ≤ row_bound coords n → m ≤ row_bound coords n → p + m ≤ size_of coords n
-size_most Standard n p m a b = omega arith
-size_most Quad n p m a b = omega arith
-size_most Octagon n p m a b = omega arith
+size_most coords n p m = go (has_triangles coords) (has_octagons coords)
+  where
+    row_with : Bool → Bool → ℕ
+    row_with t o = if t then (if t then (if o then 4 else 2) else 0) else 6 * n
+
+    go : (t o : Bool) → p ≤ row_with t o → m ≤ row_with t o → p + m ≤ (if t then (if o then 8 else 4) else 12 * n)
+    go true true a b = omega arith
+    go true false a b = omega arith
+    go false o a b = omega arith
 
 module _ (coords : Coords) (rows : List Row) (equations : List EquationRow) (table : IsTable rows) (q : AreEquations coords rows equations) where
   abbrev n : ℕ

@@ -20,10 +20,11 @@ use Rattle.surface_laws.proofs.Glued.{IsGlued, glued_is}
 use Rattle.surface_laws.proofs.Matched.{pair_glued}
 use Rattle.surface_laws.proofs.Solved.{other_is}
 use Rattle.cone_bound_laws.specs.Caps.{magnitude}
+use Rattle.surface_definitions.proofs.ColumnCounts.{index_below}
 use Rattle.surface_equation_laws.specs.Entries.{entry, column_sum}
 use Rattle.surface_equation_laws.specs.Weights.{weight}
 use Rattle.surface_equation_laws.proofs.Entries.{magnitude_entry}
-use Rattle.surface_equation_laws.proofs.LocalArcs.{local_arcs, arcs_placed, times_placed, place_below}
+use Rattle.surface_equation_laws.proofs.LocalArcs.{local_arcs, arcs_placed, times_placed}
 use Rattle.surface_equation_laws.proofs.FaceArcs.{IsArc, is_arc, arc_weight, face_times, turned_times, few_in_face, few_across}
 use Rattle.surface_equation_laws.proofs.Chosen.{sum_by_less}
 use Rattle.surface_equation_laws.proofs.Sides.{stands, sides_once}
@@ -69,16 +70,16 @@ module _ (coords : Coords) (rows : List Row) (c : ℕ) (triangles : HasTriangles
   times_local : (t f v : ℕ) → IsArc coords f v → times_in (arc_columns coords t f v) c ≡ cond (t == t0) (times_in (local_arcs coords f v) place) 0
   times_local t f v a = ap (λ ks. times_in ks c) (arcs_placed coords t f v triangles) ∙ times_placed coords t c (local_arcs coords f v) a.places
 
-  left_few : (y : Face × Gluing) → IsGlued rows y.0 y.1 → sum_by (left_times y) (others (y.0).face) ≤ arc_weight place * cond ((y.0).tet == t0) 1 0
+  left_few : (y : Face × Gluing) → IsGlued rows y.0 y.1 → sum_by (left_times y) (others (y.0).face) ≤ arc_weight coords place * cond ((y.0).tet == t0) 1 0
   left_few y g =
       let e : sum_by (left_times y) (others (y.0).face) ≡ cond ((y.0).tet == t0) (face_times coords (y.0).face place) 0 =
       sum_by_same (left_times y) (λ v. cond ((y.0).tet == t0) (times_in (local_arcs coords (y.0).face v) place) 0) (others (y.0).face)
       (λ v a. let o : (v < 4) × (v ≡ (y.0).face → ⊥) = other_is (y.0).face v a in times_local (y.0).tet (y.0).face v (is_arc coords (y.0).face v g.face o.0 o.1))
       ∙ outside ((y.0).tet == t0) (λ v. times_in (local_arcs coords (y.0).face v) place) (others (y.0).face) in
-      subst (λ k. k ≤ arc_weight place * cond ((y.0).tet == t0) 1 0) (sym e)
-      (cond_less ((y.0).tet == t0) (face_times coords (y.0).face place) (arc_weight place) (few_in_face coords (y.0).face place g.face (place_below coords c)))
+      subst (λ k. k ≤ arc_weight coords place * cond ((y.0).tet == t0) 1 0) (sym e)
+      (cond_less ((y.0).tet == t0) (face_times coords (y.0).face place) (arc_weight coords place) (few_in_face coords (y.0).face place g.face (index_below coords c)))
 
-  right_few : (y : Face × Gluing) → IsGlued rows y.0 y.1 → sum_by (right_times y) (others (y.0).face) ≤ arc_weight place * cond ((y.1).tet == t0) 1 0
+  right_few : (y : Face × Gluing) → IsGlued rows y.0 y.1 → sum_by (right_times y) (others (y.0).face) ≤ arc_weight coords place * cond ((y.1).tet == t0) 1 0
   right_few y g =
       let p : List ℕ = (y.1).perm in
       let f : ℕ = (y.0).face in
@@ -87,8 +88,8 @@ module _ (coords : Coords) (rows : List Row) (c : ℕ) (triangles : HasTriangles
       (λ v a. let o : (v < 4) × (v ≡ f → ⊥) = other_is f v a in
       times_local (y.1).tet (image p f) (image p v) (is_arc coords (image p f) (image p v) g.other_face (image_below p v g.permutes o.0) (images_apart p v f g.permutes o.0 g.face o.1)))
       ∙ outside ((y.1).tet == t0) (λ v. times_in (local_arcs coords (image p f) (image p v)) place) (others f) in
-      subst (λ k. k ≤ arc_weight place * cond ((y.1).tet == t0) 1 0) (sym e)
-      (cond_less ((y.1).tet == t0) (turned_times coords p f place) (arc_weight place) (few_across coords p f place g.permutes g.face (place_below coords c)))
+      subst (λ k. k ≤ arc_weight coords place * cond ((y.1).tet == t0) 1 0) (sym e)
+      (cond_less ((y.1).tet == t0) (turned_times coords p f place) (arc_weight coords place) (few_across coords p f place g.permutes g.face (index_below coords c)))
 
   -- a pair counts where one of its sides is a face of the tetrahedron
   abbrev at_pair : Face × Gluing → ℕ
@@ -116,17 +117,17 @@ module _ (coords : Coords) (rows : List Row) (c : ℕ) (triangles : HasTriangles
   abbrev of_pair : Face × Gluing → ℕ
   of_pair y = sum_by of_equation (map (matching coords y.0 y.1) (others (y.0).face))
 
-  pair_few : (y : Face × Gluing) → IsGlued rows y.0 y.1 → of_pair y ≤ arc_weight place * at_pair y
+  pair_few : (y : Face × Gluing) → IsGlued rows y.0 y.1 → of_pair y ≤ arc_weight coords place * at_pair y
   pair_few y g =
       let e : of_pair y ≡ sum_by (left_times y) (others (y.0).face) + sum_by (right_times y) (others (y.0).face) =
       sum_by-map of_equation (matching coords y.0 y.1) (others (y.0).face) ∙ sum_by_plus (left_times y) (right_times y) (λ v. of_equation (matching coords y.0 y.1 v)) (λ v. refl) (others (y.0).face) in
       let l = left_few y g in
       let r = right_few y g in
-      let d : arc_weight place * at_pair y ≡ arc_weight place * cond ((y.0).tet == t0) 1 0 + arc_weight place * cond ((y.1).tet == t0) 1 0 =
-      mul-add (arc_weight place) (cond ((y.0).tet == t0) 1 0) (cond ((y.1).tet == t0) 1 0) in
+      let d : arc_weight coords place * at_pair y ≡ arc_weight coords place * cond ((y.0).tet == t0) 1 0 + arc_weight coords place * cond ((y.1).tet == t0) 1 0 =
+      mul-add (arc_weight coords place) (cond ((y.0).tet == t0) 1 0) (cond ((y.1).tet == t0) 1 0) in
       omega arith
 
-  pub column_few : column_sum (matching_rows coords rows) c ≤ arc_weight place * 4
+  pub column_few : column_sum (matching_rows coords rows) c ≤ arc_weight coords place * 4
   unfolding matching_equations
   column_few =
       let n : ℕ = columns coords (length rows) in
@@ -134,10 +135,10 @@ module _ (coords : Coords) (rows : List Row) (c : ℕ) (triangles : HasTriangles
       let a : column_sum (matching_rows coords rows) c ≡ sum_by (λ e. magnitude (entry (row_of n e) c)) es = sum_by-map (λ (row : EquationRow). magnitude (entry row c)) (row_of n) es in
       let b : sum_by (λ e. magnitude (entry (row_of n e) c)) es ≤ sum_by of_equation es = sum_by_less (λ e. magnitude (entry (row_of n e) c)) of_equation es (λ e m. magnitude_entry n e c) in
       let d : sum_by of_equation es ≡ sum_by of_pair (glued_pairs rows) = sum_by-flat_map of_equation (λ (y : Face × Gluing). map (matching coords y.0 y.1) (others (y.0).face)) (glued_pairs rows) in
-      let f : sum_by of_pair (glued_pairs rows) ≤ sum_by (λ y. arc_weight place * at_pair y) (glued_pairs rows) =
-      sum_by_less of_pair (λ y. arc_weight place * at_pair y) (glued_pairs rows) (λ y m. pair_few y (glued_is rows y.0 y.1 table (pair_glued rows y m))) in
-      let g : sum_by (λ y. arc_weight place * at_pair y) (glued_pairs rows) ≡ arc_weight place * sum_by at_pair (glued_pairs rows) = sum_by_times (arc_weight place) at_pair (glued_pairs rows) in
-      let h : arc_weight place * sum_by at_pair (glued_pairs rows) ≤ arc_weight place * 4 = mul-le-mul_left (arc_weight place) pairs_few in
+      let f : sum_by of_pair (glued_pairs rows) ≤ sum_by (λ y. arc_weight coords place * at_pair y) (glued_pairs rows) =
+      sum_by_less of_pair (λ y. arc_weight coords place * at_pair y) (glued_pairs rows) (λ y m. pair_few y (glued_is rows y.0 y.1 table (pair_glued rows y m))) in
+      let g : sum_by (λ y. arc_weight coords place * at_pair y) (glued_pairs rows) ≡ arc_weight coords place * sum_by at_pair (glued_pairs rows) = sum_by_times (arc_weight coords place) at_pair (glued_pairs rows) in
+      let h : arc_weight coords place * sum_by at_pair (glued_pairs rows) ≤ arc_weight coords place * 4 = mul-le-mul_left (arc_weight coords place) pairs_few in
       omega arith
 
 -- four faces' arcs are at most the weight
@@ -149,6 +150,6 @@ within_weight false false h = cc
 pub columns_are_few : (coords : Coords) (rows : List Row) (c : ℕ) → HasTriangles coords → IsTable rows → is_quad_or_octagon coords c ≡ true
     → column_sum (matching_rows coords rows) c ≤ weight coords c
 columns_are_few coords rows c triangles table bounded =
-    let a : column_sum (matching_rows coords rows) c ≤ arc_weight (c % columns_each coords) * 4 = column_few coords rows c triangles table in
-    let b : arc_weight (c % columns_each coords) * 4 ≤ weight coords c = within_weight (is_octagon coords c) (is_quad_or_octagon coords c) bounded in
+    let a : column_sum (matching_rows coords rows) c ≤ arc_weight coords (c % columns_each coords) * 4 = column_few coords rows c triangles table in
+    let b : arc_weight coords (c % columns_each coords) * 4 ≤ weight coords c = within_weight (is_octagon coords c) (is_quad_or_octagon coords c) bounded in
     omega arith

@@ -15,10 +15,11 @@ use Rattle.skeleton_definitions.specs.Corners.{Corner, Reaches, first_corner, Ar
 use Rattle.surface_definitions.specs.Coordinates.{keeping, quad_column}
 use Rattle.surface_definitions.specs.declared.Coords.TheVariants.{Quad}
 use Rattle.surface_laws.proofs.Counting.{sum_swap, sum_by_same, sum_by-none, sum_by-map}
+use Rattle.surface_definitions.proofs.ColumnCounts.{index_below}
 use Rattle.surface_equation_laws.proofs.Columns.{sum_by_times}
 use Rattle.table_definitions.proofs.DistinctLists.{apart_from}
 use Rattle.surface_equation_laws.proofs.Once.{count_one}
-use Rattle.surface_equation_laws.proofs.LocalArcs.{place_is, place_below}
+use Rattle.surface_equation_laws.proofs.LocalArcs.{place_is}
 use Rattle.surface_equation_laws.proofs.CornerSteps.{turned_round, corner_at, IsCorner, steps_keep, no_turn}
 use Rattle.surface_equation_laws.proofs.CornerClasses.{IsFirst, first_is, least_in, class_of_corner}
 use Rattle.plain_facts.proofs.Truths.{one_if}
@@ -93,7 +94,7 @@ corner_counts s c k which h =
     ap (λ m. one_if (m == c)) e ∙ ap one_if (place_is Quad k.tet (side s (corner_word k)) c (side_below s which (corner_word k) h)) ∙ go (k.tet == c / 3)
   where
     go : (b : Bool) → one_if (b && (side s (corner_word k) == c % 3)) ≡ sum_by (λ w. one_if (side s w == c % 3) * one_if (b && is_of w (corner_word k))) halves
-    go true = quad_of_half s which (corner_word k) h (c % 3) (place_below Quad c)
+    go true = quad_of_half s which (corner_word k) h (c % 3) (index_below Quad c)
     go false = sym (sum_by-none (λ w. one_if (side s w == c % 3) * 0) halves (λ w a. omega arith))
 
 module _ (rows : List Row) (classes : List ℕ) (count : ℕ) (table : IsTable rows) (numbered : IsNumbering (6 * length rows) (SameEdge rows) classes count)

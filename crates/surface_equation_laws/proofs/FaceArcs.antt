@@ -5,7 +5,7 @@ use Rattle.std.proofs.lemmas.Bool.{agree_below, and_parts, leb-true, or_cases, e
 use Rattle.table_definitions.specs.Lists.{times_in}
 use Rattle.table_definitions.specs.Permutation.{IsPermutationOfFour, image, others}
 use Rattle.table_definitions.proofs.Permutations.{by_words}
-use Rattle.surface_definitions.specs.Coordinates.{columns_each, triangles_each}
+use Rattle.surface_definitions.specs.Coordinates.{before_octagons, columns_each, triangles_each}
 use Rattle.surface_definitions.specs.declared.Coords.{Coords}
 use Rattle.surface_definitions.specs.declared.Coords.TheVariants.{Standard, Quad, Octagon}
 use Rattle.surface_laws.proofs.Turns.{by_two}
@@ -45,8 +45,8 @@ is_arc coords f v lf lv off =
     ]
 
 -- the arcs that a piece has in a face at most
-abbrev pub arc_weight : ℕ → ℕ
-arc_weight a = if nat_le 7 a then 2 else 1
+abbrev pub arc_weight : Coords → ℕ → ℕ
+arc_weight coords a = if nat_le (before_octagons coords) a then 2 else 1
 
 abbrev pub face_times : Coords → ℕ → ℕ → ℕ
 face_times coords f a = sum_by (λ v. times_in (local_arcs coords f v) a) (others f)
@@ -56,16 +56,16 @@ abbrev pub turned_times : Coords → List ℕ → ℕ → ℕ → ℕ
 turned_times coords p f a = sum_by (λ v. times_in (local_arcs coords (image p f) (image p v)) a) (others f)
 
 face_test : Coords → ℕ → ℕ → Bool
-face_test coords f a = nat_le (face_times coords f a) (arc_weight a)
+face_test coords f a = nat_le (face_times coords f a) (arc_weight coords a)
 
 turned_test : Coords → List ℕ → ℕ → ℕ → Bool
-turned_test coords p f a = nat_le (turned_times coords p f a) (arc_weight a)
+turned_test coords p f a = nat_le (turned_times coords p f a) (arc_weight coords a)
 
-pub few_in_face : (coords : Coords) (f a : ℕ) → f < 4 → a < columns_each coords → face_times coords f a ≤ arc_weight a
+pub few_in_face : (coords : Coords) (f a : ℕ) → f < 4 → a < columns_each coords → face_times coords f a ≤ arc_weight coords a
 unfolding face_test
-few_in_face Standard f a lf la = leb-true (face_times Standard f a) (arc_weight a) (by_two (face_test Standard) 4 7 refl f a lf la)
-few_in_face Quad f a lf la = leb-true (face_times Quad f a) (arc_weight a) (by_two (face_test Quad) 4 3 refl f a lf la)
-few_in_face Octagon f a lf la = leb-true (face_times Octagon f a) (arc_weight a) (by_two (face_test Octagon) 4 10 refl f a lf la)
+few_in_face Standard f a lf la = leb-true (face_times Standard f a) (arc_weight Standard a) (by_two (face_test Standard) 4 7 refl f a lf la)
+few_in_face Quad f a lf la = leb-true (face_times Quad f a) (arc_weight Quad a) (by_two (face_test Quad) 4 3 refl f a lf la)
+few_in_face Octagon f a lf la = leb-true (face_times Octagon f a) (arc_weight Octagon a) (by_two (face_test Octagon) 4 10 refl f a lf la)
 
 words_test : Coords → List ℕ → Bool
 words_test coords p = agree_below (λ f. agree_below (turned_test coords p f) (λ v. true) (columns_each coords)) (λ k. true) 4
@@ -76,7 +76,7 @@ words_tested Standard p h = by_words (words_test Standard) refl p h
 words_tested Quad p h = by_words (words_test Quad) refl p h
 words_tested Octagon p h = by_words (words_test Octagon) refl p h
 
-pub few_across : (coords : Coords) (p : List ℕ) (f a : ℕ) → IsPermutationOfFour p → f < 4 → a < columns_each coords → turned_times coords p f a ≤ arc_weight a
+pub few_across : (coords : Coords) (p : List ℕ) (f a : ℕ) → IsPermutationOfFour p → f < 4 → a < columns_each coords → turned_times coords p f a ≤ arc_weight coords a
 unfolding words_test turned_test
 few_across coords p f a h lf la =
-    leb-true (turned_times coords p f a) (arc_weight a) (by_two (turned_test coords p) 4 (columns_each coords) (words_tested coords p h) f a lf la)
+    leb-true (turned_times coords p f a) (arc_weight coords a) (by_two (turned_test coords p) 4 (columns_each coords) (words_tested coords p h) f a lf la)

@@ -1,12 +1,12 @@
 -- The one form agrees with the words by coordinates.
-use Rattle.std.proofs.Common.{◌≡◌, ℕ, ◌/◌, ◌%◌, ◌<◌, ◌≤◌, Bool, true, false, not, List, length, inl, inr, refl, sym, ap, ◌∙◌, subst, arith}
-use Rattle.std.specs.Prelude.{nat_lt, nat_le, if◌then◌else◌}
-use Rattle.std.proofs.lemmas.Bool.{ne_eqb, false_from_ne_true, leb-true, le-leb, lt-ltb, le-ltb, cases_lt}
+use Rattle.std.proofs.Common.{◌≡◌, ℕ, ◌+◌, ◌/◌, ◌%◌, ◌<◌, ◌≤◌, Bool, true, false, not, List, length, inl, inr, refl, sym, ap, ◌∙◌, subst, arith}
+use Rattle.std.specs.Prelude.{◌==◌, ◌&&◌, nat_lt, nat_le, if◌then◌else◌}
+use Rattle.std.proofs.lemmas.Bool.{ne_eqb, and_parts, false≢true, false_from_ne_true, leb-true, le-leb, lt-ltb, le-ltb, cases_lt}
 use Rattle.cone_definitions.specs.Rows.{Row as EquationRow}
 use Rattle.table_definitions.specs.Table.{Row, IsTable}
-use Rattle.surface_definitions.specs.Coordinates.{columns, columns_each, triangles_each, is_octagon, clash_list}
+use Rattle.surface_definitions.specs.Coordinates.{has_octagons, columns, columns_each, triangles_each, is_octagon, clash_list}
 use Rattle.surface_definitions.specs.declared.Coords.{Coords}
-use Rattle.surface_definitions.specs.declared.Coords.TheVariants.{Standard, Quad, Octagon}
+use Rattle.surface_definitions.proofs.ColumnCounts.{octagon_has}
 use Rattle.surface_definitions.specs.QuadEquations.{AreEquations}
 use Rattle.cone_bound_laws.specs.Caps.{HasCaps, column_weight}
 use Rattle.surface_equation_laws.specs.Caps.{is_free, group_of, cap_of, groups_of, size_of}
@@ -27,14 +27,18 @@ no_octagon n k true h = absurd (h refl)
 no_octagon n k false h = refl
 
 same_group : (coords : Coords) (n c : ℕ) → group_in coords n c ≡ group_of coords n c
-same_group Standard n c = no_octagon n (c / 7) (is_octagon Standard c) (λ t. let l : 7 ≤ c % 7 = leb-true 7 (c % 7) t in omega arith)
-same_group Quad n c = no_octagon n (c / 3) (is_octagon Quad c) (λ t. let l : 7 ≤ c % 3 = leb-true 7 (c % 3) t in omega arith)
-same_group Octagon n c = refl
+same_group coords n c = go (is_octagon coords c) (octagon_has coords c)
+  where
+    go : (s : Bool) → (s ≡ true → has_octagons coords ≡ true) → (if s then n else c / columns_each coords) ≡ (if has_octagons coords && s then n else c / columns_each coords)
+    go true has = ap (λ (o : Bool). if o && true then n else c / columns_each coords) (sym (has refl))
+    go false has = sym (no_octagon n (c / columns_each coords) (has_octagons coords && false) (λ t. false≢true ((and_parts (has_octagons coords) false t).1)))
 
 same_cap : (coords : Coords) (n g : ℕ) → g < groups_of coords n → cap_in n g ≡ cap_of coords n g
-same_cap Standard n g l = ap (λ b. if b then 8 else 4) (ne_eqb g n (λ e. omega arith))
-same_cap Quad n g l = ap (λ b. if b then 8 else 4) (ne_eqb g n (λ e. omega arith))
-same_cap Octagon n g l = refl
+same_cap coords n g = go (has_octagons coords)
+  where
+    go : (o : Bool) → g < (if o then n + 1 else n) → ◌≡◌ {A = ℕ} (if g == n then 8 else 4) (if o && (g == n) then 8 else 4)
+    go true l = refl
+    go false l = ap (λ b. if b then 8 else 4) (ne_eqb g n (λ e. omega arith))
 
 module _ (coords : Coords) (rows : List Row) (equations : List EquationRow) (table : IsTable rows) (q : AreEquations coords rows equations) where
   abbrev n : ℕ

@@ -1,15 +1,15 @@
 -- Columns of which no two clash have a quad or octagon for each tetrahedron at most, and one octagon at most.
 use Rattle.std.proofs.Common.{◌≡◌, ℕ, zero, suc, ◌+◌, ◌*◌, ◌/◌, ◌%◌, ◌<◌, ◌≤◌, Bool, true, false, cond, List, [], ◌∷◌, All, Contains, slice_index, ◌⊎◌, inl, inr, refl, sym, ap, ◌∙◌, subst, arith}
 use Rattle.std.specs.Prelude.{◌==◌, ◌&&◌, ◌^◌, nat_lt, sum_by, count_by, if◌then◌else◌}
-use Rattle.std.proofs.lemmas.Bool.{and_from, and_parts, or_left, or_right, eqb-true, eq-eqb, ne_eqb, lt-ltb, cases_order, leb-true, le-leb, false_from_ne_true}
+use Rattle.std.proofs.lemmas.Bool.{and_from, and_parts, or_left, or_right, eqb-true, eq-eqb, ne_eqb, lt-ltb, cases_order, leb-true, le-leb, false_from_ne_true, false≢true}
 use Rattle.std.specs.List.{range_with_len}
 use Rattle.std.proofs.lemmas.List.Sums.{sum_by-cons}
 use Rattle.table_definitions.specs.Lists.{below, pairs_of}
 use Rattle.table_definitions.proofs.TableLaws.{Among, Among-below, Among-pairs}
 use Rattle.table_definitions.proofs.Listed.{contains_among, among_contains, Among-filter, all_at}
-use Rattle.surface_definitions.specs.Coordinates.{columns, columns_each, triangles_each, is_quad_or_octagon, is_octagon, clash_test, clash_list}
+use Rattle.surface_definitions.specs.Coordinates.{has_octagons, triangles_each, before_octagons, columns, columns_each, is_quad_or_octagon, is_octagon, clash_test, clash_list}
 use Rattle.surface_definitions.specs.declared.Coords.{Coords}
-use Rattle.surface_definitions.specs.declared.Coords.TheVariants.{Standard, Quad, Octagon}
+use Rattle.surface_definitions.proofs.ColumnCounts.{tet_below, octagon_has}
 use Rattle.surface_laws.proofs.Counting.{sum_swap, sum_by_same, sum_by-none, one_term}
 use Rattle.cone_definitions.specs.Surfaces.{IsAdmissible}
 use Rattle.surface_equation_laws.specs.Entries.{IsOnce}
@@ -17,18 +17,12 @@ use Rattle.surface_equation_laws.specs.Products.{HaveNoClash, product_bound}
 use Rattle.surface_equation_laws.specs.Weights.{weight, weight_product}
 use Rattle.surface_equation_laws.proofs.Once.{count_one, apart_once}
 use Rattle.surface_equation_laws.proofs.Columns.{sum_by_times}
-use Rattle.surface_equation_laws.proofs.LocalArcs.{place_below}
 use Rattle.surface_laws.proofs.Sums.{sum_by_plus}
 use Rattle.std.proofs.lemmas.Nat.{pow-add, mul-pow}
 use Rattle.std.proofs.Math.Nat.{pow-le-pow_right}
 use Rattle.std.proofs.lemmas.List.Elements.{recursion_from_All}
 use Rattle.surface_equation_laws.proofs.Chosen.{sum_by_less}
 use Rattle.plain_facts.proofs.Truths.{one_if}
-
-tet_below : (coords : Coords) (n c : ℕ) → c < columns coords n → c / columns_each coords < n
-tet_below Standard n c l = omega arith
-tet_below Quad n c l = omega arith
-tet_below Octagon n c l = omega arith
 
 module _ (coords : Coords) (n : ℕ) (cs : List ℕ) (range : (c : ℕ) → Among c cs → c < columns coords n) (once : IsOnce cs) (free : HaveNoClash coords n cs) where
   listed : (a b : ℕ) → Among a cs → Among b cs → a < b → clash_test coords a b ≡ true → ⊥
@@ -96,12 +90,9 @@ abbrev exponent : Coords → ℕ → ℕ
 exponent coords c = 2 * one_if (is_quad_or_octagon coords c) + one_if (is_octagon coords c)
 
 octagon_bounded : (coords : Coords) (c : ℕ) → is_octagon coords c ≡ true → is_quad_or_octagon coords c ≡ true
-octagon_bounded coords c h = let l : 7 ≤ c % columns_each coords = leb-true 7 (c % columns_each coords) h in le-leb (triangles_each coords) (c % columns_each coords) (few coords (c % columns_each coords) l)
-  where
-    few : (coords : Coords) (k : ℕ) → 7 ≤ k → triangles_each coords ≤ k
-    few Standard k l = omega arith
-    few Quad k l = omega arith
-    few Octagon k l = omega arith
+octagon_bounded coords c h =
+    let l : before_octagons coords ≤ c % columns_each coords = leb-true (before_octagons coords) (c % columns_each coords) h in
+    le-leb (triangles_each coords) (c % columns_each coords) (omega (arith, l))
 
 weight_is : (coords : Coords) (c : ℕ) → weight coords c ≡ 2 ^ exponent coords c
 weight_is coords c = go (is_octagon coords c) (is_quad_or_octagon coords c) (octagon_bounded coords c)
@@ -123,15 +114,15 @@ exponents coords cs =
     sum_by_plus (λ c. 2 * one_if (is_quad_or_octagon coords c)) (λ c. one_if (is_octagon coords c)) (exponent coords) (λ c. refl) cs
     ∙ ap (λ k. k + count_by (is_octagon coords) cs) (sum_by_times 2 (λ c. one_if (is_quad_or_octagon coords c)) cs)
 
-no_octagons : (coords : Coords) → columns_each coords ≤ 7 → (cs : List ℕ) → count_by (is_octagon coords) cs ≡ 0
-no_octagons coords few cs = sum_by-none (λ c. one_if (is_octagon coords c)) cs (λ c a. ap one_if (false_from_ne_true (is_octagon coords c) (λ t.
-    let l : 7 ≤ c % columns_each coords = leb-true 7 (c % columns_each coords) t in let m = place_below coords c in omega arith)))
+no_octagons : (coords : Coords) → has_octagons coords ≡ false → (cs : List ℕ) → count_by (is_octagon coords) cs ≡ 0
+no_octagons coords none cs =
+    sum_by-none (λ c. one_if (is_octagon coords c)) cs (λ c a. ap one_if (false_from_ne_true (is_octagon coords c) (λ t. false≢true (sym none ∙ octagon_has coords c t))))
 
 power_of_four : (n : ℕ) → 2 ^ (2 * n) ≡ 4 ^ n
 power_of_four n = let e : 2 * n ≡ n + n = omega arith in ap (λ k. 2 ^ k) e ∙ pow-add 2 n n ∙ sym (mul-pow 2 2 n)
 
 pub products_are_small : (coords : Coords) (n : ℕ) (cs : List ℕ) → All (λ c. c < columns coords n) cs → IsOnce cs → HaveNoClash coords n cs → weight_product coords cs ≤ product_bound coords n
-products_are_small coords n cs range once free = go coords refl
+products_are_small coords n cs range once free = go (has_octagons coords) refl
   where
     ranged : (c : ℕ) → Among c cs → c < columns coords n
     ranged c a = all_at (λ c. c < columns coords n) cs c (recursion_from_All (λ c. c < columns coords n) cs range) a
@@ -139,19 +130,18 @@ products_are_small coords n cs range once free = go coords refl
     raised : (k : ℕ) → sum_by (exponent coords) cs ≤ k → weight_product coords cs ≤ 2 ^ k
     raised k l = let e = product_is coords cs in let m : 2 ^ sum_by (exponent coords) cs ≤ 2 ^ k = pow-le-pow_right (omega arith) l in omega arith
 
-    even : columns_each coords ≤ 7 → weight_product coords cs ≤ 4 ^ n
-    even few =
+    even : has_octagons coords ≡ false → weight_product coords cs ≤ 4 ^ n
+    even none =
         let a = one_each coords n cs ranged once free in
-        let b = no_octagons coords few cs in
+        let b = no_octagons coords none cs in
         let e = exponents coords cs in
         let l : weight_product coords cs ≤ 2 ^ (2 * n) = raised (2 * n) (omega arith) in
         let p = power_of_four n in
         omega arith
 
-    go : (kind : Coords) → coords ≡ kind → weight_product coords cs ≤ product_bound kind n
-    go Standard s = even (let w : columns_each coords ≡ 7 = ap columns_each s in omega arith)
-    go Quad s = even (let w : columns_each coords ≡ 3 = ap columns_each s in omega arith)
-    go Octagon s =
+    go : (o : Bool) → has_octagons coords ≡ o → weight_product coords cs ≤ (if o then 2 * 4 ^ n else 4 ^ n)
+    go false none = even none
+    go true some =
         let a = one_each coords n cs ranged once free in
         let b = one_octagon coords n cs ranged once free in
         let e = exponents coords cs in

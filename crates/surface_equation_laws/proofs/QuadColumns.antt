@@ -19,10 +19,10 @@ use Rattle.surface_definitions.specs.declared.Coords.TheVariants.{Quad}
 use Rattle.surface_definitions.specs.QuadEquations.{quad_equation, IsQuadRow, AreQuadEquations}
 use Rattle.surface_laws.proofs.Counting.{sum_swap, sum_by_same, sum_by-none, one_term}
 use Rattle.cone_bound_laws.specs.Caps.{magnitude}
+use Rattle.surface_definitions.proofs.ColumnCounts.{index_below}
 use Rattle.surface_equation_laws.specs.Entries.{entry, column_sum, IsOnce}
 use Rattle.surface_equation_laws.proofs.Entries.{magnitude_most}
 use Rattle.surface_equation_laws.proofs.Chosen.{sum_by_less, passing_less}
-use Rattle.surface_equation_laws.proofs.LocalArcs.{place_below}
 use Rattle.surface_equation_laws.proofs.CornerCounts.{halves, side, times_at, hits, hits_few}
 use Rattle.plain_facts.proofs.Truths.{one_if}
 
@@ -81,9 +81,9 @@ module _ (rows : List Row) (table : IsTable rows) (classes : List ℕ) (count : 
       let few : (w : List ℕ) (e : ℕ) → edge_number (image w 0) (image w 1) ≡ e → edge_number (image w 1) (image w 0) ≡ e → N w ≤ m e =
       hits_few rows classes count table numbered r l h.0 h.1 (c / 3) in
       let left : times_in (quad_equation h.0).left c ≤ met classes c r =
-      subst (λ k. k ≤ met classes c r) (sym (times_at rows classes count table numbered r l h.0 h.1 2 c (inl refl))) (on_third N m few (c % 3) (place_below Quad c)) in
+      subst (λ k. k ≤ met classes c r) (sym (times_at rows classes count table numbered r l h.0 h.1 2 c (inl refl))) (on_third N m few (c % 3) (index_below Quad c)) in
       let right : times_in (quad_equation h.0).right c ≤ met classes c r =
-      subst (λ k. k ≤ met classes c r) (sym (times_at rows classes count table numbered r l h.0 h.1 3 c (inr refl))) (on_fourth N m few (c % 3) (place_below Quad c)) in
+      subst (λ k. k ≤ met classes c r) (sym (times_at rows classes count table numbered r l h.0 h.1 3 c (inr refl))) (on_fourth N m few (c % 3) (index_below Quad c)) in
       subst (λ (w : EquationRow). magnitude (entry w c) ≤ met classes c r) (sym h.2) (magnitude_most (columns Quad (length rows)) (quad_equation h.0) c (met classes c r) left right)
 
   -- each edge is of one class
@@ -105,7 +105,7 @@ module _ (rows : List Row) (table : IsTable rows) (classes : List ℕ) (count : 
       sum_swap (λ r e. one_if (slice_index classes (6 * (c / 3) + e) == r)) inner (meeting (c % 3)) in
       let d : sum_by (λ e. sum_by (λ r. one_if (slice_index classes (6 * (c / 3) + e) == r)) inner) (meeting (c % 3)) ≤ sum_by (λ (e : ℕ). 1) (meeting (c % 3)) =
       sum_by_less (λ e. sum_by (λ r. one_if (slice_index classes (6 * (c / 3) + e) == r)) inner) (λ (e : ℕ). 1) (meeting (c % 3)) (λ e m. one_class (slice_index classes (6 * (c / 3) + e))) in
-      let f : sum_by (λ (e : ℕ). 1) (meeting (c % 3)) ≡ 4 = four_met (c % 3) (place_below Quad c) in
+      let f : sum_by (λ (e : ℕ). 1) (meeting (c % 3)) ≡ 4 = four_met (c % 3) (index_below Quad c) in
       omega arith
 
 pub quad_columns_are_few : (rows : List Row) (quad_rows : List EquationRow) (c : ℕ) → IsTable rows → AreQuadEquations rows quad_rows → column_sum quad_rows c ≤ 4

@@ -1,5 +1,5 @@
 -- The greatest numbers in an enumeration of a table's vertex surfaces.
-use Rattle.std.specs.Prelude.{◌≡◌, ℕ, ◌*◌, ◌^◌, ◌≤◌, List, length, slice_index}
+use Rattle.std.specs.Prelude.{◌≡◌, ℕ, ◌*◌, ◌^◌, ◌≤◌, List, length, slice_index, if◌then◌else◌}
 use Rattle.std.specs.List.{range_with_len}
 use Rattle.std.specs.List.Sorted.{IsPermutation}
 use Rattle.cone_definitions.specs.Rows.{Row as EquationRow}
@@ -8,9 +8,8 @@ use Rattle.cone_definitions.specs.Elimination.{Named}
 use Rattle.cone_definitions.specs.Orders.{AreNamed}
 use Rattle.cone_definitions.specs.Listings.{Enumeration, AreWithin, IsListed, IsPastLimit}
 use Rattle.table_definitions.specs.Table.{Row, IsTable}
-use Rattle.surface_definitions.specs.Coordinates.{columns, clash_list}
+use Rattle.surface_definitions.specs.Coordinates.{has_octagons, columns, clash_list}
 use Rattle.surface_definitions.specs.declared.Coords.{Coords}
-use Rattle.surface_definitions.specs.declared.Coords.TheVariants.{Standard, Quad, Octagon}
 use Rattle.surface_definitions.specs.QuadEquations.{AreEquations}
 use Rattle.cone_bound_laws.specs.Caps.{caps_product}
 use Rattle.cone_row_laws.specs.Listings.{IsBounded}
@@ -18,15 +17,11 @@ use Rattle.surface_equation_laws.specs.Caps.{is_free, group_of, cap_of, groups_o
 
 -- no entry of a vertex surface of n tetrahedra is above it
 abbrev pub entry_bound : Coords → ℕ → ℕ
-entry_bound Standard n = 4 ^ n
-entry_bound Quad n = 4 ^ n
-entry_bound Octagon n = 8 * 4 ^ n
+entry_bound coords n = if has_octagons coords then 8 * 4 ^ n else 4 ^ n
 
 -- no number of a step is above it
 abbrev pub number_bound : Coords → ℕ → ℕ
-number_bound Standard n = 4 * 16 ^ n
-number_bound Quad n = 12 * n * 16 ^ n
-number_bound Octagon n = 8 * 64 * 16 ^ n
+number_bound coords n = size_of coords n * (if has_octagons coords then 64 * 16 ^ n else 16 ^ n)
 
 -- they are those of the certificate
 abbrev pub CapsAreBounds : Type 0

@@ -1,11 +1,10 @@
 -- The certificate of a table: triangles are free, the quads of a tetrahedron are a group, and all octagons are one
 -- more.
-use Rattle.std.specs.Prelude.{ℕ, ◌+◌, ◌*◌, ◌/◌, ◌==◌, Bool, not, List, length, if◌then◌else◌}
+use Rattle.std.specs.Prelude.{ℕ, ◌+◌, ◌*◌, ◌/◌, ◌==◌, Bool, ◌&&◌, not, List, length, if◌then◌else◌}
 use Rattle.cone_definitions.specs.Rows.{Row as EquationRow}
 use Rattle.table_definitions.specs.Table.{Row, IsTable}
-use Rattle.surface_definitions.specs.Coordinates.{columns, is_quad_or_octagon, is_octagon, clash_list}
+use Rattle.surface_definitions.specs.Coordinates.{has_triangles, has_octagons, columns_each, columns, is_quad_or_octagon, is_octagon, clash_list}
 use Rattle.surface_definitions.specs.declared.Coords.{Coords}
-use Rattle.surface_definitions.specs.declared.Coords.TheVariants.{Standard, Quad, Octagon}
 use Rattle.surface_definitions.specs.QuadEquations.{AreEquations}
 use Rattle.cone_bound_laws.specs.Caps.{HasCaps}
 
@@ -15,26 +14,18 @@ is_free coords c = not (is_quad_or_octagon coords c)
 
 -- the tetrahedron of a quad; n for the octagons of n tetrahedra
 abbrev pub group_of : Coords → ℕ → ℕ → ℕ
-group_of Standard n c = c / 7
-group_of Quad n c = c / 3
-group_of Octagon n c = if is_octagon Octagon c then n else c / 10
+group_of coords n c = if has_octagons coords && is_octagon coords c then n else c / columns_each coords
 
 -- 4 for quads, 8 for octagons
 abbrev pub cap_of : Coords → ℕ → ℕ → ℕ
-cap_of Standard n g = 4
-cap_of Quad n g = 4
-cap_of Octagon n g = if g == n then 8 else 4
+cap_of coords n g = if has_octagons coords && (g == n) then 8 else 4
 
 abbrev pub groups_of : Coords → ℕ → ℕ
-groups_of Standard n = n
-groups_of Quad n = n
-groups_of Octagon n = n + 1
+groups_of coords n = if has_octagons coords then n + 1 else n
 
 -- what the magnitudes of a row add up to at most
 abbrev pub size_of : Coords → ℕ → ℕ
-size_of Standard n = 4
-size_of Quad n = 12 * n
-size_of Octagon n = 8
+size_of coords n = if has_triangles coords then (if has_octagons coords then 8 else 4) else 12 * n
 
 -- each table's equations have it
 abbrev pub TablesHaveCaps : Type 0

@@ -1,20 +1,17 @@
 -- The entries of the equations of a table in any coordinates, row by row and column by column.
-use Rattle.std.specs.Prelude.{◌≡◌, ℕ, ◌*◌, ◌≤◌, true, List, length, Contains, ℤ, sum_by}
+use Rattle.std.specs.Prelude.{◌≡◌, ℕ, ◌*◌, ◌≤◌, true, List, length, Contains, ℤ, sum_by, if◌then◌else◌}
 use Rattle.cone_definitions.specs.Rows.{Row as EquationRow, positive_coefficient, negative_coefficient}
 use Rattle.table_definitions.specs.Table.{Row, IsTable}
-use Rattle.surface_definitions.specs.Coordinates.{is_quad_or_octagon}
+use Rattle.surface_definitions.specs.Coordinates.{has_triangles, is_quad_or_octagon}
 use Rattle.surface_definitions.specs.declared.Coords.{Coords}
-use Rattle.surface_definitions.specs.declared.Coords.TheVariants.{Standard, Quad, Octagon}
 use Rattle.surface_definitions.specs.QuadEquations.{AreEquations}
 use Rattle.surface_equation_laws.specs.Entries.{IsOnce, column_sum}
-use Rattle.surface_equation_laws.specs.Weights.{weight}
+use Rattle.surface_equation_laws.specs.Weights.{side_length, weight}
 use Rattle.surface_equation_laws.specs.MatchingSums.{AreAtMost, triangles_of}
 
 -- what the entries of one sign in a row add up to at most, at n tetrahedra
 abbrev pub row_bound : Coords → ℕ → ℕ
-row_bound Standard n = 2
-row_bound Quad n = 6 * n
-row_bound Octagon n = 4
+row_bound coords n = if has_triangles coords then side_length coords else 6 * n
 
 abbrev pub EquationTrianglesAreAtMostOne : Type 0
 EquationTrianglesAreAtMostOne =

@@ -1,9 +1,8 @@
 -- The product of the weights of columns of which no two clash.
-use Rattle.std.specs.Prelude.{ℕ, ◌*◌, ◌^◌, ◌<◌, ◌≤◌, ◌≢◌, List, All, Contains, slice_index}
+use Rattle.std.specs.Prelude.{ℕ, ◌*◌, ◌^◌, ◌<◌, ◌≤◌, ◌≢◌, List, All, Contains, slice_index, if◌then◌else◌}
 use Rattle.cone_definitions.specs.Surfaces.{IsAdmissible}
-use Rattle.surface_definitions.specs.Coordinates.{columns, clash_list}
+use Rattle.surface_definitions.specs.Coordinates.{has_octagons, columns, clash_list}
 use Rattle.surface_definitions.specs.declared.Coords.{Coords}
-use Rattle.surface_definitions.specs.declared.Coords.TheVariants.{Standard, Quad, Octagon}
 use Rattle.surface_equation_laws.specs.Entries.{IsOnce}
 use Rattle.surface_equation_laws.specs.Weights.{weight_product}
 
@@ -11,11 +10,9 @@ use Rattle.surface_equation_laws.specs.Weights.{weight_product}
 abbrev pub HaveNoClash : Coords → ℕ → List ℕ → Type 0
 HaveNoClash coords n cs = (pair : ℕ × ℕ) → Contains (clash_list coords n) pair → Contains cs pair.0 → Contains cs pair.1 → ⊥
 
--- 4 for each tetrahedron, and in octagon coordinates 2 once
+-- 4 for each tetrahedron, and with octagons 2 once
 abbrev pub product_bound : Coords → ℕ → ℕ
-product_bound Standard n = 4 ^ n
-product_bound Quad n = 4 ^ n
-product_bound Octagon n = 2 * 4 ^ n
+product_bound coords n = if has_octagons coords then 2 * 4 ^ n else 4 ^ n
 
 abbrev pub ProductsAreSmall : Type 0
 ProductsAreSmall =

@@ -6,7 +6,7 @@ use Rattle.std.proofs.lemmas.Bool.{lt-ltb, le-ltb, ne_eqb, eqb-false, not-true, 
 use Rattle.cone_definitions.specs.Surfaces.{IsAdmissible}
 use Rattle.table_definitions.proofs.TableLaws.{Among, Among-map}
 use Rattle.table_definitions.proofs.Listed.{Among-filter, filter-among, map-among, all_from}
-use Rattle.surface_definitions.specs.Coordinates.{quad_column, oct_column, keeping, three, octagon_arcs, clash_list}
+use Rattle.surface_definitions.specs.Coordinates.{quad_column, oct_column, keeping, three, octagon_types, octagon_arcs, clash_list}
 use Rattle.surface_definitions.specs.declared.Coords.{Coords}
 use Rattle.surface_definitions.specs.declared.Coords.TheVariants.{Standard, Quad, Octagon}
 use Rattle.surface_definitions.specs.Pieces.{type_in}
@@ -17,14 +17,10 @@ use Rattle.surface_laws.proofs.Clashes.{other_zero}
 
 -- the octagons with an arc of type k
 abbrev pub octagons_with : Coords → ℕ → ℕ → List ℕ
-octagons_with Standard t k = []
-octagons_with Quad t k = []
-octagons_with Octagon t k = map (oct_column Octagon t) (filter (λ j. not (j == k)) three)
+octagons_with coords t k = map (oct_column coords t) (filter (λ j. not (j == k)) (octagon_types coords))
 
 pub octagons_are : (coords : Coords) (t f v : ℕ) → octagon_arcs coords t f v ≡ octagons_with coords t (keeping v f)
-octagons_are Standard t f v = refl
-octagons_are Quad t f v = refl
-octagons_are Octagon t f v = refl
+octagons_are coords t f v = refl
 
 -- the column behind the triangles, where an arc is of type k
 abbrev pub behind_type : (coords : Coords) (xs : List ℕ) (t k : ℕ) → ℕ

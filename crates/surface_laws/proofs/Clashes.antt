@@ -7,7 +7,7 @@ use Rattle.cone_definitions.specs.Surfaces.{IsAdmissible}
 use Rattle.table_definitions.specs.Lists.{below, pairs_of}
 use Rattle.table_definitions.proofs.TableLaws.{Among-below, Among-pairs}
 use Rattle.table_definitions.proofs.Listed.{Among-filter, filter-among, pairs-among, below-among, all_from, all_at}
-use Rattle.surface_definitions.specs.Coordinates.{columns, columns_each, triangles_each, clash_list, clash_test, is_quad_or_octagon, is_octagon}
+use Rattle.surface_definitions.specs.Coordinates.{before_octagons, columns, columns_each, triangles_each, clash_list, clash_test, is_quad_or_octagon, is_octagon}
 use Rattle.surface_definitions.specs.declared.Coords.{Coords}
 
 abbrev pub NoneClash : (coords : Coords) (n : ℕ) (xs : List ℕ) → Type 0
@@ -25,14 +25,14 @@ one_tetrahedron coords a b e fa fb =
 -- two columns of octagons, or of quads and octagons of one tetrahedron
 abbrev pub AreClashing : Coords → ℕ → ℕ → Type 0
 AreClashing coords a b =
-    ((7 ≤ a % columns_each coords) × (7 ≤ b % columns_each coords))
+    ((before_octagons coords ≤ a % columns_each coords) × (before_octagons coords ≤ b % columns_each coords))
     ⊎ ((a / columns_each coords ≡ b / columns_each coords) × (triangles_each coords ≤ a % columns_each coords) × (triangles_each coords ≤ b % columns_each coords))
 
 pub clash_is : (coords : Coords) (a b : ℕ) → clash_test coords a b ≡ true → AreClashing coords a b
 clash_is coords a b e = by_kind (or_cases (is_octagon coords a && is_octagon coords b) (((a / columns_each coords == b / columns_each coords) && is_quad_or_octagon coords a) && is_quad_or_octagon coords b) e)
   where
     by_kind : ((is_octagon coords a && is_octagon coords b) ≡ true) ⊎ ((((a / columns_each coords == b / columns_each coords) && is_quad_or_octagon coords a) && is_quad_or_octagon coords b) ≡ true) → AreClashing coords a b
-    by_kind (inl o) = let p = and_parts (is_octagon coords a) (is_octagon coords b) o in inl (leb-true 7 (a % columns_each coords) p.0, leb-true 7 (b % columns_each coords) p.1)
+    by_kind (inl o) = let p = and_parts (is_octagon coords a) (is_octagon coords b) o in inl (leb-true (before_octagons coords) (a % columns_each coords) p.0, leb-true (before_octagons coords) (b % columns_each coords) p.1)
     by_kind (inr q) =
         let p = and_parts ((a / columns_each coords == b / columns_each coords) && is_quad_or_octagon coords a) (is_quad_or_octagon coords b) q in
         let r = and_parts (a / columns_each coords == b / columns_each coords) (is_quad_or_octagon coords a) p.0 in
@@ -41,7 +41,7 @@ clash_is coords a b e = by_kind (or_cases (is_octagon coords a && is_octagon coo
 pub clash_from : (coords : Coords) (a b : ℕ) → AreClashing coords a b → clash_test coords a b ≡ true
 clash_from coords a b (inl o) =
     or_left (is_octagon coords a && is_octagon coords b) (((a / columns_each coords == b / columns_each coords) && is_quad_or_octagon coords a) && is_quad_or_octagon coords b)
-    (and_from (is_octagon coords a) (is_octagon coords b) (le-leb 7 (a % columns_each coords) o.0) (le-leb 7 (b % columns_each coords) o.1))
+    (and_from (is_octagon coords a) (is_octagon coords b) (le-leb (before_octagons coords) (a % columns_each coords) o.0) (le-leb (before_octagons coords) (b % columns_each coords) o.1))
 clash_from coords a b (inr q) = one_tetrahedron coords a b q.0 q.1 q.2
 
 module _ (coords : Coords) (n : ℕ) (xs : List ℕ) where

@@ -9,13 +9,12 @@ use Rattle.table_definitions.specs.Permutation.{four, others, image}
 use Rattle.table_definitions.specs.Table.{Gluing, Row, Face, glue, IsTable}
 use Rattle.table_definitions.proofs.TableLaws.{Among, Among-map, four-among}
 use Rattle.table_definitions.proofs.PermutationLaws.{image_below, images_apart}
-use Rattle.surface_definitions.specs.Coordinates.{columns, oct_column, keeping, three, arc_columns}
+use Rattle.surface_definitions.specs.Coordinates.{columns, keeping, arc_columns}
 use Rattle.surface_definitions.specs.declared.Coords.{Coords}
-use Rattle.surface_definitions.specs.declared.Coords.TheVariants.{Standard, Quad, Octagon}
 use Rattle.surface_definitions.specs.Equations.{Equation, Holds, glued_pairs, matching, matching_equations, matching_rows, row_of}
 use Rattle.surface_definitions.proofs.EquationLaws.{row_is_zero, zero_row}
 use Rattle.surface_laws.specs.MatchingLaws.{HasTriangles}
-use Rattle.surface_laws.proofs.ColumnKinds.{among_three}
+use Rattle.surface_laws.proofs.ColumnKinds.{column_below, quad_below, octagons_below}
 use Rattle.surface_laws.proofs.Glued.{IsGlued, glued_is}
 use Rattle.surface_laws.proofs.Turns.{keeping_below}
 use Rattle.surface_laws.proofs.Matched.{pair_glued, matched}
@@ -28,17 +27,8 @@ other_is f v h =
 
 -- the columns of arcs are columns of the table
 pub arcs_in_range : (coords : Coords) (n t f v : ℕ) → HasTriangles coords → t < n → f < 4 → v < 4 → (v ≡ f → ⊥) → AllByRecursion (λ c. c < columns coords n) (arc_columns coords t f v)
-arcs_in_range Standard n t f v h lt lf lv off = let k : keeping v f < 3 = keeping_below v f lv lf off in (omega arith, (omega arith, tt))
-arcs_in_range Quad n t f v h lt lf lv off = absurd h
-arcs_in_range Octagon n t f v h lt lf lv off =
-    let k : keeping v f < 3 = keeping_below v f lv lf off in (
-      omega arith,
-      (
-        omega arith,
-        all_mapped (λ c. c < columns Octagon n) (oct_column Octagon t) (filter (λ k. not (k == keeping v f)) three)
-            (λ k h. let low : k < 3 = among_three k (filter-among (λ k. not (k == keeping v f)) k three h).0 in omega arith),
-      ),
-    )
+arcs_in_range coords n t f v h lt lf lv off =
+    (column_below coords h n t v lt lv, (quad_below coords n t (keeping v f) lt (keeping_below v f lv lf off), octagons_below coords n t f v lt))
 
 module _ (rows : List Row) (coords : Coords) (ys : List ℕ) (table : IsTable rows) (triangles : HasTriangles coords) where
   -- both sides of an equation have columns of the table

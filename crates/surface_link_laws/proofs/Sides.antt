@@ -15,9 +15,10 @@ use Rattle.skeleton_definitions.specs.Skeleton.{Skeleton, IsSkeleton}
 use Rattle.surface_definitions.specs.Coordinates.{columns_each, tri_column}
 use Rattle.surface_definitions.specs.Pieces.{NormalDisc, Arc, discs_of, disc_number, disc_of, arc_across, Meets, AreComponents, IsTwoSided, IsOrientableComponent, keeps_sides}
 use Rattle.surface_definitions.specs.declared.Coords.{Coords}
-use Rattle.surface_definitions.specs.declared.Coords.TheVariants.{Standard, Quad, Octagon}
+use Rattle.surface_definitions.proofs.ColumnCounts.{index_of_index}
 use Rattle.surface_laws.specs.MatchingLaws.{HasTriangles}
 use Rattle.surface_laws.specs.PieceLaws.{face_of_arc}
+use Rattle.surface_laws.proofs.ColumnKinds.{triangle_in, triangle_place}
 use Rattle.surface_laws.proofs.Glued.{IsGlued, glued_is}
 use Rattle.surface_laws.proofs.PieceNumbers.{no_piece, IsFound, piece_found}
 use Rattle.surface_laws.proofs.Vertices.{class_across}
@@ -31,9 +32,7 @@ vertex_in coords i = vertex_number (i / columns_each coords) (i % columns_each c
 
 vertex-triangle : (coords : Coords) → HasTriangles coords → (t v : ℕ) → v < 4 → vertex_in coords (tri_column coords t v) ≡ vertex_number t v
 unfolding vertex_in
-vertex-triangle Standard h t v l = omega arith
-vertex-triangle Quad h t v l = absurd h
-vertex-triangle Octagon h t v l = omega arith
+vertex-triangle coords h t v l = λ i. vertex_number (triangle_in coords t v h l i) (index_of_index coords t v (triangle_place coords v h l) i)
 
 -- where sides are kept signs stay exactly across odd gluings
 stays_by : (kept odd : Bool) (x : Bool) → kept ≡ true

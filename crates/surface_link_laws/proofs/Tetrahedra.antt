@@ -1,14 +1,14 @@
 -- The piece of an arc stands in the arc's tetrahedron, which its number tells.
-use Rattle.std.proofs.Common.{◌≡◌, ℕ, zero, suc, ◌-◌, ◌/◌, ◌<◌, Bool, true, false, List, [], ◌∷◌, length, map, filter, cond, ap, ◌∙◌, arith}
-use Rattle.std.specs.Prelude.{not, ◌==◌, nat_lt, slice_index, if◌then◌else◌}
+use Rattle.std.proofs.Common.{◌≡◌, ℕ, zero, suc, ◌-◌, ◌/◌, ◌<◌, Bool, true, false, List, [], ◌∷◌, length, ap, ◌∙◌}
+use Rattle.std.specs.Prelude.{nat_lt, slice_index, if◌then◌else◌}
 use Rattle.std.specs.List.{AllByRecursion, position_or_len, slice_index_or}
 use Rattle.table_definitions.specs.Table.{Gluing, Row}
-use Rattle.surface_definitions.specs.Coordinates.{columns_each, tri_column, quad_column, oct_column, keeping, three, octagon_arcs}
+use Rattle.surface_definitions.specs.Coordinates.{columns_each, tri_column, quad_column, keeping, octagon_arcs}
 use Rattle.surface_definitions.specs.declared.Coords.{Coords}
-use Rattle.surface_definitions.specs.declared.Coords.TheVariants.{Standard, Quad, Octagon}
 use Rattle.surface_definitions.specs.Pieces.{NormalDisc, Arc, discs_of, disc_number, disc_of, further_column, further_piece, triangles_around, is_triangle_arc, keeps_by_zero, type_in, Meets}
 use Rattle.surface_laws.specs.MatchingLaws.{HasTriangles}
 use Rattle.surface_laws.specs.PieceLaws.{IsSurface, IsPieceOf, face_of_arc}
+use Rattle.surface_laws.proofs.ColumnKinds.{triangle_in, quad_in, octagons_in}
 use Rattle.surface_laws.proofs.ArcPieces.{arc_piece}
 use Rattle.surface_laws.proofs.Glued.{IsGlued, glued_is}
 use Rattle.surface_laws.proofs.PieceNumbers.{no_piece, IsFound, piece_found}
@@ -20,48 +20,21 @@ at_place P [] k q past all = past
 at_place P (o ∷ os) zero q past all = all.0
 at_place P (o ∷ os) (suc k) q past all = at_place P os k q past all.1
 
-of_mapped : (P : ℕ → Type 0) (f : ℕ → ℕ) (p : ℕ → Bool) (ks : List ℕ) → AllByRecursion (λ k. P (f k)) ks → AllByRecursion P (map f (filter p ks))
-of_mapped P f p [] all = tt
-of_mapped P f p (k ∷ ks) all = go (p k) (of_mapped P f p ks all.1)
-  where
-    go : (b : Bool) → AllByRecursion P (map f (filter p ks)) → AllByRecursion P (map f (cond b (k ∷ filter p ks) (filter p ks)))
-    go true more = (all.0, more)
-    go false more = more
-
-tri_tet : (coords : Coords) (t v : ℕ) → HasTriangles coords → v < 4 → tri_column coords t v / columns_each coords ≡ t
-tri_tet Standard t v h l = omega arith
-tri_tet Quad t v h l = absurd h
-tri_tet Octagon t v h l = omega arith
-
 abbrev IsIn : Coords → ℕ → ℕ → Type 0
 IsIn coords t c = c / columns_each coords ≡ t
-
-quad_tet : (coords : Coords) (t k : ℕ) → HasTriangles coords → k < 3 → IsIn coords t (quad_column coords t k)
-quad_tet Standard t k h l = omega arith
-quad_tet Quad t k h l = absurd h
-quad_tet Octagon t k h l = omega arith
-
-oct_tet : (t k : ℕ) → k < 3 → IsIn Octagon t (oct_column Octagon t k)
-oct_tet t k l = omega arith
-
-octagons_tet : (coords : Coords) (t f v : ℕ) → AllByRecursion (IsIn coords t) (octagon_arcs coords t f v)
-octagons_tet Standard t f v = tt
-octagons_tet Quad t f v = tt
-octagons_tet Octagon t f v = of_mapped (IsIn Octagon t) (oct_column Octagon t) (λ k. not (k == keeping v f)) three
-    (oct_tet t 0 (omega arith), (oct_tet t 1 (omega arith), (oct_tet t 2 (omega arith), tt)))
 
 module _ (coords : Coords) (xs : List ℕ) (triangles : HasTriangles coords) (a : Arc) (is_vertex : a.vertex < 4) (is_face : a.face < 4) (off : a.vertex ≡ a.face → ⊥) where
   further_tet : IsIn coords a.tet (further_column coords xs a)
   further_tet =
       at_place (IsIn coords a.tet) (octagon_arcs coords a.tet a.face a.vertex) (position_or_len (λ c. nat_lt 0 (slice_index xs c)) (octagon_arcs coords a.tet a.face a.vertex))
-      (quad_column coords a.tet (keeping a.vertex a.face)) (quad_tet coords a.tet (keeping a.vertex a.face) triangles (keeping_below a.vertex a.face is_vertex is_face off))
-      (octagons_tet coords a.tet a.face a.vertex)
+      (quad_column coords a.tet (keeping a.vertex a.face)) (quad_in coords a.tet (keeping a.vertex a.face) (keeping_below a.vertex a.face is_vertex is_face off))
+      (octagons_in coords a.tet a.face a.vertex)
 
   piece_tet : IsIn coords a.tet (disc_of coords xs a).column
   piece_tet = go (is_triangle_arc coords xs a)
     where
       go : (b : Bool) → IsIn coords a.tet (if b then record { column = tri_column coords a.tet a.vertex; number = a.place } else further_piece xs (further_column coords xs a) (a.place - triangles_around coords xs a) (keeps_by_zero (type_in coords (further_column coords xs a)) a.vertex)).column
-      go true = tri_tet coords a.tet a.vertex triangles is_vertex
+      go true = triangle_in coords a.tet a.vertex triangles is_vertex
       go false = further_tet
 
 -- the tetrahedron of the piece of this number

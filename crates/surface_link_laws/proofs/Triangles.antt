@@ -1,16 +1,17 @@
 -- The pieces of a vertex link are the triangles of the class.
-use Rattle.std.proofs.Common.{◌≡◌, ℕ, ◌+◌, ◌*◌, ◌<◌, List, length, refl, sym, ap, ◌∙◌, arith, cond}
+use Rattle.std.proofs.Common.{◌≡◌, ℕ, ◌+◌, ◌*◌, ◌<◌, ◌≤◌, List, length, refl, sym, ap, ◌∙◌, subst, arith, cond}
 use Rattle.std.specs.Prelude.{◌==◌, sum_by, sum, slice_index}
 use Rattle.table_definitions.specs.Lists.{below, times_in}
 use Rattle.table_definitions.specs.Permutation.{others}
 use Rattle.table_definitions.proofs.Listed.{below-among}
 use Rattle.skeleton_definitions.specs.Links.{vertex_number}
-use Rattle.surface_definitions.specs.Coordinates.{columns_each}
+use Rattle.surface_definitions.specs.Coordinates.{triangles_each, octagons_each, columns_each}
 use Rattle.surface_definitions.specs.Characteristic.{arcs_in}
 use Rattle.surface_definitions.specs.Pieces.{arcs_around}
 use Rattle.surface_definitions.specs.declared.Coords.{Coords}
-use Rattle.surface_definitions.specs.declared.Coords.TheVariants.{Standard, Quad, Octagon}
+use Rattle.surface_definitions.proofs.ColumnCounts.{index_of_index, column_of_index}
 use Rattle.surface_laws.specs.MatchingLaws.{HasTriangles}
+use Rattle.surface_laws.proofs.ColumnKinds.{four_triangles}
 use Rattle.surface_laws.proofs.Counting.{sum_by_same, sum_by-none, over_places, below_sum}
 use Rattle.surface_laws.proofs.Solved.{other_is}
 use Rattle.surface_quad_laws.specs.LinkLaws.{vertex_link}
@@ -43,13 +44,17 @@ module _ (n : ℕ) (classes : List ℕ) (c : ℕ) where
 
   in_tet : (coords : Coords) → HasTriangles coords → (t : ℕ) → t < n
       → sum_by (λ j. slice_index (vertex_link coords n classes c) (columns_each coords * t + j)) (below (columns_each coords)) ≡ sum_by (λ v. member classes c (4 * t + v)) (below 4)
-  in_tet Standard h t lt = four_alone (λ j. slice_index (vertex_link Standard n classes c) (7 * t + j)) (λ v. member classes c (4 * t + v)) 3
-      (λ v lv. triangle-link n classes c Standard t v h lt lv)
-      (λ j lj. others-link n classes c Standard (7 * t + (4 + j)) h (omega arith) (omega arith))
-  in_tet Quad h t lt = absurd h
-  in_tet Octagon h t lt = four_alone (λ j. slice_index (vertex_link Octagon n classes c) (10 * t + j)) (λ v. member classes c (4 * t + v)) 6
-      (λ v lv. triangle-link n classes c Octagon t v h lt lv)
-      (λ j lj. others-link n classes c Octagon (10 * t + (4 + j)) h (omega arith) (omega arith))
+  in_tet coords h t lt =
+      let all : triangles_each coords ≡ 4 = four_triangles coords h in
+      let width : 4 + (3 + octagons_each coords) ≡ columns_each coords = omega (arith, all) in
+      let further : (j : ℕ) → j < 3 + octagons_each coords → slice_index (vertex_link coords n classes c) (columns_each coords * t + (4 + j)) ≡ 0 = λ j lj.
+      let inside : 4 + j < columns_each coords = omega (arith, lj, width) in
+      let high : 4 ≤ 4 + j = omega arith in
+      others-link n classes c coords (columns_each coords * t + (4 + j)) h (column_of_index coords n t (4 + j) lt inside)
+      (subst (λ k. 4 ≤ k) (sym (index_of_index coords t (4 + j) inside)) high) in
+      subst (λ m. sum_by (λ j. slice_index (vertex_link coords n classes c) (columns_each coords * t + j)) (below m) ≡ sum_by (λ v. member classes c (4 * t + v)) (below 4)) width
+      (four_alone (λ j. slice_index (vertex_link coords n classes c) (columns_each coords * t + j)) (λ v. member classes c (4 * t + v)) (3 + octagons_each coords)
+      (λ v lv. triangle-link n classes c coords t v h lt lv) further)
 
   -- the members of the class, by places and tetrahedra
   pub members-sum : length classes ≡ 4 * n → sum_by (λ t. sum_by (λ v. member classes c (4 * t + v)) (below 4)) (below n) ≡ times_in classes c

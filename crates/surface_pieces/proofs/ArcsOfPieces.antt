@@ -5,7 +5,7 @@ use Rattle.std.proofs.lemmas.Bool.{cases_lt}
 use Rattle.cone_definitions.specs.Surfaces.{IsAdmissible}
 use Rattle.surface_definitions.specs.Coordinates.{columns_each, tri_column, quad_column, keeping, octagon_arcs, clash_list}
 use Rattle.surface_definitions.specs.declared.Coords.{Coords}
-use Rattle.surface_definitions.specs.declared.Coords.TheVariants.{Standard, Quad, Octagon}
+use Rattle.surface_definitions.proofs.ColumnCounts.{tet_below}
 use Rattle.surface_definitions.specs.Pieces.{NormalDisc, Arc, arcs_around, type_in, keeps_by_zero, disc_of}
 use Rattle.surface_laws.specs.MatchingLaws.{HasTriangles}
 use Rattle.surface_laws.proofs.MeetingArcs.{arc_at}
@@ -94,15 +94,10 @@ module _ (coords : Coords) (n : ℕ) (xs : List ℕ) (triangles : HasTriangles c
           ]),
         )
 
-tet_below : (coords : Coords) (n c : ℕ) → HasTriangles coords → c < columns coords n → c / columns_each coords < n
-tet_below Standard n c h l = omega arith
-tet_below Quad n c h l = absurd h
-tet_below Octagon n c h l = omega arith
-
 -- the tetrahedron of a column of a surface
 pub tet_in_range : (rows : List Row) (coords : Coords) (xs : List ℕ) (c t : ℕ) → IsSurface rows coords xs → c < length xs → t ≡ c / columns_each coords → t < length rows
 tet_in_range rows coords xs c t s l e =
     let w : length xs ≡ columns coords (length rows) = (s.solves).width in
     let m : c < columns coords (length rows) = subst (λ k. c < k) w l in
-    let b : c / columns_each coords < length rows = tet_below coords (length rows) c s.triangles m in
+    let b : c / columns_each coords < length rows = tet_below coords (length rows) c m in
     omega arith

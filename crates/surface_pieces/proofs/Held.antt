@@ -1,6 +1,6 @@
 -- A surface that a struct holds: which of two clashing columns is 0 can be told, and its other facts have at most one proof each.
-use Rattle.std.proofs.Common.{◌≡◌, ℕ, zero, suc, List, length, inl, inr, ◌⊎◌, refl}
-use Rattle.std.specs.Prelude.{slice_index}
+use Rattle.std.proofs.Common.{◌≡◌, ℕ, zero, suc, Bool, true, false, List, length, inl, inr, ◌⊎◌, refl}
+use Rattle.std.specs.Prelude.{slice_index, T}
 use Rattle.std.specs.List.{slice_index_or}
 use Rattle.std.proofs.Props.{props}
 use Rattle.std.proofs.Math.Logic.{∥∥₁_elim}
@@ -8,15 +8,12 @@ use mathlib.Core.Logic.{∥∥₁_prop}
 use Rattle.cone_definitions.specs.Surfaces.{Clash}
 use Rattle.table_definitions.specs.Table.{Row}
 use Rattle.surface_definitions.specs.declared.Coords.{Coords}
-use Rattle.surface_definitions.specs.declared.Coords.TheVariants.{Standard, Quad, Octagon}
-use Rattle.surface_definitions.specs.Coordinates.{clash_list}
-use Rattle.surface_laws.specs.MatchingLaws.{HasTriangles}
+use Rattle.surface_definitions.specs.Coordinates.{has_triangles, clash_list}
 use Rattle.surface_laws.specs.PieceLaws.{IsSurface}
 
-triangles_held : (coords : Coords) → ∥ HasTriangles coords ∥₁ → HasTriangles coords
-triangles_held Standard h = tt
-triangles_held Quad h = ∥∥₁_elim h (λ x y. absurd x) (λ e. e)
-triangles_held Octagon h = tt
+truth_held : (b : Bool) → ∥ T b ∥₁ → T b
+truth_held true h = tt
+truth_held false h = ∥∥₁_elim h (λ x y. absurd x) (λ e. e)
 
 one_zero : (a b : ℕ) → ∥ (a ≡ 0) ⊎ (b ≡ 0) ∥₁ → (a ≡ 0) ⊎ (b ≡ 0)
 one_zero zero b h = inl refl
@@ -25,7 +22,7 @@ one_zero (suc a) b h = inr (∥∥₁_elim h (hlevel props) (λ e. elim e [ inl 
 pub held : (rows : List Row) (coords : Coords) (xs : List ℕ) → ∥ IsSurface rows coords xs ∥₁ → IsSurface rows coords xs
 held rows coords xs h = record {
   table = ∥∥₁_elim h (hlevel props) (λ s. s.table);
-  triangles = triangles_held coords (∥∥₁_elim h ∥∥₁_prop (λ s. ∣ s.triangles ∣₁));
+  triangles = truth_held (has_triangles coords) (∥∥₁_elim h ∥∥₁_prop (λ s. ∣ s.triangles ∣₁));
   solves = ∥∥₁_elim h (hlevel props) (λ s. s.solves);
   admissible = λ k d l.
       let pair : Clash = slice_index_or (clash_list coords (length rows)) k d in

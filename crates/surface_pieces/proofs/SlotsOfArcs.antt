@@ -1,16 +1,19 @@
 -- Each arc of a piece has a slot: by the type of the piece, the vertex around which it has an arc of the face is this one.
-use Rattle.std.proofs.Common.{◌≡◌, ℕ, zero, suc, ◌+◌, ◌-◌, ◌%◌, ◌<◌, ◌≤◌, Bool, true, false, not, List, map, filter, inl, inr, refl, sym, subst, arith}
+use Rattle.std.proofs.Common.{◌≡◌, ℕ, zero, suc, ◌+◌, ◌-◌, ◌*◌, ◌%◌, ◌<◌, ◌≤◌, Bool, true, false, not, List, filter, inl, inr, refl, sym, ap, ◌∙◌, subst, arith}
 use Rattle.std.specs.Prelude.{◌==◌, ◌&&◌, ◌||◌, nat_lt, if◌then◌else◌}
 use Rattle.std.specs.List.{AllByRecursion}
 use Rattle.std.proofs.lemmas.Bool.{eqb-true, ltb-true, and_parts, or_cases}
+use Rattle.std.proofs.Math.Nat.{add_assoc}
 use Rattle.table_definitions.specs.Table.{Gluing, Row}
-use Rattle.surface_definitions.specs.Coordinates.{columns_each, tri_column, quad_column, oct_column, keeping, three, octagon_arcs}
+use Rattle.table_definitions.proofs.Listed.{all_mapped, filter-among}
+use Rattle.plain_facts.proofs.Numbers.{not_equal}
+use Rattle.surface_definitions.specs.Coordinates.{has_octagons, triangles_each, before_octagons, octagons_each, columns_each, tri_column, quad_column, oct_column, keeping, octagon_types, octagon_arcs}
 use Rattle.surface_definitions.specs.declared.Coords.{Coords}
-use Rattle.surface_definitions.specs.declared.Coords.TheVariants.{Standard, Quad, Octagon}
+use Rattle.surface_definitions.proofs.ColumnCounts.{few_octagons, few_columns, index_below, index_of_index}
 use Rattle.surface_definitions.specs.Pieces.{NormalDisc, Arc, disc_of, is_triangle_arc, triangles_around, further_column, further_piece, keeps_by_zero, type_in, Meets}
 use Rattle.surface_laws.specs.MatchingLaws.{HasTriangles}
 use Rattle.surface_laws.specs.PieceLaws.{IsSurface, first_nonzero}
-use Rattle.surface_laws.proofs.ColumnKinds.{first_is}
+use Rattle.surface_laws.proofs.ColumnKinds.{first_is, octagon_type, four_triangles, triangle_place}
 use Rattle.surface_laws.proofs.Turns.{by_two, keeping_below}
 use Rattle.surface_pieces.specs.Slots.{slots_each, slot_vertex}
 use Rattle.surface_pieces.proofs.MetArcs.{a_face}
@@ -26,14 +29,28 @@ abbrev pub HasSlot : Coords → ℕ → ℕ → NormalDisc → Type 0
 HasSlot coords f v p = HasPlaceSlot (slots_each coords) (p.column % columns_each coords) f v
 
 pub slots_few : (coords : Coords) → slots_each coords ≤ 8
-slots_few Standard = omega arith
-slots_few Quad = omega arith
-slots_few Octagon = omega arith
+slots_few coords = go (has_octagons coords)
+  where
+    go : (b : Bool) → (if b then 8 else 4) ≤ 8
+    go true = omega arith
+    go false = omega arith
+
+some_slots : (coords : Coords) → 4 ≤ slots_each coords
+some_slots coords = go (has_octagons coords)
+  where
+    go : (b : Bool) → 4 ≤ (if b then 8 else 4)
+    go true = omega arith
+    go false = omega arith
+
+eight_slots : (coords : Coords) (k : ℕ) → k < octagons_each coords → slots_each coords ≡ 8
+eight_slots coords k = go (has_octagons coords)
+  where
+    go : (b : Bool) → k < (if b then 3 else 0) → ◌≡◌ {A = ℕ} (if b then 8 else 4) 8
+    go true l = refl
+    go false l = absurd (omega arith)
 
 pub place_low : (coords : Coords) (c : ℕ) → c % columns_each coords < 10
-place_low Standard c = omega arith
-place_low Quad c = omega arith
-place_low Octagon c = omega arith
+place_low coords c = let below = index_below coords c in let few = few_columns coords in omega (arith, below, few)
 
 -- the arcs of a triangle
 tri_fits : ℕ → ℕ → Bool
@@ -87,32 +104,41 @@ module _ (f v : ℕ) (lf : f < 4) (lv : v < 4) (off : v ≡ f → ⊥) where
   at_place : (most place c : ℕ) → c ≡ place → HasPlaceSlot most place f v → HasPlaceSlot most c f v
   at_place most place c e h = subst (λ k. HasPlaceSlot most k f v) (sym e) h
 
-  octagon_at : (t k : ℕ) → k < 3 → (k ≡ keeping v f → ⊥) → HasPlaceSlot 8 (oct_column Octagon t k % 10) f v
-  octagon_at t k l other = at_place 8 (7 + k) (oct_column Octagon t k % 10) (omega arith) (octagon_place k l other)
+  octagon_at : (coords : Coords) → HasTriangles coords → (t k : ℕ) → k < octagons_each coords → (k ≡ keeping v f → ⊥)
+      → HasPlaceSlot (slots_each coords) (oct_column coords t k % columns_each coords) f v
+  octagon_at coords h t k l other =
+      let all : triangles_each coords ≡ 4 = four_triangles coords h in
+      let low : k < 3 = let few = few_octagons coords in omega (arith, l, few) in
+      let at : oct_column coords t k % columns_each coords ≡ before_octagons coords + k =
+      ap (λ c. c % columns_each coords) (add_assoc (columns_each coords * t) (before_octagons coords) k) ∙ index_of_index coords t (before_octagons coords + k) (omega (arith, l)) in
+      let seven : before_octagons coords + k ≡ 7 + k = omega (arith, all) in
+      subst (λ m. HasPlaceSlot m (oct_column coords t k % columns_each coords) f v) (sym (eight_slots coords k l))
+      (at_place 8 (7 + k) (oct_column coords t k % columns_each coords) (at ∙ seven) (octagon_place k low other))
 
-  octagons_at : (t k : ℕ) → k < 3 → keeping v f ≡ k → AllByRecursion (λ c. HasPlaceSlot 8 (c % 10) f v) (map (oct_column Octagon t) (filter (λ j. not (j == k)) three))
-  octagons_at t zero l e = (octagon_at t 1 (omega arith) (λ d. omega arith), (octagon_at t 2 (omega arith) (λ d. omega arith), tt))
-  octagons_at t (suc zero) l e = (octagon_at t 0 (omega arith) (λ d. omega arith), (octagon_at t 2 (omega arith) (λ d. omega arith), tt))
-  octagons_at t (suc (suc zero)) l e = (octagon_at t 0 (omega arith) (λ d. omega arith), (octagon_at t 1 (omega arith) (λ d. omega arith), tt))
-  octagons_at t (suc (suc (suc k))) l e = absurd (omega arith)
+  octagons_at : (coords : Coords) → HasTriangles coords → (t : ℕ) → AllByRecursion (λ c. HasPlaceSlot (slots_each coords) (c % columns_each coords) f v) (octagon_arcs coords t f v)
+  octagons_at coords h t =
+      all_mapped (λ c. HasPlaceSlot (slots_each coords) (c % columns_each coords) f v) (oct_column coords t) (filter (λ k. not (k == keeping v f)) (octagon_types coords)) (λ k a.
+      let m = filter-among (λ k. not (k == keeping v f)) k (octagon_types coords) a in
+      octagon_at coords h t k (octagon_type coords k m.0) (not_equal k (keeping v f) m.1))
 
   -- the column of the triangle
   triangle_slot : (coords : Coords) → HasTriangles coords → (t : ℕ) → HasPlaceSlot (slots_each coords) (tri_column coords t v % columns_each coords) f v
-  triangle_slot Standard h t = at_place 4 v (tri_column Standard t v % 7) (omega arith) (one_slot 4 v (omega arith) triangle_vertex)
-  triangle_slot Quad h t = absurd h
-  triangle_slot Octagon h t = at_place 8 v (tri_column Octagon t v % 10) (omega arith) (one_slot 8 v (omega arith) triangle_vertex)
+  triangle_slot coords h t =
+      at_place (slots_each coords) v (tri_column coords t v % columns_each coords) (index_of_index coords t v (triangle_place coords v h lv))
+      (one_slot (slots_each coords) v (some_slots coords) triangle_vertex)
 
-  -- the column past the triangles
+  -- the column after those of triangles
   further_slot : (coords : Coords) → HasTriangles coords → (xs : List ℕ) (t : ℕ) → HasPlaceSlot (slots_each coords) (first_nonzero xs (octagon_arcs coords t f v) (quad_column coords t (keeping v f)) % columns_each coords) f v
-  further_slot Standard h xs t =
-      let l : keeping v f < 3 = keeping_below v f lv lf off in
-      at_place 4 (4 + keeping v f) (quad_column Standard t (keeping v f) % 7) (omega arith) (one_slot 4 (4 + keeping v f) (omega arith) quad_vertex)
-  further_slot Quad h xs t = absurd h
-  further_slot Octagon h xs t =
-      let l : keeping v f < 3 = keeping_below v f lv lf off in
-      first_is (λ c. HasPlaceSlot 8 (c % 10) f v) xs (octagon_arcs Octagon t f v) (quad_column Octagon t (keeping v f))
-      (at_place 8 (4 + keeping v f) (quad_column Octagon t (keeping v f) % 10) (omega arith) (one_slot 8 (4 + keeping v f) (omega arith) quad_vertex))
-      (octagons_at t (keeping v f) l refl)
+  further_slot coords h xs t =
+      let k : ℕ = keeping v f in
+      let l : k < 3 = keeping_below v f lv lf off in
+      let all : triangles_each coords ≡ 4 = four_triangles coords h in
+      let at : quad_column coords t k % columns_each coords ≡ triangles_each coords + k =
+      ap (λ c. c % columns_each coords) (add_assoc (columns_each coords * t) (triangles_each coords) k) ∙ index_of_index coords t (triangles_each coords + k) (omega (arith, l)) in
+      let four : triangles_each coords + k ≡ 4 + k = omega (arith, all) in
+      first_is (λ c. HasPlaceSlot (slots_each coords) (c % columns_each coords) f v) xs (octagon_arcs coords t f v) (quad_column coords t k)
+      (at_place (slots_each coords) (4 + k) (quad_column coords t k % columns_each coords) (at ∙ four) (one_slot (slots_each coords) (4 + k) (some_slots coords) quad_vertex))
+      (octagons_at coords h t)
 
 -- an arc that meets another has a slot of its piece
 pub slot_of_arc : (rows : List Row) (coords : Coords) (xs : List ℕ) → IsSurface rows coords xs → (p : NormalDisc) (a : Arc) (g : Gluing) → Meets rows coords xs a g → disc_of coords xs a ≡ p → HasSlot coords a.face a.vertex p

@@ -1,16 +1,13 @@
 -- The slots of a row of arcs: slot 4h + f is for arc number h of a disc in face f.
 use Rattle.std.specs.Prelude.{ℕ, ◌+◌, ◌-◌, ◌/◌, ◌%◌, nat_lt, nat_le, if◌then◌else◌}
-use Rattle.surface_definitions.specs.Coordinates.{partner, columns_each}
+use Rattle.surface_definitions.specs.Coordinates.{has_octagons, partner, columns_each}
 use Rattle.surface_definitions.specs.declared.Coords.{Coords}
-use Rattle.surface_definitions.specs.declared.Coords.TheVariants.{Standard, Quad, Octagon}
 use Rattle.surface_definitions.specs.Pieces.{NormalDisc}
 
 -- the number of slots of a disc in the coordinates: a triangle or a quad has at most one arc in each face, an octagon
 -- two
 abbrev pub slots_each : Coords → ℕ
-slots_each Standard = 4
-slots_each Quad = 4
-slots_each Octagon = 8
+slots_each coords = if has_octagons coords then 8 else 4
 
 -- the vertex around which a disc has the arc of a slot, by the index of the disc's column among those of its
 -- tetrahedron; the face itself if the disc has no arc for the slot

@@ -17,7 +17,7 @@ use crate::signs::signs_of;
 use crate::surface::{JoinedPieces, NumberedPieces, Surface};
 use crate::vectors::vectors_of;
 use no_memory::Failure;
-use normal_discs::DiscCoords;
+use normal_discs::{DiscCoords, has_octagons};
 use skeleton::Skeleton;
 use std::alloc::{AllocError, Global};
 use std::marker::Model;
@@ -84,9 +84,10 @@ fn find_components<const N: usize>(alloc: Global, surface: &Surface) -> Result<P
 fn components_of(alloc: Global, surface: &Surface) -> Result<Pieces, AllocError>
     ensures { IfOk result (AreListedComponents surface.now.table.now surface.now.coords.system surface.now.entries.now) }
 {
-    match surface.coords.system {
-        Coords::Octagon => find_components::<8>(alloc, surface),
-        _ => find_components::<4>(alloc, surface),
+    if has_octagons(surface.coords.system) {
+        find_components::<8>(alloc, surface)
+    } else {
+        find_components::<4>(alloc, surface)
     }
 }
 

@@ -2,6 +2,7 @@
 use Rattle.std.proofs.Common.{◌≡◌, ℕ, ◌+◌, ◌*◌, ◌/◌, ◌%◌, ◌<◌, ◌≤◌, true, List, [], length, inl, inr, refl, sym, ap, ◌∙◌, subst, arith}
 use Rattle.std.specs.Prelude.{slice_index}
 use Rattle.std.proofs.lemmas.Bool.{cases_lt, ne_eqb, eq-eqb, le-leb}
+use Rattle.std.proofs.Math.Nat.{div-add-mod}
 use Rattle.cone_definitions.specs.Rows.{IsSolution}
 use Rattle.table_definitions.specs.Lists.{below}
 use Rattle.table_definitions.specs.Classes.{least}
@@ -14,10 +15,11 @@ use Rattle.skeleton_definitions.specs.Skeleton.{Skeleton, IsSkeleton}
 use Rattle.surface_definitions.specs.Characteristic.{is_linking}
 use Rattle.surface_definitions.specs.Coordinates.{columns, columns_each, triangles_each, tri_column}
 use Rattle.surface_definitions.specs.declared.Coords.{Coords}
-use Rattle.surface_definitions.specs.declared.Coords.TheVariants.{Standard, Quad, Octagon}
+use Rattle.surface_definitions.proofs.ColumnCounts.{tet_below}
 use Rattle.surface_definitions.specs.Equations.{matching_rows}
 use Rattle.surface_laws.specs.LiftLaws.{AreHeights}
 use Rattle.surface_laws.specs.MatchingLaws.{HasTriangles}
+use Rattle.surface_laws.proofs.ColumnKinds.{four_triangles}
 use Rattle.surface_laws.proofs.Counting.{one_term, sum_by-none}
 use Rattle.surface_laws.proofs.Glued.{IsGlued, glued_is}
 use Rattle.surface_laws.proofs.LinkingLemmas.{linking}
@@ -25,7 +27,7 @@ use Rattle.surface_laws.proofs.Solved.{solved}
 use Rattle.surface_quad_laws.specs.LinkLaws.{link_of, links_sum}
 use Rattle.surface_quad_laws.proofs.BareArcs.{IsBare, arcs_alone}
 use Rattle.surface_quad_laws.proofs.Differences.{heights_differ}
-use Rattle.surface_quad_laws.proofs.VertexLinks.{member, entry_if, four_triangles, triangle-link, others-link}
+use Rattle.surface_quad_laws.proofs.VertexLinks.{member, entry_if, triangle-link, others-link}
 
 nothing : (a b : ℕ) → b ≡ 0 → a * b ≡ 0
 nothing a b e = ap (λ z. a * z) e ∙ omega arith
@@ -36,13 +38,8 @@ once a b e = ap (λ z. a * z) e ∙ omega arith
 -- columns are those of triangles and others
 pub by_column : (coords : Coords) → HasTriangles coords → (n : ℕ) (P : ℕ → Type 0) → ((t v : ℕ) → t < n → v < 4 → P (tri_column coords t v)) → ((i : ℕ) → i < columns coords n → 4 ≤ i % columns_each coords → P i)
     → (i : ℕ) → i < columns coords n → P i
-by_column Standard h n P triangles rest i l = elim (cases_lt (i % 7) 4) [
-  | inl low ↦ (let at : tri_column Standard (i / 7) (i % 7) ≡ i = omega arith in subst P at (triangles (i / 7) (i % 7) (omega arith) low))
-  | inr high ↦ rest i l high
-]
-by_column Quad h n P triangles rest i l = absurd h
-by_column Octagon h n P triangles rest i l = elim (cases_lt (i % 10) 4) [
-  | inl low ↦ (let at : tri_column Octagon (i / 10) (i % 10) ≡ i = omega arith in subst P at (triangles (i / 10) (i % 10) (omega arith) low))
+by_column coords h n P triangles rest i l = elim (cases_lt (i % columns_each coords) 4) [
+  | inl low ↦ subst P (div-add-mod i (columns_each coords)) (triangles (i / columns_each coords) (i % columns_each coords) (tet_below coords n i l) low)
   | inr high ↦ rest i l high
 ]
 

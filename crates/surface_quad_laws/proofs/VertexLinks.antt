@@ -1,5 +1,5 @@
 -- A vertex link has as many arcs on both sides of each gluing, since a gluing keeps the class.
-use Rattle.std.proofs.Common.{◌≡◌, ◌≢◌, ℕ, ◌+◌, ◌*◌, ◌/◌, ◌%◌, ◌<◌, ◌≤◌, Bool, true, List, length, Some, ◌⊎◌, inl, inr, refl, sym, ap, ◌∙◌, subst, arith}
+use Rattle.std.proofs.Common.{◌≡◌, ◌≢◌, ℕ, ◌/◌, ◌%◌, ◌<◌, ◌≤◌, Bool, true, List, length, Some, ◌⊎◌, inl, inr, sym, ap, ◌∙◌, subst, arith}
 use Rattle.std.specs.Prelude.{◌==◌, ◌&&◌, nat_lt, if◌then◌else◌, sum_by, slice_index}
 use Rattle.std.proofs.lemmas.Bool.{eq-eqb, ne_eqb, lt-ltb, le-ltb, leb-true, and_parts, or_cases}
 use Rattle.std.proofs.lemmas.List.{get_or-map, length-map}
@@ -13,11 +13,12 @@ use Rattle.table_definitions.proofs.Listed.{among_contains, filter-among, pairs-
 use Rattle.table_definitions.proofs.PermutationLaws.{image_below, images_apart}
 use Rattle.skeleton_definitions.specs.Links.{vertex_number}
 use Rattle.skeleton_definitions.specs.Skeleton.{Skeleton, IsSkeleton}
-use Rattle.surface_definitions.specs.Coordinates.{columns, columns_each, triangles_each, tri_column, arc_columns, is_quad_or_octagon, is_octagon, clash_test, clash_list}
+use Rattle.surface_definitions.specs.Coordinates.{columns, columns_each, triangles_each, before_octagons, tri_column, arc_columns, is_quad_or_octagon, is_octagon, clash_test, clash_list}
 use Rattle.surface_definitions.specs.declared.Coords.{Coords}
-use Rattle.surface_definitions.specs.declared.Coords.TheVariants.{Standard, Quad, Octagon}
+use Rattle.surface_definitions.proofs.ColumnCounts.{tet_of_index, index_of_index}
 use Rattle.surface_definitions.specs.Equations.{Holds, glued_pairs, matching}
 use Rattle.surface_laws.specs.MatchingLaws.{HasTriangles}
+use Rattle.surface_laws.proofs.ColumnKinds.{four_triangles, triangle_place, low_triangle, column_below}
 use Rattle.surface_laws.proofs.Glued.{IsGlued, glued_is}
 use Rattle.surface_laws.proofs.LinkingLemmas.{linking}
 use Rattle.surface_laws.proofs.Matched.{pair_glued}
@@ -33,20 +34,15 @@ member classes c i = if slice_index classes i == c then 1 else 0
 abbrev pub entry_if : Bool → Bool → ℕ
 entry_if a b = if a && b then 1 else 0
 
-pub four_triangles : (coords : Coords) → HasTriangles coords → triangles_each coords ≡ 4
-four_triangles Standard h = refl
-four_triangles Quad h = absurd h
-four_triangles Octagon h = refl
-
 -- of two columns that clash the first is no triangle's
 no_triangle : (coords : Coords) (a b : ℕ) → HasTriangles coords → clash_test coords a b ≡ true → 4 ≤ a % columns_each coords
 no_triangle coords a b h e = by_kind (or_cases (is_octagon coords a && is_octagon coords b) (((a / columns_each coords == b / columns_each coords) && is_quad_or_octagon coords a) && is_quad_or_octagon coords b) e)
   where
-    further : (x : ℕ) → 7 ≤ x → 4 ≤ x
-    further x l = omega arith
+    further : (x : ℕ) → before_octagons coords ≤ x → 4 ≤ x
+    further x l = let all = four_triangles coords h in omega (arith, all, l)
 
     by_kind : ((is_octagon coords a && is_octagon coords b) ≡ true) ⊎ ((((a / columns_each coords == b / columns_each coords) && is_quad_or_octagon coords a) && is_quad_or_octagon coords b) ≡ true) → 4 ≤ a % columns_each coords
-    by_kind (inl o) = further (a % columns_each coords) (leb-true 7 (a % columns_each coords) (and_parts (is_octagon coords a) (is_octagon coords b) o).0)
+    by_kind (inl o) = further (a % columns_each coords) (leb-true (before_octagons coords) (a % columns_each coords) (and_parts (is_octagon coords a) (is_octagon coords b) o).0)
     by_kind (inr q) = subst (λ k. k ≤ a % columns_each coords) (four_triangles coords h)
         (leb-true (triangles_each coords) (a % columns_each coords)
         (and_parts (a / columns_each coords == b / columns_each coords) (is_quad_or_octagon coords a) (and_parts ((a / columns_each coords == b / columns_each coords) && is_quad_or_octagon coords a) (is_quad_or_octagon coords b) q).0).1)
@@ -62,16 +58,13 @@ module _ (n : ℕ) (classes : List ℕ) (c : ℕ) where
 
   -- at triangles, and at quads and octagons
   pub triangle-link : (coords : Coords) (t v : ℕ) → HasTriangles coords → t < n → v < 4 → slice_index (vertex_link coords n classes c) (tri_column coords t v) ≡ member classes c (vertex_number t v)
-  triangle-link Standard t v h lt lv =
-      let d : (7 * t + v) / 7 ≡ t = omega arith in
-      let m : (7 * t + v) % 7 ≡ v = omega arith in
-      entry-link Standard (7 * t + v) (omega arith) ∙ ap (λ a. entry_if a (slice_index classes (vertex_number ((7 * t + v) / 7) ((7 * t + v) % 7)) == c)) (lt-ltb ((7 * t + v) % 7) 4 (omega arith))
-      ∙ (λ k. member classes c (vertex_number (d k) (m k)))
-  triangle-link Quad t v h lt lv = absurd h
-  triangle-link Octagon t v h lt lv =
-      let d : (10 * t + v) / 10 ≡ t = omega arith in
-      let m : (10 * t + v) % 10 ≡ v = omega arith in
-      entry-link Octagon (10 * t + v) (omega arith) ∙ ap (λ a. entry_if a (slice_index classes (vertex_number ((10 * t + v) / 10) ((10 * t + v) % 10)) == c)) (lt-ltb ((10 * t + v) % 10) 4 (omega arith))
+  triangle-link coords t v h lt lv =
+      let i : ℕ = tri_column coords t v in
+      let place : v < columns_each coords = triangle_place coords v h lv in
+      let d : i / columns_each coords ≡ t = tet_of_index coords t v place in
+      let m : i % columns_each coords ≡ v = index_of_index coords t v place in
+      entry-link coords i (column_below coords h n t v lt lv)
+      ∙ ap (λ a. entry_if a (slice_index classes (vertex_number (i / columns_each coords) (i % columns_each coords)) == c)) (lt-ltb (i % columns_each coords) 4 (low_triangle coords t v h lv))
       ∙ (λ k. member classes c (vertex_number (d k) (m k)))
 
   pub link-one : (coords : Coords) (t v : ℕ) → HasTriangles coords → t < n → v < 4 → slice_index classes (vertex_number t v) ≡ c → slice_index (vertex_link coords n classes c) (tri_column coords t v) ≡ 1

@@ -1,14 +1,15 @@
 -- One mask more, and all of them.
 use Rattle.std.proofs.Common.{length, ap, ◌∙◌, arith}
 use Rattle.std.proofs.lemmas.List.{length_push}
-use Rattle.quad_condition.proofs.MarkLemmas.{some_quads, few_places, marks_more}
+use Rattle.surface_definitions.proofs.ColumnCounts.{few_columns}
+use Rattle.quad_condition.proofs.MarkLemmas.{some_quads, marks_more}
 use Rattle.quad_condition.proofs.masks.near_masks.Goals as goal
 
 pub overflow_sub-distance-end : goal.overflow_sub-distance-end
 overflow_sub-distance-end c = let some = some_quads c.args.coords in omega (arith, some, c.triangles_each-least.ensures, c.columns_each.ensures)
 
 pub mask-requires-clause-distance : goal.mask-requires-clause-distance
-mask-requires-clause-distance c = let few = few_places c.args.coords in omega (arith, few, c.columns_each.ensures, c.loop-distance-test.true)
+mask-requires-clause-distance c = let few = few_columns c.args.coords in omega (arith, few, c.columns_each.ensures, c.loop-distance-test.true)
 
 pub loop-distance-preserved : goal.loop-distance-preserved
 loop-distance-preserved c =
