@@ -1,5 +1,5 @@
 -- The vertex classes that a move leaves and those that its inverse leaves correspond.
-use Rattle.std.proofs.Common.{◌≡◌, ℕ, ◌*◌, ◌%◌, ◌<◌, ◌≤◌, List, length, ◌⊎◌, inl, inr, false, refl, sym, ap, ◌∙◌, subst, arith}
+use Rattle.std.proofs.Common.{◌≡◌, ◌↔◌, ℕ, ◌*◌, ◌%◌, ◌<◌, ◌≤◌, List, length, ◌⊎◌, inl, inr, false, refl, sym, ap, ◌∙◌, subst, arith}
 use Rattle.std.specs.Prelude.{slice_index}
 use Rattle.std.proofs.lemmas.Bool.{cases_lt}
 use Rattle.table_definitions.specs.Lists.{has, rank_without}
@@ -9,6 +9,7 @@ use Rattle.skeleton_definitions.specs.Skeleton.{Skeleton, IsSkeleton}
 use Rattle.skeleton_definitions.specs.declared.Link.{Link}
 use Rattle.move_definitions.specs.Moves.{Move, IsMoved, old_tets, inverse_move}
 use Rattle.surface_quad_lift_laws.specs.Laws.{HasLink}
+use Rattle.move_link_laws.specs.BoundaryCurves.{HasBoundaryCurves}
 use Rattle.move_link_laws.specs.Links.{IsTakenAway, IsLeft, AreAlike, MovesKeepLinks}
 use Rattle.move_link_laws.proofs.Ties.{Ties}
 use Rattle.move_link_laws.proofs.TieShapes.{kept_tie}
@@ -19,6 +20,7 @@ use Rattle.move_link_laws.proofs.Spheres.{free_of_one}
 use Rattle.move_link_laws.proofs.Euler.{same_link}
 use Rattle.move_link_laws.proofs.SignsAgree.{signs_forth}
 use Rattle.move_link_laws.proofs.SignsAgreeBack.{signs_back}
+use Rattle.move_link_laws.proofs.ArcsCarried.{curves_same}
 use Rattle.move_link_laws.proofs.Correspond.{taken_from, not_taken, put_from, not_put}
 use Rattle.plain_facts.proofs.Truths.{same_truth}
 
@@ -128,6 +130,9 @@ module _ (s : Skeleton) (m : Move) (s' : Skeleton) (k : IsSkeleton s) (k' : IsSk
         kind = a.is_link.kind ∙ (λ i. kind_of (same.1 i) (same.0 i) (orientable i)) ∙ sym b.is_link.kind;
       }
 
+  curves_of : (c n : ℕ) → IsLeft s m c → HasBoundaryCurves s c n ↔ HasBoundaryCurves s' (to_of c) n
+  curves_of c n l = curves_same s m s' k k' h c (to_of c) (match_of c l) n
+
 pub moves_keep_links_lem : MovesKeepLinks
 moves_keep_links_lem s m s' k k' h = record {
   to = to_of s m s' k k' h;
@@ -136,4 +141,5 @@ moves_keep_links_lem s m s' k k' h = record {
   onto = onto_of s m s' k k' h;
   stays = stays_of s m s' k k' h;
   alike = alike_of s m s' k k' h;
+  curves = curves_of s m s' k k' h;
 }

@@ -40,7 +40,7 @@ module _ (old : List Row) (m : Move) (new : List Row) (table : IsTable old) (h :
     abbrev under : Gluing → ℕ → ℕ
     under s k = side_number s.tet (image s.perm (k / 4 % 4)) (image s.perm (k % 4))
 
-    back : (k' : ℕ) → Among k' news → (k : ℕ) × Among k olds × StandsSide old m new table h table' vs n numbered vs' n' numbered' c c' match k k'
+    pub back : (k' : ℕ) → Among k' news → (k : ℕ) × Among k olds × StandsSide old m new table h table' vs n numbered vs' n' numbered' c c' match k k'
     unfolding StandsSide
     back k' a = elim (covered old m y table (fine old m new table h) h.core (let e = h.length_is in let l = f.0 in omega arith) (low_f old m new table h table' vs n numbered vs' n' numbered' c c' match k')) [
       | inl o ↦ outside o

@@ -41,6 +41,12 @@ pub mod ClosedManifolds
 pub mod Characteristic
 pub mod TakenAway
 pub mod Correspond
+pub mod Curves
+pub mod CurvesMatched
+pub mod ArcNumbers
+pub mod ArcsCarried
+pub mod CurvesExist
+pub mod ClosedCurves
 pub mod ClassesCorrespond
 pub mod ArrowClasses
 pub mod InvalidClasses

@@ -1,5 +1,5 @@
 -- A legal move keeps the links of vertex classes.
-use Rattle.std.specs.Prelude.{◌≡◌, ℕ, ◌<◌, false, List, length, slice_index}
+use Rattle.std.specs.Prelude.{◌≡◌, ◌↔◌, ℕ, ◌<◌, false, List, length, slice_index}
 use Rattle.table_definitions.specs.Lists.{has, rank_without}
 use Rattle.table_definitions.specs.Table.{Row}
 use Rattle.skeleton_definitions.specs.Links.{vertex_number}
@@ -7,6 +7,7 @@ use Rattle.skeleton_definitions.specs.Skeleton.{Skeleton, IsSkeleton}
 use Rattle.skeleton_definitions.specs.declared.Link.{Link}
 use Rattle.move_definitions.specs.Moves.{Move, IsMoved, old_tets, inverse_move}
 use Rattle.surface_quad_lift_laws.specs.Laws.{HasLink}
+use Rattle.move_link_laws.specs.BoundaryCurves.{HasBoundaryCurves}
 use Rattle.move_link_laws.specs.Certified.{IsSphere}
 
 -- c is the class of the core of a 4-1, which the move takes away
@@ -25,7 +26,8 @@ pub record AreAlike (one other : Link) : Type 0 where
   pub kind : one.kind ≡ other.kind
 
 -- the vertex classes that the move leaves and those that its inverse leaves correspond one to one: the class of a
--- vertex of a tetrahedron that stays to that of the same vertex, and each to one whose link is alike
+-- vertex of a tetrahedron that stays to that of the same vertex, and each to one whose link is alike and has as many
+-- boundary curves
 pub record LinksCorrespond (s : Skeleton) (m back : Move) (s' : Skeleton) : Type 0 where
   pub to : ℕ → ℕ
   pub left : (c : ℕ) → IsLeft s m c → IsLeft s' back (to c)
@@ -34,6 +36,7 @@ pub record LinksCorrespond (s : Skeleton) (m back : Move) (s' : Skeleton) : Type
   pub stays : (t v : ℕ) → t < length s.rows → has (old_tets s.rows m) t ≡ false → v < 4
       → to (slice_index s.vertices.classes (vertex_number t v)) ≡ slice_index s'.vertices.classes (vertex_number (rank_without (old_tets s.rows m) t) v)
   pub alike : (c : ℕ) (one other : Link) → IsLeft s m c → HasLink s c one → HasLink s' (to c) other → AreAlike one other
+  pub curves : (c n : ℕ) → IsLeft s m c → HasBoundaryCurves s c n ↔ HasBoundaryCurves s' (to c) n
 
 abbrev pub MovesKeepLinks : Type 0
 MovesKeepLinks =

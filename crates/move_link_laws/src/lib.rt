@@ -4,6 +4,7 @@
 #![tactic(auto)]
 
 ghost use Rattle.move_link_laws.specs.Valid.{MovesKeepValid, PlaysKeepValid, MovesKeepInvalid};
+ghost use Rattle.move_link_laws.specs.BoundaryCurves.{SomeBoundaryCurves, BoundaryCurvesAgree, ClosedWithoutCurves};
 ghost use Rattle.move_link_laws.specs.Links.{MovesKeepLinks, TakenAwayAreSpheres, PutInAreSpheres};
 ghost use Rattle.move_link_laws.specs.Certified.{CertifiedHaveValidEdges, CertifiedHaveSphereLinks, CertifiedHaveCharacteristicZero};
 ghost use Rattle.move_link_laws.specs.ClosedEuler.{ClosedCharacteristicsAreOfLinks, ClosedManifoldsHaveCharacteristicZero};
@@ -19,11 +20,20 @@ pub fn moves_keep_valid()
 
 /// Theorem: the vertex classes of both tables correspond one to one, but for the one that a 1-4 puts in and a 4-1 takes
 /// away, whose link is a sphere by its numbers. A vertex of a tetrahedron that stays corresponds to the same vertex,
-/// and links agree in Euler characteristic and in whether they are closed and orientable.
+/// and links agree in Euler characteristic, in whether they are closed and orientable, and in the number of their
+/// boundary curves.
 pub fn moves_keep_links()
     ensures correspond { MovesKeepLinks }
     ensures taken_away { TakenAwayAreSpheres }
     ensures put_in { PutInAreSpheres }
+{}
+
+/// Theorem: each vertex link has exactly one number of boundary curves, the classes of its boundary arcs under chains
+/// of meeting arcs. A link is closed if and only if this number is 0.
+pub fn boundary_curves_are_counted()
+    ensures exist { SomeBoundaryCurves }
+    ensures one { BoundaryCurvesAgree }
+    ensures closed { ClosedWithoutCurves }
 {}
 
 /// Theorem: for a closed table without invalid edges, twice its Euler characteristic is the sum over its vertex links
