@@ -3,4 +3,4 @@
 
 mod text;
 
-pub use text::{write_entries, write_list, write_vector};
+pub use text::{write_entries, write_list, write_packed_list, write_vector};

@@ -4,7 +4,7 @@ ghost use Rattle.std.specs.Prelude.{◌≡◌, ◌<◌, ◌≤◌, ◌+◌, [], 
 ghost use Rattle.cone_text_definitions.specs.VectorText.{vector_text, entries_text, list_text};
 ghost use Rattle.vector_text.specs.Four.{four_from};
 
-use cone_arithmetic::Ray;
+use cone_arithmetic::{PackedRay, Ray};
 use no_memory::NoMemory;
 use std::alloc::Global;
 use text_io::{append, append_decimal};
@@ -112,8 +112,28 @@ pub fn write_vector(alloc: Global, x: &[u128], out: &mut Vec<u8>) -> Result<(), 
     append(out, &text)
 }
 
+/// Appends a line `vec` with the entries of each ray of `list`. If memory runs out `out` is unchanged.
+pub fn write_list(alloc: Global, list: &[Ray], out: &mut Vec<u8>) -> Result<(), NoMemory>
+    ensures ok { OnOk result (out.new.items ≡ out.old.items ++ list_text list.now) }
+    ensures err { OnErr result (out.new.items ≡ out.old.items) }
+{
+    let mut text = Vec::new(alloc);
+    for ray in list {
+        push_line(alloc, &mut text, ray.entries())?;
+    }
+    append(out, &text)
+}
+
+/// Appends the line of the packed ray `packed`.
+fn push_packed(alloc: Global, text: &mut Vec<u8>, packed: &PackedRay) -> Result<(), NoMemory>
+    ensures { OnOk result (text.new.items ≡ text.old.items ++ vector_text packed.now) }
+{
+    let ray = packed.to_ray(alloc)?;
+    push_line(alloc, text, ray.entries())
+}
+
 /// A lower bound on the number of bytes of the lines of `list`.
-fn least_bytes(list: &[Ray]) -> usize {
+fn least_bytes(list: &[PackedRay]) -> usize {
     match list.first() {
         Some(ray) => {
             let line = ray.columns().saturating_mul(2).saturating_add(4);
@@ -124,19 +144,24 @@ fn least_bytes(list: &[Ray]) -> usize {
 }
 
 /// A copy of `front`, followed by the lines of `list`.
-fn lines_behind(alloc: Global, front: &[u8], list: &[Ray]) -> Result<Vec<u8>, NoMemory>
+fn lines_behind(alloc: Global, front: &[u8], list: &[PackedRay]) -> Result<Vec<u8>, NoMemory>
     ensures { IfOk result (λ text. text.items ≡ front.now ++ list_text list.now) }
 {
     let mut text = Vec::with_capacity(alloc, least_bytes(list).saturating_add(front.len()))?;
     append(&mut text, front)?;
-    for ray in list {
-        push_line(alloc, &mut text, ray.entries())?;
+    // a list of packed rays is large, so one ray at a time is converted
+    for packed in list {
+        push_packed(alloc, &mut text, packed)?;
     }
     Ok(text)
 }
 
-/// Appends a line `vec` with the entries of each ray of `list`. If memory runs out `out` is unchanged.
-pub fn write_list(alloc: Global, list: &[Ray], out: &mut Vec<u8>) -> Result<(), NoMemory>
+/// Appends a line `vec` with the entries of each packed ray of `list`. If memory runs out `out` is unchanged.
+pub fn write_packed_list(
+    alloc: Global,
+    list: &[PackedRay],
+    out: &mut Vec<u8>,
+) -> Result<(), NoMemory>
     ensures ok { OnOk result (out.new.items ≡ out.old.items ++ list_text list.now) }
     ensures err { OnErr result (out.new.items ≡ out.old.items) }
 {

@@ -3,5 +3,5 @@ use Rattle.std.proofs.Common.{◌≡◌, ◌++◌, take}
 use Rattle.cone_text_definitions.specs.VectorText.{list_text}
 use Rattle.vector_text.proofs.text.lines_behind.Given as goal
 
-abbrev pub invariant-loop-ray : goal.invariant-loop-ray
-invariant-loop-ray l = l.text.items ≡ l.front ++ list_text (take l.ray-index l.list)
+abbrev pub invariant-loop-packed : goal.invariant-loop-packed
+invariant-loop-packed l = l.text.items ≡ l.front ++ list_text (take l.packed-index l.list)
