@@ -6,8 +6,9 @@
 What runs is `python3 -m trinorm census FILE --command sig`, with two processes if --jobs names no other number. What answers a
 triangulation is a function that returns its signature, after a pause if one is named, so all but the answers is measured. The
 census is stopped by a signal, Ctrl-C's by default, after a third and after two thirds of the lines, and started again. The
-third start goes on to the end, and a fourth has nothing to do. A line is printed for each start, with megabytes of the process
-that reads and writes, and of the others together. The status is 1 if a line of the input has no line of the output, or two.
+third start goes on to the end, and a fourth has nothing to do. A line is printed for each start, with seconds of the clock (and
+in brackets of the processor), and megabytes, both of the process that reads and writes. The status is 1 if a line of the input
+has no line of the output, or two.
 """
 from __future__ import annotations
 
@@ -51,7 +52,7 @@ class StubWorkers(workers.Workers):
         assert function is executors.run
         # by the name of this module, which the processes import
         from long_census import run_with_stub as stub
-        return super().submit(stub, *given, **named)  # type: ignore[no-any-return]
+        return super().submit(stub, *given, **named)  # type: ignore[no-any-return, no-untyped-call]
 
 
 def run_census(words: List[str]) -> int:
@@ -61,22 +62,41 @@ def run_census(words: List[str]) -> int:
     return commands.main(["census", *words])
 
 
+class Moment(NamedTuple):
+    """Seconds since a process began: those of the clock, and those that the processor spent on it."""
+
+    clock: float
+    processor: float
+
+    def __str__(self) -> str:
+        return f"{self.clock:.1f} s ({self.processor:.1f} s)"
+
+
 class Start(NamedTuple):
-    """A start of the census that has ended: its status, its first answer and its end in seconds, the lines that were there
-    before and after it, and megabytes."""
+    """A start of the census that has ended: its status, the lines that were there before and after it, when its first answer
+    came and when it ended, and the most megabytes that its processes had."""
 
     status: int
-    first: float
-    end: float
     before: int
     after: int
+    first: Moment
+    end: Moment
     own: int
     others: int
 
     def __str__(self) -> str:
-        rate = (self.after - self.before) / max(self.end - self.first, 1e-9)
-        return (f"{self.before:,} lines before, {self.after:,} after; first answer or end after {self.first:.1f} s, end after "
-                f"{self.end:.1f} s; {rate:,.0f} lines a second; {self.own} MB, processes {self.others} MB; status {self.status}")
+        rate = (self.after - self.before) / max(self.end.clock - self.first.clock, 1e-9)
+        first = "first answer" if self.after > self.before else "nothing to do"
+        return (f"{self.before:,} lines before, {self.after:,} after; {first} after {self.first}, end after {self.end}; "
+                f"{rate:,.0f} lines a second; {self.own} MB, its workers {self.others} MB; status {self.status}")
+
+
+def seconds_of(process: int) -> float:
+    """The seconds that the processor has spent on a process."""
+    with contextlib.suppress(OSError):
+        words = Path(f"/proc/{process}/stat").read_text(encoding="ascii").rpartition(")")[2].split()
+        return (int(words[11]) + int(words[12])) / os.sysconf("SC_CLK_TCK")
+    return 0.0
 
 
 def peak_of(process: int) -> int:
@@ -125,18 +145,19 @@ class Trial:
         """One start. It is stopped by the signal once the output has a size."""
         before, at_first, begun = lines_of(self.output), size_of(self.output), time.monotonic()
         child = subprocess.Popen(self.words, env=self.around, stderr=subprocess.DEVNULL)
-        first, own, others = 0.0, 0, {}  # type: float, int, Dict[int, int]
+        first: Optional[Moment] = None
+        now, own, others = Moment(0.0, 0.0), 0, {}  # type: Moment, int, Dict[int, int]
         while child.poll() is None:
+            now = Moment(time.monotonic() - begun, seconds_of(child.pid) or now.processor)
             own = peak_of(child.pid) or own
-            others.update({one: peak_of(one) for one in children_of(child.pid)})
-            if size_of(self.output) > at_first and not first:
-                first = time.monotonic() - begun
+            others.update({one: peak for one in children_of(child.pid) for peak in [peak_of(one)] if peak})
+            if size_of(self.output) > at_first:
+                first = first or now
             if size is not None and size_of(self.output) >= size:
                 child.send_signal(self.number)
                 size = None
             time.sleep(0.01)
-        end = time.monotonic() - begun
-        return Start(child.returncode, first or end, end, before, lines_of(self.output), own >> 20, sum(others.values()) >> 20)
+        return Start(child.returncode, before, lines_of(self.output), first or now, now, own >> 20, sum(others.values()) >> 20)
 
     def times(self) -> bytearray:
         """How often each line of the input is in the output, at most 255 times. Each line of the output is a whole one."""
@@ -166,6 +187,8 @@ class Trial:
 
 def main() -> int:
     """Measures."""
+    # a script in the background ignores Ctrl-C, and so would the census
+    signal.signal(signal.SIGINT, signal.default_int_handler)
     reader = argparse.ArgumentParser(description=str(__doc__).split("\n", maxsplit=1)[0])
     reader.add_argument("--lines", type=int, default=1_000_000)
     reader.add_argument("--jobs", type=int, default=2)
