@@ -5,13 +5,20 @@ import stat
 import tempfile
 import threading
 import unittest
+import unittest.mock
 
-from trinorm.answer_files import BadLine, Output, count_lines, digest, read_lines
+from trinorm import answer_files
+from trinorm.answer_files import BadLine, Output, count_lines, digests, read_blocks
 
 
 class Lines(unittest.TestCase):
     def read(self, content):
-        return list(read_lines(io.BytesIO(content), "file"))
+        """The lines of a content, which are the same however many are read at a time."""
+        several, alone = ([line for block in read_blocks(io.BytesIO(content), "file", are_alone) for line in block] for are_alone in (False, True))
+        with unittest.mock.patch.object(answer_files, "BLOCK", 2):
+            few = [line for block in read_blocks(io.BytesIO(content), "file") for line in block]
+        self.assertEqual((several, few), (alone, alone))
+        return alone
 
     def test_lines_keep_their_ends(self):
         self.assertEqual(self.read(b"one\r\ntwo\n\nthree"), [b"one\r\n", b"two\n", b"\n", b"three"])
@@ -28,9 +35,22 @@ class Lines(unittest.TestCase):
             self.assertEqual((caught.exception.number, caught.exception.text), (2, "ab\\xff"))
         self.assertEqual(count_lines(io.BytesIO(b"one\nab\xff"), "file", accept_bad=True), 2)
 
+    def test_faults_have_the_numbers_of_lines(self):
+        content = b"one\n" * 1000 + "tw\xe4\n".encode() * 1000 + b"thr\xff\n"
+        for size in (1, 100, 1 << 18):
+            with unittest.mock.patch.object(answer_files, "BLOCK", size):
+                with self.assertRaisesRegex(BadLine, "file, line 2001: byte 4 isn't UTF-8"):
+                    count_lines(io.BytesIO(content), "file")
+                self.assertEqual(count_lines(io.BytesIO(content), "file", accept_bad=True), 2001)
+
     def test_digests_differ(self):
-        self.assertEqual(len({digest(str(number).encode()) for number in range(10000)}), 10000)
-        self.assertEqual(digest(b"one"), digest(b"one"))
+        """By Python's hash, and where that isn't good enough by a sum."""
+        for is_keyed in (answer_files.IS_KEYED, False):
+            with unittest.mock.patch.object(answer_files, "IS_KEYED", is_keyed):
+                them = [str(number).encode() for number in range(10000)]
+                self.assertEqual(len(set(digests(them))), 10000)
+                self.assertEqual(digests(them), digests(iter(them)))
+                self.assertEqual(digests([]), [])
 
 
 class Files(unittest.TestCase):
@@ -48,7 +68,9 @@ class Files(unittest.TestCase):
         with open(path, "w", encoding="utf8") as file:
             file.write(content)
 
-    def write(self, path, kept=lambda number, line: True):
+    def write(self, path, is_kept=lambda number, line: True):
+        def kept(first, lines):
+            return [line for number, line in enumerate(lines, first) if is_kept(number, line)]
         with Output(path) as output:
             output.keep(kept)
             output.write("new\n")
@@ -70,6 +92,18 @@ class Files(unittest.TestCase):
         self.assertEqual(self.content(self.out), "one\nthree\nnew\n")
         self.assertEqual(stat.S_IMODE(os.stat(self.out).st_mode), 0o640)
         self.assertEqual(os.listdir(self.folder), ["out"])
+
+    def test_many_blocks(self):
+        """Numbers go on from block to block, and a line that is dropped or cut in one of them is dropped or cut."""
+        lines = [f"{number}\n" for number in range(1, 2001)]
+        for size in (1, 50, 1 << 18):
+            with unittest.mock.patch.object(answer_files, "BLOCK", size):
+                self.put(self.out, "".join(lines) + "cut")
+                self.write(self.out, lambda number, line: number == int(line))
+                self.assertEqual(self.content(self.out), "".join(lines) + "new\n")
+                self.put(self.out, "".join(lines) + "cut")
+                self.write(self.out, lambda number, line: number != 1234)
+                self.assertEqual(self.content(self.out), "".join(lines[:1233] + lines[1234:]) + "new\n")
 
     def test_a_fault_leaves_the_file(self):
         def fails(_number, line):
@@ -108,7 +142,7 @@ class Files(unittest.TestCase):
     def test_a_second_run_is_told(self):
         self.put(self.out, "one\ntwo")
         with Output(self.out) as output:
-            output.keep(lambda number, line: True)
+            output.keep(lambda number, lines: lines)
             output.write("new\n")
             with self.assertRaisesRegex(ValueError, "another run writes to"):
                 Output(self.out)

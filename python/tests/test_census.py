@@ -14,7 +14,7 @@ import unittest.mock
 import trinorm
 from tests.programs import script
 from trinorm.__main__ import main
-from trinorm.census import Ran, Source, by_processes, entry_of, lines_of, run_census
+from trinorm.census import Ran, Source, blocks_of, by_processes, entry_of, run_census
 from trinorm.program import REPOSITORY, Failed
 from trinorm.tasks import Task
 
@@ -54,12 +54,21 @@ class Folder(unittest.TestCase):
 
 class Lines(unittest.TestCase):
     def entries(self, *lines):
-        return [entry_of(found) for found in lines_of(Source("file", None, lines)) if found is not None]
+        """The triangulations of lines, which are the same however many are read at a time."""
+        told = [[entry_of(found) for block in blocks_of(Source("file", None, blocks)) for found in block if found is not None]
+                for blocks in ([list(lines)], [[line] for line in lines])]
+        self.assertEqual(*told)
+        return told[0]
 
     def test_entries(self):
         told = self.entries(*SIGNATURES.encode().splitlines(keepends=True))
         self.assertEqual(told, [("bkaagj", "sphere"), ("bkaagb", "bkaagb"), ("bkaajj", "a name with spaces"),
                                 ("cPcbbbiht", "figure-eight"), ("bkaagjx", "not one"), ("bkaagj", "sphere")])
+
+    def test_lines_within_a_line(self):
+        """A text that was given as one line stays one."""
+        for text in (b"a\nb", b"a\nb\n", b"a b\nc d"):
+            self.assertEqual([it.signature for it in self.entries(text)], ["a"], text)
 
     def test_plain_lines_are_read_as_others(self):
         """The quick way for plain characters is no other than the long one, which a tab or a missing end takes."""

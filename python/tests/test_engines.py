@@ -10,7 +10,7 @@ import tempfile
 import time
 import unittest
 
-from tests import slurm_node
+from tests import networks, slurm_node
 from tests.engines import environment, python_with, skip_without
 from tests.programs import script
 
@@ -160,6 +160,58 @@ class Dask(Engines):
         status, said = self.run_all([*self.words(self.python, "-m"), "--dask", "nonsense://"])
         self.assertEqual(status, 3)
         self.assertIn("no Dask scheduler at nonsense://", said)
+
+
+@skip_without("python3-distributed (Dask), or ip for the superuser,", python_with("distributed") and networks.are_there())
+class Networks(Engines):
+    """A scheduler and two workers, each in a network of its own, so that all they know of each other goes through links."""
+
+    def setUp(self):
+        super().setUp()
+        self.python = python_with("distributed")
+        self.both = [networks.Network(number) for number in (1, 2)]
+        for network in self.both:
+            network.__enter__()
+            self.addCleanup(network.__exit__)
+        # that a machine is gone is known after 12 seconds, the least that there is, in place of 30
+        self.around.update(DASK_DISTRIBUTED__COMM__TIMEOUTS__TCP="12s", DASK_DISTRIBUTED__SCHEDULER__WORKER_TTL="12s")
+        [self.port] = slurm_node.free_ports(1)
+        self.begin([], "scheduler", "--host", "0.0.0.0", "--port", str(self.port))
+        for network in self.both:
+            self.begin(network.words, "worker", f"tcp://{network.here}:{self.port}", "--host", network.there, "--nthreads", "1",
+                       "--local-directory", self.folder)
+        self.address = f"tcp://127.0.0.1:{self.port}"
+        subprocess.run([self.python, "-c", f"from distributed import Client; Client('{self.address}').wait_for_workers(2)"],
+                       env=self.around, stderr=subprocess.DEVNULL, timeout=120, check=True)
+
+    def begin(self, before, kind, *words):
+        run = subprocess.Popen([*before, self.python, "-m", f"distributed.cli.dask_{kind}", "--no-dashboard", *words],
+                               env=self.around, stdout=subprocess.DEVNULL, stderr=subprocess.PIPE, text=True, start_new_session=True)
+        self.addCleanup(self.end, run)
+
+    def run_with(self, change, count=300):
+        """The lines of a census after whose first answers something is changed. Those of which machine are how many?"""
+        self.put(*(f"slow{number}" for number in range(count)))
+        run = self.start([*self.words(self.python, "-m"), "--dask", self.address])
+        self.until(lambda: len(self.lines()) > 20 and len(set(self.processes())) == 2)
+        change()
+        said = run.communicate(timeout=180)[1]
+        self.assertEqual(run.returncode, 0, said)
+        self.assertIn(f"{count} answered, 0 refused, 0 failed", said)
+        self.assert_each_once(count)
+
+    def test_two_machines(self):
+        self.run_with(lambda: None)
+
+    def test_a_network_that_is_cut_loses_nothing(self):
+        self.run_with(self.both[1].cut)
+
+    def test_a_network_that_is_cut_and_mended_answers_nothing_twice(self):
+        def cut_and_mend():
+            self.both[1].cut()
+            time.sleep(3)
+            self.both[1].mend()
+        self.run_with(cut_and_mend)
 
 
 @skip_without("python3-mpi4py with mpiexec", python_with("mpi4py.futures") and shutil.which("mpiexec"))

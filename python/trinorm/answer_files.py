@@ -1,4 +1,4 @@
-"""The files of a census: an input and an output that are read line by line.
+"""The files of a census: an input and an output of lines, which are read some at a time.
 
 A regular output is gone on with: its whole lines stay. A line that was cut is cut off; if a run drops others, the file is
 replaced in one step. A device or a pipe is written to and never read. A link is followed to its target.
@@ -12,10 +12,12 @@ import sys
 import tempfile
 from hashlib import blake2b
 from struct import Struct
-from typing import BinaryIO, Callable, Iterable, Iterator, TextIO
+from typing import BinaryIO, Callable, Iterable, Iterator, List, TextIO
 
 UTF16 = (b"\xff\xfe", b"\xfe\xff")
 MARK = b"\xef\xbb\xbf"
+# the bytes of lines that are read at a time from a regular file
+BLOCK = 1 << 18
 
 
 class BadLine(ValueError):
@@ -35,33 +37,45 @@ def decoded(line: bytes, name: str, number: int) -> str:
         raise BadLine(name, number, line, fault.start) from None
 
 
-def read_lines(file: Iterable[bytes], name: str) -> Iterator[bytes]:
-    """The lines of a file, with their ends, without a byte order mark. UTF-16 is a ValueError."""
-    for number, line in enumerate(file, 1):
-        if number == 1:
-            if line.startswith(UTF16):
-                raise ValueError(f"{name} is in UTF-16, and UTF-8 is wanted")
-            if line.startswith(MARK):
-                line = line[len(MARK):]
-        yield line
+def read_blocks(file: BinaryIO, name: str, are_alone: bool = False) -> Iterator[List[bytes]]:
+    """The lines of a file, with their ends, without a byte order mark, some at a time. Lines are alone if the next one may be
+    long in coming, as through a pipe. UTF-16 is a ValueError."""
+    blocks = ([line] for line in file) if are_alone else iter(lambda: file.readlines(BLOCK), [])
+    for number, lines in enumerate(blocks):
+        if number == 0:
+            lines[0] = _first_line(lines[0], name)
+        yield lines
+
+
+def _first_line(line: bytes, name: str) -> bytes:
+    """The first line of a file, without a byte order mark."""
+    if line.startswith(UTF16):
+        raise ValueError(f"{name} is in UTF-16, and UTF-8 is wanted")
+    return line[len(MARK):] if line.startswith(MARK) else line
 
 
 def count_lines(file: BinaryIO, name: str, accept_bad: bool = False) -> int:
     """The number of lines of a file. The first that isn't UTF-8 is a `BadLine`, unless such lines are accepted."""
-    number = 0
-    for number, line in enumerate(read_lines(file, name), 1):
-        if not line.isascii() and not accept_bad:
-            decoded(line, name, number)
-    return number
+    count = 0
+    for lines in read_blocks(file, name):
+        if not accept_bad and not b"".join(lines).isascii():
+            for number, line in enumerate(lines, count + 1):
+                decoded(line, name, number)
+        count += len(lines)
+    return count
+
+
+def digests(texts: Iterable[bytes]) -> List[complex]:
+    """The numbers by which texts are known again in this process, of 16 bytes each. Two different texts among ten million have
+    the same with a probability below 2^-60. They are complex numbers since one takes 32 bytes, and a whole one of 16 bytes 48."""
+    if IS_KEYED:
+        return [complex(hash(text), hash(text + b"\0")) for text in texts]
+    return [complex(*_halves(blake2b(text, digest_size=16).digest())) for text in texts]
 
 
 _halves = Struct("<2q").unpack
-
-
-def digest(text: bytes) -> complex:
-    """The number by which a text is known again, of 16 bytes. Two different texts among ten million have the same with a
-    probability below 2^-60. It is a complex number since that takes 32 bytes, and a whole one of 16 bytes 48."""
-    return complex(*_halves(blake2b(text, digest_size=16).digest()))
+# whether Python's hash of bytes is SipHash of 64 bits, as good for this and four times as quick as a sum of 16 bytes
+IS_KEYED = sys.hash_info.algorithm.startswith("siphash") and sys.hash_info.width == 64 and sys.hash_info.cutoff == 0
 
 
 class Output:
@@ -79,26 +93,35 @@ class Output:
         elif path != "-":
             self._file = os.fdopen(os.open(path, os.O_WRONLY), "w", encoding="utf8")
 
-    def lines(self) -> Iterator[bytes]:
-        """The lines that an earlier run wrote to a regular file, with their ends; the last one may have none."""
+    def blocks(self) -> Iterator[List[bytes]]:
+        """The lines that an earlier run wrote to a regular file, with their ends, some at a time; the last one may have none."""
         if self.is_regular:
             with open(self.path, "rb") as file:
-                yield from file
+                yield from iter(lambda: file.readlines(BLOCK), [])
 
-    def keep(self, is_kept: Callable[[int, bytes], bool]) -> None:
-        """Leaves the whole lines that are kept. Each is asked for with its number, a second time if any is dropped."""
+    def keep(self, kept: Callable[[int, List[bytes]], List[bytes]]) -> None:
+        """Leaves the whole lines that are kept. `kept` returns those of some lines, of which the first has the number; it is
+        called a second time for each if any is dropped."""
         dropped = whole = 0
-        cut = False
-        for number, line in enumerate(self.lines(), 1):
-            if not line.endswith(b"\n"):
-                cut = True
-            else:
-                whole += len(line)
-                dropped += not is_kept(number, line)
+        number = 1
+        is_cut = False
+        for lines in self.blocks():
+            is_cut = _without_cut_line(lines)
+            dropped += len(lines) - len(kept(number, lines))
+            whole += sum(map(len, lines))
+            number += len(lines)
         if dropped:
-            self._replace(line for number, line in enumerate(self.lines(), 1) if line.endswith(b"\n") and is_kept(number, line))
-        elif cut:
+            self._replace(self._kept_lines(kept))
+        elif is_cut:
             self._file.truncate(whole)
+
+    def _kept_lines(self, kept: Callable[[int, List[bytes]], List[bytes]]) -> Iterator[bytes]:
+        """The whole lines that are kept."""
+        number = 1
+        for lines in self.blocks():
+            _without_cut_line(lines)
+            yield from kept(number, lines)
+            number += len(lines)
 
     def _replace(self, lines: Iterable[bytes]) -> None:
         """Writes a new file next to the old one, with its owner and rights; holds it, and gives it the old one's name."""
@@ -132,6 +155,14 @@ class Output:
     def __exit__(self, *_: object) -> None:
         if self.path != "-":
             self._file.close()
+
+
+def _without_cut_line(lines: List[bytes]) -> bool:
+    """Whether the last line was cut, as that of an interrupted run. It is taken from the list."""
+    is_cut = not lines[-1].endswith(b"\n")
+    if is_cut:
+        lines.pop()
+    return is_cut
 
 
 def _is_regular(path: str) -> bool:

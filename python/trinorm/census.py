@@ -2,7 +2,7 @@
 
 A line of the input is `SIGNATURE` or `SIGNATURE NAME`, with `sig` before it or not; blank lines and those that begin with
 `#` are passed over. A line of the output has `name`, `signature`, `command`, `seconds`, and one of `answer`, `refused`,
-`failed`. Both are read line by line, and what was done is kept as digests, so that a file may have many millions.
+`failed`. Both are read some lines at a time, and what was done is kept as digests, so that a file may have many millions.
 """
 from __future__ import annotations
 
@@ -14,10 +14,10 @@ import sys
 from concurrent.futures import Executor
 from dataclasses import dataclass
 from json import dumps as quoted
-from typing import TYPE_CHECKING, Any, BinaryIO, Callable, Dict, Iterable, Iterator, NamedTuple, Optional, Set, Tuple, Union
+from typing import TYPE_CHECKING, Any, BinaryIO, Callable, Dict, Iterable, Iterator, List, NamedTuple, Optional, Sized, Tuple, Union
 
 from . import executors
-from .answer_files import BadLine, Output, count_lines, decoded, digest, read_lines
+from .answer_files import BadLine, Output, count_lines, decoded, digests, read_blocks
 from .arguments import checked_timeout, shown, whole_number
 from .executors import Done, Engine
 from .options import add_run_arguments, coordinates
@@ -44,12 +44,22 @@ def processors() -> int:
     return len(os.sched_getaffinity(0))
 
 
-# a line of plain characters, with blanks alone between its words: its signature and its name
-PLAIN = re.compile(rb"(?:sig +)?([!$-\[\]-~][!#-\[\]-~]*)(?: +([!#-\[\]-~](?:[ !#-\[\]-~]*[!#-\[\]-~])?))? *\n")
+# a line of plain characters, with blanks alone between its words: its signature, which isn't `sig`, and its name
+PLAIN = re.compile(rb"(?m)^(?:sig +)?(?!sig[ \n])([!$-\[\]-~][!#-\[\]-~]*)(?: +([!#-\[\]-~](?:[ !#-\[\]-~]*[!#-\[\]-~])?))? *\n")
 
 
-# the triangulation of a line: what the line of the output begins with, its signature and its name
+# the triangulation of a line: its key, its signature and its name
 Found = Tuple[bytes, bytes, bytes]
+# the digests of the keys that are known; of a dictionary of numbers Python's garbage collector looks at no entry, as it does of
+# a set, again and again
+Known = Dict[complex, None]
+
+
+def key_of(signature: str, name: str) -> bytes:
+    """What a triangulation is known by: the shortest line that has it, or its names as JSON if no line has it so."""
+    if signature == "sig" or signature.split() != [signature] or not name or name.strip() != name:
+        return json.dumps([signature, name]).encode()
+    return (signature if name == signature else f"{signature} {name}").encode("utf8", "surrogatepass")
 
 
 def found_in(text: str) -> Optional[Found]:
@@ -60,7 +70,7 @@ def found_in(text: str) -> Optional[Found]:
     if not words or words[0].startswith("#"):
         return None
     signature, name = words[0], words[-1].strip()
-    return head_of_answer(signature, name), signature.encode(), name.encode()
+    return key_of(signature, name), signature.encode(), name.encode()
 
 
 def entry_of(found: Found) -> Entry:
@@ -68,16 +78,11 @@ def entry_of(found: Found) -> Entry:
     return Entry(found[1].decode(), found[2].decode())
 
 
-def head_of_answer(signature: str, name: str) -> bytes:
-    """What the line of the output begins with."""
-    return f'{{"name": {quoted(name)}, "signature": {quoted(signature)}'.encode()
-
-
 class Source(NamedTuple):
-    """An input: its name, the number of its lines, if it is known, and the lines."""
+    """An input: its name, the number of its lines, if it is known, and the lines, some at a time."""
     name: str
     total: Optional[int]
-    lines: Iterable[bytes]
+    blocks: Iterable[List[bytes]]
 
 
 @contextlib.contextmanager
@@ -86,19 +91,21 @@ def opened(signatures: Signatures, accept_bad: bool = False) -> Iterator[Source]
     if isinstance(signatures, os.PathLike):
         signatures = os.fspath(signatures)
     if signatures == "-":
-        yield Source("standard input", None, read_lines(sys.stdin.buffer, "standard input"))
+        yield Source("standard input", None, read_blocks(sys.stdin.buffer, "standard input", are_alone=True))
     elif isinstance(signatures, str):
         with open(signatures, "rb") as file:
-            yield Source(signatures, _counted(file, signatures, accept_bad), read_lines(file, signatures))
+            total = _counted(file, signatures, accept_bad)
+            yield Source(signatures, total, read_blocks(file, signatures, are_alone=total is None))
     else:
-        yield Source("the signatures", None, map(_encoded, signatures))
+        total = len(signatures) if isinstance(signatures, Sized) else None
+        yield Source("the signatures", total, map(_encoded, signatures))
 
 
-def _encoded(line: str) -> bytes:
+def _encoded(line: str) -> List[bytes]:
     """A line that was given as text."""
     if not isinstance(line, str):
         raise BadArgument(f"a line is a text, as 'cPcbbbiht figure-eight', and not {shown(line)}")
-    return line.encode()
+    return [line.encode()]
 
 
 def _counted(file: BinaryIO, name: str, accept_bad: bool) -> Optional[int]:
@@ -110,32 +117,64 @@ def _counted(file: BinaryIO, name: str, accept_bad: bool) -> Optional[int]:
     return total
 
 
-def lines_of(source: Source, bad: Optional[Callable[[BadLine], None]] = None) -> Iterator[Optional[Found]]:
-    """The triangulation of each line, or None. A line that isn't UTF-8 is handed to `bad`, or raised."""
-    for number, line in enumerate(source.lines, 1):
-        plain = PLAIN.fullmatch(line)
-        if plain is not None and plain[1] != b"sig":
-            # most lines are such, and it takes a third of the time
-            signature, name = plain[1], plain[2] or plain[1]
-            yield b'{"name": "%b", "signature": "%b"' % (name, signature), signature, name
-            continue
-        try:
-            yield found_in(decoded(line, source.name, number))
-        except BadLine as fault:
-            if bad is None:
-                raise
-            bad(fault)
-            yield None
+def plain_ones(lines: List[bytes]) -> Optional[List[Found]]:
+    """The triangulations of lines of plain characters that have one each; None if there is another line among them."""
+    text = b"".join(lines)
+    found = PLAIN.findall(text)
+    if not len(found) == len(lines) == text.count(b"\n") or not text.endswith(b"\n"):
+        return None
+    return [(b"%b %b" % (signature, name) if name and name != signature else signature, signature, name or signature)
+            for signature, name in found]
+
+
+def are_known(lines: List[bytes], known: Known) -> bool:
+    """Whether each line is the key of a known triangulation, as most lines are if a census is resumed."""
+    texts = b"".join(lines).split(b"\n")[:-1]
+    return len(texts) == len(lines) and digests(texts[:1])[0] in known and all(map(known.__contains__, digests(texts)))
+
+
+def blocks_of(source: Source, bad: Optional[Callable[[BadLine], None]] = None, known: Known = {}) -> Iterator[List[Optional[Found]]]:
+    """The triangulation of each line, or None, some lines at a time; None for known ones too, if all of these are known. A line
+    that isn't UTF-8 is handed to `bad`, or raised."""
+    number = 1
+    for lines in source.blocks:
+        # most lines are plain, and it takes a third of the time
+        found = [None] * len(lines) if known and are_known(lines, known) else plain_ones(lines)
+        if found is not None:
+            yield [*found]
+        else:
+            yield from ([_found_at(line, source.name, at, bad)] for at, line in enumerate(lines, number))
+        number += len(lines)
+
+
+def _found_at(line: bytes, name: str, number: int, bad: Optional[Callable[[BadLine], None]]) -> Optional[Found]:
+    """The triangulation of a line, if it has one."""
+    try:
+        return found_in(decoded(line, name, number))
+    except BadLine as fault:
+        if bad is None:
+            raise
+        bad(fault)
+        return None
+
+
+def new_ones(block: List[Optional[Found]], known: Known) -> List[Found]:
+    """The triangulations of some lines that aren't known. Their digests are known from now on."""
+    found = [it for it in block if it is not None]
+    new = []
+    for it, number in zip(found, digests(key for key, _, _ in found)):
+        if number not in known:
+            known[number] = None
+            new.append(it)
+    return new
 
 
 def read_entries(path: str) -> Iterator[Entry]:
     """The triangulations of a file, each once."""
-    met: Set[complex] = set()
+    known: Known = {}
     with opened(path) as source:
-        for found in lines_of(source):
-            if found is not None and digest(found[0]) not in met:
-                met.add(digest(found[0]))
-                yield entry_of(found)
+        for block in blocks_of(source):
+            yield from map(entry_of, new_ones(block, known))
 
 
 def read_answer(line: bytes, path: str, number: int) -> Dict[str, Any]:
@@ -155,26 +194,30 @@ class Earlier:
 
     def __init__(self, path: str, task: Task, retry: bool) -> None:
         self.path, self.task, self.retry = path, task, retry
-        # the digests of what the lines begin with
-        self.done: Set[complex] = set()
+        self.done: Known = {}
         words = re.escape(quoted(task.words).encode())
         # a line as this package writes it; such a one is not read as JSON, which takes ten times as long
-        self._plain = re.compile(rb'(\{"name": "[ !#-\[\]-~]*", "signature": "[ !#-\[\]-~]*"), "command": ' + words
-                                 + rb', "seconds": [0-9.e+-]+, "(?:answer|refused|(failed))": ')
+        self._plain = re.compile(rb'(?m)^\{"name": "([!#-\[\]-~](?:[ !#-\[\]-~]*[!#-\[\]-~])?)", "signature": "(?!sig")([!#-\[\]-~]+)"'
+                                 rb', "command": ' + words + rb', "seconds": [0-9.e+-]+, "(?:answer|refused|(failed))": .*\}\n')
 
-    def is_kept(self, number: int, line: bytes) -> bool:
+    def kept(self, number: int, lines: List[bytes]) -> List[bytes]:
+        """Those of some whole lines that stay; their triangulations are done."""
+        found = self._plain.findall(b"".join(lines))
+        if len(found) < len(lines) or self.retry and any(has_failed for _, _, has_failed in found):
+            return [line for at, line in enumerate(lines, number) if self._is_kept(at, line)]
+        keys = [b"%b %b" % (signature, name) if name != signature else name for name, signature, _ in found]
+        self.done.update(dict.fromkeys(digests(keys)))
+        return lines
+
+    def _is_kept(self, number: int, line: bytes) -> bool:
         """Whether a line stays; if it does, its triangulation is done."""
-        plain = self._plain.match(line)
-        if plain is not None and line.endswith(b"}\n"):
-            head, has_failed = plain[1], plain[2] is not None
-        else:
-            answer = read_answer(line, self.path, number)
-            if answer["command"] != self.task.words:
-                raise ValueError(f"{self.path} has answers of `{answer['command']}`, and `{self.task.words}` is asked for")
-            head, has_failed = head_of_answer(answer["signature"], answer["name"]), "failed" in answer
+        answer = read_answer(line, self.path, number)
+        if answer["command"] != self.task.words:
+            raise ValueError(f"{self.path} has answers of `{answer['command']}`, and `{self.task.words}` is asked for")
+        has_failed = "failed" in answer
         if self.retry and has_failed:
             return False
-        self.done.add(digest(head))
+        self.done.update(dict.fromkeys(digests([key_of(answer["signature"], answer["name"])])))
         return True
 
 
@@ -219,24 +262,20 @@ class Run:
 
     def entries(self, skip_bad: bool) -> Iterator[Entry]:
         """The triangulations of the input that aren't done, each once."""
-        for found in lines_of(self.source, self._pass_over if skip_bad else None):
-            if found is not None and self._is_new(digest(found[0])):
-                yield entry_of(found)
-            elif self.meter.total is not None:
-                self.meter.total -= 1
+        for block in blocks_of(self.source, self._pass_over if skip_bad else None, self._done):
+            new = new_ones(block, self._done)
+            self._expect(len(new) - len(block))
+            yield from map(entry_of, new)
 
-    def _is_new(self, known: complex) -> bool:
-        """Whether a triangulation isn't done, by its digest. It is known from now on."""
-        before = len(self._done)
-        self._done.add(known)
-        return len(self._done) > before
+    def _expect(self, more: int) -> None:
+        """Changes how many are to be done, if that is known."""
+        if self.meter.total is not None:
+            self.meter.total += more
 
     def _pass_over(self, bad: BadLine) -> None:
         """A line of the output in the place of a bad one of the input."""
-        found = found_in(bad.text)
-        if found is not None and self._is_new(digest(found[0])):
-            if self.meter.total is not None:
-                self.meter.total += 1
+        for found in new_ones([found_in(bad.text)], self._done):
+            self._expect(1)
             self.take(executors.done_of([{**head_of(entry_of(found), self.task, 0.0), "failed": str(bad)}]))
 
     def take(self, done: Done) -> None:
@@ -256,7 +295,7 @@ def run_census(signatures: Signatures, out: str, task: Task, engine: Engine, *, 
     """Runs what of an input is missing in an output, by an engine."""
     with faults_of_files(out), opened(signatures, skip_bad) as source, Output(out) as output:
         earlier = Earlier(out, task, retry)
-        output.keep(earlier.is_kept)
+        output.keep(earlier.kept)
         with meter or Meter(source.total, KINDS) as counter:
             run = Run(source, output, earlier, counter)
             try:
