@@ -87,7 +87,8 @@ def option_of_kind(kind: str) -> Option:
     name = codes(body(definition, rf"option_name \(?{kind}"))[0]
     if kind in ("Coordinates", "PieceCoordinates"):
         told = codes(body(values, "coordinates_named"))
-        with_pieces = [word for word in told if f"has_pieces {word.capitalize()} = Some" in values]
+        coordinates = definitions("surface_definitions", "Coordinates")
+        with_pieces = [word for word in told if f"has_triangles {word.capitalize()} = true" in coordinates]
         return Option(name, tuple(with_pieces if kind == "PieceCoordinates" else told), (0, 0), False)
     if kind == "RowOrder":
         return Option(name, tuple(codes(body(values, "order_named"))), (0, 0), False)

@@ -56,6 +56,7 @@ ORDINARY = {
     "reverse": "`reverse xs`: the members of `xs` in the opposite order",
     "Divides": "`m ∣ n`: m divides n",
     "cond": "`cond b x y`: `x` if `b` is true, and otherwise `y`",
+    "MatchBool": "`MatchBool b P Q`: `P` if `b` is true, and otherwise `Q`",
 }
 SIGNS = {
     "≡": "`a ≡ b`: a equals b; `a ≢ b`: it does not",
