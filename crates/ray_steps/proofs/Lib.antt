@@ -22,3 +22,4 @@ pub mod SurfaceSteps
 pub mod StepLemmas
 pub mod ViewLemmas
 pub mod FoundLemmas
+pub mod FreeLemmas

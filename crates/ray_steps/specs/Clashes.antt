@@ -20,3 +20,7 @@ IsInUnion a b column = HasColumn a column ⊎ HasColumn b column
 -- the union of a and b contains no listed pair
 abbrev pub IsClashFree : List Clash → List Bool → List Bool → Type 0
 IsClashFree clashes a b = All (λ pair. ¬ (IsInUnion a b pair.0 × IsInUnion a b pair.1)) clashes
+
+-- the column clashes with no column
+abbrev pub IsFree : List Clash → ℕ → Type 0
+IsFree pairs column = All (λ pair. (pair.0 ≢ column) × (pair.1 ≢ column)) pairs

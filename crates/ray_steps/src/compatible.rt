@@ -1,8 +1,8 @@
 //! Which columns may be nonzero together: the test that a step asks, and the columns that clash with each column.
 
-ghost use Rattle.std.specs.Prelude.{◌≡◌, ℕ, ◌↔◌, List, length, IsTrue, IfOk};
+ghost use Rattle.std.specs.Prelude.{◌≡◌, ℕ, ◌<◌, ◌↔◌, List, length, IsTrue, IfOk};
 ghost use Rattle.cone_definitions.specs.Surfaces.{Clash};
-ghost use Rattle.ray_steps.specs.Clashes.{AreClashes, IsClashFree};
+ghost use Rattle.ray_steps.specs.Clashes.{AreClashes, IsClashFree, IsFree};
 ghost use Rattle.support_table.specs.Joins.{AreClashingColumns};
 
 use crate::partners::{partners_of, partners_of_support};
@@ -92,6 +92,15 @@ impl<C: Compatible> Clashes<C> {
         ensures { IsTrue result ↔ IsClashFree self.now.pairs a.now b.now }
     {
         self.test.allows(a, b)
+    }
+
+    /// Whether `column` clashes with no column.
+    pub fn is_free(&self, column: u32) -> bool
+        requires { column < self.now.columns }
+        ensures { IsTrue result ↔ IsFree self.now.pairs column }
+    {
+        let partners = &self.partners[column as usize];
+        !partners.meets(partners)
     }
 
     /// The columns that clash with a column of `support`.
