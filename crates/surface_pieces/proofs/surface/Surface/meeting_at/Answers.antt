@@ -1,5 +1,5 @@
 -- The arc meets the one across its gluing, where it has one.
-use Rattle.std.proofs.Common.{◌≡◌, IfNone, sym, ap, ◌∙◌, subst}
+use Rattle.std.proofs.Common.{◌≡◌, ◌<◌, length, IfNone, sym, ap, ◌∙◌, subst}
 use Rattle.table_definitions.specs.Permutation.{is_odd}
 use Rattle.table_definitions.specs.Table.{Gluing, glue}
 use Rattle.table_definitions.proofs.Faces.{face_at}
@@ -10,6 +10,13 @@ use Rattle.surface_pieces.proofs.ArcsOfPieces.{tet_in_range}
 use Rattle.surface_pieces.proofs.Held.{held}
 use Rattle.surface_pieces.proofs.MetArcs.{none_meets, free_meets, one_meets}
 use Rattle.surface_pieces.proofs.surface.Surface.meeting_at.Goals as goal
+
+pub glue-requires : goal.glue-requires
+glue-requires c = record { in_range = subst (λ t. t < length c.args.self.now.table.now) (ap (λ (a : Arc). a.tet) (sym c.arc.view_is)) inside }
+  where
+    inside : (c.in_ok-arc.arc).tet < length c.args.self.now.table.now
+    inside = tet_in_range c.args.self.now.table.now c.args.self.now.coords.system c.args.self.now.entries.now c.args.piece.column (c.in_ok-arc.arc).tet
+        (held c.args.self.now.table.now c.args.self.now.coords.system c.args.self.now.entries.now c.args.self.now.normal) c.requires.column c.in_ok-arc.ensures.some.0.tet
 
 pub returns-in_err-arc-clause-none : goal.returns-in_err-arc-clause-none
 returns-in_err-arc-clause-none c =
