@@ -1,9 +1,9 @@
 #!/usr/bin/env python3
 """Times the module for WebAssembly in Node and in both browsers beside the native library: bench/web.py MODULE
 
-Processor seconds of one call, the least of several rounds, and in brackets how many times the native library's. A call
-has an instance of its own, as the page makes it. As many calls go before those that are measured, since engines compile a
-module better while it runs. Browsers are measured with all of their processes.
+Processor seconds of one call, the least of several rounds, and in brackets how many times the native library's. Calls
+share an instance, as the page's do. As many calls go before those that are measured, since engines compile a module better
+while it runs. Browsers are measured with all of their processes.
 """
 import functools
 import http.server
@@ -49,10 +49,11 @@ BROWSER = """
 const module = await WebAssembly.compile(await (await fetch('trinorm.wasm')).arrayBuffer());
 const worker = new Worker('worker.js', {type: 'module'});
 const input = new TextEncoder().encode(TEXT);
-const ask = () => new Promise((done) => {
+const ask = (first) => new Promise((done) => {
   worker.onmessage = ({data}) => done(data.status);
-  worker.postMessage({module, words: WORDS, input, limit: 0});
+  worker.postMessage({module: first, words: WORDS, input, limit: 0});
 });
+await ask(module);
 globalThis.ask_once = ask;
 for (let n = 0; n < TIMES; n++) await ask();
 return 0;

@@ -1,8 +1,9 @@
 """Runs the gate, `rt ci`, and makes of what it has built what the tests need: the program, the proved archive and the library.
 
 `rt ci` leaves the program in the folder `out` of its crate, and in those of the other crates their libraries. It proves the
-static library for other languages, and builds no archive of it: that is one more proof, over those libraries. A clone in which
-libraries of earlier checks stood has these back after the run, so there `tools/build.py` makes program and library.
+static library for other languages, and builds no archive of it: that is one more proof, over those libraries, which keeps the
+LLVM module too, so that the module for WebAssembly is made if its tools are there. A clone in which libraries of earlier checks
+stood has these back after the run, so there `tools/build.py` makes program and library.
 """
 from __future__ import annotations
 
@@ -12,8 +13,10 @@ import sys
 import tempfile
 import time
 from pathlib import Path
-from typing import IO, Dict
+from typing import IO, Dict, List
 
+import modules
+import wasm
 from build import jobs_that_fit, sums_of
 from installed import Installed
 from library import build_library
@@ -44,13 +47,15 @@ def run_gate(log: Path) -> int:
 
 
 class Gate:
-    """One run of the gate: the sources as they are when it begins, and whether its libraries will be in the clone."""
+    """One run of the gate: the sources as they are when it begins, whether its libraries will be in the clone, and what was not
+    made, with the reason."""
 
     def __init__(self) -> None:
         self.begun = time.time()
         self.crates: Dict[str, Crate] = crates_of_build(TOP)
         self.sources: Sources = read_sources(TOP, self.crates)
         self.leaves_libraries = not had_libraries(TOP)
+        self.lacks: List[str] = []
 
     def install(self) -> str:
         """Installs the program that the gate built with the library that is made of its work, or else what a build makes of the
@@ -69,7 +74,7 @@ class Gate:
             return self.build(str(fault))
         told = Manifest(version(TOP), commit(TOP), Kit(command).line, self.sources, sums_of(files), False, {})
         Installed(TOP).install(files, told, self.begun, "here")
-        return f"the program of rt ci, and its library: sha256 {told.files['program']}"
+        return "; ".join([f"the program of rt ci, and its library: sha256 {told.files['program']}", *self.lacks])
 
     def build(self, why: str) -> str:
         """Has tools/build.py make program and library. Returns a line that says so, and why."""
@@ -80,15 +85,18 @@ class Gate:
         return f"the program of tools/build.py, since {why.splitlines()[0][:200]}"
 
     def files(self, kit: Kit, program: bytes) -> Dict[str, bytes]:
-        """The program, and the archive, the library and the server that are made over the libraries of the gate."""
+        """The program, and what is made over the libraries of the gate: the archive and its LLVM module, the library and the server,
+        and the module for WebAssembly if its tools are there."""
         files = {"program": program}
         for name in products(self.crates):
             if name != PROGRAM:
                 with tempfile.TemporaryDirectory(prefix="trinorm-gate-") as folder:
-                    build_library(kit, str(self.archive(kit, name, Path(folder))), f"{folder}/made")
+                    archive = self.archive(kit, name, Path(folder))
+                    build_library(kit, str(archive), f"{folder}/made")
                     made = {part: Path(folder, "made", FILES[part]) for part in ("archive", "library", "server")}
                     files.update({part: path.read_bytes() for part, path in made.items()})
-        return files
+                    files.update(modules.kept_at(archive))
+        return {**files, **wasm.made(kit.at, files.get("module"), self.lacks.append)}
 
     def archive(self, kit: Kit, name: str, folder: Path) -> Path:
         """The static library of a crate, proved over the libraries that the gate left."""

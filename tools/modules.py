@@ -10,12 +10,11 @@ target its two header lines change, and one attribute of x86-64 is dropped.
 """
 from __future__ import annotations
 
-import os
 import re
 import shlex
 import subprocess
 from pathlib import Path
-from typing import Dict, List, NamedTuple, Sequence
+from typing import Dict, NamedTuple, Sequence
 
 # the module as `keep` writes it, next to the archive that is made of it
 MODULE = "trinorm_c.bc"

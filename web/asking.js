@@ -15,6 +15,8 @@ export class Engine {
 
     /** Asks for the answer to words and an input: {status, text, held, milliseconds}. */
     ask(words, input) {
+        // a worker keeps the module of its first message, and with it the instance
+        const module = this.worker ? undefined : this.module;
         this.worker ??= new_worker();
         return new Promise((answered, failed) => {
             this.fail = failed;
@@ -26,7 +28,7 @@ export class Engine {
                 this.drop();
                 failed(new Broken(event.message || 'the worker did not start'));
             };
-            this.worker.postMessage({module: this.module, words, input: new TextEncoder().encode(input), limit: 0});
+            this.worker.postMessage({module, words, input: new TextEncoder().encode(input), limit: 0});
         });
     }
 

@@ -4,7 +4,7 @@ import {first_table, read_descriptions, vector_lines, read_info} from './texts.j
 const MOST_SURFACES = 500; // described at a time
 const MOST_BYTES = 350000; // of their vectors: a lift may make these 7/3 as long, and an input has at most 1 MiB
 
-/** How many of the vectors from `from` on are described at a time. */
+/** How many of the vectors from `from` on are described at a time; 0 if all before `from` are all. */
 export function part_length(lines, from) {
     const fitting = Math.floor(MOST_BYTES / ((lines[from]?.length ?? 0) + 1));
     return Math.min(lines.length - from, MOST_SURFACES, Math.max(1, fitting));

@@ -116,12 +116,20 @@ class SurfaceList {
         const all = this.lines.length, kinds = [...this.counts].sort(([, one], [, other]) => other - one).map(([name, count]) => `${count} × ${name}`);
         const first = this.done < all ? `of the first ${this.done}: ` : '';
         this.tally.replaceChildren(make('strong', {}, `${all} ${this.noun}${all === 1 ? '' : 's'}`), kinds.length ? `; ${first}${kinds.join(', ')}` : '');
-        this.more.hidden = this.done >= all;
-        this.more.textContent = `Describe ${part_length(this.lines, this.done)} more`;
+        this.offer_more(part_length(this.lines, this.done));
+    }
+
+    /** Offers to describe the next ones; if none is left the button goes, and the table has its focus. */
+    offer_more(count) {
+        this.more.textContent = count ? `Describe ${count} more` : '';
+        if (count) return;
+        if (document.activeElement === this.more) this.table.element.focus();
+        this.more.remove();
     }
 
     elements() {
-        return this.lines.length ? [this.tally, this.table.element, this.more, this.drawing] : [this.tally];
+        const more = this.done < this.lines.length ? [this.more] : [];
+        return this.lines.length ? [this.tally, this.table.element, ...more, this.drawing] : [this.tally];
     }
 }
 

@@ -56,10 +56,10 @@ class Downloads:
 
 
 class Chromium(Downloads):
-    """Chromium with a new profile. `size` is that of its window, `dark` its colour scheme."""
+    """Chromium with a new profile. `size` is that of its window, `dark` its colour scheme, `still` a wish for less motion."""
     name = "chromium"
 
-    def __init__(self, size=WIDE, dark=False):
+    def __init__(self, size=WIDE, dark=False, still=False):
         require(["chromium", "chromedriver"], ["selenium"])
         super().__init__()
         from selenium import webdriver
@@ -73,14 +73,14 @@ class Chromium(Downloads):
         self.version = self.driver.capabilities["browserVersion"]
         self._command("Emulation.setDeviceMetricsOverride", width=size[0], height=size[1], deviceScaleFactor=1, mobile=False)
         self._command("Browser.setDownloadBehavior", behavior="allow", downloadPath=self.folder)
-        self.set_media(dark=dark)
+        self._set_media(dark, still)
 
     def _command(self, method, **values):
         self.driver.execute_cdp_cmd(method, values)
 
-    def set_media(self, dark=False, reduced_motion=False):
+    def _set_media(self, dark, still):
         features = {"prefers-color-scheme": "dark" if dark else "light",
-                    "prefers-reduced-motion": "reduce" if reduced_motion else "no-preference"}
+                    "prefers-reduced-motion": "reduce" if still else "no-preference"}
         self._command("Emulation.setEmulatedMedia", features=[{"name": name, "value": value} for name, value in features.items()])
 
     def open(self, address):
@@ -113,23 +113,27 @@ class Chromium(Downloads):
         """The window as a PNG."""
         return self.driver.get_screenshot_as_png()
 
+    def printed(self):
+        """The page as it is printed, as a PDF."""
+        return base64.b64decode(self.driver.print_page())
+
     def close(self):
         self.driver.quit()
         super().close()
 
 
 class Firefox(Downloads):
-    """Firefox with a new profile. `size` is that of its window, `dark` its colour scheme."""
+    """Firefox with a new profile. `size` is that of its window, `dark` its colour scheme, `still` a wish for less motion."""
     name = "firefox"
     KEYS = {"Tab": "\ue004", "Enter": "\ue006", "Escape": "\ue00c", "Control": "\ue009"}
 
-    def __init__(self, size=WIDE, dark=False):
+    def __init__(self, size=WIDE, dark=False, still=False):
         require(["firefox-esr"], ["websocket"])
         super().__init__()
         import websocket
         self.profile = tempfile.mkdtemp(prefix="firefox-")
         settings = {"ui.systemUsesDarkTheme": int(dark), "layout.css.prefers-color-scheme.content-override": 0 if dark else 1,
-                    "dom.max_script_run_time": 0, "browser.shell.checkDefaultBrowser": False,
+                    "ui.prefersReducedMotion": int(still), "dom.max_script_run_time": 0, "browser.shell.checkDefaultBrowser": False,
                     "browser.download.folderList": 2, "browser.download.dir": self.folder, "browser.download.useDownloadDir": True}
         lines = [f"user_pref({json.dumps(name)}, {json.dumps(value)});\n" for name, value in settings.items()]
         Path(self.profile, "user.js").write_text("".join(lines), "utf8")
@@ -137,7 +141,8 @@ class Firefox(Downloads):
         self.socket = websocket.create_connection(f"{self._address()}/session", timeout=300, suppress_origin=True)
         self.count = 0
         self.version = self._send("session.new", capabilities={})["capabilities"]["browserVersion"]
-        self.context = self._send("browsingContext.getTree")["contexts"][0]["context"]
+        # the first one never has the focus, without which keys press no button
+        self.context = self._send("browsingContext.create", type="tab")["context"]
         self._send("browsingContext.setViewport", context=self.context, viewport={"width": size[0], "height": size[1]})
 
     def _start(self):
@@ -188,6 +193,10 @@ class Firefox(Downloads):
     def picture(self):
         """The window as a PNG."""
         return base64.b64decode(self._send("browsingContext.captureScreenshot", context=self.context)["data"])
+
+    def printed(self):
+        """The page as it is printed, as a PDF."""
+        return base64.b64decode(self._send("browsingContext.print", context=self.context)["data"])
 
     def close(self):
         with contextlib.suppress(Exception):

@@ -13,9 +13,12 @@ CRATES = {"ground": [], "left": ["ground"], "right": ["ground"], "trinorm": ["le
 IGNORED = shutil.ignore_patterns("__pycache__")
 
 PROVER = """#!/bin/sh
-# rattle build --crate-name NAME .. --jobs N .. -o OUT, in the crate's folder
+# rattle build --crate-name NAME .. --jobs N .. --toolchain FOLDER -o OUT, in the crate's folder
 name=$3
-for out; do :; done
+for word; do
+  [ "$out" = --toolchain ] && toolchain=$word
+  out=$word
+done
 echo "$name" >>"$MADE_UP_PROVED"
 sleep "${MADE_UP_SECONDS-0}"
 if grep -rq wrong src; then
@@ -35,7 +38,12 @@ case $out in
           done >"$out" ;;
       esac
     done
-    grep -hv '^//' src/*.rt >>"$out" ;;
+    grep -hv '^//' src/*.rt >>"$out"
+    # a static library goes through the compiler as a module
+    case $out in
+      *.a) [ -x "$toolchain/bin/clang" ] && cp "$out" "$out.bc" && "$toolchain/bin/clang" -c "$out.bc" && rm "$out.bc" ;;
+    esac
+    : ;;
   *)
     mkdir -p "$out/code"
     grep -hv '^//' src/*.rt >"$out/code/text"
@@ -75,6 +83,17 @@ def build_library(kit, archive, to):
             with open(f"{to}/{name}", "w") as file:
                 file.write(f"{name.removesuffix('.1')} by {source.read()}")
             source.seek(0)
+"""
+
+# makes the module for WebAssembly of the one that was kept
+WASM = """NAME, PACKAGES = 'trinorm.wasm', ['tools']
+
+
+def made(kit, module, say):
+    if module is None:
+        say('no module was kept')
+        return {}
+    return {'wasm': b'for WebAssembly: ' + module}
 """
 
 LINKER = """#!/bin/sh
@@ -146,6 +165,15 @@ class MadeUp:
         (self.top / "library" / "limits.c").write_text("one")
         (self.top / "library" / "trinorm.h").write_text("header")
         (self.top / "tools" / "library.py").write_text(LIBRARY)
+
+    def add_wasm(self) -> None:
+        """A compiler in the kit, to which the prover hands a module, and a tool that makes one for WebAssembly of it."""
+        clang = self.folder / "kit" / "toolchain" / "bin" / "clang"
+        clang.parent.mkdir(parents=True)
+        (clang.parents[1] / "lib").mkdir()
+        clang.write_text("#!/bin/sh\n")
+        clang.chmod(0o755)
+        (self.top / "tools" / "wasm.py").write_text(WASM)
 
     def source(self, crate: str) -> Path:
         return self.top / "crates" / crate / "src" / ("main.rt" if crate == "trinorm" else "lib.rt")

@@ -1,12 +1,15 @@
 """Library and program for other systems: what can be run here, and the files of a release that hold them.
 
-The files are those that `tools/native.py MODULE crates/trinorm/out/elsewhere` made; TRINORM_ELSEWHERE names another
-folder. What is not there, or can't be run here, is skipped by its name.
+The files are made of the module that the build kept; TRINORM_ELSEWHERE names a folder with those that `tools/native.py MODULE
+FOLDER` made, and TRINORM_ARM64_ROOT one with Debian's Python for arm64. What can't be made or run here is skipped by its name.
 """
+import concurrent.futures
+import functools
 import io
 import os
 import re
 import shutil
+import struct
 import subprocess
 import sys
 import tempfile
@@ -25,7 +28,8 @@ import modules  # noqa: E402
 import native  # noqa: E402
 import packages  # noqa: E402
 
-FOLDER = Path(os.environ.get("TRINORM_ELSEWHERE") or REPOSITORY / "crates" / "trinorm" / "out" / "elsewhere")
+MODULE = REPOSITORY / "crates" / "trinorm" / "out" / modules.MODULE
+ARM64_ROOT = os.environ.get("TRINORM_ARM64_ROOT", "")
 WINE = shutil.which("wine64") or "/usr/lib/wine/wine64"
 # how a program of another system runs here, and every how many rows
 EMULATORS = {
@@ -33,6 +37,58 @@ EMULATORS = {
     "linux-aarch64": (["qemu-aarch64", "-L", "/usr/aarch64-linux-gnu"], 1),
     "windows-x86_64": ([WINE], 10),
 }
+# numbers of the format Mach-O
+MAGIC, PROCESSORS, KINDS = 0xFEEDFACF, {"macos-arm64": 0x0100000C, "macos-x86_64": 0x01000007}, {"library": 6, "program": 2}
+LOADED, SIGNED = 0x0C, 0x1D
+
+
+def temporary_folder():
+    """A folder that goes with the tests of this file."""
+    folder = tempfile.mkdtemp(prefix="trinorm-native-")
+    unittest.addModuleCleanup(shutil.rmtree, folder, ignore_errors=True)
+    return Path(folder)
+
+
+def made(name, kit, folder):
+    """Makes library and program of a system. Returns why they can't be made, or nothing."""
+    if native.missing(name):
+        return f"{native.missing(name)} of Debian is not installed"
+    (folder / name).mkdir()
+    for file, data in native.build(kit, MODULE, name).items():
+        (folder / name / file).write_bytes(data)
+        (folder / name / file).chmod(0o755)
+    return ""
+
+
+@functools.lru_cache(maxsize=None)
+def made_here():
+    """The folder in which library and program of each system are, and why some are not."""
+    if os.environ.get("TRINORM_ELSEWHERE"):
+        return Path(os.environ["TRINORM_ELSEWHERE"]), {}
+    command = shutil.which("rt")
+    if command is None or not MODULE.is_file():
+        return None, f"there is no {'command rt of the kit' if command is None else modules.MODULE}"
+    folder, kit = temporary_folder(), Path(command).resolve().parents[1]
+    with concurrent.futures.ThreadPoolExecutor() as pool:
+        return folder, dict(zip(native.SYSTEMS, pool.map(lambda name: made(name, kit, folder), native.SYSTEMS)))
+
+
+def path_of(name, part):
+    """The library or the program of a system, or a skip."""
+    folder, why = made_here()
+    if folder is None or (isinstance(why, dict) and why.get(name)):
+        raise unittest.SkipTest(f"{name}: {why if folder is None else why[name]}")
+    return folder / name / getattr(native.SYSTEMS[name], part)
+
+
+@functools.lru_cache(maxsize=None)
+def environment():
+    """What Wine needs: a folder of its own, whose server is ended with the tests."""
+    around = {**os.environ, "WINEDEBUG": "-all", "WINEPREFIX": str(temporary_folder() / "wine")}
+    server = Path(WINE).with_name("wineserver")
+    if server.is_file():
+        unittest.addModuleCleanup(subprocess.run, [str(server), "-k"], env=around, check=False, stderr=subprocess.DEVNULL)
+    return around
 
 
 class Emulated(unittest.TestCase):
@@ -40,19 +96,14 @@ class Emulated(unittest.TestCase):
 
     def words(self, name):
         emulator, step = EMULATORS[name]
-        path = FOLDER / name / native.SYSTEMS[name].program
-        if not path.is_file():
-            self.skipTest(f"there is no {path.name} for {name}: tools/native.py makes it")
         if shutil.which(emulator[0]) is None:
-            self.skipTest(f"{Path(emulator[0]).name} is not installed")
-        return [*emulator, str(path)], step
+            self.skipTest(f"{name}: {Path(emulator[0]).name} is not installed")
+        return [*emulator, str(path_of(name, "program"))], step
 
     def answer(self, words):
-        environment = {**os.environ, "WINEDEBUG": "-all"}
-
         def answer(row):
             done = subprocess.run([*words, *row.words], input=row.input, stdout=subprocess.PIPE, stderr=subprocess.DEVNULL,
-                                  check=False, env=environment)
+                                  check=False, env=environment())
             return done.returncode, done.stdout
         return answer
 
@@ -69,6 +120,78 @@ class Emulated(unittest.TestCase):
                 words, _ = self.words(name)
                 done = subprocess.run([*words, "sig"], input=b"sig bkaagn\n", stdout=full, check=False)
                 self.assertEqual(done.returncode, 7)
+
+
+class OnArm(unittest.TestCase):
+    """The wheel for arm64 in the Python of Debian for arm64, by an emulator."""
+
+    def setUp(self):
+        if not ARM64_ROOT:
+            self.skipTest("TRINORM_ARM64_ROOT names no folder with Debian's Python for arm64")
+        if shutil.which("qemu-aarch64") is None:
+            self.skipTest("qemu-aarch64 is not installed")
+        self.words = ["qemu-aarch64", "-L", ARM64_ROOT]
+
+    def installed(self):
+        """A folder in which pip has put the wheel."""
+        files = {path.name: path.read_bytes() for path in (path_of("linux-aarch64", part) for part in ("library", "program"))}
+        name, data = elsewhere.wheel(packages.Made(packages.fields()["version"], {}, ""), "linux-aarch64", files)
+        folder = temporary_folder()
+        (folder / name).write_bytes(data)
+        pip = [*self.python(), "-m", "pip", "install", "-q", "--no-index", "--target", str(folder / "site"), str(folder / name)]
+        around = {**os.environ, "PYTHONPATH": f"{ARM64_ROOT}/usr/lib/python3/dist-packages"}
+        subprocess.run(pip, env=around, check=True, stderr=subprocess.PIPE)
+        return folder / "site"
+
+    def python(self):
+        return [*self.words, f"{ARM64_ROOT}/usr/bin/python3.11"]
+
+    def test_selfcheck(self):
+        site = self.installed()
+        program, emulated = site / "libexec" / "trinorm" / "trinorm", site / "emulated"
+        # without the system's help no process of another processor starts by itself
+        emulated.write_text(f"#!/bin/sh\nexec {' '.join(self.words)} '{program}' \"$@\"\n")
+        emulated.chmod(0o755)
+        library = program.with_name(native.SYSTEMS["linux-aarch64"].library)
+        around = {**os.environ, "PYTHONPATH": str(site), "TRINORM": str(emulated), "TRINORM_LIBRARY": str(library)}
+        done = subprocess.run([*self.python(), "-m", "trinorm", "selfcheck"], env=around, cwd=site, stdout=subprocess.PIPE,
+                              stderr=subprocess.STDOUT, text=True, check=False)
+        self.assertEqual(done.returncode, 0, done.stdout)
+        self.assertIn("aarch64", done.stdout)
+        self.assertIn(f"worked rows by the library {library}", done.stdout)
+
+
+class Mac(unittest.TestCase):
+    """What is made for macOS can't be run here, so its headers are read."""
+
+    def commands(self, name, part):
+        """The numbers and the bytes of the load commands of a file, whose head says for what it is."""
+        data = path_of(name, part).read_bytes()
+        magic, processor, _, kind, count = struct.unpack_from("<5I", data)
+        self.assertEqual((magic, processor, kind), (MAGIC, PROCESSORS[name], KINDS[part]))
+        at, found = 32, []
+        for _ in range(count):
+            number, size = struct.unpack_from("<2I", data, at)
+            found.append((number, data[at:at + size]))
+            at += size
+        return found
+
+    def test_they_are_signed_and_load_what_every_mac_has(self):
+        for name in PROCESSORS:
+            for part in KINDS:
+                with self.subTest(name=name, part=part):
+                    commands = self.commands(name, part)
+                    loaded = [body[struct.unpack_from("<I", body, 8)[0]:].rstrip(b"\0") for number, body in commands if number == LOADED]
+                    self.assertEqual(loaded, [b"@rpath/libtrinorm.dylib"] * (part == "program") + [b"/usr/lib/libSystem.B.dylib"])
+                    self.assertIn(SIGNED, [number for number, _ in commands])
+
+    def test_the_calls_of_the_header_are_exported(self):
+        calls = set(re.findall(r"\b(trinorm_\w+)\(", (REPOSITORY / "library" / "trinorm.h").read_text("utf8")))
+        self.assertIn("trinorm_run", calls)
+        for name in PROCESSORS:
+            with self.subTest(name=name):
+                data = path_of(name, "library").read_bytes()
+                self.assertEqual([call for call in calls if f"_{call}\0".encode() not in data], [])
 
 
 class Modules(unittest.TestCase):

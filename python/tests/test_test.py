@@ -5,6 +5,7 @@ import importlib.util
 import io
 import os
 import re
+import shutil
 import signal
 import sys
 import tempfile
@@ -119,6 +120,24 @@ class Gate(unittest.TestCase):
         self.assertEqual((self.out / "libtrinorm.so").read_text(), "libtrinorm.so by one")
         self.assertIn("echo for_c", (self.out / "libtrinorm_c.a").read_text())
         self.assertIn("echo left", (self.out / "libtrinorm_c.a").read_text())
+
+    def test_the_module_of_the_gate_is_that_of_a_build(self):
+        self.clone.add_wasm()
+        self.assertIn("and its library: sha256 ", self.gate().stdout)
+        names = ("libtrinorm_c.a", "trinorm_c.bc", "trinorm.wasm")
+        of_gate = [(self.out / name).read_bytes() for name in names]
+        self.assertEqual(of_gate, [of_gate[0], of_gate[0], b"for WebAssembly: " + of_gate[0]])
+        for path in (self.clone.top / "crates").glob("*/out/rlib"):
+            shutil.rmtree(path)
+        done = self.clone.build("--anew")
+        self.assertEqual(done.returncode, 0, done.stderr)
+        self.assertEqual([(self.out / name).read_bytes() for name in names], of_gate)
+
+    def test_without_tools_the_line_says_that_there_is_no_module(self):
+        self.clone.add_wasm()
+        (self.clone.folder / "kit" / "toolchain" / "bin" / "clang").unlink()
+        self.assertIn("; no module was kept\n", self.gate().stdout)
+        self.assertFalse((self.out / "trinorm.wasm").exists())
 
     def test_libraries_of_earlier_checks(self):
         """They may be of other sources, so a build makes what is tried."""

@@ -3,6 +3,7 @@
 TRINORM_WASM names the module; else it is the one that the build made. Pictures of the page go to the folder `pictures`
 next to the built program.
 """
+import contextlib
 import functools
 import hashlib
 import http.server
@@ -16,6 +17,7 @@ import tempfile
 import threading
 import unittest
 import urllib.parse
+import zlib
 from pathlib import Path
 
 from trinorm import selfcheck
@@ -32,6 +34,7 @@ from .cases import Cases  # noqa: E402
 OUT = REPOSITORY / "crates" / "trinorm" / "out"
 COUNT = 2000
 OF_9 = "sig jLvLAQQadhfhfggiibuvfgvncab\n"
+OF_14 = "sig oLLLPwLAQMcbdfhfgiljjmmlnnabuagwehgoxxfjb\n"
 OF_18 = "sig sLLvLvPQAAAQPcdgjmhinikmlpnoqprrawgbdvfdolnbagodbac\n"
 OF_24 = "sig yLALvLvAzAQMzzMQQaccehjikqpoornspvuttwwvxxbggggtccanffxwavawcvaeccc\n"
 
@@ -214,6 +217,15 @@ const count_values = (values) => values.reduce((sum, value) => sum + value, 0);
 """
 
 
+def pages_of(data):
+    """How many pages a PDF has. Firefox packs what says so."""
+    parts = [data]
+    for part in re.findall(rb"stream\r?\n(.*?)endstream", data, re.S):
+        with contextlib.suppress(zlib.error):
+            parts.append(zlib.decompress(part))
+    return len(re.findall(rb"/Type\s*/Page\b", b"\n".join(parts)))
+
+
 class Page:
     """The page in a browser. Those that inherit name the browser, and whether the page is one file from the disk."""
 
@@ -252,19 +264,59 @@ class Page:
         """What a script gives once a question is answered."""
         return self.run_script(f"await until(() => document.documentElement.dataset.ready); await ask({json.dumps(command)}, {json.dumps(text)}); await until(idle); {script}")
 
-    def test_keyboard_alone(self):
+    def press_until(self, key, condition, most=60):
+        """Presses a key until a condition of the page holds. Returns how often."""
+        for count in range(most):
+            if self.run_script(f"return {condition};"):
+                return count
+            self.window.press(key)
+        raise AssertionError(f"{key} does not lead to {condition}")
+
+    def test_an_answer_by_the_keyboard_alone(self):
         self.open()
         self.run_script("return until(() => document.documentElement.dataset.ready);")
-        self.run_script("by('input').focus();")
+        self.press_until("Tab", "document.activeElement === by('input')")
         self.window.press("Control+Enter")
-        self.assertEqual(self.run_script("await until(idle); return by('raw').textContent;"), "# surfaces 1\nvec 1 1 1 1 0 0 0 1 1 1 1 0 0 0\n")
-        seen = []
-        self.run_script("by('input').focus();")
-        for _ in range(12):
-            self.window.press("Tab")
-            seen.append(self.run_script("return document.activeElement.id;"))
-        for name in ("example", "file", "command", "answer"):
-            self.assertIn(name, seen)
+        answer = "# surfaces 1\nvec 1 1 1 1 0 0 0 1 1 1 1 0 0 0\n"
+        self.assertEqual(self.run_script("await until(idle); return by('raw').textContent;"), answer)
+        self.run_script("by('message').textContent = by('raw').textContent = '';")
+        self.press_until("Tab", "document.activeElement === by('answer')")
+        self.window.press("Enter")
+        self.assertEqual(self.run_script("await until(idle); return by('raw').textContent;"), answer)
+
+    def test_every_control_is_reached_by_the_tabulator(self):
+        self.open(command="surfaces", input="sig bkaagj\n")
+        controls = self.run_script("""
+await until(idle);
+document.querySelector('#view td button').click();
+by('text').open = true;
+globalThis.unseen = new Set([...document.querySelectorAll('button, select, input, textarea, a, summary, [tabindex="0"]')].filter((one) => !one.disabled && one.checkVisibility()));
+document.addEventListener('focusin', ({target}) => globalThis.unseen.delete(target));
+// the first one, which the tabulator reaches from the address
+by('input').focus();
+return globalThis.unseen.size;""")
+        self.assertGreater(controls, 20)
+        self.window.press(*["Tab"] * controls)
+        self.assertEqual(self.run_script("return [...globalThis.unseen].map((one) => one.outerHTML.slice(0, 80));"), [])
+
+    def test_the_keyboard_stops_a_question(self):
+        self.open()
+        self.run_script(f"await until(() => document.documentElement.dataset.ready); by('input').value = {json.dumps(OF_24)};")
+        for key, way in (("Enter", "document.activeElement === by('stop')"), ("Escape", "!by('stop').disabled")):
+            self.run_script("by('message').textContent = ''; by('input').focus();")
+            self.window.press("Control+Enter")
+            self.press_until("Tab", way)
+            self.window.press(key)
+            self.assertEqual(self.run_script("await until(idle); return message();"), "Stopped.")
+
+    def test_the_button_for_more_goes_with_the_last_part(self):
+        self.open()
+        about = "return [rows(), by('view').textContent.includes('Describe')];"
+        self.assertEqual(self.ask("surfaces", OF_9, about), [122, False])
+        self.assertEqual(self.ask("surfaces", OF_14, "by('more').focus(); return by('more').textContent;"), "Describe 287 more")
+        self.window.press("Enter")
+        self.assertEqual(self.run_script(f"await until(() => rows() === 787); {about}"), [787, False])
+        self.assertEqual(self.run_script("return document.activeElement.ariaLabel;"), "Surfaces")
 
     def test_every_command_and_question_is_in_the_list(self):
         self.open()
@@ -415,11 +467,27 @@ class Page:
             self.keep(window, scheme)
         self.assertEqual(len(set(colours)), 2)
 
-    def keep(self, window, name):
+    def test_less_motion(self):
+        for still, name in ((False, "turn"), (True, "none")):
+            window = self.new_window(still=still)
+            self.open(window, command="surfaces", input=OF_24)
+            script = "await until(() => by('clock').classList.contains('busy')); return getComputedStyle(by('clock'), '::before').animationName;"
+            self.assertEqual(self.run_script(script, window), name)
+
+    def test_print(self):
+        """All rows of a table are printed, over several pages, and no control."""
+        self.open(command="surfaces", input=OF_9)
+        self.run_script("await until(idle); document.querySelectorAll('#view td button')[3].click();")
+        data = self.window.printed()
+        self.keep(self.window, "print", data)
+        self.assertTrue(data.startswith(b"%PDF"))
+        self.assertGreater(pages_of(data), 2)
+
+    def keep(self, window, name, data=None):
         folder = OUT / "pictures"
         folder.mkdir(parents=True, exist_ok=True)
         place = "file" if self.from_disk else "http"
-        (folder / f"{window.name}-{place}-{name}.png").write_bytes(window.picture())
+        (folder / f"{window.name}-{place}-{name}.{'pdf' if data else 'png'}").write_bytes(data or window.picture())
 
     def test_nothing_is_fetched_but_the_files_of_the_folder(self):
         Quiet.asked.clear()
@@ -439,8 +507,9 @@ class Page:
         self.assertEqual(self.run_script("""
 const module = await WebAssembly.compile(await (await fetch('trinorm.wasm')).arrayBuffer());
 const worker = new Worker('worker.js', {type: 'module'});
+let first = module;
 const bytes_of = (text) => Uint8Array.from(text, (character) => character.charCodeAt(0));
-const answer = (words, input) => new Promise((done) => { worker.onmessage = ({data}) => done(data); worker.postMessage({module, words, input, limit: 0}); });
+const answer = (words, input) => new Promise((done) => { worker.onmessage = ({data}) => done(data); worker.postMessage({module: first, words, input, limit: 0}); first = undefined; });
 const different = [];
 for (const line of (await (await fetch('cases.tmp')).text()).split('\\n')) {
     const {words, input, output, status} = JSON.parse(line), got = await answer(words, bytes_of(input)), expected = bytes_of(output);
