@@ -12,7 +12,7 @@ use Rattle.cone_definitions.specs.Rows.{Row}
 use Rattle.cone_definitions.specs.Systems.{System}
 use Rattle.cone_bound_laws.specs.Caps.{magnitude, row_weight, row_size, caps_product}
 use Rattle.cone_square_laws.specs.Squares.{sum_of_squares}
-use Rattle.number_bounds.specs.Columns.{cap_by, squares_product, ArePastBounds}
+use Rattle.number_bounds.specs.Columns.{cap_by, squares_product}
 use Rattle.number_bounds.specs.Squares.{AreSquares}
 use Rattle.number_bounds.proofs.Tallies.{magnitude_is, own, row_square, row_square_is}
 use Rattle.number_bounds.proofs.ColumnCaps.{product_more, some_cap}
@@ -108,7 +108,7 @@ product_past squares i old factor most l so_far one past =
     omega (arith, here, up, past)
 
 -- the product that is made is that of the columns
-squares_are : (system : System) (squares : List ℕ) → AreSquares system squares → caps_product (cap_by squares) (length squares) ≡ squares_product system
+pub squares_are : (system : System) (squares : List ℕ) → AreSquares system squares → caps_product (cap_by squares) (length squares) ≡ squares_product system
 squares_are system squares summed = λ i. caps_product (λ column. max (summed.each column i) 1) (summed.count i)
 
 -- where no row has a size no column has a weight, and the product is 1
@@ -133,31 +133,30 @@ no_square (row ∷ rows) j none =
     let rest = no_square rows j (All-tail (λ r. row_size r ≤ 0) row rows none) in
     omega (arith, sum_by-cons (λ r. row_weight j r * row_weight j r) row rows, square, rest)
 
-no_product : (system : System) → All (λ row. row_size row ≤ 0) system.rows → squares_product system ≡ 1
+pub no_product : (system : System) → All (λ row. row_size row ≤ 0) system.rows → squares_product system ≡ 1
 no_product system none = ones (λ column. max (sum_of_squares system.rows column) 1) system.columns (λ j. ap (λ w. max w 1) (no_square system.rows j none))
 
 -- a large product, taken once at least, is large
 pub large_past : (size product limit : ℕ) → 1 ≤ size → limit < product → limit < size * product
 large_past size product limit some past = let more : 1 * product ≤ size * product = mul-le 1 product size product some (omega arith) in omega (arith, more, past)
 
--- the numbers of some row pass the limit
-pub past_limit : (system : System) (limit : ℕ) (squares : List ℕ) (size product : ℕ) → AreSquares system squares → (size ≡ 0) ⊎ Any (λ row. row_size row ≡ size) system.rows →
-    product ≡ caps_product (cap_by squares) (length squares) → limit < size * product → ArePastBounds system limit
-past_limit system limit squares size product summed attained is past = elim attained [
+-- the greatest size times a product passes the limit: then the numbers of some row do
+pub past_limit : (rows : List Row) (limit size product whole : ℕ) → (size ≡ 0) ⊎ Any (λ row. row_size row ≡ size) rows → product ≡ whole → limit < size * product →
+    Any (λ row. limit < row_size row * whole) rows
+past_limit rows limit size product whole attained is past = elim attained [
   | inl none ↦ absurd (let l : limit < 0 * product = subst (λ s. limit < s * product) none past in omega (arith, l))
   | inr some ↦
-      let one : limit < size * squares_product system = subst (λ p. limit < size * p) (is ∙ squares_are system squares summed) past in
-      inr (inr (some.0, some.1, some.2, some.3, subst (λ s. limit < s * squares_product system) (sym some.4) one))
+      let one : limit < size * whole = subst (λ p. limit < size * p) is past in
+      (some.0, some.1, some.2, some.3, subst (λ s. limit < s * whole) (sym some.4) one)
 ]
 
 -- the same where the product has no room, so that some row has a size
-pub past_product : (system : System) (limit : ℕ) (squares : List ℕ) (size most : ℕ) → AreSquares system squares → All (λ row. row_size row ≤ size) system.rows →
-    (size ≡ 0) ⊎ Any (λ row. row_size row ≡ size) system.rows → most ≤ caps_product (cap_by squares) (length squares) → limit < most → 1 < most → ArePastBounds system limit
-past_product system limit squares size most summed small attained large within two = elim (cases_lt 0 size) [
-  | inl some ↦ past_limit system limit squares size (caps_product (cap_by squares) (length squares)) summed attained refl (large_past size (caps_product (cap_by squares) (length squares)) limit some (omega arith))
+pub past_product : (rows : List Row) (limit size most whole : ℕ) → All (λ row. row_size row ≤ size) rows → (size ≡ 0) ⊎ Any (λ row. row_size row ≡ size) rows →
+    (All (λ row. row_size row ≤ 0) rows → whole ≡ 1) → most ≤ whole → limit < most → 1 < most → Any (λ row. limit < row_size row * whole) rows
+past_product rows limit size most whole small attained alone large within two = elim (cases_lt 0 size) [
+  | inl some ↦ past_limit rows limit size whole whole attained refl (large_past size whole limit some (omega arith))
   | inr none ↦ absurd (
-      let nothing : All (λ row. row_size row ≤ 0) system.rows = subst (λ s. All (λ row. row_size row ≤ s) system.rows) (let e : size ≡ 0 = omega arith in e) small in
-      let one = no_product system nothing in
-      let same = squares_are system squares summed in
-      omega (arith, one, same, large, two))
+      let nothing : All (λ row. row_size row ≤ 0) rows = subst (λ s. All (λ row. row_size row ≤ s) rows) (let e : size ≡ 0 = omega arith in e) small in
+      let one = alone nothing in
+      omega (arith, one, large, two))
 ]

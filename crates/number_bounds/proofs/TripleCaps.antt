@@ -1,14 +1,13 @@
--- The certificate of columns in groups of three, and what passes it.
-use Rattle.std.proofs.Common.{◌≡◌, ℕ, ◌+◌, ◌*◌, ◌/◌, ◌<◌, ◌≤◌, ◌⊎◌, inl, inr, List, length, slice_index, max, All, refl, ap, sym, subst, ◌∙◌, arith}
-use Rattle.std.specs.List.{Any}
-use Rattle.std.proofs.lemmas.Bool.{cases_lt, cases_eq}
+-- The certificate of columns in groups of three, and the product that it has.
+use Rattle.std.proofs.Common.{◌≡◌, ℕ, ◌+◌, ◌*◌, ◌/◌, ◌<◌, ◌≤◌, inl, inr, List, length, slice_index, max, All, refl, ap, subst, arith}
+use Rattle.std.proofs.lemmas.Bool.{cases_eq}
 use Rattle.cone_definitions.specs.Systems.{System}
 use Rattle.cone_bound_laws.specs.Caps.{row_size, caps_product}
 use Rattle.cone_square_laws.specs.Squares.{sum_of_squares}
 use Rattle.number_bounds.specs.Squares.{AreSquares}
-use Rattle.number_bounds.specs.Triples.{triple_cap, triples_product, AreTriplesBounded, ArePastTriples}
+use Rattle.number_bounds.specs.Triples.{triple_cap, triples_product, AreTriplesBounded}
 use Rattle.number_bounds.proofs.ColumnCaps.{product_more}
-use Rattle.number_bounds.proofs.Past.{caps_up, ones, no_square, large_past}
+use Rattle.number_bounds.proofs.Past.{caps_up, ones, no_square}
 
 some_cap : (squares : List ℕ) (g : ℕ) → 1 ≤ triple_cap squares g
 some_cap squares g = omega arith
@@ -47,33 +46,10 @@ product_past squares i old factor most l so_far one past =
     let up = caps_up (triple_cap squares) (some_cap squares) (i + 1) (length squares / 3) (omega arith) in
     omega (arith, here, up, past)
 
-product_is : (system : System) (squares : List ℕ) → AreSquares system squares → caps_product (triple_cap squares) (length squares / 3) ≡ triples_product system
+pub product_is : (system : System) (squares : List ℕ) → AreSquares system squares → caps_product (triple_cap squares) (length squares / 3) ≡ triples_product system
 product_is system squares summed =
     λ i. caps_product (λ g. max (max (max (summed.each (3 * g) i) (summed.each (3 * g + 1) i)) (summed.each (3 * g + 2) i)) 1) (summed.count i / 3)
 
-no_product : (system : System) → All (λ row. row_size row ≤ 0) system.rows → triples_product system ≡ 1
+pub no_product : (system : System) → All (λ row. row_size row ≤ 0) system.rows → triples_product system ≡ 1
 no_product system none = ones (λ g. max (max (max (sum_of_squares system.rows (3 * g)) (sum_of_squares system.rows (3 * g + 1))) (sum_of_squares system.rows (3 * g + 2))) 1) (system.columns / 3)
     (λ g. omega (arith, no_square system.rows (3 * g) none, no_square system.rows (3 * g + 1) none, no_square system.rows (3 * g + 2) none))
-
--- the numbers of some row pass the limit
-pub past_limit : (system : System) (limit : ℕ) (squares : List ℕ) (size product : ℕ) → AreSquares system squares → (size ≡ 0) ⊎ Any (λ row. row_size row ≡ size) system.rows →
-    product ≡ caps_product (triple_cap squares) (length squares / 3) → limit < size * product → ArePastTriples system limit
-past_limit system limit squares size product summed attained is past = elim attained [
-  | inl none ↦ absurd (let l : limit < 0 * product = subst (λ s. limit < s * product) none past in omega (arith, l))
-  | inr some ↦
-      let one : limit < size * triples_product system = subst (λ p. limit < size * p) (is ∙ product_is system squares summed) past in
-      inr (inr (some.0, some.1, some.2, some.3, subst (λ s. limit < s * triples_product system) (sym some.4) one))
-]
-
--- the same where the product has no room, so that some row has a size
-pub past_product : (system : System) (limit : ℕ) (squares : List ℕ) (size most : ℕ) → AreSquares system squares → All (λ row. row_size row ≤ size) system.rows →
-    (size ≡ 0) ⊎ Any (λ row. row_size row ≡ size) system.rows → most ≤ caps_product (triple_cap squares) (length squares / 3) → limit < most → 1 < most → ArePastTriples system limit
-past_product system limit squares size most summed small attained large within two = elim (cases_lt 0 size) [
-  | inl some ↦ past_limit system limit squares size (caps_product (triple_cap squares) (length squares / 3)) summed attained refl
-      (large_past size (caps_product (triple_cap squares) (length squares / 3)) limit some (omega arith))
-  | inr none ↦ absurd (
-      let nothing : All (λ row. row_size row ≤ 0) system.rows = subst (λ s. All (λ row. row_size row ≤ s) system.rows) (let e : size ≡ 0 = omega arith in e) small in
-      let one = no_product system nothing in
-      let same = product_is system squares summed in
-      omega (arith, one, same, large, two))
-]
