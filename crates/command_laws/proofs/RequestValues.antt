@@ -79,7 +79,7 @@ module _ {A : Type 0} (name : Text) (meaning : Text → Option A) (given : List 
 
 pieces_of : (m : Option Coords) (coords : Coords) → option_and_then has_pieces m ≡ Some coords → (m ≡ Some coords) × (coords ≢ Quad)
 pieces_of None coords e = absurd (some≢none coords (sym e))
-pieces_of (Some kind) coords = go (has_triangles kind) refl
+pieces_of (Some kind) coords e = go (has_triangles kind) refl e
   where
     go : (t : Bool) → has_triangles kind ≡ t → (if t then Some kind else None) ≡ Some coords → (Some kind ≡ Some coords) × (coords ≢ Quad)
     go true has e = (e, λ quad. let same : Some kind ≡ Some Quad = e ∙ ap (λ (c : Coords). Some c) quad in let is : kind ≡ Quad = cc in true≢false (sym has ∙ ap has_triangles is))
