@@ -11,14 +11,14 @@ use Rattle.cone_definitions.specs.Listings.{Enumeration, IsListed}
 use Rattle.cone_definitions.specs.declared.Order.{Order}
 use Rattle.cone_definitions.proofs.Next.{one_surface_list_lem}
 use Rattle.cone_laws.proofs.Taken.{some_rows_taken}
-use Rattle.double_description.specs.declared.engine.Rays.{Rays}
+use Rattle.double_description.specs.declared.engine.PackedRays.{PackedRays}
 use Rattle.double_description.specs.declared.engine.LargeStep.{LargeStep}
 use Rattle.double_description.specs.Turns.{AreTaken}
 use Rattle.double_description.specs.Enumerated.{IsEnumerated, IsRefused}
 use Rattle.bounded_list.specs.Lists.{enumeration_of, AreAlwaysWithin, IsOnlyListing, AreRefused}
 use denote.Ref.{Bor}
 
-abbrev pub Listed : Enumeration → Rays → Type 0
+abbrev pub Listed : Enumeration → PackedRays → Type 0
 Listed e rays = IsListed e rays.order.items rays.list.items
 
 named_turns : (order : Order) (post : Bor System → Bor (List ℕ) → ℕ → Type 0) (system : System) (taken : List ℕ) → AreTaken order post system taken → AreNamed order system taken
@@ -31,11 +31,11 @@ module _ (limit : ℕ) (system : System) (pairs : List Clash) (order other : Ord
   moved : (P : Enumeration → Type 0) → P (enumeration_of system pairs order limit) → P (enumeration_of system pairs other limit)
   moved P h = subst (λ o. P (enumeration_of system pairs o limit)) same_order h
 
-  pub are_listed : (result : Result Rays (Failure LargeStep)) → IfOk result (IsEnumerated limit system pairs order post) → IfOk result (Listed (enumeration_of system pairs other limit))
+  pub are_listed : (result : Result PackedRays (Failure LargeStep)) → IfOk result (λ rays. IsEnumerated limit system pairs order post rays.order.items rays.list.items) → IfOk result (Listed (enumeration_of system pairs other limit))
   are_listed (Ok rays) h = moved (λ e. Listed e rays) (record { surfaces = h.surfaces; all = h.all; named = named_turns order post system rays.order.items h.taken; within = h.within })
   are_listed (Err fault) h = tt
 
-  pub are_refused : (result : Result Rays (Failure LargeStep)) → IfErr result (IsRefused limit system pairs order post) → IfErr result (AreRefused (enumeration_of system pairs other limit))
+  pub are_refused : (result : Result PackedRays (Failure LargeStep)) → IfErr result (IsRefused limit system pairs order post) → IfErr result (AreRefused (enumeration_of system pairs other limit))
   are_refused (Ok rays) h = tt
   are_refused (Err NoMemory) h = tt
   are_refused (Err (Fault large)) h =

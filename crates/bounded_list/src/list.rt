@@ -1,12 +1,12 @@
 //! The two ways to a list: from solved rows if all numbers are bounded, otherwise row by row in a named order.
 
-ghost use Rattle.std.specs.Prelude.{◌≡◌, ◌≤◌, IsTrue, IfOk, IfErr, IfSome};
+ghost use Rattle.std.specs.Prelude.{◌≡◌, IsTrue, IfOk, IfErr, IfSome};
 ghost use Rattle.cone_definitions.specs.Listings.{IsListed};
 ghost use Rattle.cone_definitions.specs.Surfaces.{IsSurfaceList};
 ghost use Rattle.bounded_list.specs.Lists.{enumeration_of, AreAlwaysWithin, IsOnlyListing, AreRefused};
 
-use cone_arithmetic::{MAX_ENTRY, Ray, System};
-use double_description::{EnumFault, NamedOrder, Picker, Rays, choice, eliminate};
+use cone_arithmetic::{Limit, PackedRay, System};
+use double_description::{EnumFault, NamedOrder, PackedRays, Picker, choice, eliminate};
 use late_columns::vertex_surfaces;
 use no_memory::NoMemory;
 use ray_steps::{Clashes, Compatible};
@@ -17,7 +17,7 @@ use std::alloc::Global;
 #[derive(Clone, Copy)]
 pub struct Terms {
     pub order: NamedOrder,
-    pub limit: u128,
+    pub limit: Limit,
     pub is_bounded: bool,
 }
 
@@ -29,7 +29,7 @@ fn list_by_solving<C: Compatible>(
     clashes: &Clashes<C>,
     each: u32,
     pivots: &[u32],
-) -> Result<Option<Vec<Ray>>, NoMemory>
+) -> Result<Option<Vec<PackedRay>>, NoMemory>
     requires columns { clashes.now.columns ≡ system.now.columns }
     ensures { IfOk result (λ answer. IfSome answer (λ list. IsSurfaceList system.now.columns system.now.rows clashes.now.pairs list.items)) }
 {
@@ -47,17 +47,15 @@ fn list_by_elimination<C: Compatible>(
     system: &System,
     clashes: &Clashes<C>,
     order: NamedOrder,
-    limit: u128,
-) -> Result<Rays, EnumFault>
+    limit: Limit,
+) -> Result<PackedRays, EnumFault>
     requires columns { clashes.now.columns ≡ system.now.columns }
-    requires some_limit { 1 ≤ limit }
-    requires most_limit { limit ≤ MAX_ENTRY }
-    ensures ok { IfOk result (λ rays. IsListed (enumeration_of system.now clashes.now.pairs order.rule limit) rays.order.items rays.list.items) }
-    ensures err { IfErr result (AreRefused (enumeration_of system.now clashes.now.pairs order.rule limit)) }
+    ensures ok { IfOk result (λ rays. IsListed (enumeration_of system.now clashes.now.pairs order.rule limit.number) rays.order.items rays.list.items) }
+    ensures err { IfErr result (AreRefused (enumeration_of system.now clashes.now.pairs order.rule limit.number)) }
 {
     let rule = order.rule;
     let picker = Picker::new(rule, |s: &System, rows: &[u32]| choice(rule, s, rows));
-    eliminate(alloc, system, clashes, &picker, limit)
+    eliminate(alloc, system, clashes, &picker, limit.number)
 }
 
 /// The list from solved rows if all numbers are bounded, otherwise by elimination in the order of `terms`. Fails as
@@ -69,13 +67,11 @@ fn quickest_list<C: Compatible>(
     each: u32,
     pivots: &[u32],
     terms: Terms,
-) -> Result<Vec<Ray>, EnumFault>
+) -> Result<Vec<PackedRay>, EnumFault>
     requires columns { clashes.now.columns ≡ system.now.columns }
-    requires some_limit { 1 ≤ terms.limit }
-    requires most_limit { terms.limit ≤ MAX_ENTRY }
-    requires bounded { IsTrue terms.is_bounded → AreAlwaysWithin terms.limit system.now clashes.now.pairs }
-    ensures ok { IfOk result (λ list. IsOnlyListing (enumeration_of system.now clashes.now.pairs terms.order.rule terms.limit) list.items) }
-    ensures err { IfErr result (AreRefused (enumeration_of system.now clashes.now.pairs terms.order.rule terms.limit)) }
+    requires bounded { IsTrue terms.is_bounded → AreAlwaysWithin terms.limit.number system.now clashes.now.pairs }
+    ensures ok { IfOk result (λ list. IsOnlyListing (enumeration_of system.now clashes.now.pairs terms.order.rule terms.limit.number) list.items) }
+    ensures err { IfErr result (AreRefused (enumeration_of system.now clashes.now.pairs terms.order.rule terms.limit.number)) }
 {
     // if no number can exceed the limit, it does not matter how the list was found
     if terms.is_bounded
@@ -84,7 +80,7 @@ fn quickest_list<C: Compatible>(
         return Ok(known);
     }
     let rays = list_by_elimination(alloc, system, clashes, terms.order, terms.limit)?;
-    let Rays { list, order: _ } = rays;
+    let PackedRays { list, order: _ } = rays;
     Ok(list)
 }
 
@@ -98,14 +94,12 @@ pub fn vertex_list<C: Compatible>(
     each: u32,
     pivots: &[u32],
     terms: Terms,
-) -> Result<Vec<Ray>, EnumFault>
+) -> Result<Vec<PackedRay>, EnumFault>
     requires columns { C.width test ≡ system.now.columns }
     requires decides { C.decides test }
-    requires some_limit { 1 ≤ terms.limit }
-    requires most_limit { terms.limit ≤ MAX_ENTRY }
-    requires bounded { IsTrue terms.is_bounded → AreAlwaysWithin terms.limit system.now (C.clashing test) }
-    ensures ok { IfOk result (λ list. IsOnlyListing (enumeration_of system.now (C.clashing test) terms.order.rule terms.limit) list.items) }
-    ensures err { IfErr result (AreRefused (enumeration_of system.now (C.clashing test) terms.order.rule terms.limit)) }
+    requires bounded { IsTrue terms.is_bounded → AreAlwaysWithin terms.limit.number system.now (C.clashing test) }
+    ensures ok { IfOk result (λ list. IsOnlyListing (enumeration_of system.now (C.clashing test) terms.order.rule terms.limit.number) list.items) }
+    ensures err { IfErr result (AreRefused (enumeration_of system.now (C.clashing test) terms.order.rule terms.limit.number)) }
 {
     let clashes = Clashes::new(alloc, test)?;
     quickest_list(alloc, system, &clashes, each, pivots, terms)

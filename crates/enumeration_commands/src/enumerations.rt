@@ -3,15 +3,15 @@ ghost use Rattle.std.specs.Prelude.{◌≡◌, IfOk};
 ghost use Rattle.outcome_definitions.specs.Enumerations.{list_outcome};
 
 use command_answers::Outcome;
-use cone_arithmetic::Ray;
+use cone_arithmetic::PackedRay;
 use no_memory::NoMemory;
 use outcome_definitions::Status;
 use std::alloc::Global;
 use text_io::{append, append_decimal};
-use vector_text::write_list;
+use vector_text::write_packed_list;
 
 /// The outcome of a list: a line `#` with `name` and the number of vectors, and a line for each vector of `list`.
-pub fn list_outcome(alloc: Global, name: &[u8], list: &[Ray]) -> Result<Outcome, NoMemory>
+pub fn list_outcome(alloc: Global, name: &[u8], list: &[PackedRay]) -> Result<Outcome, NoMemory>
     ensures { IfOk result (λ o. o ≡ list_outcome name.now list.now) }
 {
     let mut text = Vec::new(alloc);
@@ -20,6 +20,6 @@ pub fn list_outcome(alloc: Global, name: &[u8], list: &[Ray]) -> Result<Outcome,
     append(&mut text, b" ")?;
     append_decimal(alloc, &mut text, list.len() as u128)?;
     append(&mut text, b"\n")?;
-    write_list(alloc, list, &mut text)?;
+    write_packed_list(alloc, list, &mut text)?;
     Ok(Outcome::with_text(Status::Done, text))
 }

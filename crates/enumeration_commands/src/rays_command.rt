@@ -9,7 +9,7 @@ ghost use Rattle.enumeration_commands.specs.Cones.{GivesConeDocument};
 
 use crate::enumerations::list_outcome;
 use command_answers::{Outcome, end_document, fault_outcome};
-use cone_arithmetic::{MAX_ENTRY, System};
+use cone_arithmetic::{Limit, MAX_ENTRY, System};
 use cone_core::{ConeFault, read_cone};
 use double_description::{NamedOrder, Order};
 use gluing_table::TextFault;
@@ -38,11 +38,9 @@ fn answer(
     alloc: Global,
     system: &System,
     order: NamedOrder,
-    limit: u128,
+    limit: Limit,
 ) -> Result<Outcome, NoMemory>
-    requires some_limit { 1 ≤ limit }
-    requires most_limit { limit ≤ MAX_ENTRY }
-    ensures { IfOk result (IsEnumerationAnswer (codes "rays") (without_pairs system.now order.rule limit)) }
+    ensures { IfOk result (IsEnumerationAnswer (codes "rays") (without_pairs system.now order.rule limit.number)) }
 {
     match ray_answers::rays(alloc, system, order, limit) {
         Ok(rays) => list_outcome(alloc, b"rays", &rays),
@@ -62,7 +60,10 @@ pub fn rays(alloc: Global, order: Order, limit: u128, bytes: &[u8]) -> Result<Ou
     ensures { IfOk result (IsReadOutcome (worded (cone_document bytes.now)) (λ cone. IsEnumerationAnswer (codes "rays") (ray_enumeration order limit cone))) }
 {
     match read_cone_document(alloc, bytes) {
-        Ok(system) => answer(alloc, &system, NamedOrder { rule: order }, limit),
+        Ok(system) => {
+            let order = NamedOrder { rule: order };
+            answer(alloc, &system, order, Limit { number: limit })
+        }
         Err(ConeFault::Lex(fault)) => fault_outcome(alloc, InputFault::Text(TextFault::Lex(fault))),
         Err(ConeFault::NoMemory) => Err(NoMemory),
     }

@@ -7,7 +7,7 @@ ghost use Rattle.outcome_definitions.specs.Enumerations.{IsSurfacesAnswer};
 
 use crate::enumerations::list_outcome;
 use command_answers::{Outcome, fault_outcome, read_table_document};
-use cone_arithmetic::MAX_ENTRY;
+use cone_arithmetic::{Limit, MAX_ENTRY};
 use double_description::{NamedOrder, Order};
 use gluing_table::Table;
 use matching_equations::Coords;
@@ -21,13 +21,11 @@ fn answer(
     table: &Table,
     coords: Coords,
     order: NamedOrder,
-    limit: u128,
+    limit: Limit,
 ) -> Result<Outcome, NoMemory>
-    requires some_limit { 1 ≤ limit }
-    requires most_limit { limit ≤ MAX_ENTRY }
-    ensures { IfOk result (IsSurfacesAnswer coords order.rule limit table.now) }
+    ensures { IfOk result (IsSurfacesAnswer coords order.rule limit.number table.now) }
 {
-    match surface_list::surfaces_of_table(alloc, table, coords, order, limit) {
+    match surface_list::packed_surfaces_of_table(alloc, table, coords, order, limit) {
         Ok(surfaces) => list_outcome(alloc, b"surfaces", &surfaces),
         Err(Failure::Fault(large)) => large_outcome(alloc, &large.order, &large.kind),
         Err(Failure::NoMemory) => Err(NoMemory),
@@ -51,7 +49,10 @@ pub fn surfaces(
     ensures { IfOk result (IsReadOutcome (table_document bytes.now) (IsSurfacesAnswer coords order limit)) }
 {
     match read_table_document(alloc, bytes) {
-        Ok(table) => answer(alloc, &table, coords, NamedOrder { rule: order }, limit),
+        Ok(table) => {
+            let order = NamedOrder { rule: order };
+            answer(alloc, &table, coords, order, Limit { number: limit })
+        }
         Err(fault) => fault_outcome(alloc, fault),
     }
 }

@@ -15,7 +15,7 @@ use crate::elimination::next_rays;
 use crate::entering::{LateRays, enter_all, enter_others, enter_row, none_seen};
 use crate::fresh::{Fresh, free_column};
 use crate::raising::raised_rays;
-use cone_arithmetic::{Ray, SparseRow, System};
+use cone_arithmetic::{PackedRay, SparseRow, System};
 use no_memory::NoMemory;
 use ray_steps::{
     Clashes, Compatible, RayWithSupport, StepFault, StepInput, sort_rays, without_supports,
@@ -125,7 +125,7 @@ fn all_rows<C: Compatible>(
 }
 
 /// The rays of `ray_list` in lexicographic order, without their supports.
-fn ascending(alloc: Global, mut ray_list: Vec<RayWithSupport>) -> Result<Vec<Ray>, NoMemory>
+fn ascending(alloc: Global, mut ray_list: Vec<RayWithSupport>) -> Result<Vec<PackedRay>, NoMemory>
     ensures { IfOk result (λ rays. (columns : ℕ) (rows : List Row) (pairs : List Clash) → HasSurfaces columns rows pairs (rays_of ray_list.items) → IsSurfaceList columns rows pairs rays.items) }
 {
     sort_rays(&mut ray_list)?;
@@ -139,7 +139,7 @@ pub fn vertex_surfaces<C: Compatible>(
     alloc: Global,
     system: &System,
     clashes: &Clashes<C>,
-) -> Result<Option<Vec<Ray>>, NoMemory>
+) -> Result<Option<Vec<PackedRay>>, NoMemory>
     requires columns { clashes.now.columns ≡ system.now.columns }
     ensures some { IfOk result (λ answer. IfSome answer (λ list. IsSurfaceList system.now.columns system.now.rows clashes.now.pairs list.items)) }
     ensures none { IfOk result (λ answer. IfNone answer (HasPassedStep clashes.now system.now.rows)) }

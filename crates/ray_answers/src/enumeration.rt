@@ -1,11 +1,11 @@
 //! Lists all rays of a cone, without clashing columns.
 
-ghost use Rattle.std.specs.Prelude.{◌≤◌, IfOk, IfErr};
+ghost use Rattle.std.specs.Prelude.{IfOk, IfErr};
 ghost use Rattle.cone_definitions.specs.Listings.{without_pairs};
 ghost use Rattle.bounded_list.specs.Lists.{IsOnlyListing, AreRefused};
 
 use bounded_list::{Terms, vertex_list};
-use cone_arithmetic::{MAX_ENTRY, Ray, System};
+use cone_arithmetic::{Limit, PackedRay, System};
 use double_description::{LargeStep, NamedOrder};
 use no_memory::Failure;
 use number_bounds::columns_fit;
@@ -18,15 +18,13 @@ pub fn rays(
     alloc: Global,
     system: &System,
     order: NamedOrder,
-    limit: u128,
-) -> Result<Vec<Ray>, Failure<LargeStep>>
-    requires some_limit { 1 ≤ limit }
-    requires most_limit { limit ≤ MAX_ENTRY }
-    ensures ok { IfOk result (λ list. IsOnlyListing (without_pairs system.now order.rule limit) list.items) }
-    ensures err { IfErr result (AreRefused (without_pairs system.now order.rule limit)) }
+    limit: Limit,
+) -> Result<Vec<PackedRay>, Failure<LargeStep>>
+    ensures ok { IfOk result (λ list. IsOnlyListing (without_pairs system.now order.rule limit.number) list.items) }
+    ensures err { IfErr result (AreRefused (without_pairs system.now order.rule limit.number)) }
 {
     let columns = system.columns();
-    let is_bounded = columns_fit(alloc, system, limit)?;
+    let is_bounded = columns_fit(alloc, system, limit.number)?;
     let terms = Terms {
         order,
         limit,

@@ -24,7 +24,7 @@ mod zeros;
 pub use combinations::Combinations;
 pub use compatible::{Clashes, Compatible};
 pub use input::StepInput;
-pub use lists::{sort_rays, without_supports};
+pub use lists::{sort_rays, wide_rays, without_supports};
 pub use no_clash::NoClash;
 pub use rays::{LargeKind, RayWithSupport, StepFault};
 pub use signs::Sign;

@@ -1,4 +1,4 @@
-//! Rays after the last step: sorts them and drops their supports.
+//! Rays after the last step: sorts them, drops their supports, and converts packed rays.
 
 ghost use Rattle.std.specs.Prelude.{◌≡◌, IfOk, OnOk};
 ghost use Rattle.std.specs.Ordering.{nat_cmp};
@@ -7,7 +7,7 @@ ghost use Rattle.std.specs.List.Sorted.{IsPermutation, IsSorted};
 ghost use Rattle.ray_steps.specs.Rays.{rays_of};
 
 use crate::rays::RayWithSupport;
-use cone_arithmetic::Ray;
+use cone_arithmetic::{PackedRay, Ray};
 use no_memory::NoMemory;
 use std::alloc::{AllocError, Global};
 
@@ -20,14 +20,27 @@ pub fn sort_rays(ray_list: &mut Vec<RayWithSupport>) -> Result<(), AllocError>
     ray_list.sort_by(|a, b| a.ray.compare(&b.ray))
 }
 
-/// The rays of `ray_list` without their supports, with 128 bits for each entry. Frees each packed ray once it is
-/// converted.
-pub fn without_supports(alloc: Global, ray_list: Vec<RayWithSupport>) -> Result<Vec<Ray>, NoMemory>
+/// The rays of `ray_list` without their supports.
+pub fn without_supports(
+    alloc: Global,
+    ray_list: Vec<RayWithSupport>,
+) -> Result<Vec<PackedRay>, NoMemory>
     ensures { IfOk result (λ rays. rays.items ≡ rays_of ray_list.items) }
 {
     let mut rays = Vec::with_capacity(alloc, ray_list.len())?;
     for kept in ray_list {
-        let ray = kept.ray.into_ray(alloc)?;
+        rays.push(kept.ray)?;
+    }
+    Ok(rays)
+}
+
+/// The rays of `list`, with 128 bits for each entry. Frees each packed ray once it is converted.
+pub fn wide_rays(alloc: Global, list: Vec<PackedRay>) -> Result<Vec<Ray>, NoMemory>
+    ensures { IfOk result (λ rays. rays.items ≡ list.items) }
+{
+    let mut rays = Vec::with_capacity(alloc, list.len())?;
+    for packed in list {
+        let ray = packed.into_ray(alloc)?;
         rays.push(ray)?;
     }
     Ok(rays)

@@ -4,7 +4,7 @@ ghost use Rattle.text_definitions.specs.Text.{max_text};
 use crate::sample_cones::{are_rays, cone};
 use cone_core::Ray;
 use late_columns::vertex_surfaces;
-use ray_steps::{Clashes, NoClash};
+use ray_steps::{Clashes, NoClash, wide_rays};
 use std::alloc::Global;
 use std::process::Abort;
 use std::test::Fail;
@@ -16,8 +16,10 @@ fn rays_of(rt: &impl Abort, alloc: Global, text: &[u8]) -> Result<Option<Vec<Ray
     let system = cone(rt, alloc, text)?;
     let columns = system.columns();
     let clashes = Clashes::new(alloc, NoClash { columns })?;
-    let rays = vertex_surfaces(alloc, &system, &clashes)?;
-    Ok(rays)
+    match vertex_surfaces(alloc, &system, &clashes)? {
+        Some(packed) => Ok(Some(wide_rays(alloc, packed)?)),
+        None => Ok(None),
+    }
 }
 
 #[test]

@@ -1,9 +1,10 @@
+use cone_arithmetic::Limit;
 use cone_core::{MAX_ENTRY, Ray, read_cone};
 use double_description::NamedOrder;
 use ray_answers::rays;
 use std::test::Fail;
 use text_io::Lexer;
-use vector_text::{write_entries, write_list, write_vector};
+use vector_text::{write_entries, write_packed_list, write_vector};
 
 #[test]
 fn writes_the_rays_of_a_cone(rt: HostRuntime) -> Result<(), Fail> {
@@ -12,8 +13,8 @@ fn writes_the_rays_of_a_cone(rt: HostRuntime) -> Result<(), Fail> {
     assert!(rt; lexer.next_line());
     let system = read_cone(alloc, &mut lexer).ok().ok_or("no cone")?;
     let mut out = Vec::from_slice(alloc, b"# rays 2\n")?;
-    match rays(alloc, &system, NamedOrder::GIVEN, MAX_ENTRY) {
-        Ok(found) => write_list(alloc, &found, &mut out)?,
+    match rays(alloc, &system, NamedOrder::GIVEN, Limit::MAX) {
+        Ok(found) => write_packed_list(alloc, &found, &mut out)?,
         Err(_) => panic!(rt; "a list was expected"),
     }
     assert_eq!(rt;
