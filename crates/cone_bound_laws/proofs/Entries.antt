@@ -19,7 +19,7 @@ use Rattle.cone_bound_laws.proofs.Groups.{Alone, OwnGroups, GroupsBelow, bound_p
 use Rattle.cone_bound_laws.proofs.Light.{weight_is, graph_like, product_most}
 
 -- of a clashing pair one column is 0
-not_both : (pairs : List Clash) (x : List ℕ) (i j : ℕ) → IsAdmissible pairs x → Contains pairs (i, j) → slice_index x i ≢ 0 → slice_index x j ≢ 0 → ⊥
+pub not_both : (pairs : List Clash) (x : List ℕ) (i j : ℕ) → IsAdmissible pairs x → Contains pairs (i, j) → slice_index x i ≢ 0 → slice_index x j ≢ 0 → ⊥
 not_both pairs x i j h c si sj = elim (All-contains (λ (pair : Clash). (slice_index x pair.0 ≡ 0) ⊎ (slice_index x pair.1 ≡ 0)) pairs (i, j) h c) [
   | inl z ↦ si z
   | inr z ↦ sj z

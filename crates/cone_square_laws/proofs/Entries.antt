@@ -1,9 +1,8 @@
 -- The entries of a vertex surface.
-use Rattle.std.proofs.Common.{◌≡◌, ◌≢◌, ℕ, ◌*◌, ◌<◌, ◌≤◌, ◌⊎◌, inl, inr, List, [], ◌∷◌, Contains, slice_index, sym, arith, mul-le-mul}
+use Rattle.std.proofs.Common.{◌≢◌, ℕ, ◌*◌, ◌<◌, ◌≤◌, inl, inr, List, [], ◌∷◌, slice_index, sym, arith, mul-le-mul}
 use Rattle.std.proofs.lemmas.Bool.{cases_lt, cases_order}
-use Rattle.std.proofs.lemmas.List.Elements.{All-contains}
 use Rattle.cone_definitions.specs.Rows.{Row, IsPrimitiveExtreme}
-use Rattle.cone_definitions.specs.Surfaces.{Clash, IsAdmissible, IsVertexSurface}
+use Rattle.cone_definitions.specs.Surfaces.{Clash, IsVertexSurface}
 use Rattle.cone_definitions.proofs.Entries.{nonzero_before, entry_past}
 use Rattle.cone_bound_laws.specs.Caps.{caps_product}
 use Rattle.cone_bound_laws.proofs.Forms.{Column}
@@ -14,18 +13,12 @@ use Rattle.cone_bound_laws.proofs.Parts.{Parts, nothing_taken}
 use Rattle.cone_bound_laws.proofs.Ends.{OfSupport}
 use Rattle.cone_bound_laws.proofs.Walk.{walked}
 use Rattle.cone_bound_laws.proofs.Supports.{Below, support_below, all_fresh}
+use Rattle.cone_bound_laws.proofs.Entries.{not_both}
 use Rattle.cone_bound_laws.proofs.Groups.{Alone, OwnGroups, GroupsBelow, bound_product, product_in_groups}
 use Rattle.cone_square_laws.specs.Squares.{HasSquareCaps}
 use Rattle.cone_square_laws.proofs.Minors.{vectors, minors_within, Root, root_of}
 use Rattle.cone_square_laws.proofs.Products.{squares_product}
 use Rattle.cone_square_laws.proofs.Columns.{none_free, squared, weight-squared, squares_are, product_most}
-
--- of a clashing pair one column is 0
-not_both : (pairs : List Clash) (x : List ℕ) (i j : ℕ) → IsAdmissible pairs x → Contains pairs (i, j) → slice_index x i ≢ 0 → slice_index x j ≢ 0 → ⊥
-not_both pairs x i j h c si sj = elim (All-contains (λ (pair : Clash). (slice_index x pair.0 ≡ 0) ⊎ (slice_index x pair.1 ≡ 0)) pairs (i, j) h c) [
-  | inl z ↦ si z
-  | inr z ↦ sj z
-]
 
 module _ (columns : ℕ) (rows : List Row) (pairs : List Clash) (group cap : ℕ → ℕ) (groups size : ℕ) (caps : HasSquareCaps columns rows pairs group cap groups size)
     (x : List ℕ) (hx : IsVertexSurface columns rows pairs x) where
