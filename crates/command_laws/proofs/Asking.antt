@@ -1,8 +1,8 @@
 -- Words for each request, with all its options in words `--name=value`, and what is in range of a request that words spell.
-use Rattle.std.proofs.Common.{◌≡◌, ◌≢◌, ◌++◌, ℕ, ◌≤◌, true, inl, inr, refl, subst, List, [], ◌∷◌, length, map, Option, Some, codes, ◌^◌, arith}
+use Rattle.std.proofs.Common.{◌≡◌, ◌≢◌, ◌++◌, ℕ, ◌≤◌, true, inl, inr, refl, subst, List, [], ◌∷◌, map, Option, Some, codes, ◌^◌, arith}
 use Rattle.std.specs.Prelude.{nat_lt, decimal, ⊤}
-use Rattle.std.specs.List.{AllByRecursion, AllZip, Contains, slice_index_or}
-use Rattle.std.proofs.lemmas.Bool.{ltb-true}
+use Rattle.std.specs.Option.{unwrap_or}
+use Rattle.std.specs.List.{AllByRecursion, AllZip, Contains}
 use Rattle.std.proofs.lemmas.List.Elements.{All-from_recursion}
 use Rattle.std.proofs.lemmas.List.Kept.{AllPairs-cons}
 use Rattle.text_definitions.specs.Written.{limit}
@@ -11,7 +11,7 @@ use Rattle.cone_definitions.specs.declared.Order.TheVariants as orders
 use Rattle.surface_definitions.specs.declared.Coords.{Coords}
 use Rattle.surface_definitions.specs.declared.Coords.TheVariants.{Standard, Quad, Octagon}
 use Rattle.command_definitions.specs.declared.Request.{Request}
-use Rattle.command_definitions.specs.declared.Request.TheVariants.{Verify, Info, Surfaces, Rays, Describe, Lift, Crush, Play, Sig, Same, Group, Check, Descend, Make, Bulk, Decompose, Addup, Cover, Pi1, Csig, Csame}
+use Rattle.command_definitions.specs.declared.Request.TheVariants as requests
 use Rattle.command_definitions.specs.Commands.{Command, Kind, Coordinates, PieceCoordinates, RowOrder, Limit, Seed, Moves, Takes, RequestBy, ValueOf, commands, option_name, option_names}
 use Rattle.command_definitions.specs.Options.{Given}
 use Rattle.command_definitions.specs.Requests.{HoldsRange, most_moves, most_bulk_moves}
@@ -19,13 +19,10 @@ use Rattle.command_definitions.specs.Values.{coordinates_named, order_named, lim
 use Rattle.command_definitions.specs.Grammar.{IsRequest, IsSpelled, HasValue, HasValues}
 use Rattle.command_definitions.proofs.Accepted.{Holds, HoldsAll, accepted_hold_all, holds_range}
 use Rattle.command_laws.specs.Laws.{HasShortSeed}
-use Rattle.command_laws.proofs.Lookups.{Text, Apart, Member, apart_by_test, are_apart, contains_of}
+use Rattle.command_laws.proofs.Lookups.{Text, Apart, Member, row_of, apart_by_test, are_apart, contains_of, row_found}
 use Rattle.command_laws.proofs.OptionLists.{AreApart, joined}
 use Rattle.command_laws.proofs.Decimals.{decimal_read, limit_read}
 use Rattle.command_laws.proofs.Accepted.{spelled_accept}
-
-placed : {X : Type 0} (xs : List X) (x : X) (k : ℕ) → nat_lt k (length xs) ≡ true → slice_index_or xs k x ≡ x → Contains xs x
-placed xs x k less e = (k, ltb-true k (length xs) less, e)
 
 pairs_of : (options : List Given) → Apart options → AreApart options
 pairs_of [] apart = λ i j d less few. absurd (omega arith)
@@ -140,23 +137,23 @@ each_has (kind ∷ kinds) request values options among =
       each_has kinds (request values.0) values.2 options (λ other m. among other (inr m)),
     )
 
--- the command in this place
-abbrev command_at : ℕ → Command
-command_at k = slice_index_or commands k ([], ([], Info))
+-- the command of this name, or one without a name
+abbrev command_of : Text → Command
+command_of name = unwrap_or (row_of name commands) ([], ([], requests.Info))
 
-module _ (k : ℕ) (less : nat_lt k (length commands) ≡ true) (same : slice_index_or commands k (command_at k) ≡ command_at k) where
+module _ (name : Text) (found : row_of name commands ≡ Some (command_of name)) where
   abbrev takes : Takes
-  takes = (command_at k).1
+  takes = (command_of name).1
 
   asking : (values : ValuesOf takes.0) → are_apart (options_for takes.0 values) ≡ true → Words (request_for takes.0 takes.1 values)
   asking values apart =
       let options : List Given = options_for takes.0 values in (
-        (command_at k).0 ∷ joined (map in_one_word options),
+        (command_of name).0 ∷ joined (map in_one_word options),
         record {
-          name = (command_at k).0;
+          name = (command_of name).0;
           kinds = takes.0;
           request = takes.1;
-          command = placed commands (command_at k) k less same;
+          command = contains_of commands (command_of name) (row_found name commands (command_of name) found).0;
           options = options;
           known = All-from_recursion (λ (option : Given). Contains (option_names takes) option.0) options (each_known takes.0 values (option_names takes) (λ name m. m));
           apart = pairs_of options (apart_by_test options apart);
@@ -168,34 +165,38 @@ module _ (k : ℕ) (less : nat_lt k (length commands) ≡ true) (same : slice_in
       )
 
 pub words_for : (r : Request) → HoldsRange r → HasShortSeed r → Words r
-words_for (Verify coords) range seed = asking 0 refl refl (coords, coords_meant coords, tt) refl
-words_for Info range seed = asking 1 refl refl tt refl
-words_for (Surfaces coords order most) range seed =
-    asking 2 refl refl (coords, coords_meant coords, (order, order_meant order range.named, (most, limit_meant most range.some range.few, tt))) refl
-words_for (Rays order most) range seed = asking 3 refl refl (order, order_meant order range.named, (most, limit_meant most range.some range.few, tt)) refl
-words_for (Describe coords) range seed = asking 4 refl refl (coords, pieces_meant coords range, tt) refl
-words_for Lift range seed = asking 5 refl refl tt refl
-words_for Crush range seed = asking 6 refl refl tt refl
-words_for Play range seed = asking 7 refl refl tt refl
-words_for Sig range seed = asking 8 refl refl tt refl
-words_for Same range seed = asking 9 refl refl tt refl
-words_for Group range seed = asking 10 refl refl tt refl
-words_for Check range seed = asking 11 refl refl tt refl
-words_for Descend range seed = asking 12 refl refl tt refl
-words_for (Make seed moves) range short = asking 13 refl refl (seed, seed_meant seed short, (moves, moves_meant most_moves moves refl range, tt)) refl
-words_for (Bulk seed moves) range short = asking 14 refl refl (seed, seed_meant seed short, (moves, moves_meant most_bulk_moves moves refl range, tt)) refl
-words_for (Decompose coords most) range seed = asking 15 refl refl (coords, coords_meant coords, (most, limit_meant most range.some range.few, tt)) refl
-words_for (Addup coords) range seed = asking 16 refl refl (coords, coords_meant coords, tt) refl
-words_for Cover range seed = asking 17 refl refl tt refl
-words_for Pi1 range seed = asking 18 refl refl tt refl
-words_for Csig range seed = asking 19 refl refl tt refl
-words_for Csame range seed = asking 20 refl refl tt refl
+words_for (requests.Verify coords) range seed = asking (codes "verify") refl (coords, coords_meant coords, tt) refl
+words_for requests.Info range seed = asking (codes "info") refl tt refl
+words_for (requests.Surfaces coords order most) range seed =
+    asking (codes "surfaces") refl (coords, coords_meant coords, (order, order_meant order range.named, (most, limit_meant most range.some range.few, tt))) refl
+words_for (requests.Rays order most) range seed =
+    asking (codes "rays") refl (order, order_meant order range.named, (most, limit_meant most range.some range.few, tt)) refl
+words_for (requests.Describe coords) range seed = asking (codes "describe") refl (coords, pieces_meant coords range, tt) refl
+words_for requests.Lift range seed = asking (codes "lift") refl tt refl
+words_for requests.Crush range seed = asking (codes "crush") refl tt refl
+words_for requests.Play range seed = asking (codes "play") refl tt refl
+words_for requests.Sig range seed = asking (codes "sig") refl tt refl
+words_for requests.Same range seed = asking (codes "same") refl tt refl
+words_for requests.Group range seed = asking (codes "group") refl tt refl
+words_for requests.Check range seed = asking (codes "check") refl tt refl
+words_for requests.Descend range seed = asking (codes "descend") refl tt refl
+words_for (requests.Make seed moves) range short =
+    asking (codes "make") refl (seed, seed_meant seed short, (moves, moves_meant most_moves moves refl range, tt)) refl
+words_for (requests.Bulk seed moves) range short =
+    asking (codes "bulk") refl (seed, seed_meant seed short, (moves, moves_meant most_bulk_moves moves refl range, tt)) refl
+words_for (requests.Decompose coords most) range seed =
+    asking (codes "decompose") refl (coords, coords_meant coords, (most, limit_meant most range.some range.few, tt)) refl
+words_for (requests.Addup coords) range seed = asking (codes "addup") refl (coords, coords_meant coords, tt) refl
+words_for requests.Cover range seed = asking (codes "cover") refl tt refl
+words_for requests.Pi1 range seed = asking (codes "pi1") refl tt refl
+words_for requests.Csig range seed = asking (codes "csig") refl tt refl
+words_for requests.Csame range seed = asking (codes "csame") refl tt refl
 
 -- ---- what words spell is in range
 
 short_seed : (r : Request) → HoldsAll r → HasShortSeed r
-short_seed (Make seed moves) held = held.0
-short_seed (Bulk seed moves) held = held.0
+short_seed (requests.Make seed moves) held = held.0
+short_seed (requests.Bulk seed moves) held = held.0
 short_seed _ held = tt
 
 pub in_range : (r : Request) → Words r → HoldsRange r × HasShortSeed r
