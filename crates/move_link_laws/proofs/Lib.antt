@@ -47,6 +47,7 @@ pub mod ArcNumbers
 pub mod ArcsCarried
 pub mod CurvesExist
 pub mod ClosedCurves
+pub mod CurveExamples
 pub mod ClassesCorrespond
 pub mod ArrowClasses
 pub mod InvalidClasses
