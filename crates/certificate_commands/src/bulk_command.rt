@@ -6,7 +6,7 @@ ghost use Rattle.outcome_definitions.specs.Makings.{IsSummary, IsBulkAnswer};
 
 use crate::summaries::{Numbers, summary_outcome};
 use command_answers::Outcome;
-use cone_arithmetic::Limit;
+use cone_arithmetic::MAX_ENTRY;
 use double_description::NamedOrder;
 use gluing_table::Table;
 use matching_equations::Coords;
@@ -37,7 +37,7 @@ fn outcome_of_making(alloc: Global, numbers: Numbers, table: &Table) -> Result<O
         table,
         Coords::Standard,
         NamedOrder::GIVEN,
-        Limit::MAX,
+        MAX_ENTRY,
     ) {
         Ok(surfaces) => summary_outcome(alloc, numbers, &surfaces),
         Err(Failure::Fault(large)) => large_outcome(alloc, &large.order, &large.kind),

@@ -15,7 +15,7 @@ use crate::checks::{FirstFault, check_vectors};
 use crate::refusals::refusal_outcome;
 use crate::writing::append_block;
 use command_answers::{Outcome, fault_outcome, read_table_and_vectors};
-use cone_arithmetic::{Limit, MAX_ENTRY, Ray, System};
+use cone_arithmetic::{MAX_ENTRY, Ray, System};
 use double_description::NamedOrder;
 use gluing_table::{Table, write_table};
 use matching_equations::{Coords, equations_of_table};
@@ -37,6 +37,8 @@ fn append_sum(
 ) -> Result<(), SumFault>
     requires rays { HasRays system.now.columns system.now.rows list.now x.now }
     requires entries { (column : ℕ) → slice_index x.now column ≤ MAX_ENTRY }
+    requires some_limit { 1 ≤ limit }
+    requires most_limit { limit ≤ MAX_ENTRY }
     ensures { AppendsBlock limit list.now x.now out.old.items out.new.items result }
 {
     let sum = ray_decompose::decompose(alloc, system, list, x, limit)?;
@@ -55,6 +57,8 @@ fn sums(
 ) -> Result<Vec<u8>, Failure<FirstFault<Large>>>
     requires rays { HaveRays system.now list.now (all_entries vectors.now) }
     requires entries { AreInRange (all_entries vectors.now) }
+    requires some_limit { 1 ≤ limit }
+    requires most_limit { limit ≤ MAX_ENTRY }
     ensures { WritesBlocks limit list.now table.now (all_entries vectors.now) result }
 {
     let mut text = Vec::new(alloc);
@@ -83,6 +87,8 @@ fn outcome_of(
 ) -> Result<Outcome, NoMemory>
     requires rays { HaveRays system.now list.now (all_entries vectors.now) }
     requires entries { AreInRange (all_entries vectors.now) }
+    requires some_limit { 1 ≤ limit }
+    requires most_limit { limit ≤ MAX_ENTRY }
     ensures { IfOk result (IsBlocksOutcome limit list.now table.now (all_entries vectors.now)) }
 {
     match sums(alloc, table, system, list, vectors, limit) {
@@ -99,7 +105,7 @@ fn outcome_of(
 fn answer_by(
     alloc: Global,
     coords: Coords,
-    limit: Limit,
+    limit: u128,
     table: &Table,
     system: &System,
     vectors: &[Vec<u128>],
@@ -107,7 +113,9 @@ fn answer_by(
     requires columns { system.now.columns ≡ columns coords (length table.now) }
     requires equations { AreEquations coords table.now system.now.rows }
     requires entries { AreInRange (all_entries vectors.now) }
-    ensures { IfOk result (IsDecomposeAnswer coords limit.number (table.now, all_entries vectors.now)) }
+    requires some_limit { 1 ≤ limit }
+    requires most_limit { limit ≤ MAX_ENTRY }
+    ensures { IfOk result (IsDecomposeAnswer coords limit (table.now, all_entries vectors.now)) }
 {
     if let Err(first) = check_vectors(coords, table, system, vectors) {
         return refusal_outcome(
@@ -117,7 +125,7 @@ fn answer_by(
         );
     }
     match surfaces_by(alloc, table, system, coords, NamedOrder::GIVEN, limit) {
-        Ok(list) => outcome_of(alloc, table, system, &list, vectors, limit.number),
+        Ok(list) => outcome_of(alloc, table, system, &list, vectors, limit),
         Err(Failure::Fault(large)) => large_outcome(alloc, &large.order, &large.kind),
         Err(Failure::NoMemory) => Err(NoMemory),
     }
@@ -127,12 +135,14 @@ fn answer_by(
 fn answer(
     alloc: Global,
     coords: Coords,
-    limit: Limit,
+    limit: u128,
     table: &Table,
     vectors: &[Vec<u128>],
 ) -> Result<Outcome, NoMemory>
     requires entries { AreInRange (all_entries vectors.now) }
-    ensures { IfOk result (IsDecomposeAnswer coords limit.number (table.now, all_entries vectors.now)) }
+    requires some_limit { 1 ≤ limit }
+    requires most_limit { limit ≤ MAX_ENTRY }
+    ensures { IfOk result (IsDecomposeAnswer coords limit (table.now, all_entries vectors.now)) }
 {
     let system = equations_of_table(alloc, table, coords)?;
     answer_by(alloc, coords, limit, table, &system, vectors)
@@ -153,10 +163,7 @@ pub fn decompose(
     ensures answer { IfOk result (IsReadOutcome (vectors_document bytes.now) (IsDecomposeAnswer coords limit)) }
 {
     match read_table_and_vectors(alloc, bytes) {
-        Ok(document) => {
-            let limit = Limit { number: limit };
-            answer(alloc, coords, limit, &document.table, &document.vectors)
-        }
+        Ok(document) => answer(alloc, coords, limit, &document.table, &document.vectors),
         Err(fault) => fault_outcome(alloc, fault),
     }
 }

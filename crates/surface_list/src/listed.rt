@@ -1,6 +1,6 @@
 //! Lists all admissible vertex surfaces, by elimination of the equations.
 
-ghost use Rattle.std.specs.Prelude.{◌≡◌, length, IfOk, IfErr};
+ghost use Rattle.std.specs.Prelude.{◌≡◌, ◌≤◌, length, IfOk, IfErr};
 ghost use Rattle.surface_definitions.specs.Coordinates as coordinates;
 ghost use Rattle.surface_definitions.specs.QuadEquations.{AreEquations};
 ghost use Rattle.surface_equation_laws.specs.OneForm.{is_triangle};
@@ -8,7 +8,7 @@ ghost use Rattle.surface_list.specs.Surfaces.{AreTableSurfaces, IsTableRefused};
 
 use crate::bounded::are_numbers_bounded;
 use bounded_list::{Terms, vertex_list};
-use cone_arithmetic::{Limit, PackedRay, Ray, System};
+use cone_arithmetic::{Limit, MAX_ENTRY, PackedRay, Ray, System};
 use double_description::{EnumFault, NamedOrder};
 use gluing_table::Table;
 use matching_equations::{Coords, equations_of_table};
@@ -86,14 +86,17 @@ pub fn surfaces_by(
     system: &System,
     coords: Coords,
     order: NamedOrder,
-    limit: Limit,
+    limit: u128,
 ) -> Result<Vec<Ray>, EnumFault>
     requires columns { system.now.columns ≡ coordinates.columns coords (length table.now) }
     requires equations { AreEquations coords table.now system.now.rows }
-    ensures ok { IfOk result (λ rays. AreTableSurfaces limit.number coords table.now order.rule rays.items) }
-    ensures err { IfErr result (IsTableRefused limit.number coords table.now order.rule) }
+    requires some_limit { 1 ≤ limit }
+    requires most_limit { limit ≤ MAX_ENTRY }
+    ensures ok { IfOk result (λ rays. AreTableSurfaces limit coords table.now order.rule rays.items) }
+    ensures err { IfErr result (IsTableRefused limit coords table.now order.rule) }
 {
-    let packed = packed_surfaces_by(alloc, table, system, coords, order, limit)?;
+    let bound = Limit { number: limit };
+    let packed = packed_surfaces_by(alloc, table, system, coords, order, bound)?;
     let list = wide_rays(alloc, packed)?;
     Ok(list)
 }
@@ -104,10 +107,12 @@ pub fn surfaces_of_table(
     table: &Table,
     coords: Coords,
     order: NamedOrder,
-    limit: Limit,
+    limit: u128,
 ) -> Result<Vec<Ray>, EnumFault>
-    ensures ok { IfOk result (λ rays. AreTableSurfaces limit.number coords table.now order.rule rays.items) }
-    ensures err { IfErr result (IsTableRefused limit.number coords table.now order.rule) }
+    requires some_limit { 1 ≤ limit }
+    requires most_limit { limit ≤ MAX_ENTRY }
+    ensures ok { IfOk result (λ rays. AreTableSurfaces limit coords table.now order.rule rays.items) }
+    ensures err { IfErr result (IsTableRefused limit coords table.now order.rule) }
 {
     let system = equations_of_table(alloc, table, coords)?;
     surfaces_by(alloc, table, &system, coords, order, limit)

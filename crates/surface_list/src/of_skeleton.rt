@@ -4,7 +4,7 @@ ghost use Rattle.std.specs.Prelude.{◌≢◌, ◌≤◌, IfOk, IfErr};
 ghost use Rattle.surface_list.specs.Surfaces.{AreTableSurfaces, IsTableRefused};
 
 use crate::listed::surfaces_by;
-use cone_arithmetic::{Limit, MAX_ENTRY, Ray};
+use cone_arithmetic::{MAX_ENTRY, Ray};
 use double_description::{EnumFault, NamedOrder, Order};
 use matching_equations::{Coords, equations};
 use skeleton::Skeleton;
@@ -28,6 +28,5 @@ pub fn surfaces(
 {
     let system = equations(alloc, skeleton, coords)?;
     let order = NamedOrder { rule: order };
-    let limit = Limit { number: limit };
     surfaces_by(alloc, skeleton.table(), &system, coords, order, limit)
 }
