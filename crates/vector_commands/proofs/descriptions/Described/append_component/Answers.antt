@@ -12,11 +12,11 @@ use Rattle.surface_vector_definitions.specs.Properties.{characteristic}
 use Rattle.surface_pieces.specs.ComponentLists.{no_component}
 use Rattle.text_definitions.specs.Written.{yes_or_no}
 use Rattle.vector_commands.proofs.Grown.{grown}
-use Rattle.vector_commands.proofs.descriptions.append_component.Goals as goal
+use Rattle.vector_commands.proofs.descriptions.Described.append_component.Goals as goal
 
 pub returns : goal.returns
 returns c =
-    grown old (one ++ codes " sides " ++ sides ++ codes " orientable " ++ oriented ++ codes " ") (vector_text c.vector-vector.result.now) (vector_text told.vector) _ _
+    grown old (one ++ codes " sides " ++ sides ++ codes " orientable " ++ oriented ++ codes " ") (vector_text c.vector.result.now) (vector_text told.vector) _ _
     (grown old (one ++ codes " sides " ++ sides ++ codes " orientable " ++ oriented) (codes " ") (codes " ") _ _
     (grown old (one ++ codes " sides " ++ sides ++ codes " orientable ") c.yes_or_no.result.now oriented _ _
     (grown old (one ++ codes " sides " ++ sides) (codes " orientable ") (codes " orientable ") _ _
@@ -26,16 +26,16 @@ returns c =
     c.in_ok-append-3.ensures.ok refl)
     c.in_ok-append-4.ensures.ok (c.yes_or_no.ensures ∙ ap yes_or_no c.orientable.ensures))
     c.in_ok-append-5.ensures.ok refl)
-    c.in_ok-write_vector.ensures.ok (ap vector_text c.vector-vector.ensures)
+    c.in_ok-write_vector.ensures.ok (ap vector_text c.vector.ensures)
   where
     old : List ℕ
     old = c.args.out.now.items
 
     told : Component
-    told = slice_index_or c.args.pieces.now c.args.component no_component
+    told = slice_index_or c.args.self.now.pieces.now c.args.component no_component
 
     one : List ℕ
-    one = codes "component euler " ++ signed_decimal (characteristic c.args.skeleton.now c.args.coords.system told.vector)
+    one = codes "component euler " ++ signed_decimal (characteristic c.args.self.now.skeleton.now c.args.self.now.coords.system told.vector)
 
     sides : List ℕ
     sides = sides_word told.two_sided
@@ -43,10 +43,9 @@ returns c =
     oriented : List ℕ
     oriented = yes_or_no told.orientable
 
-    whole : SFits w128 c.characteristic-euler.result
+    whole : SFits w128 c.euler_of.result
     whole = search rules
 
     first : c.append_euler.new.out.items ≡ old ++ one
     first = c.in_ok-append_euler.ensures ∙ append_assoc old (codes "component euler ") _
-        ∙ ap (λ e. old ++ (codes "component euler " ++ signed_decimal e)) (to_z-of_z w128 c.characteristic-euler.result whole ∙ c.characteristic-euler.ensures)
-        ∙ ap (λ (x : List ℕ). old ++ (codes "component euler " ++ signed_decimal (characteristic c.args.skeleton.now c.args.coords.system x))) c.vector-vector.ensures
+        ∙ ap (λ e. old ++ (codes "component euler " ++ signed_decimal e)) (to_z-of_z w128 c.euler_of.result whole ∙ c.euler_of.ensures)

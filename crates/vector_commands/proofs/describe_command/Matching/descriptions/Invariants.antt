@@ -4,7 +4,7 @@ use Rattle.surface_vector_definitions.specs.Texts.{description_text}
 use Rattle.command_answers.specs.Reads.{all_entries}
 use Rattle.surface_vector_definitions.specs.Answers.{IsDescription}
 use Rattle.vector_commands.specs.Telling.{AreAnsweredIn}
-use Rattle.vector_commands.proofs.describe_command.descriptions.Given as goal
+use Rattle.vector_commands.proofs.describe_command.Matching.descriptions.Given as goal
 
 abbrev pub invariant-loop-v : goal.invariant-loop-v
-invariant-loop-v l = AreAnsweredIn (IsDescription l.skeleton l.coords.system l.system.rows) (description_text l.skeleton l.coords.system) (all_entries (take l.v l.vectors)) l.text.items
+invariant-loop-v l = AreAnsweredIn (IsDescription l.self.skeleton.now l.self.coords.system l.self.system.now.rows) (description_text l.self.skeleton.now l.self.coords.system) (all_entries (take l.v l.vectors)) l.text.items
