@@ -75,7 +75,15 @@ impl Skeleton {
         ensures rows { IfOk result (λ s. s.rows ≡ table.now) }
         ensures skeleton { IfOk result IsSkeleton }
     {
-        let table = table.copy(alloc)?;
+        let copy = table.copy(alloc)?;
+        Skeleton::of_owned(alloc, copy)
+    }
+
+    /// As `of`, but takes ownership of `table`, so that nothing is copied.
+    pub fn of_owned(alloc: Global, table: Table) -> Result<Skeleton, NoMemory>
+        ensures rows { IfOk result (λ s. s.rows ≡ table) }
+        ensures skeleton { IfOk result IsSkeleton }
+    {
         let Classes {
             vertices,
             edges,

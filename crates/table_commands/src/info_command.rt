@@ -2,19 +2,18 @@
 ghost use Rattle.std.specs.Prelude.{◌≡◌, ◌≤◌, ◌↔◌, length, IsTrue, IfOk};
 ghost use Rattle.text_definitions.specs.Text.{max_text};
 ghost use Rattle.skeleton_definitions.specs.Orientation.{IsOrientable};
-ghost use Rattle.skeleton_definitions.specs.Skeleton.{IsSkeleton, AreLinks};
 ghost use Rattle.text_document_definitions.specs.Documents.{table_document};
 ghost use Rattle.outcome_definitions.specs.Outcomes.{IsReadOutcome};
 ghost use Rattle.outcome_definitions.specs.Information.{IsInformationAnswer, AreValid};
 
-use crate::information::information_text;
+use crate::information::Information;
 use command_answers::{Outcome, answer_read, read_table_document};
 use gluing_table::Table;
 use no_memory::NoMemory;
 use outcome_definitions::Status;
 use skeleton::Skeleton;
 use std::alloc::Global;
-use vertex_links::{Link, links};
+use vertex_links::links;
 
 /// For each edge class of `skeleton` whether it is valid.
 fn valid_edges(alloc: Global, skeleton: &Skeleton) -> Result<Vec<bool>, NoMemory>
@@ -35,34 +34,22 @@ fn is_orientable(skeleton: &Skeleton) -> bool
     skeleton.orientation().is_some()
 }
 
-/// The outcome for the table of `skeleton`, with its vertex links `links`; `valid` says which edge classes are valid.
-fn outcome_of(
-    alloc: Global,
-    skeleton: &Skeleton,
-    links: &[Link],
-    valid: &[bool],
-) -> Result<Outcome, NoMemory>
-    requires skeleton { IsSkeleton skeleton.now }
-    requires one_each { length links.now ≡ skeleton.now.vertices.count }
-    requires links { AreLinks skeleton.now (length links.now) links.now }
-    requires valid_each { length valid.now ≡ skeleton.now.edges.count }
-    requires valid { AreValid skeleton.now skeleton.now.edges.count valid.now }
-    ensures { IfOk result (IsInformationAnswer skeleton.now.rows) }
-{
-    let connected = skeleton.table().is_connected(alloc)?;
-    let orientable = is_orientable(skeleton);
-    let text = information_text(alloc, skeleton, links, valid, connected, orientable)?;
-    Ok(Outcome::with_text(Status::Done, text))
-}
-
 /// The outcome for the table of `skeleton`.
 fn answer_by(alloc: Global, skeleton: &Skeleton) -> Result<Outcome, NoMemory>
-    requires { IsSkeleton skeleton.now }
     ensures { IfOk result (IsInformationAnswer skeleton.now.rows) }
 {
     let links = links(alloc, skeleton)?;
     let valid = valid_edges(alloc, skeleton)?;
-    outcome_of(alloc, skeleton, &links, &valid)
+    let connected = skeleton.table().is_connected(alloc)?;
+    let information = Information {
+        skeleton,
+        links: &links,
+        valid: &valid,
+        connected,
+        orientable: is_orientable(skeleton),
+    };
+    let text = information.text(alloc)?;
+    Ok(Outcome::with_text(Status::Done, text))
 }
 
 /// The outcome for `table`.

@@ -77,51 +77,6 @@ fn append_edge(
     Ok(())
 }
 
-/// Appends the lines of the vertex classes of `skeleton`.
-fn append_vertices(
-    alloc: Global,
-    text: &mut Vec<u8>,
-    skeleton: &Skeleton,
-    links: &[Link],
-) -> Result<(), NoMemory>
-    requires { length links.now ≡ skeleton.now.vertices.count }
-    ensures { OnOk result (text.new.items ≡ text.old.items ++ classes_text (information.vertex_text skeleton.now links.now) skeleton.now.vertices.count) }
-{
-    for class in 0..skeleton.vertices() {
-        append_vertex(
-            alloc,
-            text,
-            class,
-            skeleton.vertex_degree(class),
-            &links[class as usize],
-        )?;
-    }
-    Ok(())
-}
-
-/// Appends the lines of the edge classes of `skeleton`.
-fn append_edges(
-    alloc: Global,
-    text: &mut Vec<u8>,
-    skeleton: &Skeleton,
-    valid: &[bool],
-) -> Result<(), NoMemory>
-    requires { length valid.now ≡ skeleton.now.edges.count }
-    ensures { OnOk result (text.new.items ≡ text.old.items ++ classes_text (information.edge_text skeleton.now valid.now) skeleton.now.edges.count) }
-{
-    for class in 0..skeleton.edges() {
-        append_edge(
-            alloc,
-            text,
-            class,
-            skeleton.edge_degree(class),
-            skeleton.is_boundary_edge(class),
-            valid[class as usize],
-        )?;
-    }
-    Ok(())
-}
-
 fn tetrahedra(skeleton: &Skeleton) -> u32
     ensures { result ≡ length skeleton.now.rows }
 {
@@ -179,24 +134,68 @@ fn characteristic(skeleton: &Skeleton) -> i64
     more - less
 }
 
-/// The text of `info` for the table of `skeleton`, whose vertex links are `links`. `valid` says for each edge class
-/// whether it is valid; `connected` and `orientable` hold for the whole table.
-pub fn information_text(
-    alloc: Global,
-    skeleton: &Skeleton,
-    links: &[Link],
-    valid: &[bool],
-    connected: bool,
-    orientable: bool,
-) -> Result<Vec<u8>, NoMemory>
-    requires links { length links.now ≡ skeleton.now.vertices.count }
-    requires valid { length valid.now ≡ skeleton.now.edges.count }
-    ensures { IfOk result (λ text. text.items ≡ information.information_text (record { skeleton = skeleton.now; links = links.now; valid = valid.now; connected = connected; orientable = orientable })) }
-{
-    let mut text = Vec::new(alloc);
-    append_flags(alloc, &mut text, skeleton, connected, orientable)?;
-    append_counts(alloc, &mut text, skeleton)?;
-    append_vertices(alloc, &mut text, skeleton, links)?;
-    append_edges(alloc, &mut text, skeleton, valid)?;
-    Ok(text)
+/// What `info` prints of a table. Invariant: `links` has one link for each vertex class of `skeleton`, and `valid` one
+/// entry for each edge class.
+#[derive(Clone, Copy)]
+pub struct Information<'a> {
+    pub skeleton: &'a Skeleton,
+    pub links: &'a [Link],
+    pub valid: &'a [bool],
+    pub connected: bool,
+    pub orientable: bool,
+    pub ghost link_each: { length links.now ≡ skeleton.now.vertices.count },
+    pub ghost valid_each: { length valid.now ≡ skeleton.now.edges.count },
+}
+
+impl<'a> Information<'a> {
+    /// Appends the lines of the vertex classes.
+    fn append_vertices(&self, alloc: Global, text: &mut Vec<u8>) -> Result<(), NoMemory>
+        ensures { OnOk result (text.new.items ≡ text.old.items ++ classes_text (information.vertex_text self.now.skeleton.now self.now.links.now) self.now.skeleton.now.vertices.count) }
+    {
+        for class in 0..self.skeleton.vertices() {
+            append_vertex(
+                alloc,
+                text,
+                class,
+                self.skeleton.vertex_degree(class),
+                &self.links[class as usize],
+            )?;
+        }
+        Ok(())
+    }
+
+    /// Appends the lines of the edge classes.
+    fn append_edges(&self, alloc: Global, text: &mut Vec<u8>) -> Result<(), NoMemory>
+        ensures { OnOk result (text.new.items ≡ text.old.items ++ classes_text (information.edge_text self.now.skeleton.now self.now.valid.now) self.now.skeleton.now.edges.count) }
+    {
+        for class in 0..self.skeleton.edges() {
+            append_edge(
+                alloc,
+                text,
+                class,
+                self.skeleton.edge_degree(class),
+                self.skeleton.is_boundary_edge(class),
+                self.valid[class as usize],
+            )?;
+        }
+        Ok(())
+    }
+
+    /// The text of `info`.
+    pub fn text(&self, alloc: Global) -> Result<Vec<u8>, NoMemory>
+        ensures { IfOk result (λ text. text.items ≡ information.information_text (record { skeleton = self.now.skeleton.now; links = self.now.links.now; valid = self.now.valid.now; connected = self.now.connected; orientable = self.now.orientable })) }
+    {
+        let mut text = Vec::new(alloc);
+        append_flags(
+            alloc,
+            &mut text,
+            self.skeleton,
+            self.connected,
+            self.orientable,
+        )?;
+        append_counts(alloc, &mut text, self.skeleton)?;
+        self.append_vertices(alloc, &mut text)?;
+        self.append_edges(alloc, &mut text)?;
+        Ok(text)
+    }
 }

@@ -1,8 +1,9 @@
--- No sum of a component of a vector is large where none of the vector's own is.
-use Rattle.std.proofs.Common.{◌≡◌, ℕ, zero, suc, ◌+◌, ◌<◌, ◌≤◌, Bool, true, false, List, [], ◌∷◌, length, Some, None, Option, refl, ap, ◌∙◌, arith}
+-- No sum of a component of a vector is large if none of the vector is, and the only component is the whole.
+use Rattle.std.proofs.Common.{◌≡◌, ℕ, zero, suc, ◌+◌, ◌<◌, ◌≤◌, Bool, true, false, List, [], ◌∷◌, length, Some, None, Option, refl, sym, ap, ◌∙◌, arith}
 use Rattle.std.specs.Prelude.{sum, nat_lt, if◌then◌else◌, slice_index}
 use Rattle.std.specs.List.{AllZip, slice_index_or}
 use Rattle.std.proofs.lemmas.Bool.{ltb-false}
+use Rattle.std.proofs.lemmas.Slice.Zip.{AllZip-long}
 use Rattle.std.proofs.lemmas.List.FromFn.{length-range_with_len, get_or-range_with_len}
 use Rattle.text_definitions.specs.Written.{limit}
 use Rattle.table_definitions.specs.Lists.{below}
@@ -10,18 +11,19 @@ use Rattle.skeleton_definitions.specs.Skeleton.{Skeleton}
 use Rattle.surface_definitions.specs.Coordinates.{columns}
 use Rattle.surface_definitions.specs.declared.Coords.{Coords}
 use Rattle.surface_definitions.specs.Pieces.{component_vector}
-use Rattle.surface_definitions.specs.Characteristic.{points, arcs}
+use Rattle.surface_definitions.specs.Characteristic.{points, arcs, euler}
 use Rattle.surface_vector_definitions.specs.Components.{Component, IsComponent, AreListedComponents}
-use Rattle.surface_vector_definitions.specs.Properties.{first_large, large_sum}
+use Rattle.surface_vector_definitions.specs.Properties.{AreProperties, characteristic, first_large, large_sum}
+use Rattle.surface_vector_definitions.specs.declared.Properties.{Properties}
 use Rattle.surface_vector_definitions.specs.declared.SurfaceSum.{SurfaceSum}
 use Rattle.surface_vector_definitions.specs.declared.SurfaceSum.TheVariants.{Points, Arcs, PointsAndPieces}
 use Rattle.surface_laws.specs.CharacteristicLaws.{ComponentSumsAre}
 use Rattle.surface_laws.proofs.ComponentSums.{component_sums}
-use Rattle.surface_laws.proofs.ComponentCounts.{component_width}
+use Rattle.surface_laws.proofs.ComponentCounts.{component_width, one_is_whole}
 use Rattle.surface_laws.proofs.Counting.{term_most}
 use Rattle.surface_properties.proofs.LargeSums.{none_large}
 use Rattle.surface_pieces.specs.ComponentLists.{no_component}
-use Rattle.vector_commands.specs.Describing.{AreSmall}
+use Rattle.vector_commands.specs.SmallComponents.{AreSmall}
 
 -- no sum passes the limit
 record AreWithin (p a q : ℕ) : Type 0 where
@@ -48,7 +50,7 @@ zip_at R (x ∷ xs) [] i d e h l = absurd h
 zip_at R (x ∷ xs) (y ∷ ys) zero d e h l = (omega arith, h.0)
 zip_at R (x ∷ xs) (y ∷ ys) (suc i) d e h l = let r = zip_at R xs ys i d e h.1 (omega arith) in ((let m : i < length xs = r.0 in omega arith), r.1)
 
-pub small_components : (s : Skeleton) (coords : Coords) (xs : List ℕ) (listed : List Component) → length xs ≡ columns coords (length s.rows) → first_large limit s coords xs ≡ None → AreListedComponents s.rows coords xs listed → AreSmall s coords listed
+pub small_components : (s : Skeleton) (coords : Coords) (xs : List ℕ) (listed : List Component) → length xs ≡ columns coords (length s.rows) → first_large limit s coords xs ≡ None → AreListedComponents s.rows coords xs listed → AreSmall s coords xs listed
 small_components s coords xs listed width none h = record {
   width = λ i l. ap (λ (ys : List ℕ). length ys) (is i l) ∙ component_width xs h.classes h.numbered.one_each i ∙ width;
   small = λ i l.
@@ -64,6 +66,11 @@ small_components s coords xs listed width none h = record {
       let sq = sums.pieces in
       ap (first_large limit s coords) (is i l)
       ∙ none_large limit (points coords (component_vector xs h.classes i) s.edges.classes s.edges.count) (arcs s.rows coords (component_vector xs h.classes i)) (sum (component_vector xs h.classes i)) (omega arith) (omega arith) (omega arith);
+  only = λ e.
+      let first : (slice_index_or listed 0 no_component).vector ≡ component_vector xs h.classes 0 = is 0 (omega (arith, e)) in
+      let long : length listed ≡ length (below h.count) = AllZip-long (IsComponent s.rows coords xs h.classes) (below h.count) listed h.each in
+      let one : h.count ≡ 1 = omega (arith, e, long, length-range_with_len 0 h.count) in
+      first ∙ one_is_whole s.rows coords xs h.classes h.count h.numbered one;
 }
   where
     whole : AreWithin (points coords xs s.edges.classes s.edges.count) (arcs s.rows coords xs) (sum xs)
@@ -80,3 +87,11 @@ small_components s coords xs listed width none h = record {
 
     is : (i : ℕ) → i < length listed → (slice_index_or listed i no_component).vector ≡ component_vector xs h.classes i
     is i l = (at i l).1.vector ∙ ap (component_vector xs h.classes) (get_or-range_with_len 0 h.count i 0 (in_count i l) ∙ omega arith)
+
+-- the only component has the Euler characteristic of the surface
+pub only_euler : (s : Skeleton) (coords : Coords) (xs : List ℕ) (p : Properties) (listed : List Component) (i : ℕ) → AreProperties s coords xs p → AreSmall s coords xs listed → length listed ≡ 1 → i < length listed
+    → p.euler ≡ characteristic s coords (slice_index_or listed i no_component).vector
+only_euler s coords xs p listed i h small one l =
+    let first : 0 ≡ i = omega (arith, one, l) in
+    h.euler ∙ (λ j. euler (h.points j) (h.arcs j) (h.pieces j)) ∙ ap (characteristic s coords) (sym (small.only one))
+    ∙ ap (λ k. characteristic s coords (slice_index_or listed k no_component).vector) first

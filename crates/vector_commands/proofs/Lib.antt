@@ -4,5 +4,6 @@ pub mod VectorLists
 pub mod EachVector
 pub mod LiftAnswers
 pub mod DescribedSurfaces
+pub mod DiscEquations
 pub mod Grown
 pub mod DescribeAnswers

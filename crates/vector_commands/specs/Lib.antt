@@ -1,3 +1,4 @@
 pub mod Crushed
 pub mod Telling
 pub mod Describing
+pub mod SmallComponents

@@ -3,7 +3,6 @@ ghost use Rattle.std.specs.Prelude.{◌≡◌, ◌≤◌, length, IfOk};
 ghost use Rattle.text_definitions.specs.Text.{max_text};
 ghost use Rattle.surface_definitions.specs.Coordinates.{columns};
 ghost use Rattle.surface_definitions.specs.declared.Coords.TheVariants.{Standard};
-ghost use Rattle.surface_definitions.specs.QuadEquations.{AreEquations};
 ghost use Rattle.text_document_definitions.specs.Documents.{vector_document};
 ghost use Rattle.outcome_definitions.specs.Outcomes.{IsReadOutcome};
 ghost use Rattle.outcome_definitions.specs.Vectors.{IsCrushAnswer};
@@ -11,7 +10,6 @@ ghost use Rattle.vector_commands.specs.Crushed.{IsCrushOutcome};
 
 use crate::refusals::refusal_outcome;
 use command_answers::{Outcome, answer_read, read_table_and_vector};
-use cone_arithmetic::System;
 use gluing_table::{Table, write_table};
 use matching_equations::{Coords, equations_of_table};
 use no_memory::NoMemory;
@@ -31,24 +29,15 @@ fn outcome_of(alloc: Global, table: &Table, x: &[u128]) -> Result<Outcome, NoMem
     Ok(Outcome::with_text(Status::Done, text))
 }
 
-/// The outcome for `table` and `x`, by the equations `system` of the table.
-fn answer_by(alloc: Global, table: &Table, system: &System, x: &[u128]) -> Result<Outcome, NoMemory>
-    requires columns { system.now.columns ≡ columns Standard (length table.now) }
-    requires equations { AreEquations Standard table.now system.now.rows }
-    ensures { IfOk result (IsCrushAnswer (table.now, x.now)) }
-{
-    match check(Coords::Standard, table, system, x) {
-        Ok(()) => outcome_of(alloc, table, x),
-        Err(fault) => refusal_outcome(alloc, 0, Refusal::Unfit { fault }),
-    }
-}
-
 /// The outcome for `table` and `x`.
 fn answer(alloc: Global, table: &Table, x: &[u128]) -> Result<Outcome, NoMemory>
     ensures { IfOk result (IsCrushAnswer (table.now, x.now)) }
 {
     let system = equations_of_table(alloc, table, Coords::Standard)?;
-    answer_by(alloc, table, &system, x)
+    match check(Coords::Standard, table, &system, x) {
+        Ok(()) => outcome_of(alloc, table, x),
+        Err(fault) => refusal_outcome(alloc, 0, Refusal::Unfit { fault }),
+    }
 }
 
 /// The outcome of `crush` for the input `bytes`, a table and a standard vector: the table crushed along it; or a

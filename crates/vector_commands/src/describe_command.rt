@@ -1,10 +1,12 @@
 //! The command `describe`: the properties of each vector, and its components.
 ghost use Rattle.std.specs.Prelude.{◌≡◌, ◌≢◌, ◌≤◌, length, IfOk};
+ghost use Rattle.std.proofs.Props.{props};
 ghost use Rattle.text_definitions.specs.Text.{max_text};
 ghost use Rattle.surface_definitions.specs.Coordinates.{columns};
-ghost use Rattle.surface_definitions.specs.QuadEquations.{AreEquations};
+ghost use Rattle.surface_definitions.specs.Equations.{matching_rows};
 ghost use Rattle.surface_definitions.specs.Verdict.{solution};
 ghost use Rattle.skeleton_definitions.specs.Skeleton.{IsSkeleton};
+ghost use Rattle.table_definitions.specs.Table.{IsTable};
 ghost use Rattle.text_document_definitions.specs.Documents.{vectors_document};
 ghost use Rattle.command_answers.specs.Reads.{all_entries};
 ghost use Rattle.outcome_definitions.specs.Outcomes.{IsReadOutcome};
@@ -14,7 +16,7 @@ ghost use Rattle.surface_vector_definitions.specs.Texts.{description_text};
 ghost use Rattle.vector_commands.specs.Telling.{AppendsAnswer, WritesAnswers};
 ghost use Rattle.vector_commands.specs.Describing.{IsDescriptionResult};
 
-use crate::descriptions::append_description;
+use crate::descriptions::Described;
 use crate::refusals::{FirstRefusal, refusal_outcome};
 use command_answers::{Outcome, answer_read, invalid_edge_outcome, read_table_and_vectors};
 use cone_arithmetic::System;
@@ -36,124 +38,100 @@ pub struct Description {
     pieces: Pieces,
 }
 
-/// The description of the admissible solution `x`, or why it is refused.
-fn describe_solution(
-    alloc: Global,
-    skeleton: &Skeleton,
-    system: &System,
-    coords: DiscCoords,
-    x: &[u128],
-) -> Result<Description, Failure<Refusal>>
-    requires skeleton { IsSkeleton skeleton.now }
-    requires equations { AreEquations coords.system skeleton.now.rows system.now.rows }
-    requires width { length x.now ≡ columns coords.system (length skeleton.now.rows) }
-    requires fit { verdict_in coords.system skeleton.now.rows system.now.rows x.now ≡ solution }
-    ensures { IsDescriptionResult skeleton.now coords.system system.now.rows x.now result }
-{
-    let properties = match properties_of(skeleton, coords.system, x) {
-        Ok(properties) => properties,
-        Err(PropertyFault::Large { sum }) => {
-            return Err(Failure::Fault(Refusal::LargeSum { sum }));
-        }
-    };
-    match Pieces::build(alloc, skeleton, coords.system, x) {
-        Ok(pieces) => Ok(Description { properties, pieces }),
-        Err(Failure::Fault(TooManyPieces { count })) => {
-            Err(Failure::Fault(Refusal::TooManyPieces { count }))
-        }
-        Err(Failure::NoMemory) => Err(Failure::NoMemory),
-    }
+/// A table with its matching equations, in coordinates that count every normal disc. Invariant: `system` is that of the
+/// table of `skeleton` in `coords`.
+#[derive(Clone, Copy)]
+pub struct Matching<'a> {
+    pub skeleton: &'a Skeleton,
+    pub coords: DiscCoords,
+    pub system: &'a System,
+    pub ghost table: { IsTable skeleton.now.rows } by { Prim.hlevel props },
+    pub ghost equations: { system.now.rows ≡ matching_rows coords.system skeleton.now.rows },
+    pub ghost width: { system.now.columns ≡ columns coords.system (length skeleton.now.rows) },
 }
 
-/// The description of the vector `x`, or why it is refused.
-fn describe_vector(
-    alloc: Global,
-    skeleton: &Skeleton,
-    system: &System,
-    coords: DiscCoords,
-    x: &[u128],
-) -> Result<Description, Failure<Refusal>>
-    requires skeleton { IsSkeleton skeleton.now }
-    requires equations { AreEquations coords.system skeleton.now.rows system.now.rows }
-    requires columns { system.now.columns ≡ columns coords.system (length skeleton.now.rows) }
-    ensures { IsDescriptionResult skeleton.now coords.system system.now.rows x.now result }
-{
-    match check(coords.system, skeleton.table(), system, x) {
-        Ok(()) => describe_solution(alloc, skeleton, system, coords, x),
-        Err(fault) => Err(Failure::Fault(Refusal::Unfit { fault })),
-    }
-}
-
-/// Appends the lines of the vector `x`. Fails if it is refused.
-fn append_vector(
-    alloc: Global,
-    skeleton: &Skeleton,
-    system: &System,
-    coords: DiscCoords,
-    x: &[u128],
-    text: &mut Vec<u8>,
-) -> Result<(), Failure<Refusal>>
-    requires skeleton { IsSkeleton skeleton.now }
-    requires equations { AreEquations coords.system skeleton.now.rows system.now.rows }
-    requires columns { system.now.columns ≡ columns coords.system (length skeleton.now.rows) }
-    ensures { AppendsAnswer (IsDescription skeleton.now coords.system system.now.rows) (description_text skeleton.now coords.system) x.now text.old.items text.new.items result }
-{
-    let told = describe_vector(alloc, skeleton, system, coords, x)?;
-    append_description(
-        alloc,
-        text,
-        skeleton,
-        coords,
-        x,
-        &told.properties,
-        &told.pieces,
-    )?;
-    Ok(())
-}
-
-/// The lines of all `vectors`. Fails at the first vector that is refused.
-fn descriptions(
-    alloc: Global,
-    skeleton: &Skeleton,
-    system: &System,
-    coords: DiscCoords,
-    vectors: &[Vec<u128>],
-) -> Result<Vec<u8>, Failure<FirstRefusal>>
-    requires skeleton { IsSkeleton skeleton.now }
-    requires equations { AreEquations coords.system skeleton.now.rows system.now.rows }
-    requires columns { system.now.columns ≡ columns coords.system (length skeleton.now.rows) }
-    ensures { WritesAnswers (IsDescription skeleton.now coords.system system.now.rows) (description_text skeleton.now coords.system) (all_entries vectors.now) result }
-{
-    let mut text = Vec::new(alloc);
-    for v in 0..vectors.len() {
-        match append_vector(alloc, skeleton, system, coords, &vectors[v], &mut text) {
-            Ok(()) => {}
-            Err(Failure::Fault(refusal)) => {
-                return Err(Failure::Fault(FirstRefusal { vector: v, refusal }));
+impl<'a> Matching<'a> {
+    /// The description of the admissible solution `x`, or why it is refused.
+    fn describe_solution(&self, alloc: Global, x: &[u128]) -> Result<Description, Failure<Refusal>>
+        requires { verdict_in self.now.coords.system self.now.skeleton.now.rows self.now.system.now.rows x.now ≡ solution }
+        ensures { IsDescriptionResult self.now.skeleton.now self.now.coords.system self.now.system.now.rows x.now result }
+    {
+        let properties = match properties_of(self.skeleton, self.coords.system, x) {
+            Ok(properties) => properties,
+            Err(PropertyFault::Large { sum }) => {
+                return Err(Failure::Fault(Refusal::LargeSum { sum }));
             }
-            Err(Failure::NoMemory) => return Err(Failure::NoMemory),
+        };
+        match Pieces::build(alloc, self.skeleton, self.coords.system, x) {
+            Ok(pieces) => Ok(Description { properties, pieces }),
+            Err(Failure::Fault(TooManyPieces { count })) => {
+                Err(Failure::Fault(Refusal::TooManyPieces { count }))
+            }
+            Err(Failure::NoMemory) => Err(Failure::NoMemory),
         }
     }
-    Ok(text)
-}
 
-/// The outcome for `vectors`, by the skeleton and the equations of a table.
-fn describe_each(
-    alloc: Global,
-    skeleton: &Skeleton,
-    system: &System,
-    coords: DiscCoords,
-    vectors: &[Vec<u128>],
-) -> Result<Outcome, NoMemory>
-    requires skeleton { IsSkeleton skeleton.now }
-    requires equations { AreEquations coords.system skeleton.now.rows system.now.rows }
-    requires columns { system.now.columns ≡ columns coords.system (length skeleton.now.rows) }
-    ensures { IfOk result (AreDescribed skeleton.now coords.system (all_entries vectors.now)) }
-{
-    match descriptions(alloc, skeleton, system, coords, vectors) {
-        Ok(text) => Ok(Outcome::with_text(Status::Done, text)),
-        Err(Failure::Fault(first)) => refusal_outcome(alloc, first.vector, first.refusal),
-        Err(Failure::NoMemory) => Err(NoMemory),
+    /// The description of the vector `x`, or why it is refused.
+    fn describe_vector(&self, alloc: Global, x: &[u128]) -> Result<Description, Failure<Refusal>>
+        ensures { IsDescriptionResult self.now.skeleton.now self.now.coords.system self.now.system.now.rows x.now result }
+    {
+        match check(self.coords.system, self.skeleton.table(), self.system, x) {
+            Ok(()) => self.describe_solution(alloc, x),
+            Err(fault) => Err(Failure::Fault(Refusal::Unfit { fault })),
+        }
+    }
+
+    /// Appends the lines of the vector `x` to `text`. Fails if it is refused.
+    fn append_vector(
+        &self,
+        alloc: Global,
+        x: &[u128],
+        text: &mut Vec<u8>,
+    ) -> Result<(), Failure<Refusal>>
+        ensures { AppendsAnswer (IsDescription self.now.skeleton.now self.now.coords.system self.now.system.now.rows) (description_text self.now.skeleton.now self.now.coords.system) x.now text.old.items text.new.items result }
+    {
+        let description = self.describe_vector(alloc, x)?;
+        let described = Described {
+            skeleton: self.skeleton,
+            coords: self.coords,
+            vector: x,
+            properties: &description.properties,
+            pieces: &description.pieces,
+        };
+        described.append(alloc, text)?;
+        Ok(())
+    }
+
+    /// The lines of all `vectors`. Fails at the first vector that is refused.
+    fn descriptions(
+        &self,
+        alloc: Global,
+        vectors: &[Vec<u128>],
+    ) -> Result<Vec<u8>, Failure<FirstRefusal>>
+        ensures { WritesAnswers (IsDescription self.now.skeleton.now self.now.coords.system self.now.system.now.rows) (description_text self.now.skeleton.now self.now.coords.system) (all_entries vectors.now) result }
+    {
+        let mut text = Vec::new(alloc);
+        for v in 0..vectors.len() {
+            match self.append_vector(alloc, &vectors[v], &mut text) {
+                Ok(()) => {}
+                Err(Failure::Fault(refusal)) => {
+                    return Err(Failure::Fault(FirstRefusal { vector: v, refusal }));
+                }
+                Err(Failure::NoMemory) => return Err(Failure::NoMemory),
+            }
+        }
+        Ok(text)
+    }
+
+    /// The outcome for `vectors`.
+    fn outcome_of(&self, alloc: Global, vectors: &[Vec<u128>]) -> Result<Outcome, NoMemory>
+        ensures { IfOk result (AreDescribed self.now.skeleton.now self.now.coords.system (all_entries vectors.now)) }
+    {
+        match self.descriptions(alloc, vectors) {
+            Ok(text) => Ok(Outcome::with_text(Status::Done, text)),
+            Err(Failure::Fault(first)) => refusal_outcome(alloc, first.vector, first.refusal),
+            Err(Failure::NoMemory) => Err(NoMemory),
+        }
     }
 }
 
@@ -168,23 +146,12 @@ fn describe_where_valid(
     ensures { IfOk result (AreDescribed skeleton.now coords.system (all_entries vectors.now)) }
 {
     let system = equations(alloc, skeleton, coords.system)?;
-    describe_each(alloc, skeleton, &system, coords, vectors)
-}
-
-/// The outcome for `vectors`, by the skeleton of a table.
-fn answer_by(
-    alloc: Global,
-    skeleton: &Skeleton,
-    coords: DiscCoords,
-    vectors: &[Vec<u128>],
-) -> Result<Outcome, NoMemory>
-    requires { IsSkeleton skeleton.now }
-    ensures { IfOk result (IsDescribeAnswer coords.system (skeleton.now.rows, all_entries vectors.now)) }
-{
-    match skeleton.first_invalid() {
-        Some(class) => invalid_edge_outcome(alloc, class),
-        None => describe_where_valid(alloc, skeleton, coords, vectors),
-    }
+    let matching = Matching {
+        skeleton,
+        coords,
+        system: &system,
+    };
+    matching.outcome_of(alloc, vectors)
 }
 
 /// The outcome for `table` and `vectors`.
@@ -197,7 +164,10 @@ fn answer(
     ensures { IfOk result (IsDescribeAnswer coords.system (table.now, all_entries vectors.now)) }
 {
     let skeleton = Skeleton::of(alloc, table)?;
-    answer_by(alloc, &skeleton, coords, vectors)
+    match skeleton.first_invalid() {
+        Some(class) => invalid_edge_outcome(alloc, class),
+        None => describe_where_valid(alloc, &skeleton, coords, vectors),
+    }
 }
 
 /// The outcome of `describe` for the input `bytes`, a table and vectors: the properties of each surface and of its

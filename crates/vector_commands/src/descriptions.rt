@@ -1,14 +1,15 @@
 //! Writes the description of a vector.
-ghost use Rattle.std.specs.Prelude.{◌≡◌, ◌<◌, ◌++◌, length, None, OnOk, Ok};
+ghost use Rattle.std.specs.Prelude.{◌≡◌, ◌<◌, ◌++◌, length, None, OnOk};
 ghost use Rattle.std.specs.Fmt.{signed_decimal};
 ghost use Rattle.std.specs.List.{flat_map, slice_index_or};
 ghost use Rattle.text_definitions.specs.Written.{limit};
 ghost use Rattle.surface_definitions.specs.Coordinates.{columns};
 ghost use Rattle.surface_vector_definitions.specs.Properties as definitions;
-ghost use Rattle.surface_vector_definitions.specs.Properties.{first_large};
+ghost use Rattle.surface_vector_definitions.specs.Properties.{AreProperties, first_large};
 ghost use Rattle.surface_vector_definitions.specs.Texts as texts;
 ghost use Rattle.surface_pieces.specs.ComponentLists.{no_component};
-ghost use Rattle.vector_commands.specs.Describing.{AreSmall};
+ghost use Rattle.std.proofs.Props.{props};
+ghost use Rattle.vector_commands.specs.SmallComponents.{AreSmall};
 
 use command_answers::yes_or_no;
 use matching_equations::DiscCoords;
@@ -68,65 +69,71 @@ fn characteristic(skeleton: &Skeleton, coords: DiscCoords, x: &[u128]) -> i128
     }
 }
 
-/// Appends the line of component `component`.
-fn append_component(
-    alloc: Global,
-    out: &mut Vec<u8>,
-    skeleton: &Skeleton,
-    coords: DiscCoords,
-    pieces: &Pieces,
-    component: u32,
-) -> Result<(), NoMemory>
-    requires small { AreSmall skeleton.now coords.system pieces.now }
-    requires in_range { component < length pieces.now }
-    ensures { OnOk result (out.new.items ≡ out.old.items ++ texts.component_line skeleton.now coords.system (slice_index_or pieces.now component no_component)) }
-{
-    let vector = pieces.vector(component);
-    let euler = characteristic(skeleton, coords, vector);
-    append_euler(alloc, out, b"component euler ", euler)?;
-    append(out, b" sides ")?;
-    append(out, sides(pieces.two_sided(component)))?;
-    append(out, b" orientable ")?;
-    append(out, yes_or_no(pieces.orientable(component)))?;
-    append(out, b" ")?;
-    write_vector(alloc, vector, out)?;
-    Ok(())
+/// A surface with what `describe` prints of it. Invariant: `properties` and `pieces` are those of the surface `vector`
+/// in the table of `skeleton`, and no sum exceeds the limit.
+#[derive(Clone, Copy)]
+pub struct Described<'a> {
+    pub skeleton: &'a Skeleton,
+    pub coords: DiscCoords,
+    pub vector: &'a [u128],
+    pub properties: &'a Properties,
+    pub pieces: &'a Pieces,
+    pub ghost whole: { AreProperties skeleton.now coords.system vector.now properties.now },
+    pub ghost small: { AreSmall skeleton.now coords.system vector.now pieces.now } by { Prim.hlevel props },
 }
 
-/// Appends the lines of all components in `pieces`.
-fn append_components(
-    alloc: Global,
-    out: &mut Vec<u8>,
-    skeleton: &Skeleton,
-    coords: DiscCoords,
-    pieces: &Pieces,
-) -> Result<(), NoMemory>
-    requires { AreSmall skeleton.now coords.system pieces.now }
-    ensures { OnOk result (out.new.items ≡ out.old.items ++ flat_map (texts.component_line skeleton.now coords.system) pieces.now) }
-{
-    for component in 0..pieces.components() {
-        append_component(alloc, out, skeleton, coords, pieces, component)?;
+impl<'a> Described<'a> {
+    /// The Euler characteristic of component `component`.
+    fn euler_of(&self, component: u32) -> i128
+        requires { component < length self.now.pieces.now }
+        ensures { result ≡ definitions.characteristic self.now.skeleton.now self.now.coords.system (slice_index_or self.now.pieces.now component no_component).vector }
+    {
+        // the only component is the surface itself
+        let count = self.pieces.components();
+        if count == 1 {
+            return self.properties.euler;
+        }
+        characteristic(self.skeleton, self.coords, self.pieces.vector(component))
     }
-    Ok(())
-}
 
-/// Appends the description of the vector `x` to `out`: the vector, its properties, and a line for each component in
-/// `pieces`.
-#[tactic(auto, unfolding(surface_vector_definitions::specs::Texts::description_text))]
-pub fn append_description(
-    alloc: Global,
-    out: &mut Vec<u8>,
-    skeleton: &Skeleton,
-    coords: DiscCoords,
-    x: &[u128],
-    properties: &Properties,
-    pieces: &Pieces,
-) -> Result<(), NoMemory>
-    requires { AreSmall skeleton.now coords.system pieces.now }
-    ensures { OnOk result (out.new.items ≡ out.old.items ++ texts.description_text skeleton.now coords.system (record { vector = x.now; properties = properties.now; components = pieces.now })) }
-{
-    write_vector(alloc, x, out)?;
-    append_properties(alloc, out, properties, pieces.components())?;
-    append_components(alloc, out, skeleton, coords, pieces)?;
-    Ok(())
+    /// Appends the line of component `component`.
+    fn append_component(
+        &self,
+        alloc: Global,
+        out: &mut Vec<u8>,
+        component: u32,
+    ) -> Result<(), NoMemory>
+        requires { component < length self.now.pieces.now }
+        ensures { OnOk result (out.new.items ≡ out.old.items ++ texts.component_line self.now.skeleton.now self.now.coords.system (slice_index_or self.now.pieces.now component no_component)) }
+    {
+        append_euler(alloc, out, b"component euler ", self.euler_of(component))?;
+        append(out, b" sides ")?;
+        append(out, sides(self.pieces.two_sided(component)))?;
+        append(out, b" orientable ")?;
+        append(out, yes_or_no(self.pieces.orientable(component)))?;
+        append(out, b" ")?;
+        write_vector(alloc, self.pieces.vector(component), out)?;
+        Ok(())
+    }
+
+    /// Appends the lines of all components.
+    fn append_components(&self, alloc: Global, out: &mut Vec<u8>) -> Result<(), NoMemory>
+        ensures { OnOk result (out.new.items ≡ out.old.items ++ flat_map (texts.component_line self.now.skeleton.now self.now.coords.system) self.now.pieces.now) }
+    {
+        for component in 0..self.pieces.components() {
+            self.append_component(alloc, out, component)?;
+        }
+        Ok(())
+    }
+
+    /// Appends the description to `out`: the vector, its properties, and a line for each component.
+    #[tactic(auto, unfolding(surface_vector_definitions::specs::Texts::description_text))]
+    pub fn append(&self, alloc: Global, out: &mut Vec<u8>) -> Result<(), NoMemory>
+        ensures { OnOk result (out.new.items ≡ out.old.items ++ texts.description_text self.now.skeleton.now self.now.coords.system (record { vector = self.now.vector.now; properties = self.now.properties.now; components = self.now.pieces.now })) }
+    {
+        write_vector(alloc, self.vector, out)?;
+        append_properties(alloc, out, self.properties, self.pieces.components())?;
+        self.append_components(alloc, out)?;
+        Ok(())
+    }
 }

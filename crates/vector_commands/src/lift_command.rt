@@ -4,9 +4,7 @@ ghost use Rattle.text_definitions.specs.Text.{max_text};
 ghost use Rattle.cone_text_definitions.specs.VectorText.{vector_text};
 ghost use Rattle.surface_definitions.specs.Coordinates.{columns};
 ghost use Rattle.surface_definitions.specs.declared.Coords.TheVariants as coordinates;
-ghost use Rattle.surface_definitions.specs.QuadEquations.{AreEquations};
 ghost use Rattle.surface_definitions.specs.Verdict.{solution};
-ghost use Rattle.skeleton_definitions.specs.Skeleton.{IsSkeleton};
 ghost use Rattle.text_document_definitions.specs.Documents.{vectors_document};
 ghost use Rattle.command_answers.specs.Reads.{all_entries};
 ghost use Rattle.outcome_definitions.specs.Outcomes.{IsReadOutcome};
@@ -28,98 +26,69 @@ use surface_answers::check;
 use surface_vector_definitions::{LiftFault, Refusal};
 use vector_text::write_vector;
 
-/// The lift of the admissible solution `x`, or why it is refused.
-fn lift_solution(
-    alloc: Global,
-    skeleton: &Skeleton,
-    system: &System,
-    x: &[u128],
-) -> Result<Vec<u128>, Failure<Refusal>>
-    requires width { length x.now ≡ columns coordinates.Quad (length skeleton.now.rows) }
-    requires fit { verdict_in coordinates.Quad skeleton.now.rows system.now.rows x.now ≡ solution }
-    ensures { IsLiftResult skeleton.now system.now.rows x.now result }
-{
-    match lift_of(alloc, skeleton, x) {
-        Ok(lifted) => Ok(lifted),
-        Err(Failure::Fault(LiftFault::Large)) => Err(Failure::Fault(Refusal::LargeLift)),
-        Err(Failure::Fault(LiftFault::NoLift { class })) => {
-            Err(Failure::Fault(Refusal::NoLift { class }))
-        }
-        Err(Failure::NoMemory) => Err(Failure::NoMemory),
-    }
+/// A table with its quad equations. Invariant: `system` has one column for each quad of the table of `skeleton`.
+#[derive(Clone, Copy)]
+pub struct QuadMatching<'a> {
+    pub skeleton: &'a Skeleton,
+    pub system: &'a System,
+    pub ghost width: { system.now.columns ≡ columns coordinates.Quad (length skeleton.now.rows) },
 }
 
-/// The lift of the vector `x`, or why it is refused.
-fn lift_vector(
-    alloc: Global,
-    skeleton: &Skeleton,
-    system: &System,
-    x: &[u128],
-) -> Result<Vec<u128>, Failure<Refusal>>
-    requires { system.now.columns ≡ columns coordinates.Quad (length skeleton.now.rows) }
-    ensures { IsLiftResult skeleton.now system.now.rows x.now result }
-{
-    match check(Coords::Quad, skeleton.table(), system, x) {
-        Ok(()) => lift_solution(alloc, skeleton, system, x),
-        Err(fault) => Err(Failure::Fault(Refusal::Unfit { fault })),
-    }
-}
-
-/// Appends the line of the lift of `x`. Fails if it is refused.
-fn append_lift(
-    alloc: Global,
-    skeleton: &Skeleton,
-    system: &System,
-    x: &[u128],
-    text: &mut Vec<u8>,
-) -> Result<(), Failure<Refusal>>
-    requires { system.now.columns ≡ columns coordinates.Quad (length skeleton.now.rows) }
-    ensures { AppendsAnswer (IsLifted skeleton.now system.now.rows) vector_text x.now text.old.items text.new.items result }
-{
-    let lifted = lift_vector(alloc, skeleton, system, x)?;
-    write_vector(alloc, &lifted, text)?;
-    Ok(())
-}
-
-/// The lines of the lifts of `vectors`. Fails at the first vector that is refused.
-fn lifts(
-    alloc: Global,
-    skeleton: &Skeleton,
-    system: &System,
-    vectors: &[Vec<u128>],
-) -> Result<Vec<u8>, Failure<FirstRefusal>>
-    requires { system.now.columns ≡ columns coordinates.Quad (length skeleton.now.rows) }
-    ensures { WritesAnswers (IsLifted skeleton.now system.now.rows) vector_text (all_entries vectors.now) result }
-{
-    let mut text = Vec::new(alloc);
-    for v in 0..vectors.len() {
-        match append_lift(alloc, skeleton, system, &vectors[v], &mut text) {
-            Ok(()) => {}
-            Err(Failure::Fault(refusal)) => {
-                return Err(Failure::Fault(FirstRefusal { vector: v, refusal }));
+impl<'a> QuadMatching<'a> {
+    /// The lift of the admissible solution `x`, or why it is refused.
+    fn lift_solution(&self, alloc: Global, x: &[u128]) -> Result<Vec<u128>, Failure<Refusal>>
+        requires { verdict_in coordinates.Quad self.now.skeleton.now.rows self.now.system.now.rows x.now ≡ solution }
+        ensures { IsLiftResult self.now.skeleton.now self.now.system.now.rows x.now result }
+    {
+        match lift_of(alloc, self.skeleton, x) {
+            Ok(lifted) => Ok(lifted),
+            Err(Failure::Fault(LiftFault::Large)) => Err(Failure::Fault(Refusal::LargeLift)),
+            Err(Failure::Fault(LiftFault::NoLift { class })) => {
+                Err(Failure::Fault(Refusal::NoLift { class }))
             }
-            Err(Failure::NoMemory) => return Err(Failure::NoMemory),
+            Err(Failure::NoMemory) => Err(Failure::NoMemory),
         }
     }
-    Ok(text)
-}
 
-/// The outcome for quad vectors `vectors`, by the skeleton and the equations of a table.
-fn answer_by(
-    alloc: Global,
-    skeleton: &Skeleton,
-    system: &System,
-    vectors: &[Vec<u128>],
-) -> Result<Outcome, NoMemory>
-    requires skeleton { IsSkeleton skeleton.now }
-    requires columns { system.now.columns ≡ columns coordinates.Quad (length skeleton.now.rows) }
-    requires equations { AreEquations coordinates.Quad skeleton.now.rows system.now.rows }
-    ensures { IfOk result (IsLiftsAnswer (skeleton.now.rows, all_entries vectors.now)) }
-{
-    match lifts(alloc, skeleton, system, vectors) {
-        Ok(text) => Ok(Outcome::with_text(Status::Done, text)),
-        Err(Failure::Fault(first)) => refusal_outcome(alloc, first.vector, first.refusal),
-        Err(Failure::NoMemory) => Err(NoMemory),
+    /// The lift of the vector `x`, or why it is refused.
+    fn lift_vector(&self, alloc: Global, x: &[u128]) -> Result<Vec<u128>, Failure<Refusal>>
+        ensures { IsLiftResult self.now.skeleton.now self.now.system.now.rows x.now result }
+    {
+        match check(Coords::Quad, self.skeleton.table(), self.system, x) {
+            Ok(()) => self.lift_solution(alloc, x),
+            Err(fault) => Err(Failure::Fault(Refusal::Unfit { fault })),
+        }
+    }
+
+    /// Appends the line of the lift of `x` to `text`. Fails if it is refused.
+    fn append_lift(
+        &self,
+        alloc: Global,
+        x: &[u128],
+        text: &mut Vec<u8>,
+    ) -> Result<(), Failure<Refusal>>
+        ensures { AppendsAnswer (IsLifted self.now.skeleton.now self.now.system.now.rows) vector_text x.now text.old.items text.new.items result }
+    {
+        let lifted = self.lift_vector(alloc, x)?;
+        write_vector(alloc, &lifted, text)?;
+        Ok(())
+    }
+
+    /// The lines of the lifts of `vectors`. Fails at the first vector that is refused.
+    fn lifts(&self, alloc: Global, vectors: &[Vec<u128>]) -> Result<Vec<u8>, Failure<FirstRefusal>>
+        ensures { WritesAnswers (IsLifted self.now.skeleton.now self.now.system.now.rows) vector_text (all_entries vectors.now) result }
+    {
+        let mut text = Vec::new(alloc);
+        for v in 0..vectors.len() {
+            match self.append_lift(alloc, &vectors[v], &mut text) {
+                Ok(()) => {}
+                Err(Failure::Fault(refusal)) => {
+                    return Err(Failure::Fault(FirstRefusal { vector: v, refusal }));
+                }
+                Err(Failure::NoMemory) => return Err(Failure::NoMemory),
+            }
+        }
+        Ok(text)
     }
 }
 
@@ -129,7 +98,15 @@ fn answer(alloc: Global, table: &Table, vectors: &[Vec<u128>]) -> Result<Outcome
 {
     let skeleton = Skeleton::of(alloc, table)?;
     let system = quad_equations(alloc, &skeleton)?;
-    answer_by(alloc, &skeleton, &system, vectors)
+    let matching = QuadMatching {
+        skeleton: &skeleton,
+        system: &system,
+    };
+    match matching.lifts(alloc, vectors) {
+        Ok(text) => Ok(Outcome::with_text(Status::Done, text)),
+        Err(Failure::Fault(first)) => refusal_outcome(alloc, first.vector, first.refusal),
+        Err(Failure::NoMemory) => Err(NoMemory),
+    }
 }
 
 /// The outcome of `lift` for the input `bytes`, a table and quad vectors: the standard vector of each; or a refusal,
