@@ -243,15 +243,16 @@ class Page:
         cls.addClassCleanup(cls.server.server_close)
         cls.addClassCleanup(cls.server.shutdown)
         cls.address = f"file://{cls.folder.name}/{web_page.PAGE}" if cls.from_disk else f"http://127.0.0.1:{cls.server.server_port}/index.html"
-        cls.window = cls.new_window()
-
-    @classmethod
-    def new_window(cls, **settings):
         try:
-            window = cls.browser(**settings)
+            cls.window = cls.browser()
         except browsers.Missing as fault:
             raise unittest.SkipTest(str(fault)) from None
-        cls.addClassCleanup(window.close)
+        cls.addClassCleanup(cls.window.close)
+
+    def new_window(self, **settings):
+        """A browser of its own for a test, which ends with it."""
+        window = self.browser(**settings)
+        self.addCleanup(window.close)
         return window
 
     def open(self, window=None, **question):
