@@ -9,7 +9,8 @@ use Rattle.surface_vector_definitions.specs.Components.{Component}
 use Rattle.surface_vector_definitions.specs.Properties.{first_large}
 use Rattle.surface_pieces.specs.ComponentLists.{no_component}
 
--- each component's vector has one entry for each column of the table, no sum of it exceeds the limit, and the only component of a surface is the surface
+-- each component's vector has one entry for each column of the table, no sum of it exceeds the limit, and the only
+-- component of a surface is the surface
 pub record AreSmall (s : Skeleton) (coords : Coords) (xs : List ℕ) (components : List Component) : Type 0 where
   pub width : (i : ℕ) → i < length components → length (slice_index_or components i no_component).vector ≡ columns coords (length s.rows)
   pub small : (i : ℕ) → i < length components → first_large limit s coords (slice_index_or components i no_component).vector ≡ None
