@@ -21,27 +21,27 @@ from repository import TOP, crates_of_build, lines_of_crates
 
 # The subject of each crate; its name says its kind.
 SUBJECTS = {
-    "below all": "plain_facts no_memory",
+    "below all": "basic_lemmas out_of_memory",
     "text": "text_definitions text_document_definitions text_document_laws text_partial_laws text_io"
-    " memory_streams bench_io",
+    " memory_io bench_io",
     "table": "table_definitions table_permutation_laws table_walk_laws perm_four finite_walks gluing_table table_commands",
     "skeleton": "skeleton_definitions skeleton_class_laws skeleton_laws skeleton vertex_links",
     "signature": "signature_definitions signature_text_laws signature_laws signature_automorphism_laws signature_codec"
     " canonical_labelling signature_census",
-    "move": "move_definitions move_laws move_kept_laws move_link_laws pachner_moves move_undo move_commands",
+    "move": "move_definitions move_laws move_link_laws pachner_moves move_undo move_commands",
     "certificate": "certificate_definitions certificate_laws sphere_certificate"
     " tri_build certificate_commands",
-    "cover": "cover_definitions cover_laws double_cover cover_commands",
+    "cover": "cover_definitions cover_laws double_cover topology_commands",
     "presentation": "presentation_definitions presentation_laws edge_group",
     "component": "component_definitions component_laws component_signature",
     "cone": "cone_definitions cone_text_definitions cone_laws cone_bound_laws cone_square_laws cone_ray_laws cone_row_laws"
-    " support_bits support_table cone_arithmetic cone_core ray_steps double_description late_columns number_bounds"
-    " solved_rows bounded_list ray_answers vector_text enumeration_commands",
-    "surface": "surface_definitions surface_vector_definitions surface_coordinate_laws surface_laws surface_equation_laws"
+    " support_bits support_table cone_arithmetic cone_core ray_steps double_description lazy_columns number_bounds"
+    " row_reduction vertex_enumeration vector_text enumeration_commands",
+    "surface": "surface_definitions surface_vector_definitions surface_laws surface_equation_laws"
     " surface_quad_laws surface_quad_lift_laws surface_octagon_laws surface_link_laws"
     " surface_agreement_laws surface_efficiency_laws surface_euler_laws"
     " surface_crushing_laws normal_discs matching_equations quad_condition quad_lift surface_pieces"
-    " surface_properties crushing surface_list surface_answers vector_commands",
+    " surface_properties crushing surface_list surface_refusals vector_commands",
     "sum": "sum_definitions sum_laws ray_decompose sum_commands",
     "command": "command_definitions command_laws command_words command_answers",
     "outcome": "outcome_definitions outcome_laws outcome_existence_laws outcome_answer_laws outcome_written_laws"

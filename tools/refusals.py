@@ -10,7 +10,7 @@ from repository import files_of_crate
 
 PROGRAMS = ("trinorm", "trinorm_c", "worked_rows", "worked_tables", "worked_cones")
 # the crate that all others may name, and that names none
-GROUND = "plain_facts"
+GROUND = "basic_lemmas"
 COMMENTS = {".rt": r"//[^\n]*", ".antt": r"(?m)(?:^|(?<=\s))--(?=\s|$)[^\n]*"}
 # what follows the parameters of a function: its result, then a clause of its contract or its body
 CLAUSE = re.compile(r"\s*(?:->(?:[^{;\[]|\[[^\]]*\])*?)?\s*((?:requires|ensures)\b[^{;]*)?\{")

@@ -95,8 +95,8 @@ IsSmall n = n < 2
         self.assertEqual(self.told(), ["refused: sum_laws states IsAlone, and no contract cites it"])
 
     def test_what_stands_below_all_names_none(self):
-        self.add("plain_facts", ["word_definitions"], "ghost use Rattle.word_definitions.specs.Words;")
-        self.assertEqual(self.told(), ["refused: plain_facts, of the laws, names word_definitions"])
+        self.add("basic_lemmas", ["word_definitions"], "ghost use Rattle.word_definitions.specs.Words;")
+        self.assertEqual(self.told(), ["refused: basic_lemmas, of the laws, names word_definitions"])
 
     def test_functions(self):
         """Contracts with several lines and braces, results that hold a `;`, and methods without a body are read."""
@@ -105,7 +105,7 @@ IsSmall n = n < 2
         self.assertEqual(next(functions_of(CODE)).contract, "requires { x.now ≤\n        200 }ensures value { result ≡ 1 }")
 
     def test_kinds(self):
-        for name, wanted in (("a_definitions", "definitions"), ("a_laws", "laws"), ("plain_facts", "laws"), ("trinorm", "program"), ("reader", "code")):
+        for name, wanted in (("a_definitions", "definitions"), ("a_laws", "laws"), ("basic_lemmas", "laws"), ("trinorm", "program"), ("reader", "code")):
             self.assertEqual(kind(name), wanted)
 
 

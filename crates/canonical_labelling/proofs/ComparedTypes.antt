@@ -3,8 +3,8 @@ use Rattle.std.proofs.Common.{◌≡◌, ℕ, ◌+◌, ◌-◌, ◌*◌, ◌/◌
 use Rattle.std.specs.Prelude.{◌==◌, ◌||◌, not, slice_get, IfSome, if◌then◌else◌}
 use Rattle.std.proofs.lemmas.Bool.{eqb-true, or_parts, not-false}
 use Rattle.std.proofs.lemmas.List.{length-append, length-map, map-append}
-use Rattle.plain_facts.proofs.Truths.{if_false}
-use Rattle.plain_facts.proofs.Numbers.{positive}
+use Rattle.basic_lemmas.proofs.Truths.{if_false}
+use Rattle.basic_lemmas.proofs.Numbers.{positive}
 use Rattle.table_definitions.specs.Lists.{is_list_before}
 use Rattle.table_definitions.specs.Table.{Row}
 use Rattle.table_definitions.specs.Relabelling.{Relabelling}

@@ -17,7 +17,7 @@ use crate::Start;
 use crate::comparison::{Comparison, FoundTypes, WorkSpace};
 use crate::order::{Walking, face_from, follow, leave};
 use gluing_table::{Face, Glue, Probe};
-use no_memory::NoMemory;
+use out_of_memory::NoMemory;
 use signature_codec::{
     append_destinations, append_head, append_indices, append_types, type_character, width,
 };

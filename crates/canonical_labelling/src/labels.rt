@@ -7,7 +7,7 @@ ghost use Rattle.signature_laws.specs.Orders.{IsWholeOrder, Numbers, start_at};
 
 use crate::Start;
 use gluing_table::Relabelling;
-use no_memory::NoMemory;
+use out_of_memory::NoMemory;
 use std::alloc::Global;
 
 /// The relabelling that takes the tetrahedron of each start in `order` to its position there, by the permutation of the

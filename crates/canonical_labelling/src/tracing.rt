@@ -11,7 +11,7 @@ ghost use Rattle.canonical_labelling.specs.Traces.{AreBelow, IsVisited, AgreesGl
 use crate::Start;
 use crate::order::{face_from, start_behind};
 use gluing_table::{Face, Glue, Table};
-use no_memory::NoMemory;
+use out_of_memory::NoMemory;
 use perm_four::Perm4;
 use std::alloc::{AllocError, Global};
 

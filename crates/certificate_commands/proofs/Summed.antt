@@ -4,7 +4,7 @@ use Rattle.std.specs.Prelude.{codes, count_by}
 use Rattle.text_definitions.specs.Written.{limit}
 use Rattle.cone_definitions.specs.declared.Order.TheVariants.{Given}
 use Rattle.double_description.specs.declared.engine.LargeStep.{LargeStep}
-use Rattle.no_memory.specs.declared.Failure.TheVariants.{Fault}
+use Rattle.out_of_memory.specs.declared.Failure.TheVariants.{Fault}
 use Rattle.table_definitions.specs.Table.{Row}
 use Rattle.surface_definitions.specs.declared.Coords.TheVariants.{Standard}
 use Rattle.surface_definitions.specs.Characteristic.{is_linking}

@@ -10,10 +10,10 @@ use cone_arithmetic::MAX_ENTRY;
 use double_description::NamedOrder;
 use gluing_table::Table;
 use matching_equations::Coords;
-use no_memory::{Failure, NoMemory};
+use out_of_memory::{Failure, NoMemory};
 use sphere_certificate::check;
 use std::alloc::Global;
-use surface_answers::large_outcome;
+use surface_refusals::large_outcome;
 use tri_build::Made;
 
 /// Checks the certificate of `made`, which is one.

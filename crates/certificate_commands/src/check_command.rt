@@ -9,7 +9,7 @@ use crate::documents::read_table_and_moves;
 use crate::faults::refused_outcome;
 use command_answers::{Outcome, accepted_outcome, fault_outcome};
 use gluing_table::Table;
-use no_memory::{Failure, NoMemory};
+use out_of_memory::{Failure, NoMemory};
 use pachner_moves::Move;
 use sphere_certificate::check_owned;
 use std::alloc::Global;

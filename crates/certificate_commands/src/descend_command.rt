@@ -10,7 +10,7 @@ ghost use Rattle.outcome_definitions.specs.Certificates.{IsDescendAnswer};
 use command_answers::{Outcome, answer_read, not_connected_outcome, read_table_document};
 use gluing_table::{Table, write_table};
 use move_undo::write_moves;
-use no_memory::{Failure, NoMemory};
+use out_of_memory::{Failure, NoMemory};
 use outcome_definitions::Status;
 use sphere_certificate::{Descent, descend as descend_from};
 use std::alloc::Global;

@@ -6,7 +6,7 @@ ghost use Rattle.sphere_certificate.specs.Checks.{told};
 
 use command_answers::{Outcome, not_connected_outcome};
 use move_undo::append_move_fault;
-use no_memory::NoMemory;
+use out_of_memory::NoMemory;
 use outcome_definitions::Status;
 use pachner_moves::MoveFault;
 use sphere_certificate::CheckFault;

@@ -6,7 +6,7 @@ ghost use Rattle.outcome_definitions.specs.Makings.{IsMakeAnswer};
 use command_answers::Outcome;
 use gluing_table::write_table;
 use move_undo::write_moves;
-use no_memory::NoMemory;
+use out_of_memory::NoMemory;
 use outcome_definitions::Status;
 use std::alloc::Global;
 use tri_build::Made;

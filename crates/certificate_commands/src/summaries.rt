@@ -7,7 +7,7 @@ ghost use Rattle.certificate_commands.specs.Entries.{IsGreatestOf};
 
 use command_answers::{Outcome, append_number_line};
 use cone_arithmetic::Ray;
-use no_memory::NoMemory;
+use out_of_memory::NoMemory;
 use outcome_definitions::Status;
 use std::alloc::Global;
 use std::marker::Model;

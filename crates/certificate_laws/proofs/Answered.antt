@@ -2,8 +2,8 @@
 use Rattle.std.proofs.Common.{◌≡◌, ℕ, zero, suc, ◌+◌, ◌<◌, ◌≤◌, Bool, true, false, List, [], ◌∷◌, length, Option, Some, None, Ok, Err, refl, sym, ap, ◌∙◌, arith, inl, inr}
 use Rattle.std.specs.Prelude.{◌⊎◌, ◌≢◌, All, find}
 use Rattle.std.proofs.lemmas.Bool.{false≢true}
-use Rattle.plain_facts.proofs.Options.{one_or_other}
-use Rattle.plain_facts.proofs.Lists.{found_passes}
+use Rattle.basic_lemmas.proofs.Options.{one_or_other}
+use Rattle.basic_lemmas.proofs.Lists.{found_passes}
 use Rattle.table_definitions.specs.Lists.{same_list}
 use Rattle.table_definitions.specs.Table.{Row, IsTable}
 use Rattle.table_definitions.specs.Places.{IsConnected}

@@ -8,7 +8,7 @@ use Rattle.move_definitions.specs.Certificates.{IsStandard, descent_move, candid
 use Rattle.certificate_definitions.specs.CarriedBack.{move_back, AreCarriedBack}
 use Rattle.certificate_definitions.specs.SoFar.{Descends, Stage, Makes}
 use Rattle.certificate_laws.specs.LoopLaws.{ChecksGoOn, ChecksRefuse, DescentsGoOn, DescentsAreDone, MakingsGoOn, MakingsAreDone, WaysBackGoOn}
-use Rattle.plain_facts.proofs.Numbers.{one_on}
+use Rattle.basic_lemmas.proofs.Numbers.{one_on}
 
 -- lists, cut at a place
 take_next : (ms : List Move) (k : ℕ) (m : Move) → k < length ms → m ≡ get_or ms k m → take (suc k) ms ≡ take k ms ++ m ∷ []

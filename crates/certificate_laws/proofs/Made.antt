@@ -1,7 +1,7 @@
 -- The generator makes one table with one certificate.
 use Rattle.std.proofs.Common.{◌≡◌, ℕ, zero, suc, true, List, [], ◌∷◌, ◌++◌, length, Option, Some, None, refl, sym, subst, arith, inl, inr}
 use Rattle.std.specs.Prelude.{◌⊎◌, filter, is_none, nat_lt, if◌then◌else◌}
-use Rattle.plain_facts.proofs.Options.{both_none}
+use Rattle.basic_lemmas.proofs.Options.{both_none}
 use Rattle.table_definitions.specs.Table.{max_tets, Row, IsTable}
 use Rattle.table_definitions.specs.Relabelling.{AreIsomorphic}
 use Rattle.table_definitions.proofs.TableLaws.{Among}

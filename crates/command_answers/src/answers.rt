@@ -4,7 +4,7 @@ ghost use Rattle.std.specs.Result.{ForOk};
 ghost use Rattle.command_answers.specs.Refusals.{IsFaultOutcome};
 
 use crate::{Outcome, fault_outcome};
-use no_memory::NoMemory;
+use out_of_memory::NoMemory;
 use signature_codec::InputFault;
 use std::alloc::Global;
 

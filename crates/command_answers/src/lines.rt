@@ -8,7 +8,7 @@ ghost use Rattle.outcome_definitions.specs.Canonical.{done};
 ghost use Rattle.outcome_definitions.specs.Sums.{accepted_outcome};
 
 use crate::Outcome;
-use no_memory::NoMemory;
+use out_of_memory::NoMemory;
 use outcome_definitions::Status;
 use std::alloc::Global;
 use text_io::{append, append_decimal};

@@ -7,7 +7,7 @@ ghost use Rattle.command_answers.specs.Refusals.{IsFaultOutcome};
 
 use crate::outcome::Outcome;
 use gluing_table::{TableFault, TextFault};
-use no_memory::NoMemory;
+use out_of_memory::NoMemory;
 use outcome_definitions::Status;
 use signature_codec::{InputFault, SigFault};
 use std::alloc::Global;

@@ -4,7 +4,7 @@ ghost use Rattle.text_definitions.specs.Written.{line};
 ghost use Rattle.surface_definitions.specs.Verdict.{verdict_text};
 
 use crate::append_number_line;
-use no_memory::NoMemory;
+use out_of_memory::NoMemory;
 use std::alloc::Global;
 use surface_definitions::VectorFault;
 use text_io::{append, append_decimal};

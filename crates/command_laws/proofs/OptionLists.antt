@@ -4,7 +4,7 @@ use Rattle.std.specs.List.{AllByRecursion, AllPairs, AllZip, Contains, flat_map}
 use Rattle.std.proofs.lemmas.List.{get_or_append_left, get_or_at, length-append}
 use Rattle.std.proofs.lemmas.List.Elements.{All-from_recursion, recursion_from_All}
 use Rattle.std.proofs.lemmas.List.Quantifiers.{all_pairs_push}
-use Rattle.plain_facts.proofs.Options.{some≢none}
+use Rattle.basic_lemmas.proofs.Options.{some≢none}
 use Rattle.command_definitions.specs.Options.{Given, is_hyphened, is_known, is_named, option_met, option_read, option_word, options_from, with_value}
 use Rattle.command_definitions.specs.Grammar.{IsSpelled}
 use Rattle.command_laws.proofs.Lookups.{Text, absent_named, named_absent, known_member, member_known, member_of, contains_of}

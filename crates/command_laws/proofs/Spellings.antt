@@ -2,7 +2,7 @@
 use Rattle.std.proofs.Common.{◌≡◌, ◌==◌, ◌+◌, ◌||◌, ◌&&◌, ℕ, Bool, true, false, not, suc, refl, sym, ap, ◌∙◌, subst, [], ◌∷◌, ◌++◌, take, drop, Option, Some, None, cond, codes, true≢false, arith, append_assoc}
 use Rattle.std.specs.List.{list_any, before_first, after_first, position_or_len}
 use Rattle.std.proofs.lemmas.Bool.{eqb-true, or_right, or_parts, not-true}
-use Rattle.plain_facts.proofs.Options.{some≢none}
+use Rattle.basic_lemmas.proofs.Options.{some≢none}
 use Rattle.command_definitions.specs.Options.{is_equals_sign, name_and_value, option_word}
 use Rattle.command_laws.proofs.Lookups.{Text}
 

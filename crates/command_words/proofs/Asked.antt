@@ -20,7 +20,7 @@ use Rattle.command_definitions.specs.Options.{Given, options_of, value_of}
 use Rattle.command_definitions.specs.Values.{request_with, values_of, ◌>>=◌}
 use Rattle.command_definitions.specs.Commands.{Command, commands, option_names}
 use Rattle.command_definitions.specs.Words.{request_given, accepted_request}
-use Rattle.plain_facts.proofs.Options.{some≢none}
+use Rattle.basic_lemmas.proofs.Options.{some≢none}
 use Rattle.command_words.specs.Apps.{command_before, option_argument, program_with, request_in, values_in}
 use Rattle.command_words.specs.Requests.{FailsWords, parse_fault}
 use Rattle.command_words.proofs.OptionRules.{option_rule, row, rows, rules_for}

@@ -4,7 +4,7 @@ use Rattle.std.specs.Str.{bytes_eq}
 use Rattle.clap.specs.Lexer.{long_of, short_of}
 use Rattle.clap.specs.Walk.{Text}
 use Rattle.command_definitions.specs.Options.{is_hyphened, option_word}
-use Rattle.plain_facts.proofs.Options.{some≢none}
+use Rattle.basic_lemmas.proofs.Options.{some≢none}
 use Rattle.command_words.specs.Texts.{dashes}
 
 pub option_word-long : (x : Text) → bytes_eq x dashes ≡ false → option_word x ≡ long_of x

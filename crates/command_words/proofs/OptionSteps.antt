@@ -9,7 +9,7 @@ use Rattle.clap.specs.Faults.{flags_fault, settle_fault}
 use Rattle.clap.specs.declared.error.kind.ErrorKind.{ErrorKind}
 use Rattle.clap.specs.declared.error.kind.ErrorKind.TheVariants.{UnknownArgument, ArgumentConflict, InvalidValue}
 use Rattle.command_definitions.specs.Options.{Given, is_known, is_named}
-use Rattle.plain_facts.proofs.Options.{some≢none}
+use Rattle.basic_lemmas.proofs.Options.{some≢none}
 use Rattle.command_words.proofs.OptionRules.{rules_for, rows, by_id, by_long, by_short, by_index, same_text, used-new, use-new, use-twice}
 use Rattle.command_words.proofs.WordSteps.{walk_of, IsSpelled, fault_at, walk_after}
 

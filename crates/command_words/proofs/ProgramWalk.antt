@@ -15,7 +15,7 @@ use Rattle.clap.specs.declared.error.kind.ErrorKind.{ErrorKind}
 use Rattle.clap.specs.declared.error.kind.ErrorKind.TheVariants.{InvalidSubcommand, UnknownArgument}
 use Rattle.command_definitions.specs.Options.{Given, options_of}
 use Rattle.command_definitions.specs.Commands.{Command, option_names}
-use Rattle.plain_facts.proofs.Options.{some≢none}
+use Rattle.basic_lemmas.proofs.Options.{some≢none}
 use Rattle.command_words.proofs.OptionRules.{rules_for, rows}
 use Rattle.command_words.specs.Texts.{dashes}
 use Rattle.command_words.proofs.WordSteps.{leaf, walk_of, IsSpelled, answer, fault_from}

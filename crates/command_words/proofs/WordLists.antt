@@ -6,7 +6,7 @@ use Rattle.std.specs.List.{list_any}
 use Rattle.std.specs.Borrow.{Bor}
 use Rattle.clap.specs.Walk.{Text, texts}
 use Rattle.clap.proofs.WalkLemmas.{list_any-map}
-use Rattle.plain_facts.proofs.Options.{some≢none}
+use Rattle.basic_lemmas.proofs.Options.{some≢none}
 use Rattle.command_words.specs.Texts.{AreTexts, dashes, has_dashes}
 use Rattle.command_words.proofs.OptionWalk.{AreWords}
 use Rattle.command_words.proofs.Spelled.{spelled}

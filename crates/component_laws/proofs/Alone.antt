@@ -4,7 +4,7 @@ use Rattle.std.specs.List.{AllZip}
 use Rattle.std.proofs.lemmas.List.{get_or-map, length-map}
 use Rattle.std.proofs.lemmas.List.FromFn.{length-range_with_len, get_or-range_with_len}
 use Rattle.std.proofs.lemmas.List.Sorted.{IsPermutation-refl, length_permutation, Contains-permutation}
-use Rattle.plain_facts.proofs.Members.{Within, same_numbers, contains_at, Ascends}
+use Rattle.basic_lemmas.proofs.Members.{Within, same_numbers, contains_at, Ascends}
 use Rattle.table_definitions.specs.Lists.{below}
 use Rattle.table_definitions.specs.Table.{Gluing, Row, IsTable, glue}
 use Rattle.table_definitions.specs.Places.{Place, whole, across, SameComponent, IsConnected}

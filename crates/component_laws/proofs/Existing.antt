@@ -4,7 +4,7 @@ use Rattle.std.proofs.lemmas.Bool.{cases_lt, cases_eq}
 use Rattle.std.proofs.lemmas.List.{get_or_default, get_or_append_left, length_push}
 use Rattle.std.proofs.lemmas.List.Elements.{All-push, All-nil, All-contains, Contains-push, Contains-push_cases}
 use Rattle.std.proofs.lemmas.List.Quantifiers.{all_pairs_push}
-use Rattle.plain_facts.proofs.Members.{contains_at, Ascends, contains_nil}
+use Rattle.basic_lemmas.proofs.Members.{contains_at, Ascends, contains_nil}
 use Rattle.table_definitions.specs.Table.{Row, IsTable}
 use Rattle.table_definitions.specs.Places.{whole, SameComponent}
 use Rattle.table_definitions.proofs.ChainLaws.{joined_refl, joins_back}

@@ -4,7 +4,7 @@ use Rattle.std.specs.Prelude.{not}
 use Rattle.std.proofs.lemmas.Bool.{cases_order, cases_eq}
 use Rattle.std.proofs.lemmas.List.{get_or_default}
 use Rattle.std.proofs.lemmas.List.Elements.{All-from_get_or, All-get_or}
-use Rattle.plain_facts.proofs.Members.{contains_at}
+use Rattle.basic_lemmas.proofs.Members.{contains_at}
 use Rattle.table_definitions.specs.Permutation.{IsPermutationOfFour, image, inverse}
 use Rattle.table_definitions.specs.Table.{Gluing, Row, Face, IsTable, glue, other_side, way_back, same_face}
 use Rattle.table_definitions.specs.Places.{whole, SameComponent}

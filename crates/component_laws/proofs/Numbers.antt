@@ -9,8 +9,8 @@ use Rattle.std.proofs.lemmas.List.Sums.{position_or_len_is}
 use Rattle.std.proofs.lemmas.List.Folds.{Any-from_list_any}
 use Rattle.std.proofs.lemmas.Map.Steps.{length-le_from_distinct_below}
 use Rattle.std.proofs.Math.ListN.{get_or-map as entry-map}
-use Rattle.plain_facts.proofs.Numbers.{less_unequal}
-use Rattle.plain_facts.proofs.Members.{Ascends}
+use Rattle.basic_lemmas.proofs.Numbers.{less_unequal}
+use Rattle.basic_lemmas.proofs.Members.{Ascends}
 use Rattle.table_definitions.specs.Lists.{below}
 use Rattle.table_definitions.specs.Table.{Row, glue}
 use Rattle.table_definitions.proofs.Bijections.{IsDistinct-from_before}

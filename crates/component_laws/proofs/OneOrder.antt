@@ -5,7 +5,7 @@ use Rattle.std.proofs.lemmas.Bool.{false≢true}
 use Rattle.std.proofs.lemmas.List.{get_or_default}
 use Rattle.std.proofs.lemmas.List.Sorted.{IsPermutation-sym, IsPermutation-trans, Contains-permutation}
 use Rattle.std.proofs.lemmas.Slice.Zip.{AllZip-long}
-use Rattle.plain_facts.proofs.Members.{Within, contains_nil, contains_head, contains_tail, contains_cases}
+use Rattle.basic_lemmas.proofs.Members.{Within, contains_nil, contains_head, contains_tail, contains_cases}
 use Rattle.table_definitions.specs.Lists.{below, is_list_before}
 use Rattle.table_definitions.specs.Table.{Row, IsTable}
 use Rattle.table_definitions.specs.Relabelling.{Relabelling, relabelled_place}

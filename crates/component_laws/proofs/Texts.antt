@@ -3,7 +3,7 @@ use Rattle.std.proofs.Common.{◌≡◌, ◌≢◌, ℕ, ◌<◌, ◌≤◌, inl
 use Rattle.std.specs.Prelude.{nat_lt, ◌==◌, ◌||◌, not, if◌then◌else◌}
 use Rattle.std.proofs.lemmas.Bool.{cases_lt}
 use Rattle.std.proofs.lemmas.List.{get_or_past}
-use Rattle.plain_facts.proofs.Numbers.{not_equal}
+use Rattle.basic_lemmas.proofs.Numbers.{not_equal}
 use Rattle.table_definitions.specs.Permutation.{index}
 use Rattle.table_definitions.specs.Table.{Row, Gluing}
 use Rattle.signature_definitions.specs.Spelling.{alphabet, character, head_values, width, in_values, packed, face_types, joined, seen_gluings, spelling_values, Spells, IsSignature}

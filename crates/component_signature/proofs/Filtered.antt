@@ -5,7 +5,7 @@ use Rattle.std.proofs.lemmas.Bool.{eqb-true, eq-eqb}
 use Rattle.std.proofs.lemmas.List.Elements.{filter-append}
 use Rattle.std.proofs.lemmas.List.FromFn.{length-range_with_len, get_or-range_with_len}
 use Rattle.std.proofs.lemmas.List.Kept.{AllPairs-filter}
-use Rattle.plain_facts.proofs.Members.{contains_nil, contains_head, contains_tail, contains_cases}
+use Rattle.basic_lemmas.proofs.Members.{contains_nil, contains_head, contains_tail, contains_cases}
 use Rattle.table_definitions.specs.Lists.{below}
 use Rattle.table_definitions.proofs.Bijections.{below-push}
 

@@ -4,7 +4,7 @@ use Rattle.std.specs.Prelude.{◌==◌}
 use Rattle.std.proofs.lemmas.Bool.{eqb-true, eq-eqb}
 use Rattle.std.proofs.lemmas.List.{length-map}
 use Rattle.std.proofs.lemmas.List.FromFn.{length-range_with_len, map-range_with_len_more, get_or-map-range_with_len}
-use Rattle.plain_facts.proofs.Members.{contains_at}
+use Rattle.basic_lemmas.proofs.Members.{contains_at}
 use Rattle.table_definitions.specs.Lists.{below}
 use Rattle.table_definitions.specs.Table.{Row, IsTable}
 use Rattle.table_definitions.proofs.Bijections.{below_contains}

@@ -4,7 +4,7 @@ use Rattle.std.specs.declared.cmp.Ordering.TheVariants.{Equal}
 use Rattle.std.proofs.lemmas.Bool.{cases_order, cases_lt}
 use Rattle.std.proofs.lemmas.Bool.Decides.{nat_tests}
 use Rattle.std.proofs.lemmas.List.Elements.{All-get_or}
-use Rattle.plain_facts.proofs.Members.{Ascends}
+use Rattle.basic_lemmas.proofs.Members.{Ascends}
 use Rattle.table_definitions.specs.Table.{Gluing, Row, IsTable, glue}
 use Rattle.table_definitions.proofs.ListFacts.{four_made}
 use Rattle.component_definitions.specs.Parts.{Part, place_in, renumbered, rows_of, IsPart}

@@ -2,7 +2,7 @@
 use Rattle.std.proofs.Common.{◌≡◌, ◌≢◌, ℕ, ◌<◌, ◌+◌, inl, inr, List, [], length, All, Contains, slice_index, slice_index_or, slice_set, sym, ap, subst, refl, ◌∙◌, arith}
 use Rattle.std.proofs.lemmas.Bool.{cases_order}
 use Rattle.std.proofs.lemmas.List.{get_or-set_same, get_or-set_other, length-set}
-use Rattle.plain_facts.proofs.Members.{contains_at, Ascends}
+use Rattle.basic_lemmas.proofs.Members.{contains_at, Ascends}
 use Rattle.table_definitions.specs.Relabelling.{Relabelling, relabelled_place}
 use Rattle.component_definitions.specs.Parts.{Part}
 use Rattle.component_laws.proofs.Numbers.{stands_once}

@@ -7,7 +7,7 @@ ghost use Rattle.table_definitions.specs.Classes.{IsNumbering};
 
 use finite_walks::{Numbering, classes};
 use gluing_table::{Row, rows_behind};
-use no_memory::NoMemory;
+use out_of_memory::NoMemory;
 use std::alloc::Global;
 
 /// The component of each tetrahedron of `rows`, and the number of components, which are numbered by their least

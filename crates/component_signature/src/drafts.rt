@@ -7,7 +7,7 @@ ghost use Rattle.component_definitions.specs.SameParts.{GoesBy};
 
 use crate::split::Part;
 use gluing_table::Relabelling;
-use no_memory::NoMemory;
+use out_of_memory::NoMemory;
 use perm_four::Perm4;
 use std::alloc::Global;
 use std::marker::Model;

@@ -13,7 +13,7 @@ use crate::drafts::{Draft, blank_draft, write_part};
 use crate::order::{OrderedParts, PartSignature, in_order};
 use canonical_labelling::same_of_connected;
 use gluing_table::{Relabelling, Table};
-use no_memory::NoMemory;
+use out_of_memory::NoMemory;
 use std::alloc::Global;
 
 /// Whether `first` and `second` have equal signatures, index by index.

@@ -11,7 +11,7 @@ ghost use Rattle.component_laws.specs.Ordered.{AreSigned, AreInOrder};
 use crate::split::{Part, parts};
 use canonical_labelling::signature_of_connected;
 use gluing_table::Table;
-use no_memory::NoMemory;
+use out_of_memory::NoMemory;
 use std::alloc::Global;
 
 /// The signature of a component, and the index of the component. Ordered by signature, then by index.

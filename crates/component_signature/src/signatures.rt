@@ -7,7 +7,7 @@ ghost use Rattle.component_laws.specs.Ordered.{texts_of};
 
 use crate::order::{PartSignature, in_order};
 use gluing_table::Table;
-use no_memory::NoMemory;
+use out_of_memory::NoMemory;
 use std::alloc::Global;
 use text_io::append;
 

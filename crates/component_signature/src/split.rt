@@ -9,7 +9,7 @@ ghost use Rattle.component_signature.specs.Components as components;
 use crate::components::components;
 use crate::renumbered::renumbered_rows;
 use gluing_table::Table;
-use no_memory::NoMemory;
+use out_of_memory::NoMemory;
 use std::alloc::{AllocError, Global};
 use std::marker::Model;
 

@@ -8,7 +8,7 @@ use Rattle.std.specs.Ordering.{ordering_then}
 use Rattle.std.specs.Cmp.{nat_cmp_is}
 use Rattle.std.specs.Cmp.Lexicographic.{slice_cmp}
 use Rattle.std.specs.Int.{IsGcd, ◌∣◌}
-use Rattle.plain_facts.proofs.Lists.{take_other}
+use Rattle.basic_lemmas.proofs.Lists.{take_other}
 use Rattle.cone_definitions.specs.Vectors.{IsNonzero, multiple, sum_of}
 use Rattle.cone_definitions.proofs.Entries.{length-multiple, entry-multiple, length-sum_of, entry-sum_of}
 use Rattle.cone_definitions.proofs.Divisors.{entry-divided, divided_is, divided_primitive}

@@ -4,7 +4,7 @@ ghost use Rattle.std.specs.Prelude.{◌≡◌, ◌<◌, length, slice_index, sli
 ghost use Rattle.cone_arithmetic.specs.RayEntries.{numbers_of};
 
 use crate::small::MAX_SMALL;
-use no_memory::NoMemory;
+use out_of_memory::NoMemory;
 use std::alloc::Global;
 
 /// Entries in 64 bits each, or in 128 bits each.

@@ -5,7 +5,7 @@ ghost use Rattle.cone_definitions.specs.Vectors.{multiple, sum_of};
 ghost use Rattle.cone_arithmetic.specs.Filled.{AreFilled, NamesColumns, WordsNameColumns};
 
 use crate::small::small_sum;
-use no_memory::NoMemory;
+use out_of_memory::NoMemory;
 use std::alloc::Global;
 
 /// Writes the entries of `a * w + b * u` at those of the 64 columns from `first` on whose bits are set. False if one

@@ -20,7 +20,7 @@ use crate::numbers::{MAX_ENTRY, Passed, PlusMinus, gcd, parts_of, small_parts};
 use crate::ray::{CombineFault, Ray, combine};
 use crate::row::SparseRow;
 use crate::small::{MAX_SMALL, quotient};
-use no_memory::NoMemory;
+use out_of_memory::NoMemory;
 use std::alloc::Global;
 use std::cmp::Ordering;
 use std::marker::Model;

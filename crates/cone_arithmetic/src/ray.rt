@@ -14,7 +14,7 @@ use crate::divisors::{common_divisor, divide};
 use crate::numbers::{MAX_ENTRY, Passed, PlusMinus, gcd, parts};
 use crate::row::SparseRow;
 use crate::small::{product, quotient};
-use no_memory::NoMemory;
+use out_of_memory::NoMemory;
 use std::alloc::{AllocError, AllocFailed, Global};
 use std::cmp::Ordering;
 use std::marker::Model;

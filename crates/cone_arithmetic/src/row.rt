@@ -3,7 +3,7 @@
 ghost use Rattle.std.specs.Prelude.{◌≡◌, ◌≤◌, length, IsOk, IfOk};
 ghost use Rattle.cone_arithmetic.specs.Sparse.{IsSparse};
 
-use no_memory::NoMemory;
+use out_of_memory::NoMemory;
 use smallvec::SmallVec;
 use std::alloc::Global;
 use std::marker::Model;

@@ -9,7 +9,7 @@ ghost use Rattle.cone_definitions.specs.Met.{HoldsWithin};
 
 use crate::numbers::{MAX_ENTRY, Passed, parts};
 use crate::row::SparseRow;
-use no_memory::NoMemory;
+use out_of_memory::NoMemory;
 use std::alloc::Global;
 use std::marker::Model;
 

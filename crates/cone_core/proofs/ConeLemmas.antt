@@ -4,8 +4,8 @@ use Rattle.std.specs.Prelude.{nat_lt, unsigned_abs, codes}
 use Rattle.std.specs.List.{enumerate_from}
 use Rattle.std.proofs.lemmas.List.Elements.{All-push, All-weaker, All-get_or}
 use Rattle.std.proofs.lemmas.List.Quantifiers.{all_pairs_push}
-use Rattle.plain_facts.proofs.Options.{ok_value}
-use Rattle.plain_facts.proofs.Numbers.{not_zero}
+use Rattle.basic_lemmas.proofs.Options.{ok_value}
+use Rattle.basic_lemmas.proofs.Numbers.{not_zero}
 use Rattle.text_definitions.specs.declared.LexFault.{LexFault}
 use Rattle.text_definitions.specs.declared.LexKind.TheVariants.{NumberTooWide}
 use Rattle.text_definitions.specs.Text.{decimal_value}

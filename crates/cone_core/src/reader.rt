@@ -6,7 +6,7 @@ ghost use Rattle.cone_core.specs.ConeReads.{GivesHere, GivesCone, sparse_row_at,
 ghost use Rattle.cone_text_definitions.specs.ConeText.{cone_at};
 
 use cone_arithmetic::{MAX_COEFFICIENT, SparseRow, System};
-use no_memory::NoMemory;
+use out_of_memory::NoMemory;
 use smallvec::SmallVec;
 use std::alloc::{AllocFailed, Global};
 use text_io::{LexFault, Lexer};

@@ -3,8 +3,8 @@ use Rattle.std.proofs.Common.{◌≡◌, ◌≢◌, ℕ, zero, suc, ◌≤◌, i
 use Rattle.std.specs.List.{IsFirstBest}
 use Rattle.std.proofs.lemmas.Bool.{false≢true, cases_order}
 use Rattle.std.proofs.lemmas.List.{take_all, take_more}
-use Rattle.plain_facts.proofs.Members.{same_numbers}
-use Rattle.plain_facts.proofs.Lists.{take_none}
+use Rattle.basic_lemmas.proofs.Members.{same_numbers}
+use Rattle.basic_lemmas.proofs.Lists.{take_none}
 use Rattle.cone_definitions.specs.Systems.{System}
 use Rattle.cone_definitions.specs.declared.Order.{Order}
 use Rattle.cone_definitions.specs.declared.Order.TheVariants.{Given, Short, Zeros, Free}

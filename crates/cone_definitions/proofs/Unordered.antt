@@ -1,7 +1,7 @@
 -- What follows for a step from the vertex surfaces of the rows before in any order, place by place.
 use Rattle.std.proofs.Common.{◌≡◌, ℕ, ◌<◌, ◌⊎◌, inl, inr, List, [], length, get_or, subst, sym, ap, ◌∙◌}
 use Rattle.std.proofs.lemmas.List.{get_or_default}
-use Rattle.plain_facts.proofs.Lists.{one_place}
+use Rattle.basic_lemmas.proofs.Lists.{one_place}
 use Rattle.cone_definitions.specs.Vectors.{IsBefore, IsInsideUnion, ray_at}
 use Rattle.cone_definitions.specs.Rows.{Row, IsPositiveAt, IsNegativeAt}
 use Rattle.cone_definitions.specs.Surfaces.{Clash, IsAdmissibleUnion, IsSurfaceList}

@@ -9,7 +9,7 @@ use Rattle.table_definitions.specs.Table.{Gluing, Row}
 use Rattle.table_definitions.proofs.Ranks.{rank, rank-suc, rank_fits, StandsAt, at_rank, of_rank}
 use Rattle.surface_definitions.specs.Crushing.{is_removed, number_kept, CrushesTo, IsCrushed, renumbered}
 use Rattle.crushing.specs.Rows.{IsCrushedRow, AreCrushedBefore, AreNewNumbers}
-use Rattle.plain_facts.proofs.Truths.{one_if}
+use Rattle.basic_lemmas.proofs.Truths.{one_if}
 
 abbrev stays : List ℕ → ℕ → Bool
 stays xs t = not (is_removed xs t)

@@ -9,7 +9,7 @@ ghost use Rattle.crushing.specs.Rows.{IsCrushedRow, AreCrushedBefore, AreNewNumb
 
 use crate::surface::{NumberedSurface, Surface};
 use gluing_table::{Face, Glue, Row, Table};
-use no_memory::NoMemory;
+use out_of_memory::NoMemory;
 use skeleton::Skeleton;
 use std::alloc::{AllocError, Global};
 

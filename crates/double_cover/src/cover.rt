@@ -2,7 +2,7 @@
 
 ghost use Rattle.std.specs.Prelude.{◌≡◌, ◌*◌, ◌<◌, ◌≤◌, length, Some, None, IfOk, IfErr, OnOk, IfSome};
 ghost use Rattle.std.specs.Option.{option_copied, option_map};
-ghost use Rattle.no_memory.specs.Failures.{IfFault};
+ghost use Rattle.out_of_memory.specs.Failures.{IfFault};
 ghost use Rattle.table_definitions.specs.Table.{IsTable};
 ghost use Rattle.table_definitions.specs.Relabelling.{Carries};
 ghost use Rattle.skeleton_definitions.specs.Orientation.{AreSigns};
@@ -14,7 +14,7 @@ use crate::rows::cover_table;
 use crate::sheets::Sheets;
 use cover_definitions::LargeCover;
 use gluing_table::{MAX_TETS, Relabelling, Table};
-use no_memory::{Failure, NoMemory};
+use out_of_memory::{Failure, NoMemory};
 use skeleton::Skeleton;
 use std::alloc::{AllocError, Global};
 use std::marker::Model;

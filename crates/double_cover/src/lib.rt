@@ -14,4 +14,4 @@ mod sheets;
 
 pub use cover::{Cover, CoverFault};
 pub use cover_definitions::LargeCover as TooMany;
-pub use no_memory::Failure;
+pub use out_of_memory::Failure;

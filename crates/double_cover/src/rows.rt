@@ -7,7 +7,7 @@ ghost use Rattle.cover_definitions.specs.Cover as definition;
 
 use crate::sheets::{Sheet, Sheets};
 use gluing_table::{Face, Glue, Row, Table};
-use no_memory::NoMemory;
+use out_of_memory::NoMemory;
 use std::alloc::{AllocError, Global};
 
 /// The sheet across `glue` from `sheet`: the same one if the gluing is odd, otherwise the other one.

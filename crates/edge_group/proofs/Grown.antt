@@ -5,8 +5,8 @@ use Rattle.std.proofs.lemmas.Bool.{cases_lt, cases_eq}
 use Rattle.std.proofs.lemmas.List.{get_or-set_same, get_or-set_other, length-set, take_more}
 use Rattle.std.proofs.lemmas.List.Elements.{Contains-append_left, Contains-append_right, Contains-append_cases, Contains-push, Contains-push_cases}
 use Rattle.std.proofs.lemmas.List.Sums.{sum_by-set}
-use Rattle.plain_facts.proofs.Members.{contains_one, contains_nil}
-use Rattle.plain_facts.proofs.Options.{none_or_some}
+use Rattle.basic_lemmas.proofs.Members.{contains_one, contains_nil}
+use Rattle.basic_lemmas.proofs.Options.{none_or_some}
 use Rattle.table_definitions.specs.Table.{Gluing, Row, Face, IsTable, glue}
 use Rattle.table_definitions.proofs.TableLaws.{glued_face}
 use Rattle.table_definitions.proofs.Faces.{face_at}

@@ -7,8 +7,8 @@ use Rattle.std.proofs.lemmas.List.{append-nil, get_or_default, take_more}
 use Rattle.std.proofs.lemmas.List.Elements.{filter-append, filter_map-append, All-cons, All-nil, All-from_get_or}
 use Rattle.std.proofs.lemmas.List.Folds.{list_any_none}
 use Rattle.std.proofs.lemmas.List.Sums.{position_or_len_is}
-use Rattle.plain_facts.proofs.Numbers.{less_unequal}
-use Rattle.plain_facts.proofs.Lists.{zip_more}
+use Rattle.basic_lemmas.proofs.Numbers.{less_unequal}
+use Rattle.basic_lemmas.proofs.Lists.{zip_more}
 use Rattle.table_definitions.specs.Lists.{below, has}
 use Rattle.table_definitions.specs.Table.{Gluing, Row, IsTable, glue}
 use Rattle.table_definitions.specs.Classes.{least}

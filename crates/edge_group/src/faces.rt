@@ -6,7 +6,7 @@ ghost use Rattle.presentation_definitions.specs.Groups.{IsTree};
 ghost use Rattle.presentation_laws.specs.Classes.{AreLeastFaces, AreTreeClasses, IsGenerator};
 
 use gluing_table::Face;
-use no_memory::NoMemory;
+use out_of_memory::NoMemory;
 use skeleton::Skeleton;
 use std::alloc::{AllocError, Global};
 

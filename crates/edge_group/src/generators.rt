@@ -7,7 +7,7 @@ ghost use Rattle.presentation_laws.specs.Classes.{generator_number};
 
 use crate::faces::{first_faces, is_generator, tree_classes};
 use gluing_table::Face;
-use no_memory::NoMemory;
+use out_of_memory::NoMemory;
 use skeleton::Skeleton;
 use std::alloc::Global;
 use std::marker::Model;

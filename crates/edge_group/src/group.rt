@@ -2,7 +2,7 @@
 
 ghost use Rattle.std.specs.Prelude.{◌≡◌, ◌-◌, ◌<◌, ◌≤◌, ◌↔◌, length, slice_index, false, [], None, IsNone, IfOk, IfErr, OnOk};
 ghost use Rattle.std.specs.List.{slice_index_or};
-ghost use Rattle.no_memory.specs.Failures.{IfFault};
+ghost use Rattle.out_of_memory.specs.Failures.{IfFault};
 ghost use Rattle.table_definitions.specs.Places.{IsConnected};
 ghost use Rattle.presentation_definitions.specs.Groups.{IsGroup, HasGroup, IsGroupFault};
 
@@ -10,7 +10,7 @@ use crate::generators::Generators;
 use crate::relators::inner_edges;
 use crate::tree::shortest_tree;
 use gluing_table::Face;
-use no_memory::{Failure, NoMemory};
+use out_of_memory::{Failure, NoMemory};
 use presentation_definitions::{GroupFault, Letter};
 use skeleton::Skeleton;
 use std::alloc::Global;

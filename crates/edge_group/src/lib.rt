@@ -18,5 +18,5 @@ mod tree;
 mod turning;
 
 pub use group::Group;
-pub use no_memory::Failure;
+pub use out_of_memory::Failure;
 pub use presentation_definitions::{GroupFault, Letter};

@@ -11,7 +11,7 @@ ghost use Rattle.edge_group.specs.Fields.{letters_of};
 
 use crate::generators::Generators;
 use gluing_table::Face;
-use no_memory::NoMemory;
+use out_of_memory::NoMemory;
 use presentation_definitions::Letter;
 use skeleton::{Corner, Skeleton};
 use std::alloc::{AllocError, Global};

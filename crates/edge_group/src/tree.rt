@@ -8,7 +8,7 @@ ghost use Rattle.edge_group.specs.Turns.{IsTreeWith};
 
 use crate::distances::distances;
 use gluing_table::{Face, Table};
-use no_memory::NoMemory;
+use out_of_memory::NoMemory;
 use std::alloc::{AllocError, Global};
 
 /// The tree face of each tetrahedron, and the distance of each tetrahedron from tetrahedron 0.

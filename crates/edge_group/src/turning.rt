@@ -12,7 +12,7 @@ use crate::faces::face_of;
 use crate::generators::Generators;
 use crate::tree::FaceTree;
 use gluing_table::{Face, Table};
-use no_memory::NoMemory;
+use out_of_memory::NoMemory;
 use std::alloc::Global;
 
 /// Whether `face` has an even gluing.

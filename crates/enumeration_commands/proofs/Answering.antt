@@ -1,7 +1,7 @@
 -- From what the parts of a command answered to its outcome.
 use Rattle.std.proofs.Common.{◌≡◌, ℕ, inl, inr, List, Result, Ok, sym, subst}
 use Rattle.std.specs.Prelude.{codes}
-use Rattle.no_memory.specs.declared.Failure.TheVariants.{Fault}
+use Rattle.out_of_memory.specs.declared.Failure.TheVariants.{Fault}
 use Rattle.table_definitions.specs.Table.{Row}
 use Rattle.surface_definitions.specs.declared.Coords.{Coords}
 use Rattle.cone_definitions.specs.declared.Order.{Order}

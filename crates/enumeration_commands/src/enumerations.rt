@@ -4,7 +4,7 @@ ghost use Rattle.outcome_definitions.specs.Enumerations.{list_outcome};
 
 use command_answers::Outcome;
 use cone_arithmetic::PackedRay;
-use no_memory::NoMemory;
+use out_of_memory::NoMemory;
 use outcome_definitions::Status;
 use std::alloc::Global;
 use text_io::{append, append_decimal};

@@ -13,10 +13,10 @@ use cone_arithmetic::{Limit, MAX_ENTRY, System};
 use cone_core::{ConeFault, read_cone};
 use double_description::{NamedOrder, Order};
 use gluing_table::TextFault;
-use no_memory::{Failure, NoMemory};
+use out_of_memory::{Failure, NoMemory};
 use signature_codec::InputFault;
 use std::alloc::Global;
-use surface_answers::large_outcome;
+use surface_refusals::large_outcome;
 use text_io::Lexer;
 
 /// Reads `bytes` as one cone. Fails with the first error of the cone; then with `ExtraWord` or `BadByte` if a line
@@ -42,7 +42,7 @@ fn answer(
 ) -> Result<Outcome, NoMemory>
     ensures { IfOk result (IsEnumerationAnswer (codes "rays") (without_pairs system.now order.rule limit.number)) }
 {
-    match ray_answers::rays(alloc, system, order, limit) {
+    match vertex_enumeration::rays(alloc, system, order, limit) {
         Ok(rays) => list_outcome(alloc, b"rays", &rays),
         Err(Failure::Fault(large)) => large_outcome(alloc, &large.order, &large.kind),
         Err(Failure::NoMemory) => Err(NoMemory),

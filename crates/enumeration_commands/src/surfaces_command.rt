@@ -11,9 +11,9 @@ use cone_arithmetic::{Limit, MAX_ENTRY};
 use double_description::{NamedOrder, Order};
 use gluing_table::Table;
 use matching_equations::Coords;
-use no_memory::{Failure, NoMemory};
+use out_of_memory::{Failure, NoMemory};
 use std::alloc::Global;
-use surface_answers::large_outcome;
+use surface_refusals::large_outcome;
 
 /// The outcome for `table` in the coordinates `coords`.
 fn answer(

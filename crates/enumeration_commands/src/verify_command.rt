@@ -13,7 +13,7 @@ use command_answers::{Outcome, answer_read, append_checked, read_table_and_vecto
 use cone_arithmetic::System;
 use gluing_table::Table;
 use matching_equations::{Coords, equations_of_table};
-use no_memory::NoMemory;
+use out_of_memory::NoMemory;
 use outcome_definitions::Status;
 use quad_condition::check_vector;
 use std::alloc::Global;

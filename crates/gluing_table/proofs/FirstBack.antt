@@ -16,7 +16,7 @@ use Rattle.table_definitions.specs.Replaceable.{numbers_of, fresh_numbers, row_b
 use Rattle.table_definitions.proofs.FreshRows.{gives_back}
 use Rattle.table_definitions.proofs.Faces.{face_at}
 use Rattle.gluing_table.proofs.Opened.{has-none, number_at, length-numbers_of}
-use Rattle.plain_facts.proofs.Members.{Ascends}
+use Rattle.basic_lemmas.proofs.Members.{Ascends}
 
 abbrev pub Numbered : Type 0
 Numbered = ℕ × Row

@@ -10,8 +10,8 @@ use Rattle.table_definitions.specs.Replaceable.{numbers_of, gone_before}
 use Rattle.table_definitions.proofs.Bijections.{there}
 use Rattle.table_definitions.proofs.Marked.{has_push}
 use Rattle.table_definitions.proofs.Ranks.{count_whole}
-use Rattle.plain_facts.proofs.Truths.{one_if}
-use Rattle.plain_facts.proofs.Members.{Ascends}
+use Rattle.basic_lemmas.proofs.Truths.{one_if}
+use Rattle.basic_lemmas.proofs.Members.{Ascends}
 
 -- the number is opened up over the first i that are gone
 pub record IsOpened (gone : List ℕ) (i place number : ℕ) : Type 0 where

@@ -2,7 +2,7 @@
 use Rattle.std.proofs.Common.{◌≡◌, ℕ, ◌+◌, ◌≤◌, Bool, true, false, cond, not, List, [], ◌∷◌, ◌++◌, length, refl, sym, ap, ◌∙◌, subst, subst₂, arith, append-nil, length-append}
 use Rattle.std.specs.Bool.{MatchBool}
 use Rattle.std.specs.List.{AllZip}
-use Rattle.plain_facts.proofs.Lists.{zip_more}
+use Rattle.basic_lemmas.proofs.Lists.{zip_more}
 use Rattle.table_definitions.specs.Places.{is_boundary_edge}
 use Rattle.table_definitions.specs.Table.{Row}
 use Rattle.skeleton_definitions.specs.Corners.{Corner, internal_edges}
@@ -13,7 +13,7 @@ use Rattle.surface_definitions.specs.declared.Coords.TheVariants.{Quad}
 use Rattle.surface_definitions.specs.Equations.{row_of}
 use Rattle.surface_definitions.specs.QuadEquations.{quad_equation, IsQuadRow}
 use Rattle.matching_equations.specs.Quads.{IsRowAppended}
-use Rattle.surface_coordinate_laws.proofs.Ranges.{filter-more}
+use Rattle.surface_definitions.proofs.Ranges.{filter-more}
 use Rattle.skeleton_class_laws.proofs.EdgeCorners.{IsRound}
 
 -- the row of these corners is that of the class

@@ -13,7 +13,7 @@ use Rattle.surface_definitions.specs.Coordinates.{columns}
 use Rattle.surface_definitions.specs.declared.Coords.{Coords}
 use Rattle.surface_definitions.specs.Equations.{Equation, matching, matching_equations, matching_rows, row_of, lesser_side, glued_pairs}
 use Rattle.matching_equations.specs.Matching.{glued_rows, face_rows, rows_if_lesser, tet_rows}
-use Rattle.surface_coordinate_laws.proofs.Ranges.{filter-more, flat_map-more}
+use Rattle.surface_definitions.proofs.Ranges.{filter-more, flat_map-more}
 
 abbrev pub Rows : Type 0
 Rows = List (List (ℕ × ℤ))

@@ -11,8 +11,8 @@ use Rattle.table_definitions.specs.Lists.{below, times_in}
 use Rattle.surface_definitions.specs.Equations.{Equation, coefficient, term_of, row_of}
 use Rattle.cone_arithmetic.specs.Sparse.{IsSparse, IsInRange}
 use Rattle.std.specs.Prelude.{Result, Ok, Err, IfOk}
-use Rattle.no_memory.specs.declared.NoMemory.{NoMemory}
-use Rattle.surface_coordinate_laws.proofs.Ranges.{quiet, filter_map-more}
+use Rattle.out_of_memory.specs.declared.NoMemory.{NoMemory}
+use Rattle.surface_definitions.proofs.Ranges.{quiet, filter_map-more}
 
 abbrev pub NoneBefore : List ℕ → ℕ → ℕ → Type 0
 NoneBefore xs from next = (i : ℕ) → i < length xs → from ≤ slice_index xs i → next ≤ slice_index xs i

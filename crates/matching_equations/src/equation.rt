@@ -6,7 +6,7 @@ ghost use Rattle.surface_definitions.specs.Equations as equations;
 ghost use Rattle.cone_arithmetic.specs.Sparse.{IsInRange};
 
 use cone_arithmetic::SparseRow;
-use no_memory::NoMemory;
+use out_of_memory::NoMemory;
 use smallvec::SmallVec;
 use std::alloc::Global;
 

@@ -10,8 +10,8 @@ ghost use Rattle.matching_equations.specs.Matching.{glued_rows, face_rows, tet_r
 use crate::equation::{Sides, row_of};
 use cone_arithmetic::System;
 use gluing_table::{Face, Glue, Table};
-use no_memory::NoMemory;
 use normal_discs::{DiscCoords, arc_columns, columns};
+use out_of_memory::NoMemory;
 use std::alloc::Global;
 
 /// A face of a table with its gluing. Invariant: both tetrahedra are below 1,000.

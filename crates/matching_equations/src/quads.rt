@@ -11,8 +11,8 @@ ghost use Rattle.matching_equations.specs.Quads.{IsRowAppended};
 
 use crate::equation::{Sides, row_of};
 use cone_arithmetic::System;
-use no_memory::NoMemory;
 use normal_discs::{columns, keeping, quad_column};
+use out_of_memory::NoMemory;
 use skeleton::{Corner, Skeleton};
 use std::alloc::Global;
 use surface_definitions::Coords;

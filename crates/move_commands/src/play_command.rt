@@ -11,7 +11,7 @@ use crate::script::take_steps;
 use command_answers::{Outcome, fault_outcome};
 use gluing_table::{Table, write_table};
 use move_undo::{Session, Step};
-use no_memory::NoMemory;
+use out_of_memory::NoMemory;
 use outcome_definitions::Status;
 use std::alloc::Global;
 

@@ -7,7 +7,7 @@ ghost use Rattle.move_undo.specs.Steps.{step_value};
 ghost use Rattle.move_commands.specs.Scripts.{all_steps, Steps, Plays};
 
 use move_undo::{PlayFault, Session, Step, append_move_fault};
-use no_memory::NoMemory;
+use out_of_memory::NoMemory;
 use pachner_moves::{Move, MoveFault};
 use std::alloc::Global;
 use text_io::append;

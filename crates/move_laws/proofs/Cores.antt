@@ -2,7 +2,7 @@
 use Rattle.std.proofs.Common.{◌≡◌, ℕ, zero, suc, Bool, true, List, [], ◌∷◌, ◌++◌, length, map, get_or, Some, refl, sym, ◌∙◌, subst, arith, inl, inr}
 use Rattle.std.specs.Prelude.{◌⊎◌, ◌&&◌, ◌||◌, nat_lt, not, filter, find}
 use Rattle.std.specs.List.{list_all}
-use Rattle.plain_facts.proofs.Options.{one_or_other}
+use Rattle.basic_lemmas.proofs.Options.{one_or_other}
 use Rattle.table_definitions.specs.Lists.{below, has, same_list, pairs_of}
 use Rattle.table_definitions.specs.Permutation.{four, others}
 use Rattle.table_definitions.specs.Places.{edge_ends}

@@ -3,7 +3,7 @@ use Rattle.std.proofs.Common.{◌≡◌, ℕ, zero, suc, ◌<◌, Bool, true, Li
 use Rattle.std.specs.Prelude.{◌⊎◌, ◌==◌, ◌&&◌, ◌||◌, ◌≢◌, nat_lt, not, filter}
 use Rattle.std.specs.List.{list_all}
 use Rattle.std.proofs.lemmas.Bool.{eqb-true, ltb-true, or_cases, cases_eq}
-use Rattle.plain_facts.proofs.Numbers.{not_equal}
+use Rattle.basic_lemmas.proofs.Numbers.{not_equal}
 use Rattle.table_definitions.specs.Lists.{below, substitute}
 use Rattle.table_definitions.specs.Permutation.{image, preimage, inverse, IsPermutationOfFour}
 use Rattle.table_definitions.specs.Table.{Gluing, Row}

@@ -4,7 +4,7 @@ use Rattle.std.specs.Prelude.{◌&&◌, ◌||◌, ◌==◌, ◌≢◌, nat_lt, n
 use Rattle.std.specs.List.{list_all}
 use Rattle.std.proofs.lemmas.Bool.{eqb-true, ltb-true, and_parts}
 use Rattle.std.proofs.lemmas.List.{get_or-map, length-map}
-use Rattle.plain_facts.proofs.Numbers.{not_equal, given_apart}
+use Rattle.basic_lemmas.proofs.Numbers.{not_equal, given_apart}
 use Rattle.table_definitions.specs.Lists.{below, same_list, substitute}
 use Rattle.table_definitions.specs.Permutation.{IsPermutationOfFour, is_permutation, image, preimage, words}
 use Rattle.table_definitions.proofs.ListFacts.{list_all-below, same_list-true}

@@ -2,7 +2,7 @@
 use Rattle.std.proofs.Common.{◌≡◌, ℕ, ◌+◌, ◌-◌, ◌<◌, ◌≤◌, true, List, length, map, Option, Some, None, refl, sym, ap, ◌∙◌, subst, arith, inl, inr}
 use Rattle.std.specs.Prelude.{◌⊎◌, ◌==◌, ◌||◌, ◌≢◌, option_map, option_and_then}
 use Rattle.std.specs.List.{list_all}
-use Rattle.plain_facts.proofs.Numbers.{given_apart}
+use Rattle.basic_lemmas.proofs.Numbers.{given_apart}
 use Rattle.table_definitions.specs.Lists.{below, substitute}
 use Rattle.table_definitions.specs.Permutation.{IsPermutationOfFour, is_permutation, image, preimage, inverse, compose}
 use Rattle.table_definitions.specs.Table.{Gluing, Row, Face, glue, other_side}

@@ -4,7 +4,7 @@ use Rattle.std.specs.Prelude.{◌⊎◌, ◌==◌, ◌||◌, ◌&&◌, nat_lt, n
 use Rattle.std.specs.List.{list_all}
 use Rattle.std.specs.Option.{option_or}
 use Rattle.std.proofs.lemmas.Bool.{eqb-true, eq-eqb, ltb-true, lt-ltb, le-ltb, and_parts, false≢true, cases_eq, cases_lt, not-false}
-use Rattle.plain_facts.proofs.Options.{both_none}
+use Rattle.basic_lemmas.proofs.Options.{both_none}
 use Rattle.table_definitions.specs.Lists.{below, has, substitute, first_some, pairs_of}
 use Rattle.table_definitions.specs.Permutation.{four, IsPermutationOfFour, image, preimage, inverse, compose}
 use Rattle.table_definitions.specs.Table.{Gluing, Row, glue, IsTable}

@@ -27,3 +27,8 @@ pub mod PutLaws
 pub mod ExchangeLaws
 pub mod MovedLaws
 pub mod BackLaws
+pub mod Closed
+pub mod Parities
+pub mod Oriented
+pub mod OrientedBack
+pub mod Certified

@@ -10,7 +10,7 @@ use Rattle.move_definitions.specs.Moves.{Facet}
 use Rattle.table_definitions.specs.Replaceable.{gone_before}
 use Rattle.table_definitions.proofs.Ranks.{rank, stays, count_whole, of_rank, stays_and_once}
 use Rattle.table_definitions.proofs.Listed.{among_has}
-use Rattle.plain_facts.proofs.Truths.{one_if}
+use Rattle.basic_lemmas.proofs.Truths.{one_if}
 
 abbrev pub tet_of : Facet → ℕ
 tet_of f = f.tet

@@ -15,7 +15,7 @@ use Rattle.table_definitions.specs.Replaceable.{gone_before}
 use Rattle.table_definitions.proofs.Ranks.{picked, rank, rank-suc, length-picked, of_rank, at_rank}
 use Rattle.table_definitions.proofs.Bijections.{there, get_or-any}
 use Rattle.move_laws.specs.Facets.{numbered}
-use Rattle.plain_facts.proofs.Truths.{one_if}
+use Rattle.basic_lemmas.proofs.Truths.{one_if}
 
 -- each number stands at one place
 abbrev pub Apart : List ℕ → Type 0

@@ -3,7 +3,7 @@ use Rattle.std.proofs.Common.{◌≡◌, ℕ, ◌+◌, ◌-◌, ◌<◌, ◌≤�
 use Rattle.std.specs.Prelude.{◌==◌, ◌&&◌, ◌||◌, ◌≢◌, nat_lt, not, filter, if◌then◌else◌}
 use Rattle.std.specs.List.{list_all}
 use Rattle.std.proofs.lemmas.Bool.{eqb-true, ltb-true, lt-ltb, le-ltb, and_parts}
-use Rattle.plain_facts.proofs.Numbers.{given_apart}
+use Rattle.basic_lemmas.proofs.Numbers.{given_apart}
 use Rattle.table_definitions.specs.Lists.{below, has, same_list, substitute}
 use Rattle.table_definitions.specs.Permutation.{four, is_permutation, image, preimage, inverse, compose}
 use Rattle.table_definitions.proofs.ListFacts.{list_all-below, same_list-true}

@@ -4,7 +4,7 @@ use Rattle.std.specs.Prelude.{◌==◌, ◌||◌, option_map}
 use Rattle.std.specs.List.{list_all}
 use Rattle.std.proofs.lemmas.Bool.{eqb-true, cases_eq, cases_lt}
 use Rattle.std.proofs.lemmas.List.{length-map}
-use Rattle.plain_facts.proofs.Numbers.{given_apart}
+use Rattle.basic_lemmas.proofs.Numbers.{given_apart}
 use Rattle.table_definitions.specs.Lists.{below, substitute}
 use Rattle.table_definitions.specs.Permutation.{IsPermutationOfFour, image, preimage, compose, four}
 use Rattle.table_definitions.specs.Table.{Gluing, Row, glue, IsTable}

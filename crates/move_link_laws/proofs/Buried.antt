@@ -2,7 +2,7 @@
 use Rattle.std.proofs.Common.{◌≡◌, ℕ, ◌+◌, ◌-◌, ◌<◌, ◌≤◌, Bool, true, false, List, [], ◌∷◌, length, map, ◌⊎◌, inl, inr, zero, suc, sym, ap, ◌∙◌, subst, arith}
 use Rattle.std.specs.Prelude.{◌==◌, ◌||◌}
 use Rattle.std.proofs.lemmas.Bool.{cases_lt, false≢true, or_cases, eqb-true}
-use Rattle.plain_facts.proofs.Truths.{by_bool}
+use Rattle.basic_lemmas.proofs.Truths.{by_bool}
 use Rattle.table_definitions.specs.Lists.{has}
 use Rattle.table_definitions.specs.Permutation.{IsPermutationOfFour, image, inverse}
 use Rattle.table_definitions.specs.Table.{Row, IsTable}

@@ -14,7 +14,7 @@ use Rattle.skeleton_definitions.specs.Links.{vertex_number, IsOrientableLink, cl
 use Rattle.skeleton_definitions.specs.Skeleton.{Skeleton}
 use Rattle.skeleton_definitions.specs.declared.Link.{Link}
 use Rattle.skeleton_definitions.specs.declared.LinkKind.TheVariants.{Sphere}
-use Rattle.move_kept_laws.proofs.Certified.{certified_are_orientable}
+use Rattle.move_laws.proofs.Certified.{certified_are_orientable}
 use Rattle.surface_quad_lift_laws.specs.Laws.{HasLink}
 use Rattle.move_link_laws.specs.Certified.{CertifiedHaveValidEdges, IsSphere, CertifiedHaveSphereLinks}
 use Rattle.move_link_laws.proofs.Standard.{SphereNumbers}

@@ -7,8 +7,8 @@ use Rattle.table_definitions.specs.Classes.{IsNumbering}
 use Rattle.table_definitions.proofs.Listed.{below-among}
 use Rattle.skeleton_definitions.specs.Links.{SameDirected, link_vertices, link_edges}
 use Rattle.skeleton_definitions.specs.Skeleton.{Skeleton, IsSkeleton}
-use Rattle.move_kept_laws.proofs.Closed.{AreGluedAll, all_glued}
-use Rattle.move_kept_laws.proofs.Certified.{certified_are_closed}
+use Rattle.move_laws.proofs.Closed.{AreGluedAll, all_glued}
+use Rattle.move_laws.proofs.Certified.{certified_are_closed}
 use Rattle.surface_laws.proofs.Counting.{sum_by_same}
 use Rattle.skeleton_class_laws.specs.declared.Kind.TheVariants.{Directions}
 use Rattle.skeleton_class_laws.proofs.Numbered.{classes_exist}

@@ -22,7 +22,7 @@ use Rattle.move_link_laws.proofs.SignsAgree.{signs_forth}
 use Rattle.move_link_laws.proofs.SignsAgreeBack.{signs_back}
 use Rattle.move_link_laws.proofs.ArcsCarried.{curves_same}
 use Rattle.move_link_laws.proofs.Correspond.{taken_from, not_taken, put_from, not_put}
-use Rattle.plain_facts.proofs.Truths.{same_truth}
+use Rattle.basic_lemmas.proofs.Truths.{same_truth}
 
 module _ (s : Skeleton) (m : Move) (s' : Skeleton) (k : IsSkeleton s) (k' : IsSkeleton s') (h : IsMoved s.rows m s'.rows) where
   abbrev Tie : Place → Place → Type 0

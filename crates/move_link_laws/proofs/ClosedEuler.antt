@@ -13,7 +13,7 @@ use Rattle.table_definitions.proofs.TableLaws.{Among}
 use Rattle.skeleton_definitions.specs.Links.{SameDirected, vertex_number, link_vertices, link_edges, euler_of}
 use Rattle.skeleton_definitions.specs.Skeleton.{Skeleton, IsSkeleton}
 use Rattle.skeleton_definitions.specs.declared.Link.{Link}
-use Rattle.move_kept_laws.proofs.Closed.{AreGluedAll, all_glued}
+use Rattle.move_laws.proofs.Closed.{AreGluedAll, all_glued}
 use Rattle.surface_laws.proofs.Counting.{sum_by_same}
 use Rattle.surface_laws.proofs.Sums.{sum_by_plus}
 use Rattle.surface_quad_laws.specs.EulerLaws.{integer_sum}

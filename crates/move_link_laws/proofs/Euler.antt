@@ -4,7 +4,7 @@ use Rattle.std.specs.Prelude.{◌==◌, ◌&&◌, ◌||◌, not, nat_lt, count_b
 use Rattle.std.specs.List.{list_all, slice_index_or}
 use Rattle.std.proofs.lemmas.Int.{ints}
 use Rattle.std.proofs.lemmas.Bool.{and_parts, eqb-true}
-use Rattle.plain_facts.proofs.Truths.{by_bool}
+use Rattle.basic_lemmas.proofs.Truths.{by_bool}
 use Rattle.table_definitions.specs.Lists.{below, has, times_in}
 use Rattle.table_definitions.specs.Table.{Row, IsTable}
 use Rattle.table_definitions.specs.Classes.{IsNumbering}

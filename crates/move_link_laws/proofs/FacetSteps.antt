@@ -10,7 +10,7 @@ use Rattle.move_laws.proofs.ListedFacets.{same_some}
 use Rattle.move_laws.proofs.Labels as Labels
 use Rattle.move_laws.proofs.Matched.{AreGlued, old_glued}
 use Rattle.move_laws.proofs.SecondStand.{crossing}
-use Rattle.move_kept_laws.proofs.Parities.{behind}
+use Rattle.move_laws.proofs.Parities.{behind}
 use Rattle.move_link_laws.proofs.Labelled.{in_facet, Below5}
 use Rattle.move_link_laws.proofs.Ties.{fine, small_label, IsOld, old_step}
 use Rattle.move_link_laws.proofs.Parity.{old_parity}

@@ -2,7 +2,7 @@
 use Rattle.std.proofs.Common.{◌≡◌, ◌≢◌, ℕ, ◌+◌, ◌*◌, ◌/◌, ◌%◌, ◌<◌, ◌≤◌, true, List, length, Some, None, inl, inr, refl, sym, ap, ◌∙◌, arith}
 use Rattle.std.specs.Prelude.{option_and_then, slice_index}
 use Rattle.std.proofs.lemmas.Bool.{cases_lt}
-use Rattle.plain_facts.proofs.Truths.{by_bool}
+use Rattle.basic_lemmas.proofs.Truths.{by_bool}
 use Rattle.table_definitions.specs.Lists.{has}
 use Rattle.table_definitions.specs.Permutation.{IsPermutationOfFour, image, preimage}
 use Rattle.table_definitions.specs.Table.{Gluing, Row, Face, glue, IsTable}

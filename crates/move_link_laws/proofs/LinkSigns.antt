@@ -11,7 +11,7 @@ use Rattle.move_definitions.specs.Moves.{Move, Facet, IsMoved, facet, vertex_of,
 use Rattle.move_laws.proofs.ListedFacets.{same_some}
 use Rattle.move_laws.proofs.Shapes.{stand_permutes}
 use Rattle.move_laws.proofs.SecondStand.{crossing}
-use Rattle.move_kept_laws.proofs.Parities.{flip, behind}
+use Rattle.move_laws.proofs.Parities.{flip, behind}
 use Rattle.move_link_laws.proofs.Labelled.{in_facet, Below5}
 use Rattle.move_link_laws.proofs.Ties.{fine, new_at, IsOld, Ties, KeptTie, FacetTie}
 use Rattle.move_link_laws.proofs.TieShapes.{tie_shape_by}

@@ -15,7 +15,7 @@ use Rattle.move_laws.proofs.Labels as Labels
 use Rattle.move_laws.proofs.Renamed.{across as over_new}
 use Rattle.move_laws.proofs.Shapes.{stand_permutes}
 use Rattle.move_laws.proofs.SecondStand.{crossing}
-use Rattle.move_kept_laws.proofs.Parities.{flip, behind}
+use Rattle.move_laws.proofs.Parities.{flip, behind}
 use Rattle.move_link_laws.proofs.Labelled.{in_facet, Below5}
 use Rattle.move_link_laws.proofs.Ties.{fine, new_at, small_label, IsOld, old_has, new_step, Ties, KeptTie, FacetTie}
 use Rattle.move_link_laws.proofs.TieShapes.{tie_shape_by}

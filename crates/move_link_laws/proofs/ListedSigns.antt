@@ -12,7 +12,7 @@ use Rattle.table_definitions.proofs.Faces.{face_at}
 use Rattle.skeleton_definitions.specs.Orientation.{sign_of}
 use Rattle.skeleton_definitions.specs.Links.{vertex_number, AreLinkSigns, IsOrientableLink}
 use Rattle.skeleton_class_laws.specs.Crossings.{vertex_at}
-use Rattle.move_kept_laws.proofs.Parities.{behind}
+use Rattle.move_laws.proofs.Parities.{behind}
 use Rattle.move_link_laws.proofs.Labelled.{head_off}
 use Rattle.skeleton_laws.proofs.Spots.{spot, class_of, IsSpot, spot_below, vertex_spot, spot_again, vertex_number_again}
 

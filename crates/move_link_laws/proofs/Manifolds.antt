@@ -6,7 +6,7 @@ use Rattle.move_definitions.specs.Moves.{Move}
 use Rattle.move_definitions.specs.Certificates.{IsCertificate}
 use Rattle.outcome_answer_laws.proofs.Checks.{done_where_certified}
 use Rattle.outcome_laws.proofs.Certified.{table_with_moves}
-use Rattle.move_kept_laws.proofs.Certified.{certified_are_closed, certified_are_orientable}
+use Rattle.move_laws.proofs.Certified.{certified_are_closed, certified_are_orientable}
 use Rattle.move_link_laws.specs.Manifolds.{HasManifoldNumbers, CertifiedHaveManifoldNumbers, AcceptedHaveManifoldNumbers}
 use Rattle.move_link_laws.proofs.Certified.{certified_valid_lem, certified_spheres_lem}
 use Rattle.move_link_laws.proofs.Characteristic.{certified_zero}

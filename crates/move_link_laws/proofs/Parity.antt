@@ -3,12 +3,12 @@ use mathlib.Core.Bool.{beq}
 use Rattle.std.proofs.Common.{◌≡◌, ◌≢◌, ℕ, ◌<◌, Bool, true, false, List, map, refl, sym, ap, ◌∙◌}
 use Rattle.std.specs.Prelude.{◌==◌, ◌||◌, not}
 use Rattle.std.specs.List.{list_all}
-use Rattle.plain_facts.proofs.Numbers.{given_apart}
+use Rattle.basic_lemmas.proofs.Numbers.{given_apart}
 use Rattle.table_definitions.specs.Lists.{below, substitute}
 use Rattle.table_definitions.specs.Permutation.{IsPermutationOfFour, preimage, compose, inversions, is_odd}
 use Rattle.table_definitions.proofs.ListFacts.{list_all-below}
 use Rattle.table_definitions.proofs.Permutations.{bool_equal, is_odd-compose}
-use Rattle.move_kept_laws.proofs.Parities.{flip, behind, crossing-compose}
+use Rattle.move_laws.proofs.Parities.{flip, behind, crossing-compose}
 use Rattle.move_laws.proofs.Labels.{AreLabels, length-labels, label_tests, on_labels}
 use Rattle.move_laws.proofs.Renamed.{across}
 use Rattle.move_laws.proofs.SecondStand.{crossing, crossing_permutes}

@@ -20,7 +20,7 @@ use Rattle.move_laws.proofs.Covered.{StandsForOld, IsInner, covered}
 use Rattle.move_laws.proofs.Placed.{closed_up_small}
 use Rattle.move_laws.proofs.Renamed.{across as over_new}
 use Rattle.move_laws.proofs.SecondStand.{crossing, other_stands}
-use Rattle.move_kept_laws.proofs.Parities.{flip, behind, across_sign, flip_behind}
+use Rattle.move_laws.proofs.Parities.{flip, behind, across_sign, flip_behind}
 use Rattle.move_link_laws.proofs.Labelled.{in_facet, has-vertices}
 use Rattle.move_link_laws.proofs.Ties.{fine, new_at, small_label, new_step, Ties, KeptTie, FacetTie}
 use Rattle.move_link_laws.proofs.TieShapes.{tie_shape_by, facet_tie, facet_tie_by}

@@ -18,7 +18,7 @@ use Rattle.move_definitions.proofs.StandIns.{facet_stand_in-new, stand_in-kept}
 use Rattle.move_laws.proofs.Labels.{AreLabels, HasLabel, label_at}
 use Rattle.move_laws.proofs.Covered.{stand_in-old}
 use Rattle.move_laws.proofs.SecondStand.{crossing, other_stands}
-use Rattle.move_kept_laws.proofs.Parities.{flip, behind, back_sign, flip_behind}
+use Rattle.move_laws.proofs.Parities.{flip, behind, back_sign, flip_behind}
 use Rattle.move_link_laws.proofs.Labelled.{in_facet, has-vertices}
 use Rattle.move_link_laws.proofs.Ties.{fine, new_at, old_at, Ties, KeptTie, FacetTie}
 use Rattle.move_link_laws.proofs.TieShapes.{tie_shape_by, facet_tie, facet_tie_by}

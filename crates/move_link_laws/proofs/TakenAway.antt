@@ -20,7 +20,7 @@ use Rattle.move_laws.proofs.Labels.{AreLabels, HasLabel, label_at}
 use Rattle.move_laws.proofs.Legal.{facet-four}
 use Rattle.move_laws.proofs.LedBack.{inverses_lead_back_lem}
 use Rattle.move_laws.proofs.SecondStand.{crossing}
-use Rattle.move_kept_laws.proofs.Parities.{behind}
+use Rattle.move_laws.proofs.Parities.{behind}
 use Rattle.move_link_laws.specs.Links.{TakenAwayAreSpheres, PutInAreSpheres}
 use Rattle.move_link_laws.proofs.Labelled.{in_facet}
 use Rattle.move_link_laws.proofs.Ties.{IsOld, is_old, one_facet}

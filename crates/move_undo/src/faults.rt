@@ -3,7 +3,7 @@
 ghost use Rattle.std.specs.Prelude.{◌≡◌, ◌++◌, codes, decimal, OnOk};
 ghost use Rattle.move_definitions.specs.Sessions.{move_fault_text};
 
-use no_memory::NoMemory;
+use out_of_memory::NoMemory;
 use pachner_moves::MoveFault;
 use std::alloc::Global;
 use text_io::{append, append_decimal};

@@ -10,7 +10,7 @@ ghost use Rattle.move_undo.specs.Records.{IsPlayed};
 ghost use Rattle.move_undo.specs.Faults.{IsRefusal};
 
 use gluing_table::Table;
-use no_memory::NoMemory;
+use out_of_memory::NoMemory;
 use pachner_moves::{Move, MoveFault, Undo, apply, take_back};
 use std::alloc::{AllocError, Global};
 use std::marker::Model;

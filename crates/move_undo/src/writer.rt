@@ -6,7 +6,7 @@ ghost use Rattle.table_definitions.specs.Permutation.{four, digits_of};
 ghost use Rattle.move_definitions.specs.MoveText.{move_text, core_words};
 ghost use Rattle.move_undo.specs.Written.{is_chosen, core_tail, head_text};
 
-use no_memory::NoMemory;
+use out_of_memory::NoMemory;
 use pachner_moves::{Core, Move};
 use std::alloc::Global;
 use text_io::{append, append_decimal};

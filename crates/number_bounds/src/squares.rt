@@ -6,7 +6,7 @@ ghost use Rattle.cone_bound_laws.specs.Caps.{magnitude, row_weight};
 ghost use Rattle.number_bounds.specs.Squares.{AreSquares, HasHeavyColumn};
 
 use cone_arithmetic::System;
-use no_memory::NoMemory;
+use out_of_memory::NoMemory;
 use std::alloc::Global;
 
 /// The square of `coefficient`.

@@ -7,7 +7,7 @@ ghost use Rattle.number_bounds.specs.Triples.{triple_cap, AreTriplesBounded, Are
 use crate::sizes::{greatest_size, is_product_within};
 use crate::squares::column_squares;
 use cone_arithmetic::System;
-use no_memory::NoMemory;
+use out_of_memory::NoMemory;
 use std::alloc::Global;
 
 /// The greatest of the three sums of squares of group `group`, and at least 1.

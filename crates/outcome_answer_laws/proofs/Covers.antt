@@ -5,7 +5,7 @@ use Rattle.std.proofs.lemmas.Bool.{ltb-true, ltb-false}
 use Rattle.table_definitions.specs.Table.{max_tets, Row, Face, IsTable, glue}
 use Rattle.table_definitions.specs.Places.{is_closed}
 use Rattle.cover_definitions.specs.Cover.{over, sheet, above, lifted, cover, face_below, sheet_signs, too_large}
-use Rattle.move_kept_laws.proofs.Closed.{AreGluedAll, all_glued, is_closed-from}
+use Rattle.move_laws.proofs.Closed.{AreGluedAll, all_glued, is_closed-from}
 use Rattle.cover_laws.proofs.Sheets.{cases_sheet, sheet_small, above_over, over_above, over_below, above_below, glue-cover, length-cover}
 use Rattle.cover_laws.proofs.Covered.{cover_is_table, cover_signs}
 use Rattle.cover_laws.proofs.Moved.{exchange_carries}

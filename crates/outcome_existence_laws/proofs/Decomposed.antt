@@ -23,7 +23,7 @@ use Rattle.outcome_definitions.specs.Outcomes.{Outcome}
 use Rattle.outcome_definitions.specs.Enumerations.{large_outcome}
 use Rattle.outcome_definitions.specs.Sums.{AreAnswered, IsVerdict, IsSummed, sums_outcome, sum_refusal_outcome, IsDecomposed, IsDecomposeAnswer}
 use Rattle.outcome_existence_laws.proofs.AnsweredLists.{told_of}
-use Rattle.surface_coordinate_laws.proofs.ClashPairs.{clashes_apart}
+use Rattle.surface_definitions.proofs.ClashPairs.{clashes_apart}
 use Rattle.outcome_laws.proofs.Summed.{verdicts_fit}
 use Rattle.outcome_existence_laws.proofs.AddedUp.{verdicts_told}
 

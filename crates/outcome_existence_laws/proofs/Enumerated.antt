@@ -9,7 +9,7 @@ use Rattle.cone_text_definitions.specs.ConeText.{Cone}
 use Rattle.table_definitions.specs.Table.{Row, IsTable}
 use Rattle.surface_definitions.specs.declared.Coords.{Coords}
 use Rattle.surface_definitions.specs.TableSurfaces.{table_enumeration}
-use Rattle.surface_coordinate_laws.proofs.ClashPairs.{clashes_apart}
+use Rattle.surface_definitions.proofs.ClashPairs.{clashes_apart}
 use Rattle.cone_laws.proofs.Ended.{enumeration_ends}
 use Rattle.skeleton_laws.proofs.Equated.{some_equations}
 use Rattle.outcome_definitions.specs.Outcomes.{Outcome}

@@ -2,7 +2,7 @@
 use Rattle.std.proofs.Common.{◌≡◌, ℕ, ◌<◌, ◌≤◌, ◌⊎◌, inl, inr, List, [], length, slice_index, slice_index_or, subst, sym, ap, refl, ◌∙◌, arith}
 use Rattle.std.proofs.lemmas.Bool.{cases_lt}
 use Rattle.std.proofs.lemmas.List.FromFn.{length-map-range_with_len}
-use Rattle.plain_facts.proofs.Members.{contains_at}
+use Rattle.basic_lemmas.proofs.Members.{contains_at}
 use Rattle.table_definitions.specs.Table.{Gluing, Row, IsTable}
 use Rattle.table_definitions.specs.Relabelling.{Relabelling, AreIsomorphic}
 use Rattle.signature_definitions.specs.Labellings.{IsLeastRelabelling}

@@ -16,7 +16,7 @@ use Rattle.skeleton_laws.proofs.Equated.{some_equations}
 use Rattle.outcome_definitions.specs.Outcomes.{Outcome}
 use Rattle.outcome_definitions.specs.Enumerations.{AreUpTo, IsLargeAnswered, large_outcome}
 use Rattle.outcome_definitions.specs.Makings.{IsGreatestEntry, Numbers, summary_outcome, AreSummedUp, IsSummary, IsBulkAnswer}
-use Rattle.surface_coordinate_laws.proofs.ClashPairs.{clashes_apart}
+use Rattle.surface_definitions.proofs.ClashPairs.{clashes_apart}
 
 -- the greatest entry of a vector
 record IsGreatestOf (x : List ℕ) (greatest : ℕ) : Type 0 where

@@ -15,7 +15,7 @@ use Rattle.surface_definitions.specs.Coordinates.{columns, clash_list}
 use Rattle.surface_definitions.specs.declared.Coords.{Coords}
 use Rattle.surface_definitions.specs.declared.VectorFault.TheVariants.{Large}
 use Rattle.surface_definitions.proofs.VerdictLaws.{accepted-verdict}
-use Rattle.surface_coordinate_laws.proofs.FirstFaults.{large_told}
+use Rattle.surface_definitions.proofs.FirstFaults.{large_told}
 use Rattle.surface_vector_definitions.specs.Answers.{IsFit, IsUnfit}
 use Rattle.outcome_definitions.specs.Sums.{IsFirst}
 use Rattle.outcome_written_laws.specs.Surfaces.{IsFirstLarge, IsSolutionUnlessLarge, SurfacesAreSolutions}

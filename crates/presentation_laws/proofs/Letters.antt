@@ -3,7 +3,7 @@ use Rattle.std.proofs.Common.{◌≡◌, ℕ, zero, suc, ◌+◌, ◌*◌, ◌<�
 use Rattle.std.specs.Prelude.{◌==◌, if◌then◌else◌}
 use Rattle.std.specs.List.{position_or_len, AllZip}
 use Rattle.std.proofs.lemmas.Bool.{false≢true}
-use Rattle.plain_facts.proofs.Truths.{true_or_false}
+use Rattle.basic_lemmas.proofs.Truths.{true_or_false}
 use Rattle.table_definitions.specs.Lists.{has}
 use Rattle.table_definitions.specs.Table.{Gluing, Face, glue, other_side, way_back, face_number}
 use Rattle.table_definitions.specs.Classes.{least, is_least}

@@ -1,7 +1,7 @@
 -- A table has one presentation.
 use Rattle.std.proofs.Common.{◌≡◌, ℕ, ◌+◌, Bool, true, false, List, [], ◌∷◌, Some, filter_map, MatchBool, subst, sym, ap, ap₂, refl, ◌∙◌}
 use Rattle.std.specs.List.{AllZip}
-use Rattle.plain_facts.proofs.Members.{same_numbers}
+use Rattle.basic_lemmas.proofs.Members.{same_numbers}
 use Rattle.table_definitions.specs.Table.{Gluing, Row, face_number}
 use Rattle.table_definitions.specs.Classes.{least}
 use Rattle.table_definitions.specs.Places.{face_of, is_boundary_edge}

@@ -12,13 +12,13 @@ use Rattle.surface_definitions.specs.Coordinates.{before_octagons, columns, colu
 use Rattle.surface_definitions.specs.declared.Coords.{Coords}
 use Rattle.surface_definitions.proofs.ColumnCounts.{index_below, tet_below, column_of_index}
 use Rattle.ray_steps.specs.Clashes.{AreClashes, IsInUnion, IsClashFree}
-use Rattle.surface_coordinate_laws.specs.ClashPairs.{is_clash}
+use Rattle.surface_definitions.specs.ClashPairs.{is_clash}
 use Rattle.quad_condition.specs.Partners.{partners}
 use Rattle.quad_condition.specs.Bits.{IsOfEither, IsMarkedIn, HasTwo}
 use Rattle.quad_condition.specs.Marks.{is_marked, AreMarks, AreDistanceMasks, AreMasks, HasPairAtDistance}
 use Rattle.quad_condition.proofs.Pairs.{Pairs, IsPrefix, prefix_by, pairs_prefix, partners_before, partners_more, pairs_before, all_pairs}
-use Rattle.surface_coordinate_laws.proofs.Ranges.{flat_map-more}
-use Rattle.surface_coordinate_laws.proofs.ClashPairs.{all_of_pairs}
+use Rattle.surface_definitions.proofs.Ranges.{flat_map-more}
+use Rattle.surface_definitions.proofs.ClashPairs.{all_of_pairs}
 
 -- one column more
 below_other : (k column : ℕ) → k ≢ column → nat_lt k (column + 1) ≡ nat_lt k column

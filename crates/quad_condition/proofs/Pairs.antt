@@ -7,12 +7,12 @@ use Rattle.std.proofs.lemmas.Bool.{lt-ltb, le-ltb, and_left, and_right, and_from
 use Rattle.std.proofs.lemmas.List.Elements.{filter-append}
 use Rattle.std.proofs.lemmas.List.Folds.{find-append}
 use Rattle.std.proofs.lemmas.List.FromFn.{filter_of_map_range_with_len_more}
-use Rattle.surface_coordinate_laws.proofs.Ranges.{flat_map-more}
+use Rattle.surface_definitions.proofs.Ranges.{flat_map-more}
 use Rattle.table_definitions.specs.Lists.{below}
 use Rattle.surface_definitions.specs.Coordinates.{columns, clash_test, clash_list}
 use Rattle.surface_definitions.specs.declared.Coords.{Coords}
 use Rattle.surface_definitions.specs.Verdict.{both_nonzero}
-use Rattle.surface_coordinate_laws.specs.ClashPairs.{is_clash}
+use Rattle.surface_definitions.specs.ClashPairs.{is_clash}
 use Rattle.quad_condition.specs.Partners.{partners}
 
 abbrev pub Pairs : Type 0

@@ -9,7 +9,7 @@ use Rattle.cone_arithmetic.specs.Faults.{SolutionFails}
 use Rattle.cone_arithmetic.specs.declared.system.SolutionFault.{SolutionFault}
 use Rattle.cone_arithmetic.specs.declared.system.SolutionFault.TheVariants.{Passed, NotZero}
 use Rattle.quad_condition.specs.Faults.{fault_of}
-use Rattle.surface_coordinate_laws.proofs.FirstFaults.{length_told, large_told, failure_told, clash_told}
+use Rattle.surface_definitions.proofs.FirstFaults.{length_told, large_told, failure_told, clash_told}
 
 abbrev pub SparseRow : Type 0
 SparseRow = List (ℕ × ℤ)

@@ -3,7 +3,7 @@ use Rattle.std.specs.Prelude.{ℕ, List, map, filter}
 use Rattle.table_definitions.specs.Lists.{below}
 use Rattle.surface_definitions.specs.Coordinates.{columns}
 use Rattle.surface_definitions.specs.declared.Coords.{Coords}
-use Rattle.surface_coordinate_laws.specs.ClashPairs.{is_clash}
+use Rattle.surface_definitions.specs.ClashPairs.{is_clash}
 
 -- the pairs of a column with the later ones that it clashes with, ascending
 unfoldable pub partners : Coords → ℕ → ℕ → List (ℕ × ℕ)

@@ -7,8 +7,8 @@ ghost use Rattle.surface_definitions.specs.Verdict.{both_nonzero};
 ghost use Rattle.ray_steps.specs.Clashes.{AreClashes};
 ghost use Rattle.quad_condition.specs.Partners.{partners};
 
-use no_memory::NoMemory;
 use normal_discs::{columns, columns_each, is_octagon, is_quad_or_octagon, tet_of};
+use out_of_memory::NoMemory;
 use std::alloc::Global;
 use surface_definitions::Coords;
 

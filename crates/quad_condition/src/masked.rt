@@ -7,7 +7,7 @@ ghost use Rattle.ray_steps.specs.Clashes.{AreClashes};
 
 use crate::clashes::clash_list;
 use crate::masks::Masks;
-use no_memory::NoMemory;
+use out_of_memory::NoMemory;
 use ray_steps::Compatible;
 use std::alloc::Global;
 use support_bits::Support;

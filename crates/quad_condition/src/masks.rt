@@ -9,8 +9,8 @@ ghost use Rattle.quad_condition.specs.Marks as marks;
 ghost use Rattle.quad_condition.specs.Marks.{AreMarks, AreDistanceMasks, HasPairAtDistance};
 
 use crate::words::{has_pair_ahead, has_two};
-use no_memory::NoMemory;
 use normal_discs::{before_octagons, columns, columns_each, triangles_each};
+use out_of_memory::NoMemory;
 use std::alloc::Global;
 use std::marker::Model;
 use support_bits::{Support, set_bit};

@@ -13,5 +13,5 @@ mod quad_vector;
 mod sums;
 
 pub use lifting::{lift, project};
-pub use no_memory::Failure;
+pub use out_of_memory::Failure;
 pub use surface_vector_definitions::LiftFault;

@@ -1,7 +1,7 @@
 //! The lift of a quad vector, and the quads of a standard vector.
 
 ghost use Rattle.std.specs.Prelude.{◌≡◌, ◌+◌, ◌*◌, ◌<◌, length, slice_index, Result, Ok, Err, ℕ, IfOk, IfErr};
-ghost use Rattle.no_memory.specs.Failures.{IfFault};
+ghost use Rattle.out_of_memory.specs.Failures.{IfFault};
 ghost use Rattle.text_definitions.specs.Written.{limit};
 ghost use Rattle.surface_definitions.specs.declared.Coords.TheVariants.{Standard, Quad as QuadCoords};
 ghost use Rattle.surface_definitions.specs.Coordinates as coordinates;
@@ -12,10 +12,10 @@ ghost use Rattle.quad_lift.specs.Agreements.{AreLeastHeights, lifted_entry};
 
 use crate::quad_vector::{Heights, QuadVector};
 use crate::sums::four_times;
-use no_memory::{Failure, NoMemory};
 use normal_discs::{
     DiscCoords, columns, columns_each, place_of, quad_column, tet_of, triangles_each, type_of,
 };
+use out_of_memory::{Failure, NoMemory};
 use skeleton::Skeleton;
 use std::alloc::{AllocError, Global};
 use surface_definitions::Coords;

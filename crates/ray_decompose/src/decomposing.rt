@@ -1,7 +1,7 @@
 //! Writes a solution as a sum of listed rays.
 
 ghost use Rattle.std.specs.Prelude.{IfOk, IfErr};
-ghost use Rattle.no_memory.specs.Failures.{IfFault};
+ghost use Rattle.out_of_memory.specs.Failures.{IfFault};
 ghost use Rattle.sum_definitions.specs.Sums.{HasRays, IsSum, IsLargeStep};
 ghost use Rattle.sum_laws.specs.Laws.{IsSumOfRays};
 
@@ -9,7 +9,7 @@ use crate::columns::first_large;
 use crate::fraction::fraction_inside;
 use crate::taking::take_ray;
 use cone_arithmetic::{Ray, System};
-use no_memory::Failure;
+use out_of_memory::Failure;
 use std::alloc::Global;
 use sum_definitions::LargeTurn;
 

@@ -8,7 +8,7 @@ ghost use Rattle.sum_definitions.specs.Sums.{Term as Taken, repeated, difference
 use crate::decomposing::Term;
 use crate::fraction::Fraction;
 use cone_arithmetic::Ray;
-use no_memory::NoMemory;
+use out_of_memory::NoMemory;
 use std::alloc::Global;
 
 /// Multiplies the count of each term by `times`.

@@ -16,7 +16,7 @@ use Rattle.support_table.specs.Counts.{columns_in_either}
 use Rattle.support_table.proofs.BitCounts.{columns_of_vectors}
 use Rattle.ray_steps.specs.Unions.{HasSingle, IsSingle, MakeSinglesPairs}
 use Rattle.cone_definitions.specs.Unordered.{HasSurfaces}
-use Rattle.plain_facts.proofs.Lists.{one_place}
+use Rattle.basic_lemmas.proofs.Lists.{one_place}
 
 -- a ray inside the union of one of a single column and another is one of them
 no_third_beside_single : (columns : ℕ) (rows : List Row) (u w v : List ℕ) → IsPrimitiveExtreme columns rows u → IsPrimitiveExtreme columns rows w → IsPrimitiveExtreme columns rows v →

@@ -6,7 +6,7 @@ ghost use Rattle.ray_steps.specs.Clashes.{AreClashes, IsClashFree, IsFree};
 ghost use Rattle.support_table.specs.Joins.{AreClashingColumns};
 
 use crate::partners::{partners_of, partners_of_support};
-use no_memory::NoMemory;
+use out_of_memory::NoMemory;
 use std::alloc::Global;
 use std::marker::Model;
 use support_bits::Support;

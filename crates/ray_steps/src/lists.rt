@@ -8,7 +8,7 @@ ghost use Rattle.ray_steps.specs.Rays.{rays_of};
 
 use crate::rays::RayWithSupport;
 use cone_arithmetic::{PackedRay, Ray};
-use no_memory::NoMemory;
+use out_of_memory::NoMemory;
 use std::alloc::{AllocError, Global};
 
 /// Sorts `ray_list` in lexicographic order. Those that the last step retained come in descending order, a run that the

@@ -8,7 +8,7 @@ ghost use Rattle.ray_steps.specs.Negatives.{AreNegatives, IsRuledOut, IsFirstNot
 use crate::ray_list::RayList;
 use crate::rivals::supports_at;
 use crate::signs::{Sign, is_negative};
-use no_memory::NoMemory;
+use out_of_memory::NoMemory;
 use std::alloc::Global;
 use support_bits::{Support, have_common};
 use support_table::{SupportTable, union_count};

@@ -5,7 +5,7 @@ ghost use Rattle.std.specs.List.{All};
 ghost use Rattle.ray_steps.specs.Clashes.{AreClashes};
 ghost use Rattle.ray_steps.specs.Partners.{IsInserted, AreClashSets, IsJoinedBelow};
 
-use no_memory::NoMemory;
+use out_of_memory::NoMemory;
 use std::alloc::Global;
 use support_bits::Support;
 

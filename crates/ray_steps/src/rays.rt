@@ -5,7 +5,7 @@ ghost use Rattle.cone_definitions.specs.Vectors.{unit};
 ghost use Rattle.support_bits.specs.Columns.{support_of};
 
 use cone_arithmetic::{PackedRay, Ray};
-use no_memory::NoMemory;
+use out_of_memory::NoMemory;
 use std::alloc::{AllocError, AllocFailed, Global};
 use support_bits::Support;
 

@@ -7,7 +7,7 @@ ghost use Rattle.ray_steps.specs.Rivals.{AreCompatible, HasSupportsOf, HasAllSup
 
 use crate::ray_list::RayList;
 use crate::rays::RayWithSupport;
-use no_memory::NoMemory;
+use out_of_memory::NoMemory;
 use std::alloc::Global;
 use support_bits::Support;
 use support_table::SupportTable;

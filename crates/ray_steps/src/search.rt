@@ -12,7 +12,7 @@ use crate::rivals::{Rivals, all_supports, rivals_with};
 use crate::step::Step;
 use crate::thirds::{has_single, third_inside};
 use crate::turned::positive_count;
-use no_memory::NoMemory;
+use out_of_memory::NoMemory;
 use std::alloc::Global;
 use support_bits::Support;
 use support_table::RayTable;

@@ -14,7 +14,7 @@ use crate::signs::{Sign, signs_at};
 use crate::turned::{has_more_positives, turned_signs};
 use crate::zeros::keep_zeros;
 use cone_arithmetic::Limit;
-use no_memory::NoMemory;
+use out_of_memory::NoMemory;
 use std::alloc::Global;
 use std::marker::Model;
 

@@ -3,7 +3,7 @@ use Rattle.std.proofs.Common.{◌≡◌, ℕ, ◌+◌, ◌*◌, ◌/◌, ◌%◌
 use Rattle.std.specs.Prelude.{◌≢◌, slice_index, slice_set}
 use Rattle.std.specs.List.{slice_index_or}
 use Rattle.std.proofs.lemmas.Bool.{cases_lt, cases_eq}
-use Rattle.plain_facts.proofs.Truths.{by_bool}
+use Rattle.basic_lemmas.proofs.Truths.{by_bool}
 use Rattle.table_definitions.specs.Lists.{is_list_before}
 use Rattle.table_definitions.specs.Permutation.{IsPermutationOfFour, words, inverse}
 use Rattle.table_definitions.specs.Table.{Row, IsTable}

@@ -1,7 +1,7 @@
 //! Groups tables into isomorphism classes by their signatures.
 
 ghost use Rattle.std.specs.Prelude.{◌≡◌, ◌<◌, ◌+◌, ◌^◌, ℕ, List, [], length, IfOk, IfErr, OnOk, OnErr};
-ghost use Rattle.no_memory.specs.Failures.{IfFault};
+ghost use Rattle.out_of_memory.specs.Failures.{IfFault};
 ghost use Rattle.table_definitions.specs.Places.{IsConnected, IsLeastUnreached};
 ghost use Rattle.signature_definitions.specs.Spelling.{IsSignature};
 ghost use Rattle.signature_definitions.specs.Census.{signature_in, IsClassed};
@@ -10,7 +10,7 @@ ghost use Rattle.signature_census.specs.Texts.{texts_of};
 use canonical_labelling::{WalkFault, signature};
 use gluing_table::Table;
 use indexmap::IndexSet;
-use no_memory::NoMemory;
+use out_of_memory::NoMemory;
 use std::alloc::Global;
 use std::marker::Model;
 

@@ -6,8 +6,8 @@ use Rattle.table_definitions.specs.Places.{face_of}
 use Rattle.signature_text_laws.specs.Walks.{Walking, take_face, IsWalkTo}
 use Rattle.signature_codec.specs.Views.{TakesFace, StopsAt}
 use Rattle.signature_codec.specs.declared.walk.NotOrdered.{NotOrdered}
-use Rattle.no_memory.specs.declared.Failure.{Failure}
-use Rattle.no_memory.specs.declared.Failure.TheVariants.{NoMemory, Fault}
+use Rattle.out_of_memory.specs.declared.Failure.{Failure}
+use Rattle.out_of_memory.specs.declared.Failure.TheVariants.{NoMemory, Fault}
 use Rattle.signature_text_laws.proofs.WalkLaws.{takes_off, first_unordered-at}
 
 pub stops_at : (X : Type 0) (rows : List Row) (k : ℕ) (w new : Walking) (e : Failure NotOrdered) → k < 4 * length rows → IsWalkTo rows k w → TakesFace {X = X} new (face_of k) (Err e) (take_face rows (face_of k) w) → StopsAt rows e

@@ -18,9 +18,9 @@ use Rattle.signature_codec.specs.declared.read.Parts.{Parts}
 use Rattle.signature_codec.specs.declared.joining.Joining.{Joining}
 use Rattle.signature_codec.specs.declared.walk.Walk.{Walk}
 use Rattle.signature_codec.specs.declared.walk.NotOrdered.{NotOrdered}
-use Rattle.no_memory.specs.declared.Failure.{Failure}
-use Rattle.no_memory.specs.declared.Failure.TheVariants.{NoMemory, Fault}
-use Rattle.no_memory.specs.Failures.{IfFault}
+use Rattle.out_of_memory.specs.declared.Failure.{Failure}
+use Rattle.out_of_memory.specs.declared.Failure.TheVariants.{NoMemory, Fault}
+use Rattle.out_of_memory.specs.Failures.{IfFault}
 
 -- the error of a number that is not below its bound
 abbrev pub fault_of_segment : Segment → ℕ → SigFault

@@ -8,7 +8,7 @@ ghost use Rattle.signature_text_laws.specs.Walks as walks;
 ghost use Rattle.signature_codec.specs.Views.{walk_view, named_face, TakesFace, IsWholeWalk, StopsAt};
 
 use gluing_table::{Face, Glue, Table};
-use no_memory::Failure;
+use out_of_memory::Failure;
 use perm_four::{Perm4, perm_at};
 use std::alloc::Global;
 

@@ -3,7 +3,7 @@ use Rattle.std.proofs.Common.{◌≡◌, ℕ, ◌+◌, ◌*◌, ◌/◌, ◌%◌
 use Rattle.std.specs.Prelude.{not, find}
 use Rattle.std.specs.List.{list_all, slice_index_or}
 use Rattle.std.proofs.lemmas.Bool.{and_parts, cases_lt}
-use Rattle.plain_facts.proofs.Truths.{by_bool}
+use Rattle.basic_lemmas.proofs.Truths.{by_bool}
 use Rattle.table_definitions.specs.Lists.{is_list_before}
 use Rattle.table_definitions.specs.Permutation.{IsPermutationOfFour, words, index}
 use Rattle.table_definitions.specs.Table.{Gluing, Row, Face, IsTable, faces}

@@ -4,7 +4,7 @@ use Rattle.std.specs.Prelude.{Ok, nat_le, is_some, filter_map, sum_by, ◌||◌,
 use Rattle.std.specs.List.{slice_index_or, list_all, range_with_len}
 use Rattle.std.proofs.lemmas.Bool.{lt-ltb, le-ltb, or_from}
 use Rattle.std.proofs.lemmas.List.Sums.{sum_by-cons, sum_by-append}
-use Rattle.plain_facts.proofs.Truths.{if_false}
+use Rattle.basic_lemmas.proofs.Truths.{if_false}
 use Rattle.table_definitions.specs.Lists.{below, times_in}
 use Rattle.table_definitions.specs.Permutation.{identity, words, index, IsPermutationOfFour}
 use Rattle.table_definitions.specs.Table.{Gluing, Row, Face, IsTable, glue, other_side, same_face, is_face_before, face_number}

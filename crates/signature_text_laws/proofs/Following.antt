@@ -4,7 +4,7 @@ use Rattle.std.specs.Prelude.{nat_lt, slice_set, ◌&&◌, ◌==◌}
 use Rattle.std.proofs.lemmas.Bool.{eqb-true, cases_eq, and_parts}
 use borrow.Author.Tests.{ltb-true, ltb-false}
 use Rattle.std.proofs.lemmas.List.{length-set}
-use Rattle.plain_facts.proofs.Truths.{by_bool, if_true, if_false}
+use Rattle.basic_lemmas.proofs.Truths.{by_bool, if_true, if_false}
 use Rattle.table_definitions.specs.Lists.{same_list}
 use Rattle.table_definitions.specs.Permutation.{identity, image, IsPermutationOfFour}
 use Rattle.table_definitions.specs.Table.{Gluing, Row, IsTable, glue, other_side, way_back, same_face, is_face_before, face_number}

@@ -2,8 +2,8 @@
 use Rattle.std.proofs.Common.{◌≡◌, ℕ, zero, suc, ◌+◌, ◌-◌, ◌*◌, ◌^◌, ◌<◌, ◌≤◌, true, false, List, [], ◌∷◌, ◌++◌, refl, sym, ap, ◌∙◌, subst, arith, append_assoc, append-nil}
 use Rattle.std.specs.Prelude.{Result, Ok, Err, nat_le, ◌==◌}
 use Rattle.std.proofs.Math.Nat.{pow-succ'}
-use Rattle.plain_facts.proofs.Truths.{if_false}
-use Rattle.plain_facts.proofs.Numbers.{not_zero}
+use Rattle.basic_lemmas.proofs.Truths.{if_false}
+use Rattle.basic_lemmas.proofs.Numbers.{not_zero}
 use Rattle.text_definitions.specs.Reading.{◌>>=◌}
 use Rattle.signature_definitions.specs.SignatureText as signatures
 use Rattle.signature_definitions.specs.SignatureText.{value_at, number_in, numbers_in, character_types, types_from}

@@ -5,7 +5,7 @@ use Rattle.std.specs.List.{position_or_len, position}
 use Rattle.std.proofs.lemmas.Bool.{eqb-true, eq-eqb, lt-ltb, or_parts, not-false}
 use Rattle.std.proofs.lemmas.List.{map-append, length-append}
 use Rattle.std.proofs.lemmas.List.Sums.{prefix_len_stops}
-use Rattle.plain_facts.proofs.Truths.{by_bool}
+use Rattle.basic_lemmas.proofs.Truths.{by_bool}
 use borrow.Author.Tests.{ltb-true, ltb-false}
 use Rattle.text_definitions.specs.Reading.{◌>>=◌}
 use Rattle.text_definitions.proofs.Readers.{bind_ok}

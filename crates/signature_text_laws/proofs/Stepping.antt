@@ -4,7 +4,7 @@ use Rattle.std.specs.Prelude.{Result, Ok, All, nat_le, is_some, sum_by, ◌||◌
 use Rattle.std.specs.List.{slice_index_or}
 use Rattle.std.proofs.lemmas.List.Sums.{sum_by-cons}
 use Rattle.std.proofs.lemmas.Bool.{or_parts}
-use Rattle.plain_facts.proofs.Truths.{by_bool}
+use Rattle.basic_lemmas.proofs.Truths.{by_bool}
 use Rattle.table_definitions.specs.Lists.{times_in}
 use Rattle.table_definitions.specs.Permutation.{words}
 use Rattle.table_definitions.specs.Table.{Gluing, other_side, same_face, face_number}

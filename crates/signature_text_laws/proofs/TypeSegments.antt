@@ -4,7 +4,7 @@ use Rattle.std.specs.Prelude.{Ok, All, nat_le, nat_lt, not, sum_by, ◌||◌, �
 use Rattle.std.proofs.lemmas.Bool.{eqb-true, eq-eqb, or_parts, not-false}
 use Rattle.std.proofs.lemmas.List.{length-append}
 use Rattle.std.proofs.lemmas.List.Sums.{sum_by-append}
-use Rattle.plain_facts.proofs.Numbers.{positive}
+use Rattle.basic_lemmas.proofs.Numbers.{positive}
 use borrow.Author.Tests.{ltb-false}
 use Rattle.text_definitions.specs.Reading.{◌>>=◌}
 use Rattle.text_definitions.proofs.Readers.{bind_ok}

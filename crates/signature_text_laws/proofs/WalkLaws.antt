@@ -5,7 +5,7 @@ use Rattle.std.specs.List.{list_all, range_with_len}
 use Rattle.std.proofs.lemmas.Bool.{eqb-true, eq-eqb, lt-ltb, le-ltb, cases_lt, cases_eq, and_parts, and_from, or_right, or_from, and_left, and_right, or_left}
 use Rattle.std.proofs.lemmas.List.{map-append}
 use Rattle.std.proofs.lemmas.List.Elements.{filter_map-append}
-use Rattle.plain_facts.proofs.Truths.{by_bool, if_true, if_false}
+use Rattle.basic_lemmas.proofs.Truths.{by_bool, if_true, if_false}
 use borrow.Author.Tests.{ltb-true}
 use Rattle.table_definitions.specs.Lists.{below, same_list}
 use Rattle.table_definitions.specs.Permutation.{identity}

@@ -6,7 +6,7 @@ use Rattle.std.proofs.lemmas.Bool.{lt-ltb, le-ltb, eq-eqb, cases_lt, and_from}
 use Rattle.std.proofs.lemmas.List.{map-append}
 use Rattle.std.proofs.lemmas.List.FromFn.{get_or-map-range_with_len, length-map-range_with_len}
 use Rattle.std.proofs.lemmas.List.Sums.{sum_by-cons}
-use Rattle.plain_facts.proofs.Truths.{if_true, if_false}
+use Rattle.basic_lemmas.proofs.Truths.{if_true, if_false}
 use Rattle.table_definitions.specs.Lists.{same_list, times_in}
 use Rattle.table_definitions.specs.Permutation.{identity, words, image, index}
 use Rattle.table_definitions.specs.Table.{Gluing, Row, IsTable, glue, other_side, is_face_before, face_number}

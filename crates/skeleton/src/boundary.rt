@@ -9,7 +9,7 @@ use crate::crossings::{Exit, behind};
 use crate::edges::edge_ends;
 use crate::numbering::Numbering;
 use gluing_table::{Face, Table};
-use no_memory::NoMemory;
+use out_of_memory::NoMemory;
 use std::alloc::Global;
 
 /// Whether the face `exit.face` of the tetrahedron of `edge` is a boundary face that contains `edge`.

@@ -10,7 +10,7 @@ ghost use Rattle.skeleton.specs.Parts.{AreRounds};
 use crate::crossings::behind;
 use finite_walks::orbit;
 use gluing_table::{Face, Table};
-use no_memory::NoMemory;
+use out_of_memory::NoMemory;
 use perm_four::Perm4;
 use std::alloc::Global;
 use std::marker::Model;

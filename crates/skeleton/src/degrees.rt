@@ -4,7 +4,7 @@ ghost use Rattle.std.specs.Prelude.{length, IfOk};
 ghost use Rattle.skeleton.specs.Parts.{AreDegrees};
 
 use crate::numbering::Numbering;
-use no_memory::NoMemory;
+use out_of_memory::NoMemory;
 use std::alloc::Global;
 
 /// The number of members of each class of `numbering`.

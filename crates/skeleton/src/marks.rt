@@ -13,7 +13,7 @@ use crate::degrees::degrees_of;
 use crate::numbering::Numbering;
 use crate::signs::orientation_of;
 use gluing_table::Table;
-use no_memory::NoMemory;
+use out_of_memory::NoMemory;
 use std::alloc::Global;
 
 /// The degrees of the vertex and edge classes, which edge classes are on the boundary, the orientation by signs of the

@@ -9,7 +9,7 @@ use crate::crossings::{Exit, face_across, vertex_across};
 use crate::edges::{direction_across, edge_across};
 use crate::signs::{sign_across, vertex_sign_across};
 use gluing_table::Table;
-use no_memory::NoMemory;
+use out_of_memory::NoMemory;
 use skeleton_class_laws::Kind;
 use std::alloc::Global;
 

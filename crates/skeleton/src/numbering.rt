@@ -7,7 +7,7 @@ ghost use Rattle.skeleton_class_laws.specs.declared.Kind.TheVariants.{Vertices, 
 use crate::neighbours::neighbours;
 use finite_walks::classes;
 use gluing_table::Table;
-use no_memory::NoMemory;
+use out_of_memory::NoMemory;
 use skeleton_class_laws::Kind;
 use std::alloc::Global;
 

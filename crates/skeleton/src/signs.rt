@@ -9,7 +9,7 @@ ghost use Rattle.skeleton.specs.Parts.{items_of};
 use crate::crossings::Exit;
 use crate::numbering::classes_of;
 use gluing_table::Table;
-use no_memory::NoMemory;
+use out_of_memory::NoMemory;
 use skeleton_class_laws::Kind;
 use std::alloc::Global;
 

@@ -13,7 +13,7 @@ use crate::edges::runs_against;
 use crate::marks::{Marks, marks_of};
 use crate::numbering::{Classes, Numbering, all_classes};
 use gluing_table::Table;
-use no_memory::NoMemory;
+use out_of_memory::NoMemory;
 use std::alloc::Global;
 use std::marker::Model;
 

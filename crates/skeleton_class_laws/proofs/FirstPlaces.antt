@@ -5,7 +5,7 @@ use Rattle.std.specs.List.{position_or_len}
 use Rattle.std.proofs.lemmas.Bool.{cases_eq, eq-eqb, ne_eqb}
 use Rattle.std.proofs.lemmas.List.{get_or_default}
 use Rattle.std.proofs.lemmas.List.Sums.{position_or_len_is}
-use Rattle.plain_facts.proofs.Numbers.{below_suc}
+use Rattle.basic_lemmas.proofs.Numbers.{below_suc}
 use Rattle.table_definitions.specs.Lists.{has}
 use Rattle.table_definitions.proofs.Bijections.{there}
 

@@ -4,8 +4,8 @@ use Rattle.std.specs.Prelude.{◌==◌, ◌&&◌, not, nat_lt, slice_index, coun
 use Rattle.std.specs.List.{slice_index_or}
 use Rattle.std.proofs.lemmas.Bool.{cases_lt, eqb-true, eq-eqb, ne_eqb, eqb-false, and_parts}
 use Rattle.std.proofs.lemmas.List.FromFn.{length-map-range_with_len, get_or-map-range_with_len}
-use Rattle.plain_facts.proofs.Numbers.{compared_back}
-use Rattle.plain_facts.proofs.Truths.{not_itself}
+use Rattle.basic_lemmas.proofs.Numbers.{compared_back}
+use Rattle.basic_lemmas.proofs.Truths.{not_itself}
 use Rattle.table_definitions.specs.Lists.{below}
 use Rattle.table_definitions.specs.Permutation.{image, is_odd}
 use Rattle.table_definitions.specs.Table.{Gluing, Row, glue, IsTable}

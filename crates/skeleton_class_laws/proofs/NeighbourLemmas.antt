@@ -4,7 +4,7 @@ use Rattle.std.specs.Prelude.{option_and_then, slice_index}
 use Rattle.std.specs.List.{slice_index_or}
 use Rattle.std.proofs.lemmas.List.{get_or_push, get_or_append_left}
 use Rattle.std.proofs.lemmas.Bool.{cases_lt}
-use Rattle.plain_facts.proofs.Members.{contains_at}
+use Rattle.basic_lemmas.proofs.Members.{contains_at}
 use Rattle.table_walk_laws.specs.Joined.{LeadsBy, IsJoined, IsSymmetric, HasNeighboursBelow, neighbours_of, present}
 use Rattle.table_walk_laws.proofs.Rows.{present_contains}
 use Rattle.table_walk_laws.proofs.Places.{place_of}

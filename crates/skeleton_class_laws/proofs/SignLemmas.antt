@@ -2,8 +2,8 @@
 use Rattle.std.proofs.Common.{◌≡◌, ◌≢◌, inl, inr, ℕ, ◌+◌, ◌-◌, ◌*◌, ◌/◌, ◌%◌, ◌<◌, Bool, true, false, List, [], ◌∷◌, length, Option, Some, None, refl, sym, ap, ◌∙◌, arith, subst}
 use Rattle.std.specs.Prelude.{not, nat_lt, slice_index, option_and_then, if◌then◌else◌}
 use Rattle.std.proofs.lemmas.Bool.{cases_order, lt-ltb}
-use Rattle.plain_facts.proofs.Numbers.{compared_back}
-use Rattle.plain_facts.proofs.Truths.{not_itself}
+use Rattle.basic_lemmas.proofs.Numbers.{compared_back}
+use Rattle.basic_lemmas.proofs.Truths.{not_itself}
 use Rattle.table_definitions.specs.Permutation.{is_odd}
 use Rattle.table_definitions.specs.Table.{Gluing, Face, Row, glue, IsTable}
 use Rattle.table_definitions.specs.Places.{SameComponent}

@@ -1,7 +1,7 @@
 -- The sides of the triangles of a link, by numbers: side k lies at vertex k / 4, in face k % 4 of its tetrahedron.
 use Rattle.std.proofs.Common.{◌≡◌, ℕ, zero, suc, ◌+◌, ◌*◌, ◌/◌, ◌%◌, ◌<◌, Bool, true, false, cond, List, length, map, refl, sym, ap, ◌∙◌, arith}
 use Rattle.std.specs.Prelude.{◌==◌, ◌&&◌, not, count_by, sum_by, slice_index}
-use Rattle.plain_facts.proofs.Truths.{one_if}
+use Rattle.basic_lemmas.proofs.Truths.{one_if}
 use Rattle.table_definitions.specs.Lists.{below, times_in}
 use Rattle.table_definitions.specs.Permutation.{others}
 use Rattle.table_definitions.specs.Table.{Row, Face, glue}

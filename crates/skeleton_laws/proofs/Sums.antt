@@ -4,7 +4,7 @@ use Rattle.std.specs.Prelude.{◌==◌, ◌&&◌, not, count_by, sum_by}
 use Rattle.std.specs.List.{list_all}
 use Rattle.std.proofs.lemmas.Bool.{ne_eqb}
 use Rattle.std.proofs.lemmas.List.Sums.{sum_by-cons}
-use Rattle.plain_facts.proofs.Truths.{one_if}
+use Rattle.basic_lemmas.proofs.Truths.{one_if}
 use Rattle.table_definitions.specs.Lists.{below}
 use Rattle.table_definitions.proofs.ListFacts.{sum_below_next}
 use Rattle.surface_laws.proofs.Counting.{sum_by_same, sum_by-none, below_sum}

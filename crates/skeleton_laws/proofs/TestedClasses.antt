@@ -6,7 +6,7 @@ use Rattle.std.proofs.lemmas.Bool.{and_parts, eqb-true, ltb-true, false≢true}
 use Rattle.std.proofs.lemmas.List.Elements.{Contains-get_or}
 use Rattle.std.proofs.lemmas.List.Folds.{list_any_none}
 use Rattle.cone_definitions.proofs.Below.{all_or_one}
-use Rattle.plain_facts.proofs.Truths.{true_or_false}
+use Rattle.basic_lemmas.proofs.Truths.{true_or_false}
 use Rattle.table_definitions.specs.Lists.{below, same_list}
 use Rattle.table_definitions.specs.Table.{Row, IsTable}
 use Rattle.table_definitions.specs.Classes.{IsNumbering}

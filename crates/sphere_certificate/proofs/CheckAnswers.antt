@@ -1,8 +1,8 @@
 -- What is answered of a last table is told of the moves that lead to it.
 use Rattle.std.proofs.Common.{◌≡◌, ℕ, List, [], ◌∷◌, ◌++◌, Result, Ok, Err, IfErr, refl, sym, subst}
-use Rattle.no_memory.specs.declared.Failure.{Failure}
-use Rattle.no_memory.specs.declared.Failure.TheVariants.{NoMemory, Fault}
-use Rattle.no_memory.specs.Failures.{IfFault}
+use Rattle.out_of_memory.specs.declared.Failure.{Failure}
+use Rattle.out_of_memory.specs.declared.Failure.TheVariants.{NoMemory, Fault}
+use Rattle.out_of_memory.specs.Failures.{IfFault}
 use Rattle.table_definitions.specs.Table.{Row, IsTable}
 use Rattle.move_definitions.specs.Moves.{Move, PlaysAll}
 use Rattle.move_definitions.specs.Certificates.{IsStandard, IsCertificate}

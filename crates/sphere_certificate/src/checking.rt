@@ -1,7 +1,7 @@
 //! Checks whether moves certify that a table is a 3-sphere.
 
 ghost use Rattle.std.specs.Prelude.{◌≡◌, ◌<◌, ◌-◌, ◌^◌, ◌↔◌, [], length, Ok, Err, IsTrue, IfErr, OnOk};
-ghost use Rattle.no_memory.specs.Failures.{IfFault};
+ghost use Rattle.out_of_memory.specs.Failures.{IfFault};
 ghost use Rattle.table_definitions.specs.Table.{IsTable};
 ghost use Rattle.move_definitions.specs.Moves.{PlaysAll};
 ghost use Rattle.move_definitions.specs.Certificates.{IsStandard, IsCertificate};
@@ -10,7 +10,7 @@ ghost use Rattle.sphere_certificate.specs.Checks.{told};
 
 use canonical_labelling::{NotConnected, signature};
 use gluing_table::Table;
-use no_memory::Failure;
+use out_of_memory::Failure;
 use pachner_moves::{Move, apply};
 use std::alloc::Global;
 

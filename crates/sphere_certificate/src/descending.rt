@@ -1,7 +1,7 @@
 //! Simplifies a table by 4-1 and 3-2 moves, until it is the standard sphere or none is accepted.
 
 ghost use Rattle.std.specs.Prelude.{◌≡◌, ◌≤◌, ◌+◌, ◌⊎◌, ◌↔◌, true, length, Some, None, option_map, MatchOption, IsTrue, IfSome, IfOk, IfErr, OnOk};
-ghost use Rattle.no_memory.specs.Failures.{IfFault};
+ghost use Rattle.out_of_memory.specs.Failures.{IfFault};
 ghost use Rattle.table_definitions.specs.Places.{IsConnected, IsLeastUnreached};
 ghost use Rattle.move_definitions.specs.Certificates as certificates;
 ghost use Rattle.move_definitions.specs.Certificates.{IsStandard, IsCertificate};
@@ -12,7 +12,7 @@ use crate::accepted::{AcceptedMove, first_accepted, vertices};
 use crate::checking::is_sphere;
 use canonical_labelling::{NotConnected, WalkFault, signature};
 use gluing_table::Table;
-use no_memory::{Failure, NoMemory};
+use out_of_memory::{Failure, NoMemory};
 use pachner_moves::{Core, Move};
 use std::alloc::Global;
 

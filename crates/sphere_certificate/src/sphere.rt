@@ -6,7 +6,7 @@ ghost use Rattle.move_definitions.specs.Certificates as certificates;
 ghost use Rattle.table_definitions.specs.Permutation.{IsPermutationOfFour};
 
 use gluing_table::{Glue, Row, Table};
-use no_memory::NoMemory;
+use out_of_memory::NoMemory;
 use perm_four::Perm4;
 use std::alloc::{AllocError, Global};
 

@@ -3,7 +3,7 @@ use Rattle.std.proofs.Common.{◌≡◌, ℕ, zero, suc, ◌≤◌, List, [], �
 use Rattle.std.specs.Prelude.{slice_index}
 use Rattle.std.specs.List.{All, AllZip, slice_index_or}
 use Rattle.std.proofs.lemmas.List.Elements.{All-cons}
-use Rattle.no_memory.specs.declared.Failure.TheVariants.{Fault}
+use Rattle.out_of_memory.specs.declared.Failure.TheVariants.{Fault}
 use Rattle.text_definitions.specs.Written.{limit}
 use Rattle.text_definitions.specs.Text.{Line}
 use Rattle.cone_definitions.specs.Rows.{Row as EquationRow}
@@ -20,7 +20,7 @@ use Rattle.surface_definitions.specs.QuadEquations.{AreEquations}
 use Rattle.surface_definitions.specs.TableSurfaces.{table_enumeration}
 use Rattle.surface_definitions.proofs.VerdictLaws.{accepted_by}
 use Rattle.surface_list.specs.Surfaces.{AreTableSurfaces, IsTableRefused}
-use Rattle.bounded_list.specs.Lists.{IsOnlyListing}
+use Rattle.vertex_enumeration.specs.Lists.{IsOnlyListing}
 use Rattle.sum_definitions.specs.Sums.{HasRays}
 use Rattle.sum_laws.proofs.Surfaces.{surfaces_are_rays_lem}
 use Rattle.text_document_definitions.specs.Documents.{vectors_document}

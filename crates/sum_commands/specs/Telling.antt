@@ -2,8 +2,8 @@
 use Rattle.std.specs.Prelude.{◌≡◌, ℕ, ◌≤◌, List, ◌++◌, Vec, Result, Ok, Err, slice_index}
 use Rattle.std.specs.declared.alloc.Global.{Global}
 use Rattle.std.specs.List.{All, AllZip}
-use Rattle.no_memory.specs.declared.Failure.{Failure}
-use Rattle.no_memory.specs.declared.Failure.TheVariants.{NoMemory, Fault}
+use Rattle.out_of_memory.specs.declared.Failure.{Failure}
+use Rattle.out_of_memory.specs.declared.Failure.TheVariants.{NoMemory, Fault}
 use Rattle.text_definitions.specs.Written.{limit}
 use Rattle.cone_definitions.specs.Systems.{System}
 use Rattle.table_definitions.specs.Table.{Row}

@@ -16,11 +16,11 @@ use command_answers::{Outcome, accepted_outcome, fault_outcome};
 use cone_arithmetic::System;
 use gluing_table::Table;
 use matching_equations::{Coords, equations_of_table};
-use no_memory::NoMemory;
+use out_of_memory::NoMemory;
 use outcome_definitions::SumRefusal;
 use ray_decompose::add_up;
 use std::alloc::Global;
-use surface_answers::check;
+use surface_refusals::check;
 
 /// Checks `block`. Fails with what is wrong first: its vector or a term is no admissible solution, or the terms do not
 /// add up.

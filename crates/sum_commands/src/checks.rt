@@ -9,8 +9,8 @@ ghost use Rattle.sum_commands.specs.Firsts.{AreAllAnswered};
 use cone_arithmetic::System;
 use gluing_table::Table;
 use ray_decompose::Given;
-use surface_answers::check;
 use surface_definitions::{Coords, VectorFault};
+use surface_refusals::check;
 
 /// The first item of a list that is refused, by its index, and the error.
 #[derive(Clone, Copy)]

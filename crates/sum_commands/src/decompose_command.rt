@@ -19,12 +19,12 @@ use cone_arithmetic::{MAX_ENTRY, Ray, System};
 use double_description::NamedOrder;
 use gluing_table::{Table, write_table};
 use matching_equations::{Coords, equations_of_table};
-use no_memory::{Failure, NoMemory};
+use out_of_memory::{Failure, NoMemory};
 use outcome_definitions::{Status, SumRefusal};
 use ray_decompose::{Large, SumFault};
 use std::alloc::Global;
-use surface_answers::large_outcome;
 use surface_list::surfaces_by;
+use surface_refusals::large_outcome;
 
 /// Appends the block of the vector `x`. Fails at the first step of its sum at which a number exceeds `limit`.
 fn append_sum(

@@ -4,7 +4,7 @@ ghost use Rattle.text_definitions.specs.Written.{line};
 ghost use Rattle.outcome_definitions.specs.Sums as sums;
 
 use command_answers::{Outcome, append_checked, append_number_line, refused_vector};
-use no_memory::NoMemory;
+use out_of_memory::NoMemory;
 use outcome_definitions::{Status, SumRefusal};
 use ray_decompose::AddFault;
 use std::alloc::Global;

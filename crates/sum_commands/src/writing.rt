@@ -3,7 +3,7 @@ ghost use Rattle.std.specs.Prelude.{◌≡◌, ◌++◌, OnOk};
 ghost use Rattle.std.specs.List.{flat_map};
 ghost use Rattle.text_document_definitions.specs.Blocks as blocks;
 
-use no_memory::NoMemory;
+use out_of_memory::NoMemory;
 use ray_decompose::{Sum, Term};
 use std::alloc::Global;
 use text_io::{append, append_decimal};

@@ -3,7 +3,7 @@
 ghost use Rattle.std.specs.Prelude.{◌≡◌, ◌+◌, ◌*◌, ◌<◌, ◌≤◌, ◌^◌, length, take, drop, OnOk, OnErr};
 ghost use Rattle.support_table.specs.Blocks.{block_size, KeepsCommon, IsBlockPushed};
 
-use no_memory::NoMemory;
+use out_of_memory::NoMemory;
 
 /// The number of supports of a block.
 pub const BLOCK: usize = 32;

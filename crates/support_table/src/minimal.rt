@@ -11,7 +11,7 @@ use crate::least::{Least, least_of};
 use crate::marks::{marks_of, unhit};
 use crate::ray_table::RayTable;
 use crate::rivals::{Rival, rivals_of};
-use no_memory::NoMemory;
+use out_of_memory::NoMemory;
 use std::alloc::Global;
 use support_bits::Support;
 

@@ -4,7 +4,7 @@ ghost use Rattle.std.specs.Prelude.{◌≡◌, ◌<◌, length, IfOk};
 ghost use Rattle.support_table.specs.Holders.{IsHolder, AreHolders, AreAsLong, IsMeetingBelow, IsMeeting};
 
 use crate::table::SupportTable;
-use no_memory::NoMemory;
+use out_of_memory::NoMemory;
 use std::alloc::Global;
 use std::marker::Model;
 use support_bits::Support;

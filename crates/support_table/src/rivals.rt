@@ -5,7 +5,7 @@ ghost use Rattle.support_table.specs.Rivals.{AreRivals, IsRivalPushed, AreRivals
 
 use crate::ray_table::RayTable;
 use crate::table::SupportTable;
-use no_memory::NoMemory;
+use out_of_memory::NoMemory;
 use std::alloc::Global;
 use support_bits::Support;
 

@@ -13,8 +13,8 @@ use Rattle.surface_laws.proofs.Chains.{has_one_end}
 use Rattle.surface_laws.proofs.ChainsBack.{IsReadBack, chain_back}
 use Rattle.surface_laws.proofs.CrushedRows.{stays}
 use Rattle.surface_crushing_laws.specs.Invariants.{CrushingKeepsClosed, CrushingKeepsOrientable}
-use Rattle.move_kept_laws.proofs.Closed.{IsGlued, all_glued, is_closed-from}
-use Rattle.move_kept_laws.proofs.Parities.{behind}
+use Rattle.move_laws.proofs.Closed.{IsGlued, all_glued, is_closed-from}
+use Rattle.move_laws.proofs.Parities.{behind}
 use Rattle.surface_crushing_laws.proofs.RetainedEnds.{chain_somewhere, chain_signed}
 
 module _ (rows : List Row) (xs : List ℕ) (new : List Row) (table : IsTable rows) (c : IsCrushed rows xs new) where

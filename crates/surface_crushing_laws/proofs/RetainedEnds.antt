@@ -2,12 +2,12 @@
 use mathlib.Core.Bool.{beq}
 use Rattle.std.proofs.Common.{◌≡◌, ◌≢◌, ℕ, zero, suc, ◌<◌, Bool, true, false, List, length, Option, Some, None, refl, sym, ap, ◌∙◌, subst}
 use Rattle.std.specs.Prelude.{◌==◌, ◌||◌, not}
-use Rattle.plain_facts.proofs.Numbers.{given_apart}
+use Rattle.basic_lemmas.proofs.Numbers.{given_apart}
 use Rattle.table_definitions.specs.Permutation.{IsPermutationOfFour, image, compose, inversions, is_odd}
 use Rattle.table_definitions.specs.Table.{Gluing, Row, Face, glue, IsTable}
 use Rattle.table_definitions.proofs.Permutations.{image_below, compose_permutes, is_odd-compose}
 use Rattle.table_definitions.proofs.Faces.{face_at, gluing_to}
-use Rattle.move_kept_laws.proofs.Parities.{behind}
+use Rattle.move_laws.proofs.Parities.{behind}
 use Rattle.surface_definitions.specs.Crushing.{is_removed, partner_in, exchange, passed, ChainEnds}
 use Rattle.surface_laws.proofs.Glued.{glued_is}
 use Rattle.surface_laws.proofs.Turns.{by_two, IsTurned, turned_at, exchange_is}

@@ -3,8 +3,8 @@ use Rattle.std.proofs.Common.{◌≡◌, ℕ, zero, suc, ◌<◌, ◌≤◌, Boo
 use Rattle.std.specs.Prelude.{slice_index}
 use Rattle.std.specs.List.{list_any}
 use Rattle.std.proofs.lemmas.Bool.{or_from, or_parts, ltb-false, not-true, not_from_false, false≢true}
-use Rattle.plain_facts.proofs.Truths.{true_or_false, one_if}
-use Rattle.plain_facts.proofs.Numbers.{below_suc}
+use Rattle.basic_lemmas.proofs.Truths.{true_or_false, one_if}
+use Rattle.basic_lemmas.proofs.Numbers.{below_suc}
 use Rattle.table_definitions.specs.Table.{Gluing, Row, Face, glue, IsTable}
 use Rattle.table_definitions.proofs.Ranks.{rank, rank-suc, rank_fits, rank_all}
 use Rattle.table_definitions.proofs.Faces.{face_at, gluing_to}

@@ -8,3 +8,6 @@ pub mod QuadExamples
 pub mod VectorLaws
 pub mod OneSystem
 pub mod ColumnCounts
+pub mod Ranges
+pub mod ClashPairs
+pub mod FirstFaults

@@ -9,3 +9,5 @@ pub mod Crushing
 pub mod Lift
 pub mod QuadEquations
 pub mod TableSurfaces
+pub mod ClashPairs
+pub mod CoordinateLaws

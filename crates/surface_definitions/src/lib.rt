@@ -4,6 +4,7 @@
 #![tactic(auto)]
 
 ghost use Rattle.surface_definitions.specs.Laws.{VectorLinesAreRead, VerdictsAreRight, RowsMeanEquations};
+ghost use Rattle.surface_definitions.specs.CoordinateLaws.{ClashesAreApart, FirstLargeIsAnswered, FirstFailureIsAnswered};
 
 /// Coordinate systems. Standard coordinates count triangles and quads (Haken 1961), quad coordinates only quads
 /// (Tollefson 1998), octagon coordinates triangles, quads and octagons (Rubinstein 1995; Thompson 1994).
@@ -50,4 +51,16 @@ pub fn verdicts_are_right()
 /// Theorem: the row of an equation is 0 at a vector if and only if both of its sides have the same sum.
 pub fn rows_mean_equations()
     ensures { RowsMeanEquations }
+{}
+
+/// Theorem: each clashing pair consists of two different columns.
+pub fn clashes_are_apart()
+    ensures { ClashesAreApart }
+{}
+
+/// Theorem: the verdict on a vector of the right length names the first equation that a part of exceeds the limit at
+/// the vector, or that is not 0 there.
+pub fn first_faults_are_answered()
+    ensures large { FirstLargeIsAnswered }
+    ensures fails { FirstFailureIsAnswered }
 {}

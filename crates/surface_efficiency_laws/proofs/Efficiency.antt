@@ -7,7 +7,7 @@ use Rattle.std.proofs.lemmas.List.{get_or_default}
 use Rattle.std.proofs.lemmas.List.Elements.{Contains-get_or, All-contains}
 use Rattle.cone_definitions.proofs.Below.{all_or_one}
 use Rattle.cone_definitions.proofs.Existence.{surface_list_exists_lem}
-use Rattle.surface_coordinate_laws.proofs.ClashPairs.{clashes_apart}
+use Rattle.surface_definitions.proofs.ClashPairs.{clashes_apart}
 use Rattle.skeleton_definitions.specs.Skeleton.{Skeleton, IsSkeleton}
 use Rattle.surface_definitions.specs.Coordinates.{columns, clash_list}
 use Rattle.surface_definitions.specs.declared.Coords.{Coords}

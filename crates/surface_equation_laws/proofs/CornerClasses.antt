@@ -12,7 +12,7 @@ use Rattle.table_definitions.proofs.ListFacts.{same_list-true}
 use Rattle.table_definitions.proofs.Permutations.{by_words}
 use Rattle.table_definitions.proofs.Faces.{face_at}
 use Rattle.skeleton_definitions.specs.Corners.{Corner, step, steps, Reaches, first_corner, corner_of}
-use Rattle.plain_facts.proofs.Truths.{if_false}
+use Rattle.basic_lemmas.proofs.Truths.{if_false}
 use Rattle.surface_laws.proofs.CornerSteps.{IsStep, step_is}
 use Rattle.surface_equation_laws.proofs.CornerSteps.{IsCorner, step_keeps, steps_keep, IsApart, apart_in}
 use Rattle.skeleton_class_laws.specs.Rounds.{corner_word}

@@ -22,7 +22,7 @@ use Rattle.surface_equation_laws.proofs.Once.{count_one}
 use Rattle.surface_equation_laws.proofs.LocalArcs.{place_is}
 use Rattle.surface_equation_laws.proofs.CornerSteps.{turned_round, corner_at, IsCorner, steps_keep, no_turn}
 use Rattle.surface_equation_laws.proofs.CornerClasses.{IsFirst, first_is, least_in, class_of_corner}
-use Rattle.plain_facts.proofs.Truths.{one_if}
+use Rattle.basic_lemmas.proofs.Truths.{one_if}
 use Rattle.skeleton_class_laws.specs.Rounds.{corner_word}
 
 -- a word turned round, and one of each two that are turned round to each other

@@ -8,7 +8,7 @@ use Rattle.table_definitions.proofs.TableLaws.{Among}
 use Rattle.surface_laws.proofs.Counting.{sum_by-none}
 use Rattle.table_definitions.proofs.DistinctLists.{AreApart}
 use Rattle.surface_equation_laws.specs.Entries.{IsOnce}
-use Rattle.plain_facts.proofs.Truths.{one_if}
+use Rattle.basic_lemmas.proofs.Truths.{one_if}
 
 -- where any two that pass are one, at most one passes
 pub count_one : {A : Type 0} (p : A → Bool) (xs : List A) → AreApart xs → ((x y : A) → Among x xs → Among y xs → p x ≡ true → p y ≡ true → x ≡ y) → count_by p xs ≤ 1

@@ -22,7 +22,7 @@ use Rattle.std.proofs.lemmas.Nat.{pow-add, mul-pow}
 use Rattle.std.proofs.Math.Nat.{pow-le-pow_right}
 use Rattle.std.proofs.lemmas.List.Elements.{recursion_from_All}
 use Rattle.surface_equation_laws.proofs.Chosen.{sum_by_less}
-use Rattle.plain_facts.proofs.Truths.{one_if}
+use Rattle.basic_lemmas.proofs.Truths.{one_if}
 
 module _ (coords : Coords) (n : ℕ) (cs : List ℕ) (range : (c : ℕ) → Among c cs → c < columns coords n) (once : IsOnce cs) (free : HaveNoClash coords n cs) where
   listed : (a b : ℕ) → Among a cs → Among b cs → a < b → clash_test coords a b ≡ true → ⊥

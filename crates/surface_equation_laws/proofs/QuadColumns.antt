@@ -24,7 +24,7 @@ use Rattle.surface_equation_laws.specs.Entries.{entry, column_sum, IsOnce}
 use Rattle.surface_equation_laws.proofs.Entries.{magnitude_most}
 use Rattle.surface_equation_laws.proofs.Chosen.{sum_by_less, passing_less}
 use Rattle.surface_equation_laws.proofs.CornerCounts.{halves, side, times_at, hits, hits_few}
-use Rattle.plain_facts.proofs.Truths.{one_if}
+use Rattle.basic_lemmas.proofs.Truths.{one_if}
 
 -- the edges that quad q meets
 abbrev pub meeting : ℕ → List ℕ

@@ -28,7 +28,7 @@ use Rattle.surface_equation_laws.proofs.Selected.{selected}
 use Rattle.surface_equation_laws.proofs.CornerSteps.{IsCorner}
 use Rattle.surface_equation_laws.proofs.CornerCounts.{side, side_below, is_corner}
 use Rattle.surface_equation_laws.proofs.QuadColumns.{quad_columns_are_few}
-use Rattle.plain_facts.proofs.Truths.{one_if}
+use Rattle.basic_lemmas.proofs.Truths.{one_if}
 use Rattle.skeleton_class_laws.specs.Rounds.{corner_word}
 
 -- positive and negative parts with what they are differences of

@@ -13,7 +13,7 @@ use Rattle.surface_equation_laws.specs.Entries.{entry, IsOnce, column_sum}
 use Rattle.surface_equation_laws.specs.Selected.{entry_at}
 use Rattle.surface_equation_laws.proofs.Chosen.{sum_by_less}
 use Rattle.surface_equation_laws.proofs.Columns.{sum_by_times}
-use Rattle.plain_facts.proofs.Truths.{one_if}
+use Rattle.basic_lemmas.proofs.Truths.{one_if}
 
 module _ (f : ℕ → ℕ) (n : ℕ) (nothing : (c : ℕ) → n ≤ c → f c ≡ 0) where
   apart_zero : (c k : ℕ) → (k ≡ c → ⊥) → f k * one_if (c == k) ≡ 0

@@ -1,7 +1,7 @@
 -- Crush chains: no face starts two of different ends, and each kept face starts one.
 use Rattle.std.proofs.Common.{◌≡◌, ℕ, zero, suc, ◌+◌, ◌*◌, ◌/◌, ◌%◌, ◌<◌, Bool, true, false, not, List, length, Option, Some, None, option_map, if◌then◌else◌, IsTrue, inl, inr, refl, sym, ap, ◌∙◌, subst, arith}
 use Rattle.std.proofs.lemmas.Bool.{false≢true}
-use Rattle.plain_facts.proofs.Options.{none_or_some}
+use Rattle.basic_lemmas.proofs.Options.{none_or_some}
 use Rattle.table_walk_laws.specs.Walks.{after, IsSource}
 use Rattle.table_walk_laws.specs.Laws.{HasEnd}
 use Rattle.table_walk_laws.proofs.ChainLemmas.{chain_ends}

@@ -2,8 +2,8 @@
 use Rattle.std.proofs.Common.{◌≡◌, ℕ, zero, suc, ◌+◌, ◌*◌, ◌/◌, ◌%◌, ◌<◌, Bool, true, false, not, List, [], ◌∷◌, length, Contains, ◌⊎◌, inl, inr, refl, sym, ap, ◌∙◌, arith}
 use Rattle.std.specs.Prelude.{◌==◌, if◌then◌else◌, slice_index}
 use Rattle.std.specs.List.{slice_index_or}
-use Rattle.plain_facts.proofs.Numbers.{equals_one_of_two}
-use Rattle.plain_facts.proofs.Truths.{not_itself, agree_if}
+use Rattle.basic_lemmas.proofs.Numbers.{equals_one_of_two}
+use Rattle.basic_lemmas.proofs.Truths.{not_itself, agree_if}
 use Rattle.table_walk_laws.specs.Joined.{LeadsBy, IsJoined, IsSymmetric, HasNeighboursBelow}
 use Rattle.table_definitions.specs.Classes.{IsNumbering}
 use Rattle.table_definitions.specs.Permutation.{is_odd, inverse}

@@ -18,7 +18,7 @@ use Rattle.surface_quad_laws.specs.LinkLaws.{vertex_link}
 use Rattle.surface_quad_laws.proofs.VertexLinks.{member}
 use Rattle.skeleton_laws.proofs.Sums.{sum_by-filter, sum_blocks}
 use Rattle.surface_link_laws.proofs.Triangles.{arcs_in-link}
-use Rattle.plain_facts.proofs.Truths.{one_if}
+use Rattle.basic_lemmas.proofs.Truths.{one_if}
 
 -- each face has the triangles at its vertices, and each triangle the sides in the faces at its vertex
 turned_round : (b m : ℕ → ℕ) → sum_by (λ f. b f * sum_by m (others f)) four ≡ sum_by (λ v. m v * sum_by b (others v)) four

@@ -26,7 +26,7 @@ use Rattle.surface_link_laws.specs.Laws.{AreInvalidEdgesAt}
 use Rattle.surface_link_laws.proofs.Directions.{tail, head, edge_of, edge_of_below, same_either_way, either_way}
 use Rattle.surface_link_laws.proofs.Sums.{one_bounded, two_terms, ascending_below}
 use Rattle.surface_link_laws.proofs.Weights.{weight-link}
-use Rattle.plain_facts.proofs.Truths.{one_if}
+use Rattle.basic_lemmas.proofs.Truths.{one_if}
 use Rattle.skeleton_class_laws.proofs.Cases.{low, high, are_ends}
 use Rattle.skeleton_class_laws.proofs.EdgeTies.{edge_pair}
 use Rattle.skeleton_class_laws.proofs.DirectionTies.{pair_is}

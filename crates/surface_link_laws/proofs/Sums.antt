@@ -8,7 +8,7 @@ use Rattle.table_definitions.specs.Lists.{below}
 use Rattle.table_definitions.proofs.Listed.{below-among}
 use Rattle.surface_laws.proofs.Counting.{sum_by_same, one_term}
 use Rattle.surface_laws.proofs.Sums.{sum_by_plus}
-use Rattle.plain_facts.proofs.Truths.{one_if}
+use Rattle.basic_lemmas.proofs.Truths.{one_if}
 
 -- the term at x, and 0 elsewhere
 term_at : (ℕ → ℕ) → ℕ → ℕ → ℕ

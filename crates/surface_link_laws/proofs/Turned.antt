@@ -1,7 +1,7 @@
 -- Signs of pieces, turned by the signs of their tetrahedra, are signs of the other kind.
 use Rattle.std.proofs.Common.{◌≡◌, ℕ, Bool, true, false, List, refl, sym, ap, ◌∙◌}
 use Rattle.std.specs.Prelude.{not, if◌then◌else◌}
-use Rattle.plain_facts.proofs.Truths.{same_truth}
+use Rattle.basic_lemmas.proofs.Truths.{same_truth}
 use Rattle.table_definitions.specs.Permutation.{is_odd}
 use Rattle.table_definitions.specs.Table.{Gluing, Row}
 use Rattle.skeleton_definitions.specs.Orientation.{sign_of, AreSigns}

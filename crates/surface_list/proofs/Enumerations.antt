@@ -1,8 +1,8 @@
 -- From the list of an enumeration to the surfaces of a table.
 use Rattle.std.proofs.Common.{◌≡◌, ◌≤◌, ℕ, List, length, subst}
 use Rattle.std.specs.Prelude.{Result, Ok, Err, IfOk, IfErr}
-use Rattle.no_memory.specs.declared.Failure.{Failure}
-use Rattle.no_memory.specs.declared.Failure.TheVariants.{NoMemory, Fault}
+use Rattle.out_of_memory.specs.declared.Failure.{Failure}
+use Rattle.out_of_memory.specs.declared.Failure.TheVariants.{NoMemory, Fault}
 use Rattle.table_definitions.specs.Table.{Row, IsTable}
 use Rattle.surface_definitions.specs.Coordinates.{columns, clash_list}
 use Rattle.surface_definitions.specs.declared.Coords.{Coords}
@@ -13,7 +13,7 @@ use Rattle.cone_definitions.specs.Systems.{System}
 use Rattle.cone_definitions.specs.Listings.{IsPastLimit}
 use Rattle.cone_definitions.specs.declared.Order.{Order}
 use Rattle.double_description.specs.declared.engine.LargeStep.{LargeStep}
-use Rattle.bounded_list.specs.Lists.{enumeration_of, AreAlwaysWithin, IsOnlyListing, AreRefused}
+use Rattle.vertex_enumeration.specs.Lists.{enumeration_of, AreAlwaysWithin, IsOnlyListing, AreRefused}
 use Rattle.surface_equation_laws.specs.Bounds.{number_bound}
 use Rattle.surface_equation_laws.proofs.Bounds.{within}
 use Rattle.std.specs.Prelude.{Contains}

@@ -1,7 +1,7 @@
 -- The result of an enumeration of a table's surfaces, with the rows processed in a named order.
 use Rattle.std.specs.Prelude.{ℕ, List}
-use Rattle.no_memory.specs.declared.Failure.{Failure}
-use Rattle.no_memory.specs.Failures.{IfFault}
+use Rattle.out_of_memory.specs.declared.Failure.{Failure}
+use Rattle.out_of_memory.specs.Failures.{IfFault}
 use Rattle.table_definitions.specs.Table.{Row}
 use Rattle.surface_definitions.specs.declared.Coords.{Coords}
 use Rattle.surface_definitions.specs.QuadEquations.{AreEquations}
@@ -10,7 +10,7 @@ use Rattle.cone_definitions.specs.Rows.{Row as EquationRow}
 use Rattle.cone_definitions.specs.Listings.{IsPastLimit}
 use Rattle.cone_definitions.specs.declared.Order.{Order}
 use Rattle.double_description.specs.declared.engine.LargeStep.{LargeStep}
-use Rattle.bounded_list.specs.Lists.{IsOnlyListing}
+use Rattle.vertex_enumeration.specs.Lists.{IsOnlyListing}
 
 -- the surface list of a table's equations
 abbrev pub AreTableSurfaces : ℕ → Coords → List Row → Order → List (List ℕ) → Type 0

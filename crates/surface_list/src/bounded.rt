@@ -7,8 +7,8 @@ ghost use Rattle.surface_list.specs.Bounded.{AreNumbersBounded, AreBothPast};
 use crate::bounds::numbers_fit;
 use cone_arithmetic::System;
 use matching_equations::Coords;
-use no_memory::NoMemory;
 use number_bounds::triples_fit;
+use out_of_memory::NoMemory;
 use std::alloc::Global;
 
 /// Whether no number of an enumeration of the vertex surfaces of `tets` tetrahedra can exceed `limit`. Decided by the

@@ -7,16 +7,16 @@ ghost use Rattle.surface_equation_laws.specs.OneForm.{is_triangle};
 ghost use Rattle.surface_list.specs.Surfaces.{AreTableSurfaces, IsTableRefused};
 
 use crate::bounded::are_numbers_bounded;
-use bounded_list::{Terms, vertex_list};
 use cone_arithmetic::{Limit, MAX_ENTRY, PackedRay, Ray, System};
 use double_description::{EnumFault, NamedOrder};
 use gluing_table::Table;
 use matching_equations::{Coords, equations_of_table};
-use no_memory::NoMemory;
 use normal_discs::{columns_each, is_quad_or_octagon};
+use out_of_memory::NoMemory;
 use quad_condition::MaskedClashes;
 use ray_steps::wide_rays;
 use std::alloc::Global;
+use vertex_enumeration::{Terms, vertex_list};
 
 /// Whether `column` counts triangles.
 fn is_triangle(coords: Coords, column: u32) -> bool

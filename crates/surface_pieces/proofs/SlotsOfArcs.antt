@@ -6,7 +6,7 @@ use Rattle.std.proofs.lemmas.Bool.{eqb-true, ltb-true, and_parts, or_cases}
 use Rattle.std.proofs.Math.Nat.{add_assoc}
 use Rattle.table_definitions.specs.Table.{Gluing, Row}
 use Rattle.table_definitions.proofs.Listed.{all_mapped, filter-among}
-use Rattle.plain_facts.proofs.Numbers.{not_equal}
+use Rattle.basic_lemmas.proofs.Numbers.{not_equal}
 use Rattle.surface_definitions.specs.Coordinates.{has_octagons, triangles_each, before_octagons, octagons_each, columns_each, tri_column, quad_column, oct_column, keeping, octagon_types, octagon_arcs}
 use Rattle.surface_definitions.specs.declared.Coords.{Coords}
 use Rattle.surface_definitions.proofs.ColumnCounts.{few_octagons, few_columns, index_below, index_of_index}

@@ -12,7 +12,7 @@ use Rattle.table_definitions.proofs.ListFacts.{sum_below_next}
 use Rattle.surface_definitions.specs.Pieces.{NormalDisc, discs_of, is_counted, component_vector}
 use Rattle.surface_laws.proofs.PieceNumbers.{no_piece}
 use Rattle.surface_pieces.specs.Vectors.{AreVectors}
-use Rattle.plain_facts.proofs.Truths.{one_if}
+use Rattle.basic_lemmas.proofs.Truths.{one_if}
 
 -- how many of the first n pieces of component i stand in column c
 abbrev pub tally : List ℕ → List ℕ → ℕ → ℕ → ℕ → ℕ

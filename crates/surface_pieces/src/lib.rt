@@ -17,6 +17,6 @@ mod steps;
 mod surface;
 mod vectors;
 
-pub use no_memory::Failure;
+pub use out_of_memory::Failure;
 pub use pieces::{Pieces, PiecesFault};
 pub use surface_vector_definitions::ManyPieces as TooManyPieces;

@@ -2,7 +2,7 @@
 
 ghost use Rattle.std.specs.Prelude.{◌≡◌, ◌<◌, ◌≤◌, length, sum, Ok, Err, IfOk, IfErr};
 ghost use Rattle.std.specs.List.{slice_index_or};
-ghost use Rattle.no_memory.specs.Failures.{IfFault};
+ghost use Rattle.out_of_memory.specs.Failures.{IfFault};
 ghost use Rattle.text_definitions.specs.Written.{limit};
 ghost use Rattle.surface_vector_definitions.specs.Components.{AreListedComponents, IsPiecesAnswer};
 ghost use Rattle.surface_laws.specs.PieceLaws.{IsSurface};
@@ -16,8 +16,8 @@ use crate::rows::joined_rows;
 use crate::signs::signs_of;
 use crate::surface::{JoinedPieces, NumberedPieces, Surface};
 use crate::vectors::vectors_of;
-use no_memory::Failure;
 use normal_discs::{DiscCoords, has_octagons};
+use out_of_memory::Failure;
 use skeleton::Skeleton;
 use std::alloc::{AllocError, Global};
 use std::marker::Model;

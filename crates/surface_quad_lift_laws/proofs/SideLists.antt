@@ -3,7 +3,7 @@ use Rattle.std.proofs.Common.{◌≡◌, ◌≢◌, ℕ, ◌*◌, ◌/◌, ◌%�
 use Rattle.std.specs.Prelude.{◌==◌, ◌&&◌, ◌||◌, nat_lt, slice_index}
 use Rattle.std.specs.List.{list_all}
 use Rattle.std.proofs.lemmas.Bool.{eqb-true, eq-eqb, ne_eqb, ltb-true, and_parts, or_cases}
-use Rattle.plain_facts.proofs.Numbers.{not_equal}
+use Rattle.basic_lemmas.proofs.Numbers.{not_equal}
 use Rattle.table_definitions.specs.Lists.{below}
 use Rattle.table_definitions.specs.Classes.{members}
 use Rattle.table_definitions.specs.Permutation.{four, others}

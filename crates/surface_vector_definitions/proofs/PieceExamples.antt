@@ -3,7 +3,7 @@ use Rattle.surface_definitions.proofs.Computed.{computed}
 use Rattle.std.proofs.Common.{◌≡◌, ℕ, zero, suc, ◌<◌, false, List, [], ◌∷◌, Ok, Err, ◌↔◌, refl, arith}
 use Rattle.std.specs.Prelude.{slice_index}
 use Rattle.std.proofs.lemmas.Bool.{false≢true, ltb-true, leb-true}
-use Rattle.plain_facts.proofs.Truths.{not_itself}
+use Rattle.basic_lemmas.proofs.Truths.{not_itself}
 use Rattle.table_definitions.specs.Classes.{IsNumbering}
 use Rattle.table_definitions.specs.Table.{Gluing}
 use Rattle.table_definitions.proofs.Tables.{sphere, table_jj}

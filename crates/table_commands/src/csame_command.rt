@@ -10,7 +10,7 @@ use crate::same_command::relabelling_outcome;
 use command_answers::{Outcome, answer_read, read_two_tables};
 use component_signature::same_parts;
 use gluing_table::Table;
-use no_memory::NoMemory;
+use out_of_memory::NoMemory;
 use std::alloc::Global;
 
 /// The outcome for the tables `first` and `second`.

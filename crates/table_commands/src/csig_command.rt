@@ -8,7 +8,7 @@ ghost use Rattle.outcome_definitions.specs.Parts.{IsComponentSignatureAnswer};
 
 use command_answers::{Outcome, answer_read, line_outcome, read_table_document};
 use component_signature::component_signature;
-use no_memory::NoMemory;
+use out_of_memory::NoMemory;
 use std::alloc::Global;
 
 /// The outcome of `csig` for the input `bytes`, a table: its component signature, or a refusal.

@@ -12,7 +12,7 @@ ghost use Rattle.table_commands.specs.Groups.{AreGrouped};
 
 use crate::groups::{Groups, NotConnected, read_groups_document};
 use command_answers::{Outcome, fault_outcome, not_connected_outcome};
-use no_memory::NoMemory;
+use out_of_memory::NoMemory;
 use outcome_definitions::Status;
 use signature_census::Census;
 use std::alloc::Global;

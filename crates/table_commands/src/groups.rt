@@ -7,7 +7,7 @@ ghost use Rattle.text_document_definitions.specs.Documents.{tables_from, tables_
 ghost use Rattle.table_commands.specs.Groups.{AreGrouped, GivesOneMore, GivesGroups, GivesGroupsDocument};
 
 use gluing_table::Table;
-use no_memory::{Failure, NoMemory};
+use out_of_memory::{Failure, NoMemory};
 use signature_census::Census;
 use signature_codec::{InputFault, read_any};
 use std::alloc::Global;

@@ -9,7 +9,7 @@ ghost use Rattle.outcome_definitions.specs.Information.{IsInformationAnswer, Are
 use crate::information::Information;
 use command_answers::{Outcome, answer_read, read_table_document};
 use gluing_table::Table;
-use no_memory::NoMemory;
+use out_of_memory::NoMemory;
 use outcome_definitions::Status;
 use skeleton::Skeleton;
 use std::alloc::Global;

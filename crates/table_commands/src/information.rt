@@ -6,7 +6,7 @@ ghost use Rattle.outcome_definitions.specs.Information as information;
 ghost use Rattle.outcome_definitions.specs.Information.{classes_text};
 
 use command_answers::{append_flag, append_number_line, yes_or_no};
-use no_memory::NoMemory;
+use out_of_memory::NoMemory;
 use skeleton::Skeleton;
 use std::alloc::Global;
 use text_io::{append, append_decimal, append_signed};

@@ -11,7 +11,7 @@ ghost use Rattle.outcome_definitions.specs.Canonical.{done, IsSameAnswer};
 use canonical_labelling::{SameFault, same as least_relabelling};
 use command_answers::{Outcome, answer_read, not_connected_outcome, read_two_tables};
 use gluing_table::{Relabelling, Table};
-use no_memory::NoMemory;
+use out_of_memory::NoMemory;
 use outcome_definitions::Status;
 use perm_four::Perm4;
 use std::alloc::Global;

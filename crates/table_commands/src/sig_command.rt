@@ -10,7 +10,7 @@ use command_answers::{
     Outcome, answer_read, line_outcome, not_connected_outcome, read_table_document,
 };
 use gluing_table::Table;
-use no_memory::{Failure, NoMemory};
+use out_of_memory::{Failure, NoMemory};
 use std::alloc::Global;
 
 /// The outcome for `table`.

@@ -8,8 +8,8 @@ use Rattle.std.specs.Option.{option_or}
 use Rattle.std.proofs.lemmas.List.Sums.{sum_by_push}
 use lib.Pointwise.{pointwise}
 use Rattle.table_definitions.specs.Lists.{below, same_list, first_some, pairs_of}
-use Rattle.plain_facts.proofs.Options.{both_none}
-use Rattle.plain_facts.proofs.Numbers.{range_next}
+use Rattle.basic_lemmas.proofs.Options.{both_none}
+use Rattle.basic_lemmas.proofs.Numbers.{range_next}
 
 pub both_true : (a b : Bool) → a && b ≡ true → (a ≡ true) × (b ≡ true)
 both_true true true h = (refl, refl)

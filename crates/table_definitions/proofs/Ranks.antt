@@ -10,8 +10,8 @@ use Rattle.std.proofs.lemmas.Bool.{eqb-true, eq-eqb, lt-ltb, le-ltb, cases_lt, n
 use Rattle.table_definitions.specs.Lists.{below, has, rank_without}
 use Rattle.table_definitions.specs.Replaceable.{gone_before}
 use Rattle.table_definitions.proofs.Bijections.{below-push}
-use Rattle.plain_facts.proofs.Truths.{one_if}
-use Rattle.plain_facts.proofs.Members.{Ascends}
+use Rattle.basic_lemmas.proofs.Truths.{one_if}
+use Rattle.basic_lemmas.proofs.Members.{Ascends}
 
 -- the numbers below n that pass, and how many
 abbrev pub picked : (ℕ → Bool) → ℕ → List ℕ

@@ -12,7 +12,7 @@ use Rattle.table_definitions.specs.Table.{Gluing, Row, Face, glue}
 use Rattle.table_definitions.specs.Replacing.{Replacement, replaced_length, kept_numbers, free_numbers, number_of_kept, fresh_row, kept_gluing, kept_row, replaced_row, replaced}
 use Rattle.table_definitions.specs.Replaceable.{fresh_numbers, fresh_glue, CanReplace}
 use Rattle.table_definitions.proofs.Ranks.{rank, at_rank, of_rank, position_is_rank, stays, closed_up-rank, stays-count}
-use Rattle.plain_facts.proofs.Members.{Ascends}
+use Rattle.basic_lemmas.proofs.Members.{Ascends}
 
 -- the old number of the row at u
 abbrev pub kept_at : List Row → Replacement → ℕ → ℕ

@@ -5,7 +5,7 @@ use Rattle.std.specs.Option.{option_or}
 use Rattle.std.specs.List.{range_with_len, slice_index_or}
 use Rattle.std.proofs.lemmas.List.{get_or_past}
 use Rattle.std.proofs.lemmas.Bool.{eqb-true, ltb-true, ltb-false, lt-ltb, le-ltb, and_parts, and_from, false≢true, cases_eq, cases_lt, not-true, not-false, not_from_false, eq-eqb}
-use Rattle.plain_facts.proofs.Options.{both_none}
+use Rattle.basic_lemmas.proofs.Options.{both_none}
 use Rattle.table_definitions.specs.Lists.{below, same_list, first_some, pairs_of}
 use Rattle.table_definitions.specs.Permutation.{four, IsPermutationOfFour}
 use Rattle.table_definitions.specs.declared.TableFault.TheVariants.{TooMany, NoSuchTet, SelfGlued, NotMutual}

@@ -3,7 +3,7 @@ use Rattle.std.proofs.Common.{◌≡◌, ◌≢◌, ℕ, suc, ◌+◌, ◌-◌, 
 use Rattle.std.proofs.lemmas.Bool.{cases_order, cases_lt}
 use Rattle.table_walk_laws.specs.Walks.{after, Reaches, IsInjectiveBelow, IsSource, GoesOn, IsOrbit, last_of}
 use Rattle.table_walk_laws.specs.Laws.{HasOrbit, HasReturn, HasEnd}
-use Rattle.plain_facts.proofs.Lists.{one_place}
+use Rattle.basic_lemmas.proofs.Lists.{one_place}
 use Rattle.table_walk_laws.proofs.Places.{place_of}
 use Rattle.table_walk_laws.proofs.Steps.{after_below, after_both, after_end, meet}
 use Rattle.table_walk_laws.proofs.OrbitLemmas.{after_walk, at_length, orbit_exists, orbit_holds_reached}

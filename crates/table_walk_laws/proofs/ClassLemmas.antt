@@ -3,7 +3,7 @@ use Rattle.std.proofs.Common.{◌≡◌, ℕ, suc, ◌+◌, ◌<◌, ◌≤◌, 
 use Rattle.std.proofs.lemmas.Bool.{cases_order, cases_lt, cases_eq, false≢true}
 use Rattle.std.proofs.lemmas.List.{get_or-set_same, get_or-set_other, take_more}
 use Rattle.std.proofs.lemmas.List.Elements.{Contains-push_cases, All-from_get_or}
-use Rattle.plain_facts.proofs.Members.{contains_at}
+use Rattle.basic_lemmas.proofs.Members.{contains_at}
 use Rattle.table_walk_laws.specs.Joined.{IsJoined, IsSymmetric}
 use Rattle.table_walk_laws.specs.Search.{IsMarked, IsComponent}
 use Rattle.table_walk_laws.specs.Classes.{AreNumbered, AreClassesUpTo}

@@ -1,7 +1,7 @@
 -- Paths, put together and turned round.
 use Rattle.std.proofs.Common.{◌≡◌, ◌<◌, ◌↔◌, ℕ, zero, suc, inl, inr, List, [], ◌∷◌, ◌++◌, length, slice_index, Contains, Option, None, Some, refl, sym, ap, subst, ◌∙◌, arith}
 use Rattle.std.specs.Prelude.{option_to_list}
-use Rattle.plain_facts.proofs.Members.{contains_at}
+use Rattle.basic_lemmas.proofs.Members.{contains_at}
 use Rattle.table_walk_laws.specs.Walks.{after, Reaches}
 use Rattle.table_walk_laws.specs.Joined.{LeadsBy, IsJoined, IsLink, IsSymmetric}
 use Rattle.table_walk_laws.proofs.Places.{place_of}

@@ -5,7 +5,7 @@ use Rattle.std.proofs.lemmas.Bool.{false≢true, false_from_ne_true}
 use Rattle.std.proofs.lemmas.List.{get_or_default, drop_more}
 use Rattle.std.proofs.lemmas.List.Elements.{Contains-append_left, Contains-push, Contains-push_cases}
 use Rattle.std.proofs.lemmas.List.Quantifiers.{all_pairs_push}
-use Rattle.plain_facts.proofs.Members.{contains_at, contains_one}
+use Rattle.basic_lemmas.proofs.Members.{contains_at, contains_one}
 use Rattle.table_walk_laws.specs.Joined.{IsJoined, IsSymmetric, neighbours_of}
 use Rattle.table_walk_laws.specs.Search.{IsMarked, IsClosed, IsSearch, IsSearchStep, AreMembers, IsComponent}
 use Rattle.table_walk_laws.specs.Laws.{MarksJoined}

@@ -6,11 +6,11 @@ use Rattle.std.proofs.lemmas.Bool.{cases_order, cases_lt, cases_eq}
 use Rattle.std.proofs.lemmas.List.{get_or_default, get_or_push, get_or_append_left, length_push, ext_get_or}
 use Rattle.std.proofs.lemmas.List.Elements.{All-from_get_or}
 use Rattle.std.proofs.lemmas.List.Quantifiers.{all_pairs_push}
-use Rattle.plain_facts.proofs.Members.{contains_at}
-use Rattle.plain_facts.proofs.Options.{none_or_some}
+use Rattle.basic_lemmas.proofs.Members.{contains_at}
+use Rattle.basic_lemmas.proofs.Options.{none_or_some}
 use Rattle.table_walk_laws.specs.Walks.{after, Reaches, IsInjectiveBelow, IsWalk, IsOrbit, last_of}
 use Rattle.table_walk_laws.specs.Laws.{HasOrbit}
-use Rattle.plain_facts.proofs.Lists.{one_place}
+use Rattle.basic_lemmas.proofs.Lists.{one_place}
 use Rattle.table_walk_laws.proofs.Places.{place_of}
 use Rattle.table_walk_laws.proofs.Repeats.{distinct_below}
 use Rattle.table_walk_laws.proofs.Steps.{after_before, after_below}

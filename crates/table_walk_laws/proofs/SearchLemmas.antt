@@ -7,7 +7,7 @@ use Rattle.std.proofs.lemmas.List.Sums.{sum_by-set}
 use Rattle.std.proofs.lemmas.List.Folds.{sum_by-replicate}
 use Rattle.std.proofs.lemmas.List.Elements.{All-contains, All-nil, All-push, All-weaker, All-same, Contains-append_left, Contains-push, Contains-push_cases}
 use Rattle.std.proofs.lemmas.List.Quantifiers.{all_pairs_push}
-use Rattle.plain_facts.proofs.Members.{contains_at, contains_one}
+use Rattle.basic_lemmas.proofs.Members.{contains_at, contains_one}
 use Rattle.table_walk_laws.specs.Joined.{LeadsBy, IsJoined, IsSymmetric}
 use Rattle.table_walk_laws.specs.Search.{IsMarked, IsClosed, IsSearch, IsSearchStep}
 use Rattle.table_walk_laws.specs.Laws.{HasFewTurns, MarksJoined}

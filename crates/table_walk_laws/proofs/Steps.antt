@@ -2,7 +2,7 @@
 use Rattle.std.proofs.Common.{◌≡◌, ℕ, zero, suc, ◌+◌, ◌-◌, ◌<◌, inl, inr, Option, Some, None, refl, sym, ap, ◌∙◌, arith}
 use Rattle.std.specs.Prelude.{option_and_then}
 use Rattle.std.proofs.lemmas.Bool.{cases_order}
-use Rattle.plain_facts.proofs.Options.{none_or_some}
+use Rattle.basic_lemmas.proofs.Options.{none_or_some}
 use Rattle.table_walk_laws.specs.Walks.{after, Reaches, IsInjectiveBelow, IsUndoneBy, IsSource}
 
 module _ (step : ℕ → Option ℕ) where

@@ -15,7 +15,7 @@ use Rattle.table_definitions.proofs.ReadingLaws.{ok_parts}
 use Rattle.table_definitions.proofs.LineLaws.{line_found}
 use Rattle.text_document_laws.proofs.Tables.{worded_with, table_blocks}
 use Rattle.text_document_laws.proofs.Given.{Table, Tables}
-use Rattle.plain_facts.proofs.Lists.{no_items}
+use Rattle.basic_lemmas.proofs.Lists.{no_items}
 
 -- a table of the line that is begun is one of the next lines
 pub next_of_begun : (c : Reading) (l : Line) (ls : List Line) → c.later ≡ l ∷ ls → next_table_at c ≡ any_table_at (begun l ls c)

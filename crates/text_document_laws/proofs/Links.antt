@@ -6,7 +6,7 @@ use Rattle.text_definitions.specs.Written.{limit}
 use Rattle.text_definitions.specs.declared.LexFault.{LexFault}
 use Rattle.text_definitions.specs.Reading.{Reading, ◌>>=◌, begun, need_line_at, end_line_at, number_at, numbers_at, signed_at, exactly_at}
 use Rattle.text_definitions.proofs.Readers.{bind_ok}
-use Rattle.plain_facts.proofs.Options.{ok_value}
+use Rattle.basic_lemmas.proofs.Options.{ok_value}
 use Rattle.table_definitions.specs.Grammar.{AreWords, IsDecimalUpTo, IsSigned}
 use Rattle.table_definitions.proofs.ReadingLaws.{with_tokens, behind, TakesWord, TakesNumber, TakesNumbers, FindsNumbers, number_read, numbers_read, exactly_read, one_number, exactly_found, numbers_found}
 use Rattle.table_definitions.proofs.LineLaws.{line_begun, line_found, line_ended, end_found, first_word, no_words}

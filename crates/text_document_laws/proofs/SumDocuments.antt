@@ -15,7 +15,7 @@ use Rattle.table_definitions.proofs.ReadingLaws.{ok_parts}
 use Rattle.text_document_laws.proofs.Tables.{worded_ok, worded_with, table_blocks}
 use Rattle.text_document_laws.proofs.BlockReading.{BlockRead, block_read, BlockFound, block_found}
 use Rattle.text_document_laws.proofs.Given.{Whole, Blocks, Table}
-use Rattle.plain_facts.proofs.Lists.{no_items}
+use Rattle.basic_lemmas.proofs.Lists.{no_items}
 
 -- blocks that were read to the end of the input, where no more lines are left than are counted
 abbrev AreTo : Reading → List Block → Type 0

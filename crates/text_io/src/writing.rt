@@ -3,7 +3,7 @@
 ghost use Rattle.std.specs.Prelude.{◌≡◌, ◌++◌, decimal, OnOk, OnErr};
 ghost use Rattle.std.specs.Fmt.{signed_decimal};
 
-use no_memory::NoMemory;
+use out_of_memory::NoMemory;
 use std::alloc::Global;
 
 /// Appends `text` to `out`. If memory runs out `out` is unchanged.

@@ -8,7 +8,7 @@ use Rattle.table_definitions.specs.Table.{Row}
 use Rattle.move_definitions.specs.Moves.{Move}
 use Rattle.move_definitions.specs.Certificates.{moves_at, moves_with, is_accepted, two_three_moves, three_two_moves, one_four_moves, or_these, candidates}
 use Rattle.move_definitions.proofs.MoveLists.{moves_more}
-use Rattle.plain_facts.proofs.Numbers.{one_on}
+use Rattle.basic_lemmas.proofs.Numbers.{one_on}
 
 -- those that pass a test, behind others
 pub accepted_more : (p : Move → Bool) (cores : List (List ℕ)) (t : ℕ) (so before more : List Move) → so ≡ before ++ filter p (moves_with cores t) → more ≡ so ++ filter p (moves_at t cores)

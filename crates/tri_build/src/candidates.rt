@@ -6,7 +6,7 @@ ghost use Rattle.move_definitions.specs.Certificates as certificates;
 ghost use Rattle.move_definitions.specs.Certificates.{moves_at, moves_with};
 
 use gluing_table::Table;
-use no_memory::NoMemory;
+use out_of_memory::NoMemory;
 use pachner_moves::{Core, Move};
 use sphere_certificate::is_accepted;
 use std::alloc::Global;

@@ -9,7 +9,7 @@ use crate::generator::next_state;
 use crate::steps::{PlayedMove, draw_step};
 use crate::way_back::way_back;
 use gluing_table::Table;
-use no_memory::NoMemory;
+use out_of_memory::NoMemory;
 use pachner_moves::Move;
 use sphere_certificate::standard;
 use std::alloc::Global;

@@ -10,7 +10,7 @@ use crate::candidates::candidates;
 use crate::generator::draw;
 use arrayvec::ArrayVec;
 use gluing_table::Table;
-use no_memory::NoMemory;
+use out_of_memory::NoMemory;
 use pachner_moves::{Facet, Move, apply_legal, inverse_on, legal};
 use std::alloc::Global;
 use std::marker::Model;

@@ -14,7 +14,7 @@ use crate::labels::labels_back;
 use crate::standing::{Back, stands_at};
 use crate::steps::PlayedMove;
 use gluing_table::{Relabelling, Table};
-use no_memory::NoMemory;
+use out_of_memory::NoMemory;
 use pachner_moves::{Move, apply_legal, legal, retained};
 use perm_four::Perm4;
 use std::alloc::Global;

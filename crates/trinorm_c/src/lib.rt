@@ -8,7 +8,7 @@ ghost use Rattle.std.specs.Str.{IsUtf8};
 ghost use Rattle.trinorm_c.specs.Calls.{words_of, IsCallAnswer, IsLonger, IsCallStatus, IsHandedOut};
 
 use command_answers::Outcome;
-use no_memory::NoMemory;
+use out_of_memory::NoMemory;
 use std::alloc::Global;
 use words::outcome_between;
 use workbench::exit_code;

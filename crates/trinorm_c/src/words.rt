@@ -6,7 +6,7 @@ ghost use Rattle.workbench.specs.Runs.{IsAnswered};
 ghost use Rattle.trinorm_c.specs.Calls.{words_of};
 
 use command_answers::Outcome;
-use no_memory::NoMemory;
+use out_of_memory::NoMemory;
 use std::alloc::{AllocError, Global};
 use text_io::Words;
 use workbench::outcome_of;

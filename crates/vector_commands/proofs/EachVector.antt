@@ -1,9 +1,9 @@
 -- One step through the vectors of a document.
 use Rattle.std.proofs.Common.{◌≡◌, ℕ, ◌<◌, ◌+◌, List, length, take, get_or, Vec, Result, Ok, Err, sym, subst, ◌∙◌, arith}
 use Rattle.std.specs.declared.alloc.Global.{Global}
-use Rattle.no_memory.specs.declared.Failure.{Failure}
-use Rattle.no_memory.specs.declared.Failure.TheVariants.{Fault}
-use Rattle.no_memory.specs.Failures.{IfFault}
+use Rattle.out_of_memory.specs.declared.Failure.{Failure}
+use Rattle.out_of_memory.specs.declared.Failure.TheVariants.{Fault}
+use Rattle.out_of_memory.specs.Failures.{IfFault}
 use Rattle.command_answers.specs.Reads.{all_entries}
 use Rattle.surface_vector_definitions.specs.declared.Refusal.{Refusal}
 use Rattle.surface_vector_definitions.specs.Answers.{IsFirstRefused}

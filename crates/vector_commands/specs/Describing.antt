@@ -1,7 +1,7 @@
 -- The description of one vector.
 use Rattle.std.specs.Prelude.{ℕ, List, Result, Ok, Err}
-use Rattle.no_memory.specs.declared.Failure.{Failure}
-use Rattle.no_memory.specs.Failures.{IfFault}
+use Rattle.out_of_memory.specs.declared.Failure.{Failure}
+use Rattle.out_of_memory.specs.Failures.{IfFault}
 use Rattle.cone_definitions.specs.Rows.{Row as EquationRow}
 use Rattle.skeleton_definitions.specs.Skeleton.{Skeleton}
 use Rattle.surface_definitions.specs.declared.Coords.{Coords}

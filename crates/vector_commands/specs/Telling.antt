@@ -2,8 +2,8 @@
 use Rattle.std.specs.Prelude.{◌≡◌, ℕ, List, ◌++◌, Vec, Result, Ok, Err}
 use Rattle.std.specs.declared.alloc.Global.{Global}
 use Rattle.std.specs.List.{AllZip, flat_map}
-use Rattle.no_memory.specs.declared.Failure.{Failure}
-use Rattle.no_memory.specs.Failures.{IfFault}
+use Rattle.out_of_memory.specs.declared.Failure.{Failure}
+use Rattle.out_of_memory.specs.Failures.{IfFault}
 use Rattle.cone_definitions.specs.Rows.{Row as EquationRow}
 use Rattle.skeleton_definitions.specs.Skeleton.{Skeleton}
 use Rattle.surface_vector_definitions.specs.declared.Refusal.{Refusal}

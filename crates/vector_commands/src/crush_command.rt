@@ -12,10 +12,10 @@ use crate::refusals::refusal_outcome;
 use command_answers::{Outcome, answer_read, read_table_and_vector};
 use gluing_table::{Table, write_table};
 use matching_equations::{Coords, equations_of_table};
-use no_memory::NoMemory;
+use out_of_memory::NoMemory;
 use outcome_definitions::Status;
 use std::alloc::Global;
-use surface_answers::check;
+use surface_refusals::check;
 use surface_vector_definitions::Refusal;
 
 /// The outcome for `table` and an admissible solution.

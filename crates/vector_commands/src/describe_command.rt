@@ -22,13 +22,13 @@ use command_answers::{Outcome, answer_read, invalid_edge_outcome, read_table_and
 use cone_arithmetic::System;
 use gluing_table::Table;
 use matching_equations::{Coords, DiscCoords, equations};
-use no_memory::{Failure, NoMemory};
+use out_of_memory::{Failure, NoMemory};
 use outcome_definitions::Status;
 use skeleton::Skeleton;
 use std::alloc::Global;
-use surface_answers::check;
 use surface_pieces::{Pieces, TooManyPieces};
 use surface_properties::{Properties, PropertyFault, properties_of};
+use surface_refusals::check;
 use surface_vector_definitions::Refusal;
 
 /// The properties of a vector, and the components of its surface.

@@ -13,7 +13,7 @@ ghost use Rattle.vector_commands.specs.SmallComponents.{AreSmall};
 
 use command_answers::yes_or_no;
 use matching_equations::DiscCoords;
-use no_memory::NoMemory;
+use out_of_memory::NoMemory;
 use skeleton::Skeleton;
 use std::alloc::Global;
 use surface_pieces::Pieces;

@@ -17,12 +17,12 @@ use command_answers::{Outcome, answer_read, read_table_and_vectors};
 use cone_arithmetic::System;
 use gluing_table::Table;
 use matching_equations::{Coords, quad_equations};
-use no_memory::{Failure, NoMemory};
+use out_of_memory::{Failure, NoMemory};
 use outcome_definitions::Status;
 use quad_lift::lift as lift_of;
 use skeleton::Skeleton;
 use std::alloc::Global;
-use surface_answers::check;
+use surface_refusals::check;
 use surface_vector_definitions::{LiftFault, Refusal};
 use vector_text::write_vector;
 

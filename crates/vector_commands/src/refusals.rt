@@ -5,7 +5,7 @@ ghost use Rattle.outcome_definitions.specs.Vectors as vectors;
 ghost use Rattle.surface_vector_definitions.specs.Texts.{sum_word, fault_text};
 
 use command_answers::{Outcome, append_checked, append_number_line, refused_vector};
-use no_memory::NoMemory;
+use out_of_memory::NoMemory;
 use outcome_definitions::Status;
 use std::alloc::Global;
 use surface_definitions::VectorFault;

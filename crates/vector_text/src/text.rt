@@ -5,7 +5,7 @@ ghost use Rattle.cone_text_definitions.specs.VectorText.{vector_text, entries_te
 ghost use Rattle.vector_text.specs.Four.{four_from};
 
 use cone_arithmetic::{PackedRay, Ray};
-use no_memory::NoMemory;
+use out_of_memory::NoMemory;
 use std::alloc::Global;
 use text_io::{append, append_decimal};
 

@@ -8,7 +8,7 @@ ghost use Rattle.skeleton_class_laws.specs.Tallies.{CountsCorners};
 
 use crate::sides::{first_sides, least_corners, open_sides, owners, turned_vertices};
 use crate::tally::tally;
-use no_memory::NoMemory;
+use out_of_memory::NoMemory;
 use skeleton::{Kind, Numbering, Skeleton, classes_of};
 use skeleton_definitions::{Link, LinkKind};
 use std::alloc::Global;

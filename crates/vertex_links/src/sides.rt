@@ -10,7 +10,7 @@ ghost use Rattle.skeleton_definitions.specs.Links.{is_first_side};
 ghost use Rattle.skeleton_class_laws.specs.Tallies.{side_at};
 
 use gluing_table::{Face, Table};
-use no_memory::NoMemory;
+use out_of_memory::NoMemory;
 use skeleton::{Numbering, Skeleton};
 use std::alloc::Global;
 

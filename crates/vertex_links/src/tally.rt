@@ -3,7 +3,7 @@
 ghost use Rattle.std.specs.Prelude.{◌≡◌, ◌<◌, ◌^◌, ℕ, length, slice_index, IfOk};
 ghost use Rattle.skeleton_class_laws.specs.Tallies.{AreTallies};
 
-use no_memory::NoMemory;
+use out_of_memory::NoMemory;
 use std::alloc::Global;
 
 /// For each of `count` owners, the number of things that `passes` selects and that `owners` assigns to it.

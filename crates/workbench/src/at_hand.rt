@@ -7,7 +7,7 @@ ghost use Rattle.workbench.specs.Runs.{IsAnswered};
 use crate::dispatch::{MOST_BYTES, answer, reads_input};
 use command_answers::Outcome;
 use command_words::{Request, WordsFault, read_words};
-use no_memory::NoMemory;
+use out_of_memory::NoMemory;
 use std::alloc::Global;
 use text_io::Words;
 

@@ -30,15 +30,15 @@ ghost use Rattle.workbench.specs.Runs.{Answers, IsAnswered, IsCalm, IsWithinInpu
 use certificate_commands::{bulk, check, descend, make};
 use command_answers::Outcome;
 use command_words::{Request, WordsFault, read_words};
-use cover_commands::{cover, pi1};
 use enumeration_commands::{rays, surfaces, verify};
 use move_commands::play;
-use no_memory::NoMemory;
+use out_of_memory::NoMemory;
 use outcome_definitions::Status;
 use std::alloc::Global;
 use sum_commands::{addup, decompose};
 use table_commands::{csame, csig, group, info, same, sig};
 use text_io::{ReadEnd, Sink, Source, Words, read_all, write_all};
+use topology_commands::{cover, pi1};
 use vector_commands::{crush, describe, lift};
 
 /// The greatest number of bytes of an input.

@@ -8,7 +8,7 @@ use cone_core::{MAX_ENTRY, System};
 use double_description::{
     LargeKind, LargeStep, NamedOrder, Order, Permit, Picker, choice, enumerate,
 };
-use no_memory::{Failure, NoMemory};
+use out_of_memory::{Failure, NoMemory};
 use std::alloc::Global;
 use std::cell::Cell;
 use std::process::Abort;

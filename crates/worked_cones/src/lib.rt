@@ -6,7 +6,7 @@ mod cone_core_calls;
 #[cfg(test)]
 mod double_description_calls;
 #[cfg(test)]
-mod late_columns_calls;
+mod lazy_columns_calls;
 #[cfg(test)]
 mod matching_equations_calls;
 #[cfg(test)]
@@ -36,13 +36,13 @@ mod quad_condition_calls;
 #[cfg(test)]
 mod quad_lift_calls;
 #[cfg(test)]
-mod ray_answers_calls;
-#[cfg(test)]
 mod ray_decompose_calls;
 #[cfg(test)]
-mod sample_cones;
+mod rays_calls;
 #[cfg(test)]
-mod solved_rows_calls;
+mod row_reduction_calls;
+#[cfg(test)]
+mod sample_cones;
 #[cfg(test)]
 mod support_bits_calls;
 #[cfg(test)]

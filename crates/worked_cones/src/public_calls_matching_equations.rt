@@ -1,7 +1,7 @@
 //! The calls of `matching_equations`, each once with its type.
 use cone_core::System;
 use matching_equations::{Coords, Piece, column, columns, equations};
-use no_memory::NoMemory;
+use out_of_memory::NoMemory;
 use skeleton::Skeleton;
 use std::alloc::Global;
 

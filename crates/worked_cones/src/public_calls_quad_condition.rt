@@ -1,7 +1,7 @@
 //! The calls of `quad_condition`, each once with its type.
 use cone_core::System;
 use matching_equations::Coords;
-use no_memory::NoMemory;
+use out_of_memory::NoMemory;
 use quad_condition::{Masks, VectorFault, check_vector, clash_list, first_clash};
 use std::alloc::Global;
 use support_bits::Support;

@@ -1,5 +1,5 @@
 //! The calls of `quad_lift`, each once with its type.
-use no_memory::{Failure, NoMemory};
+use out_of_memory::{Failure, NoMemory};
 use quad_lift::{LiftFault, lift, project};
 use skeleton::Skeleton;
 use std::alloc::Global;

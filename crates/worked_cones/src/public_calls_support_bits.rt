@@ -1,6 +1,6 @@
 //! The calls of `support_bits`, each once with its type. Calls that take or return a borrow are named as they are
 //! called.
-use no_memory::NoMemory;
+use out_of_memory::NoMemory;
 use std::alloc::Global;
 use support_bits::Support;
 

@@ -2,7 +2,7 @@
 use cone_core::Ray;
 use double_description::{EnumFault, Order};
 use matching_equations::Coords;
-use no_memory::NoMemory;
+use out_of_memory::NoMemory;
 use skeleton::Skeleton;
 use std::alloc::Global;
 use surface_list::{surfaces, write_list};

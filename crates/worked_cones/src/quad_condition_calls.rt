@@ -1,7 +1,7 @@
 use crate::sample_cones::{SPHERE, read_table};
 use cone_core::MAX_ENTRY;
 use matching_equations::{Coords, DiscCoords, matching_system};
-use no_memory::NoMemory;
+use out_of_memory::NoMemory;
 use quad_condition::{Masks, VectorFault, check_vector, clash_list, first_clash};
 use std::test::Fail;
 use support_bits::Support;

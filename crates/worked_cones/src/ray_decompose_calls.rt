@@ -3,7 +3,7 @@ ghost use Rattle.cone_definitions.specs.WorkedRow.{worked_row};
 
 use crate::sample_cones::is_ray;
 use cone_core::{MAX_ENTRY, Ray, SparseRow, System, combine};
-use no_memory::{Failure, NoMemory};
+use out_of_memory::{Failure, NoMemory};
 use ray_decompose::{AddFault, Given, Large, add_up, decompose};
 use std::alloc::Global;
 use std::test::Fail;

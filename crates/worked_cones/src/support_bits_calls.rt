@@ -1,4 +1,4 @@
-use no_memory::NoMemory;
+use out_of_memory::NoMemory;
 use std::alloc::Global;
 use support_bits::Support;
 

@@ -1,4 +1,4 @@
-use no_memory::NoMemory;
+use out_of_memory::NoMemory;
 use support_bits::Support;
 use support_table::{RayTable, SupportTable, joined, minimal_places, union_count};
 

@@ -8,9 +8,9 @@ use skeleton::Skeleton;
 use std::alloc::Global;
 use std::process::Abort;
 use std::test::Fail;
-use surface_answers::check;
 use surface_definitions::Coords;
 use surface_pieces::Pieces;
+use surface_refusals::check;
 
 /// A triangle and two quads of a tetrahedron without glued faces: no two of them have a common arc.
 #[test]

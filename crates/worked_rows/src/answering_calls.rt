@@ -1,5 +1,5 @@
 //! Calls that allocate and have no test in a crate of their own: each returns its ordinary result.
-use no_memory::NoMemory;
+use out_of_memory::NoMemory;
 use text_io::{Words, append, append_decimal, append_signed};
 use workbench::{Status, outcome_of, run_steadily};
 

@@ -1,7 +1,7 @@
 //! A run in memory.
 ghost use Rattle.std.specs.Prelude.{◌<◌};
 
-use memory_streams::{MemorySink, MemorySource};
+use memory_io::{MemorySink, MemorySource};
 use std::alloc::Global;
 use std::process::Abort;
 use std::test::Fail;

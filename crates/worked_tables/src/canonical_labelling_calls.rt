@@ -1,7 +1,7 @@
 use crate::sample_tables::{BALL, read_table, table_of};
 use canonical_labelling::{NotConnected, SameFault, Start, lesser, same, signature};
 use gluing_table::{Probe, Relabelling, Table};
-use no_memory::Failure;
+use out_of_memory::Failure;
 use perm_four::Perm4;
 use std::alloc::Global;
 use std::test::Fail;

@@ -2,7 +2,7 @@
 
 use crate::sample_tables::{BALL, read_table, table_of};
 use canonical_labelling::{NotConnected, Start, walk};
-use no_memory::Failure;
+use out_of_memory::Failure;
 use perm_four::Perm4;
 use signature_codec::spell;
 use std::alloc::Global;

@@ -1,7 +1,7 @@
 //! The calls of `component_signature`, each once with its type.
 use component_signature::{Part, component_signature, parts, same_parts};
 use gluing_table::{Relabelling, Table};
-use no_memory::NoMemory;
+use out_of_memory::NoMemory;
 use std::alloc::Global;
 
 #[test]

@@ -1,7 +1,7 @@
 //! The calls of `crushing`, each once with its type.
 use crushing::crush;
 use gluing_table::Table;
-use no_memory::NoMemory;
+use out_of_memory::NoMemory;
 use skeleton::Skeleton;
 use std::alloc::Global;
 

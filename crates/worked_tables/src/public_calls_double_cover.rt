@@ -2,7 +2,7 @@
 //! called.
 use double_cover::{Cover, CoverFault};
 use gluing_table::Relabelling;
-use no_memory::NoMemory;
+use out_of_memory::NoMemory;
 use skeleton::Skeleton;
 use std::alloc::Global;
 

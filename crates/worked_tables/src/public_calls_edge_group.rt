@@ -1,7 +1,7 @@
 //! The calls of `edge_group`, each once with its type. Calls that take or return a borrow are named as they are called.
 use edge_group::{Group, GroupFault};
 use gluing_table::Face;
-use no_memory::Failure;
+use out_of_memory::Failure;
 use skeleton::Skeleton;
 use std::alloc::Global;
 

@@ -1,6 +1,6 @@
 //! The calls of `skeleton`, each once with its type. Calls that take or return a borrow are named as they are called.
 use gluing_table::Table;
-use no_memory::NoMemory;
+use out_of_memory::NoMemory;
 use skeleton::Skeleton;
 use std::alloc::Global;
 

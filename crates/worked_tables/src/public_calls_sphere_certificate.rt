@@ -1,6 +1,6 @@
 //! The calls of `sphere_certificate`, each once with its type.
 use gluing_table::Table;
-use no_memory::{Failure, NoMemory};
+use out_of_memory::{Failure, NoMemory};
 use pachner_moves::Move;
 use sphere_certificate::{CheckFault, Descent, WalkFault, check, descend, standard};
 use std::alloc::Global;

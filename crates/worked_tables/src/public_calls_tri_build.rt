@@ -1,5 +1,5 @@
 //! The calls of `tri_build`, each once with its type.
-use no_memory::NoMemory;
+use out_of_memory::NoMemory;
 use std::alloc::Global;
 use tri_build::{Made, make};
 

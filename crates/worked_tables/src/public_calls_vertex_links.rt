@@ -1,5 +1,5 @@
 //! The calls of `vertex_links`, each once with its type.
-use no_memory::NoMemory;
+use out_of_memory::NoMemory;
 use skeleton::Skeleton;
 use std::alloc::Global;
 use vertex_links::{Link, links};

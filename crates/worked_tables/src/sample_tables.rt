@@ -1,6 +1,6 @@
 //! The tables and moves of several calls.
 use gluing_table::{Glue, Row, Table, write_table};
-use no_memory::NoMemory;
+use out_of_memory::NoMemory;
 use pachner_moves::{Core, Move};
 use perm_four::Perm4;
 use signature_codec::read_signature;

@@ -1,5 +1,5 @@
 use crate::sample_tables::{BALL, read_table, table_of};
-use no_memory::Failure;
+use out_of_memory::Failure;
 use signature_census::{Census, NotConnected};
 use std::test::Fail;
 

@@ -1,6 +1,6 @@
 use crate::sample_tables::{by, read_table, table_of, text_of};
 use gluing_table::Face;
-use no_memory::Failure;
+use out_of_memory::Failure;
 use signature_codec::{NotOrdered, SigFault, read_any, read_signature, spell};
 use std::alloc::Global;
 use std::test::Fail;

@@ -1,5 +1,5 @@
 use crate::sample_tables::{move_at, read_table, tet_and_core};
-use no_memory::Failure;
+use out_of_memory::Failure;
 use pachner_moves::{MoveFault, apply};
 use sphere_certificate::{CheckFault, check, descend, standard};
 use std::test::Fail;

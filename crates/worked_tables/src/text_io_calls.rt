@@ -1,6 +1,6 @@
 ghost use Rattle.std.specs.Prelude.{◌<◌, length};
 
-use memory_streams::{MemorySink, MemorySource};
+use memory_io::{MemorySink, MemorySource};
 use std::alloc::Global;
 use std::test::Fail;
 use text_io::{

@@ -4,7 +4,7 @@ use Rattle.std.specs.Prelude.{slice_get}
 use Rattle.clap.specs.Walk.{Text, texts}
 use Rattle.command_definitions.specs.Words.{command_named}
 use Rattle.command_words.specs.Apps.{command_before}
-use Rattle.plain_facts.proofs.Options.{some≢none}
+use Rattle.basic_lemmas.proofs.Options.{some≢none}
 use Rattle.command_words.proofs.program.command_before.Goals as goal
 
 before : (ts : List (Bor Text)) (t : Bor Text) → Some t ≡ slice_get ts 0 → command_before (texts ts) ≡ command_named t.now

@@ -1,6 +1,6 @@
 -- The parts at the place are those of the orders, and so one can be relabelled to the other.
 use Rattle.std.proofs.Common.{◌≡◌, ◌<◌, ◌≤◌, ℕ, All, Contains, length, subst, subst₂, sym, ◌∙◌, arith}
-use Rattle.plain_facts.proofs.Members.{Ascends}
+use Rattle.basic_lemmas.proofs.Members.{Ascends}
 use Rattle.table_definitions.specs.Places.{IsConnected}
 use Rattle.table_definitions.specs.Relabelling.{AreIsomorphic, relabelled_place}
 use Rattle.signature_definitions.specs.Labellings.{IsLeastRelabelling}

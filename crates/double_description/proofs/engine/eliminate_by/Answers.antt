@@ -1,6 +1,6 @@
 use Rattle.std.proofs.Common.{◌≡◌, ℕ, List, subst, subst₂, sym}
 use Rattle.std.proofs.lemmas.Result.{err_from_is_err_and}
-use Rattle.no_memory.specs.declared.Failure.{Failure}
+use Rattle.out_of_memory.specs.declared.Failure.{Failure}
 use Rattle.cone_definitions.specs.Surfaces.{Clash}
 use Rattle.cone_definitions.specs.Systems.{System}
 use Rattle.cone_definitions.specs.declared.Order.{Order}

@@ -1,7 +1,7 @@
 use Rattle.std.proofs.Common.{Some, None, Err, refl, sym, ap, ◌∙◌}
 use Rattle.cone_arithmetic.specs.declared.numbers.TheConstants.{MAX_ENTRY}
 use Rattle.quad_condition.proofs.Verdicts.{length_answer, row_answer, clash_answer}
-use Rattle.surface_coordinate_laws.proofs.FirstFaults.{accepts_by}
+use Rattle.surface_definitions.proofs.FirstFaults.{accepts_by}
 use Rattle.quad_condition.proofs.check.check_vector.Goals as goal
 
 pub returns-then-x-columns-clause-verdict : goal.returns-then-x-columns-clause-verdict

@@ -1,7 +1,7 @@
 -- The copy has the table's rows.
 use Rattle.std.proofs.Common.{Err, List, subst}
 use Rattle.std.specs.Prelude.{IfErr, OnOk}
-use Rattle.no_memory.specs.Failures.{IfFault}
+use Rattle.out_of_memory.specs.Failures.{IfFault}
 use Rattle.table_definitions.specs.Table.{Row}
 use Rattle.move_definitions.specs.Certificates.{IsCertificate}
 use Rattle.certificate_definitions.specs.Answers.{IsChecked}

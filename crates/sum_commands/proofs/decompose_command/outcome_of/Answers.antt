@@ -1,6 +1,6 @@
 -- The sums are told, or the first that gets too large.
 use Rattle.std.proofs.Common.{Ok, Err, ℕ, List, ap, ◌∙◌, subst}
-use Rattle.no_memory.specs.declared.Failure.{Failure}
+use Rattle.out_of_memory.specs.declared.Failure.{Failure}
 use Rattle.std.proofs.lemmas.Result.{IfOk-weaker}
 use Rattle.command_answers.specs.Reads.{all_entries}
 use Rattle.outcome_definitions.specs.declared.Status.TheVariants.{Done}

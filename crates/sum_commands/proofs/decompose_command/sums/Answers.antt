@@ -1,7 +1,7 @@
 -- Each vector up to the first whose sum gets too large is told.
 use Rattle.std.proofs.Common.{ℕ, ◌≤◌, List, Err, sym, subst}
 use Rattle.std.specs.Prelude.{slice_index}
-use Rattle.no_memory.specs.declared.Failure.{Failure}
+use Rattle.out_of_memory.specs.declared.Failure.{Failure}
 use Rattle.text_definitions.specs.Written.{limit}
 use Rattle.sum_definitions.specs.declared.LargeTurn.{LargeTurn}
 use Rattle.sum_definitions.specs.Sums.{HasRays}

@@ -1,6 +1,6 @@
 -- The lifts are told, or the first vector that is refused.
 use Rattle.std.proofs.Common.{Err, subst}
-use Rattle.no_memory.specs.declared.Failure.{Failure}
+use Rattle.out_of_memory.specs.declared.Failure.{Failure}
 use Rattle.cone_text_definitions.specs.VectorText.{vector_text}
 use Rattle.surface_vector_definitions.specs.Answers.{IsLifted}
 use Rattle.vector_commands.specs.Telling.{WritesAnswers}

@@ -1,7 +1,7 @@
 -- The search begins at the root, whose class has no heights yet, and ends with all of its class.
 use Rattle.std.proofs.Common.{◌≡◌, ◌+◌, [], ◌∷◌, ◌++◌, true, set, length, refl, sym, ap, ◌∙◌, subst, arith}
 use Rattle.std.proofs.lemmas.List.{length-append, nil_from_length}
-use Rattle.plain_facts.proofs.Members.{contains_at}
+use Rattle.basic_lemmas.proofs.Members.{contains_at}
 use Rattle.table_walk_laws.specs.Search.{IsSearch}
 use Rattle.table_walk_laws.proofs.SearchLemmas.{search_begins, search_ends, turn_starts, marked_is}
 use Rattle.quad_lift.specs.Spreads.{vertices_round}

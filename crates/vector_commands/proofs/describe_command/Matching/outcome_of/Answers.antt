@@ -1,6 +1,6 @@
 -- The vectors are described, or the first that is refused is told.
 use Rattle.std.proofs.Common.{Err, subst}
-use Rattle.no_memory.specs.declared.Failure.{Failure}
+use Rattle.out_of_memory.specs.declared.Failure.{Failure}
 use Rattle.surface_vector_definitions.specs.Answers.{IsDescription}
 use Rattle.surface_vector_definitions.specs.Texts.{description_text}
 use Rattle.vector_commands.specs.Telling.{WritesAnswers}

@@ -1,0 +1,211 @@
+//! A greedy order of rows: each next row has columns in the fewest blocks that no earlier row names.
+
+ghost use Rattle.std.specs.Prelude.{◌<◌, IfOk, length};
+ghost use Rattle.std.specs.List.Sorted.{IsPermutation};
+
+use cone_arithmetic::SparseRow;
+use out_of_memory::NoMemory;
+use std::alloc::Global;
+
+/// The greatest number of rows for which each one is tried as the first.
+const MOST_STARTS: usize = 128;
+
+/// The blocks of columns that a row names, one bit each, and its number of terms. Blocks whose numbers differ by a
+/// multiple of 64 share a bit, which may change the order found; any order is correct.
+#[derive(Clone, Copy)]
+struct RowBlocks {
+    blocks: u64,
+    terms: usize,
+}
+
+/// The rank of a row among those left, by which the least comes next: the number of new blocks that it names, then its
+/// number of terms.
+#[derive(Clone, Copy)]
+struct Rank {
+    fresh: u32,
+    terms: usize,
+}
+
+/// The blocks named so far, and the cost so far: the sum over the rows taken of the squared number of blocks named up
+/// to each.
+#[derive(Clone, Copy)]
+struct Walk {
+    seen: u64,
+    cost: u64,
+}
+
+/// An order of rows and its cost. Each row is given by its position among those left when it is taken.
+#[derive(Drop)]
+struct RowOrder {
+    positions: Vec<usize>,
+    cost: u64,
+}
+
+/// The blocks of `each` columns that `row` names, and its number of terms.
+fn blocks_of(each: u32, row: &SparseRow) -> RowBlocks {
+    let mut blocks: u64 = 0;
+    for (column, _) in row.entries() {
+        let block = *column / each.max(1);
+        blocks |= 1 << (block % 64);
+    }
+    RowBlocks {
+        blocks,
+        terms: row.entries().len(),
+    }
+}
+
+/// `blocks_of` for each of the `rows`.
+fn blocks_of_all(alloc: Global, each: u32, rows: &[SparseRow]) -> Result<Vec<RowBlocks>, NoMemory> {
+    let mut all = Vec::with_capacity(alloc, rows.len())?;
+    for row in rows {
+        all.push(blocks_of(each, row))?;
+    }
+    Ok(all)
+}
+
+/// The rank of row `place` when the blocks `seen` are named.
+fn rank_of(seen: u64, rows: &[RowBlocks], place: usize) -> Rank {
+    match rows.get(place) {
+        Some(row) => Rank {
+            fresh: (row.blocks & !seen).count_ones(),
+            terms: row.terms,
+        },
+        None => Rank {
+            fresh: u32::MAX,
+            terms: usize::MAX,
+        },
+    }
+}
+
+/// Whether `one` is less than `other`.
+fn is_before(one: Rank, other: Rank) -> bool {
+    one.fresh < other.fresh || (one.fresh == other.fresh && one.terms < other.terms)
+}
+
+/// The position in `left` of the row of least rank, the first such.
+fn first_position(seen: u64, rows: &[RowBlocks], left: &[usize]) -> usize
+    requires { 0 < length left.now }
+    ensures { result < length left.now }
+{
+    let mut best = 0;
+    let mut least = rank_of(seen, rows, left[0]);
+    for (position, place) in left.iter().enumerate() {
+        let rank = rank_of(seen, rows, *place);
+        if is_before(rank, least) {
+            best = position;
+            least = rank;
+        }
+    }
+    best
+}
+
+/// The position in `left` of the row to take next: `start` for the first row of the order, and after that the row of
+/// least rank.
+fn next_position(seen: u64, rows: &[RowBlocks], left: &[usize], start: usize) -> usize
+    requires { 0 < length left.now }
+    ensures { result < length left.now }
+{
+    if left.len() == rows.len() {
+        start.min(left.len() - 1)
+    } else {
+        first_position(seen, rows, left)
+    }
+}
+
+/// The state after row `place` is taken; an empty row costs nothing.
+fn step(walk: Walk, rows: &[RowBlocks], place: usize) -> Walk {
+    match rows.get(place) {
+        Some(row) if row.terms > 0 => {
+            let seen = walk.seen | row.blocks;
+            let count = u64::from(seen.count_ones());
+            Walk {
+                seen,
+                cost: walk.cost.saturating_add(count.saturating_mul(count)),
+            }
+        }
+        _ => walk,
+    }
+}
+
+/// The greedy order that begins with row `start`, or `None` if it costs at least `cost`.
+fn order_from(
+    alloc: Global,
+    rows: &[RowBlocks],
+    start: usize,
+    cost: u64,
+) -> Result<Option<RowOrder>, NoMemory> {
+    let mut left: Vec<usize> = (0..rows.len()).collect(alloc)?;
+    let mut positions = Vec::with_capacity(alloc, left.len())?;
+    let mut walk = Walk { seen: 0, cost: 0 };
+    while !left.is_empty() {
+        let position = next_position(walk.seen, rows, &left, start);
+        positions.push(position)?;
+        walk = step(walk, rows, left.remove(position));
+        if walk.cost >= cost {
+            return Ok(None);
+        }
+    }
+    Ok(Some(RowOrder {
+        positions,
+        cost: walk.cost,
+    }))
+}
+
+/// How many rows are tried as the first one.
+fn start_count(rows: usize) -> usize {
+    if rows <= MOST_STARTS { rows } else { 1 }
+}
+
+/// The order that leaves all rows in place, with a cost that any other order beats.
+fn as_they_stand(alloc: Global) -> RowOrder {
+    RowOrder {
+        positions: Vec::new(alloc),
+        cost: u64::MAX,
+    }
+}
+
+/// The cheapest of the greedy orders of `rows`, one for each first row that is tried. An order is given up once it
+/// costs as much as the best.
+fn cheapest(alloc: Global, rows: &[RowBlocks]) -> Result<RowOrder, NoMemory> {
+    let mut best = as_they_stand(alloc);
+    for start in 0..start_count(rows.len()) {
+        if let Some(other) = order_from(alloc, rows, start, best.cost)? {
+            best = other;
+        }
+    }
+    Ok(best)
+}
+
+/// Takes the rows in the order that `positions` gives, each by its position among those left. Rows without a position
+/// come last.
+fn rows_in_turn(
+    alloc: Global,
+    mut rows: Vec<SparseRow>,
+    positions: &[usize],
+) -> Result<Vec<SparseRow>, NoMemory>
+    ensures { IfOk result (λ ordered. IsPermutation rows.items ordered.items) }
+{
+    let mut ordered = Vec::with_capacity(alloc, rows.len())?;
+    for position in positions {
+        if *position < rows.len() {
+            let row = rows.remove(*position);
+            ordered.push(row)?;
+        }
+    }
+    ordered.append(&mut rows)?;
+    Ok(ordered)
+}
+
+/// Reorders `rows` so that blocks of `each` columns occur as late as possible: the cheapest of the greedy orders. Any
+/// order is correct.
+pub(crate) fn in_cheapest_order(
+    alloc: Global,
+    each: u32,
+    rows: Vec<SparseRow>,
+) -> Result<Vec<SparseRow>, NoMemory>
+    ensures { IfOk result (λ ordered. IsPermutation rows.items ordered.items) }
+{
+    let all = blocks_of_all(alloc, each, &rows)?;
+    let order = cheapest(alloc, &all)?;
+    rows_in_turn(alloc, rows, &order.positions)
+}

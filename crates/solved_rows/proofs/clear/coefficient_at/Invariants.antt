@@ -1,6 +1,0 @@
--- the terms so far are of columns before this one
-use Rattle.solved_rows.proofs.ColumnLemmas.{AreBefore}
-use Rattle.solved_rows.proofs.clear.coefficient_at.Given as goal
-
-abbrev pub invariant-loop-place : goal.invariant-loop-place
-invariant-loop-place l = AreBefore l.place-items l.place-index l.column

@@ -1,6 +1,0 @@
--- the best so far is one of those that are left
-use Rattle.std.proofs.Common.{length, ◌<◌}
-use Rattle.solved_rows.proofs.order.first_position.Given as goal
-
-abbrev pub invariant-loop-position : goal.invariant-loop-position
-invariant-loop-position l = l.best < length l.left

@@ -1,7 +1,0 @@
--- the rows that are taken and those that are left
-use Rattle.std.proofs.Common.{◌++◌}
-use Rattle.std.specs.List.Sorted.{IsPermutation}
-use Rattle.solved_rows.proofs.order.rows_in_turn.Given as goal
-
-abbrev pub invariant-loop-position : goal.invariant-loop-position
-invariant-loop-position l = IsPermutation l.fn.rows.items (l.ordered.items ++ l.rows.items)

@@ -1,0 +1,10 @@
+-- A vector that passes is as wide as the table has columns, which are few.
+use Rattle.std.proofs.Common.{ℕ, ◌<◌, ◌≤◌, length, sym, ◌∙◌, subst}
+use Rattle.surface_refusals.proofs.Columns.{few_columns}
+use Rattle.surface_refusals.proofs.checks.check.Goals as goal
+
+pub returns-clause-few : goal.returns-clause-few
+returns-clause-few c = λ ok.
+    let accepted = c.check_vector.ensures.accepts.0 ok in
+    let tets = subst (λ (n : ℕ). n ≤ 1000) c.len.ensures.value c.len.ensures.few in
+    subst (λ (n : ℕ). n < 4294967296) (sym (accepted.solves.width ∙ c.requires)) (few_columns c.args.coords (length c.args.table.now) tets)
