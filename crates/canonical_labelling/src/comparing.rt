@@ -68,7 +68,7 @@ fn compare_head(text: &[u8], bound: &[u8]) -> Option<bool>
 
 /// Gives the tetrahedron across `glue` the next new number and appends it to the traversal, unless it was visited
 /// before.
-fn number(comparison: &mut Comparison, from: Start, glue: Glue) -> Result<(), AllocError>
+fn assign_number(comparison: &mut Comparison, from: Start, glue: Glue) -> Result<(), AllocError>
     requires in_range { glue.tet < length comparison.old.numbers.items }
     requires few { length comparison.old.walking.order.items < 2 ^ 32 }
     ensures { OnOk result (comparison_view comparison.new ≡ comparisons.numbered (slice_index_or comparison.old.walking.met.items glue.tet false) from glue (comparison_view comparison.old)) }
@@ -96,7 +96,12 @@ fn new_gluing(comparison: &Comparison, from: Start, glue: Glue) -> Glue
 /// Records the gluing `glue` of the new face with index `place` (4 times tetrahedron plus face). The face on its other
 /// side is marked as crossed; the type is 2 if the target was visited before (`met`), and then `glue` is recorded too,
 /// and 1 otherwise.
-fn cross(comparison: &mut Comparison, place: u32, glue: Glue, met: bool) -> Result<(), AllocError>
+fn record_crossing(
+    comparison: &mut Comparison,
+    place: u32,
+    glue: Glue,
+    met: bool,
+) -> Result<(), AllocError>
     requires { glue.tet < length comparison.old.numbers.items }
     ensures crossed { OnOk result (comparison_view comparison.new ≡ comparisons.crossed met place glue (comparison_view comparison.old)) }
     ensures other { face_number (other_side (face_of place) glue) < 4 * glue.tet + 4 }
@@ -129,9 +134,9 @@ fn take_glued(
     ensures size { OnOk result (length comparison.new.numbers.items ≡ length comparison.old.numbers.items) }
 {
     let met = comparison.walking.met[glue.tet as usize];
-    number(comparison, from, glue)?;
+    assign_number(comparison, from, glue)?;
     let there = new_gluing(comparison, from, glue);
-    cross(comparison, place, there, met)?;
+    record_crossing(comparison, place, there, met)?;
     Ok(())
 }
 

@@ -4,7 +4,7 @@ ghost use Rattle.command_definitions.specs.Requests.{most_moves};
 ghost use Rattle.move_definitions.specs.Certificates.{IsCertificate};
 ghost use Rattle.outcome_definitions.specs.Makings.{IsSummary, IsBulkAnswer};
 
-use crate::summaries::{Numbers, summary_outcome};
+use crate::summaries::{MadeNumbers, summary_outcome};
 use command_answers::Outcome;
 use cone_arithmetic::MAX_ENTRY;
 use double_description::NamedOrder;
@@ -29,7 +29,11 @@ fn accept(alloc: Global, made: &Made) -> Result<(), NoMemory>
 }
 
 /// The outcome for `table`, which was made with the numbers `numbers`.
-fn outcome_of_making(alloc: Global, numbers: Numbers, table: &Table) -> Result<Outcome, NoMemory>
+fn outcome_of_making(
+    alloc: Global,
+    numbers: MadeNumbers,
+    table: &Table,
+) -> Result<Outcome, NoMemory>
     ensures { IfOk result (IsSummary numbers table.now) }
 {
     match surface_list::surfaces_of_table(
@@ -54,7 +58,7 @@ pub fn bulk(alloc: Global, seed: u64, moves: u32) -> Result<Outcome, NoMemory>
 {
     let made = tri_build::make(alloc, seed, moves)?;
     accept(alloc, &made)?;
-    let numbers = Numbers {
+    let numbers = MadeNumbers {
         seed,
         moves: made.certificate.len() as u32,
         tetrahedra: made.table.len(),

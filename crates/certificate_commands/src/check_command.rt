@@ -15,7 +15,7 @@ use sphere_certificate::check_owned;
 use std::alloc::Global;
 
 /// The outcome for `table` and `moves`.
-fn answer(alloc: Global, table: Table, moves: &[Move]) -> Result<Outcome, NoMemory>
+fn run_check(alloc: Global, table: Table, moves: &[Move]) -> Result<Outcome, NoMemory>
     requires few { length moves.now < 2 ^ 32 - 1 }
     ensures { IfOk result (IsCheckAnswer (table, moves.now)) }
 {
@@ -33,7 +33,7 @@ pub fn check(alloc: Global, bytes: &[u8]) -> Result<Outcome, NoMemory>
     ensures answer { IfOk result (IsReadOutcome (moves_document bytes.now) IsCheckAnswer) }
 {
     match read_table_and_moves(alloc, bytes) {
-        Ok(document) => answer(alloc, document.table, &document.moves),
+        Ok(document) => run_check(alloc, document.table, &document.moves),
         Err(fault) => fault_outcome(alloc, fault),
     }
 }

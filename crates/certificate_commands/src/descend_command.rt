@@ -51,7 +51,7 @@ fn descent_text(alloc: Global, descent: &Descent) -> Result<Vec<u8>, NoMemory>
 }
 
 /// The outcome of `descent`.
-fn outcome_of(alloc: Global, descent: &Descent) -> Result<Outcome, NoMemory>
+fn outcome_of_descent(alloc: Global, descent: &Descent) -> Result<Outcome, NoMemory>
     ensures { IfOk result (λ o. o ≡ certificates.descend_outcome (Ok (record { reached = descent.now.reached; moves = descent.now.moves.items; table = descent.now.table }))) }
 {
     let text = descent_text(alloc, descent)?;
@@ -59,11 +59,11 @@ fn outcome_of(alloc: Global, descent: &Descent) -> Result<Outcome, NoMemory>
 }
 
 /// The outcome for `table`.
-fn answer(alloc: Global, table: &Table) -> Result<Outcome, NoMemory>
+fn run_descend(alloc: Global, table: &Table) -> Result<Outcome, NoMemory>
     ensures { IfOk result (IsDescendAnswer table.now) }
 {
     match descend_from(alloc, table) {
-        Ok(descent) => outcome_of(alloc, &descent),
+        Ok(descent) => outcome_of_descent(alloc, &descent),
         Err(Failure::Fault(fault)) => not_connected_outcome(alloc, 0, fault.tet),
         Err(Failure::NoMemory) => Err(NoMemory),
     }
@@ -78,6 +78,6 @@ pub fn descend(alloc: Global, bytes: &[u8]) -> Result<Outcome, NoMemory>
     answer_read(
         alloc,
         read_table_document(alloc, bytes),
-        |table| answer(alloc, &table),
+        |table| run_descend(alloc, &table),
     )
 }

@@ -52,13 +52,13 @@ pub fn linking_count(list: &[Ray]) -> u64
 /// The numbers of a table that was made: its seed, the number of moves of its certificate, and its number of
 /// tetrahedra.
 #[derive(Clone, Copy)]
-pub struct Numbers {
+pub struct MadeNumbers {
     pub seed: u64,
     pub moves: u32,
     pub tetrahedra: u32,
 }
 
-impl Model for Numbers {
+impl Model for MadeNumbers {
     ghost use Rattle.outcome_definitions.specs.Makings as makings;
 
     ghost Value = { makings.Numbers };
@@ -69,7 +69,7 @@ impl Model for Numbers {
 }
 
 /// The text of `bulk`: the numbers of the table, and the counts of its surfaces `list`.
-fn summary_text(alloc: Global, numbers: Numbers, list: &[Ray]) -> Result<Vec<u8>, NoMemory>
+fn summary_text(alloc: Global, numbers: MadeNumbers, list: &[Ray]) -> Result<Vec<u8>, NoMemory>
     ensures { IfOk result (λ text. (greatest : ℕ) × IsGreatestEntry list.now greatest × (text.items ≡ summary_text numbers list.now greatest)) }
 {
     let moves = u128::from(numbers.moves);
@@ -95,7 +95,11 @@ fn summary_text(alloc: Global, numbers: Numbers, list: &[Ray]) -> Result<Vec<u8>
 }
 
 /// The outcome of `bulk` for a table with the numbers `numbers` and the vertex surfaces `list`.
-pub fn summary_outcome(alloc: Global, numbers: Numbers, list: &[Ray]) -> Result<Outcome, NoMemory>
+pub fn summary_outcome(
+    alloc: Global,
+    numbers: MadeNumbers,
+    list: &[Ray],
+) -> Result<Outcome, NoMemory>
     ensures { IfOk result (λ o. (greatest : ℕ) × IsGreatestEntry list.now greatest × (o ≡ summary_outcome numbers list.now greatest)) }
 {
     let text = summary_text(alloc, numbers, list)?;

@@ -7,11 +7,11 @@ ghost use Rattle.surface_definitions.specs.Coordinates.{three};
 ghost use Rattle.surface_definitions.specs.Crushing.{has_quad, is_removed, passed, CrushesTo};
 
 use crate::quads::exchange;
-use crate::surface::Surface;
+use crate::surface::StandardSurface;
 use gluing_table::{Face, Glue};
 use normal_discs::partner;
 
-impl Surface<'_> {
+impl StandardSurface<'_> {
     /// The next gluing of the chain from `start`, which has reached by `glue` a removed tetrahedron whose quads have
     /// type `kind`; `None` at a boundary face.
     fn pass(&self, start: Face, glue: Glue, kind: u8) -> Option<Glue>

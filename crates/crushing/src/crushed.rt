@@ -7,13 +7,13 @@ ghost use Rattle.surface_definitions.specs.declared.Coords.TheVariants.{Standard
 ghost use Rattle.surface_definitions.specs.Crushing.{is_removed as is_taken, renumbered, CrushesTo, IsCrushed};
 ghost use Rattle.crushing.specs.Rows.{IsCrushedRow, AreCrushedBefore, AreNewNumbers};
 
-use crate::surface::{NumberedSurface, Surface};
+use crate::surface::{NumberedSurface, StandardSurface};
 use gluing_table::{Face, Glue, Row, Table};
 use out_of_memory::NoMemory;
 use skeleton::Skeleton;
 use std::alloc::{AllocError, Global};
 
-impl Surface<'_> {
+impl StandardSurface<'_> {
     /// For each tetrahedron the number of retained ones before it, which is its number in the crushed table if it is
     /// retained.
     fn new_numbers(&self, alloc: Global) -> Result<Vec<u32>, AllocError>
@@ -82,7 +82,7 @@ pub fn crush_table(alloc: Global, table: &Table, x: &[u128]) -> Result<Table, No
     ensures crushed { IfOk result (λ new. IsCrushed table.now x.now new) }
     ensures is_table { IfOk result (λ new. IsTable new) }
 {
-    let surface = Surface { table, entries: x };
+    let surface = StandardSurface { table, entries: x };
     let numbers = surface.new_numbers(alloc)?;
     let numbered = NumberedSurface {
         surface,

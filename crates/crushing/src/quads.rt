@@ -7,12 +7,12 @@ ghost use Rattle.table_definitions.specs.Permutation.{IsPermutationOfFour};
 ghost use Rattle.surface_definitions.specs.Coordinates.{three};
 ghost use Rattle.surface_definitions.specs.Crushing.{has_quad, is_removed as is_taken, exchange as exchange_of};
 
-use crate::surface::Surface;
+use crate::surface::StandardSurface;
 use normal_discs::{columns_each, triangles_each};
 use perm_four::Perm4;
 use surface_definitions::Coords;
 
-impl Surface<'_> {
+impl StandardSurface<'_> {
     /// The type of the quads of tetrahedron `tet`, 0, 1 or 2, or `None` if and only if it has none.
     pub fn quad_type(&self, tet: u32) -> Option<u8>
         requires { tet < length self.now.table.now }

@@ -7,7 +7,7 @@ use gluing_table::Table;
 
 /// A table with a vector in standard coordinates. Invariant: `entries` has seven entries for each tetrahedron.
 #[derive(Clone, Copy)]
-pub struct Surface<'a> {
+pub struct StandardSurface<'a> {
     pub table: &'a Table,
     pub entries: &'a [u128],
     pub ghost width: { length entries.now ≡ 7 * length table.now },
@@ -17,7 +17,7 @@ pub struct Surface<'a> {
 /// before it.
 #[derive(Clone, Copy)]
 pub struct NumberedSurface<'a> {
-    pub surface: Surface<'a>,
+    pub surface: StandardSurface<'a>,
     pub numbers: &'a [u32],
     pub ghost numbered: { AreNewNumbers surface.entries.now numbers.now (length surface.table.now) },
 }

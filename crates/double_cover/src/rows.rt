@@ -11,7 +11,7 @@ use out_of_memory::NoMemory;
 use std::alloc::{AllocError, Global};
 
 /// The sheet across `glue` from `sheet`: the same one if the gluing is odd, otherwise the other one.
-fn sheet_behind(glue: Glue, sheet: Sheet) -> Sheet
+fn sheet_across(glue: Glue, sheet: Sheet) -> Sheet
     ensures { result.number ≡ definition.sheet_across glue sheet.number }
 {
     if glue.perm.is_odd() {
@@ -27,7 +27,7 @@ fn lift_glue(sheets: Sheets, sheet: Sheet, glue: Glue) -> Glue
     ensures { result ≡ definition.lifted sheets.tets sheet.number glue }
 {
     Glue {
-        tet: sheets.above(glue.tet, sheet_behind(glue, sheet)),
+        tet: sheets.above(glue.tet, sheet_across(glue, sheet)),
         perm: glue.perm,
     }
 }

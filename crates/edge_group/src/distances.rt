@@ -33,7 +33,7 @@ fn cross_face(
 }
 
 /// As `cross_face`, for the four faces of tetrahedron `tet`.
-fn cross_faces(
+fn mark_neighbours(
     table: &Table,
     tet: u32,
     distance: u32,
@@ -64,7 +64,7 @@ fn next_level(
 {
     let mut next = Vec::new(alloc);
     for tet in level {
-        cross_faces(table, *tet, distance, marks, &mut next)?;
+        mark_neighbours(table, *tet, distance, marks, &mut next)?;
     }
     Ok(next)
 }
@@ -80,7 +80,7 @@ fn first_marks(alloc: Global, count: usize) -> Result<Vec<Option<u32>>, AllocErr
 }
 
 /// As `distances`, for a `table` that is not empty.
-fn search(alloc: Global, table: &Table) -> Result<Vec<Option<u32>>, AllocError>
+fn breadth_first(alloc: Global, table: &Table) -> Result<Vec<Option<u32>>, AllocError>
     requires { 0 < length table.now }
     ensures { IfOk result (λ marks. AreDistances table.now marks.items) }
 {
@@ -103,5 +103,5 @@ pub fn distances(alloc: Global, table: &Table) -> Result<Vec<Option<u32>>, Alloc
     if table.len() == 0 {
         return Ok(Vec::new(alloc));
     }
-    search(alloc, table)
+    breadth_first(alloc, table)
 }

@@ -34,7 +34,7 @@ fn read_cone_document(alloc: Global, bytes: &[u8]) -> Result<System, ConeFault>
 }
 
 /// The outcome for the cone of `system`.
-fn answer(
+fn run_rays(
     alloc: Global,
     system: &System,
     order: NamedOrder,
@@ -62,7 +62,7 @@ pub fn rays(alloc: Global, order: Order, limit: u128, bytes: &[u8]) -> Result<Ou
     match read_cone_document(alloc, bytes) {
         Ok(system) => {
             let order = NamedOrder { rule: order };
-            answer(alloc, &system, order, Limit { number: limit })
+            run_rays(alloc, &system, order, Limit { number: limit })
         }
         Err(ConeFault::Lex(fault)) => fault_outcome(alloc, InputFault::Text(TextFault::Lex(fault))),
         Err(ConeFault::NoMemory) => Err(NoMemory),

@@ -16,7 +16,7 @@ use std::alloc::Global;
 use surface_refusals::large_outcome;
 
 /// The outcome for `table` in the coordinates `coords`.
-fn answer(
+fn run_surfaces(
     alloc: Global,
     table: &Table,
     coords: Coords,
@@ -51,7 +51,7 @@ pub fn surfaces(
     match read_table_document(alloc, bytes) {
         Ok(table) => {
             let order = NamedOrder { rule: order };
-            answer(alloc, &table, coords, order, Limit { number: limit })
+            run_surfaces(alloc, &table, coords, order, Limit { number: limit })
         }
         Err(fault) => fault_outcome(alloc, fault),
     }

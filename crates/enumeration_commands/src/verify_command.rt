@@ -53,7 +53,7 @@ fn verdicts(
 }
 
 /// The outcome for `table` and `vectors`.
-fn answer(
+fn run_verify(
     alloc: Global,
     coords: Coords,
     table: &Table,
@@ -73,6 +73,6 @@ pub fn verify(alloc: Global, coords: Coords, bytes: &[u8]) -> Result<Outcome, No
     ensures { IfOk result (IsReadOutcome (vectors_document bytes.now) (IsVerdictsAnswer coords)) }
 {
     answer_read(alloc, read_table_and_vectors(alloc, bytes), |document| {
-        answer(alloc, coords, &document.table, &document.vectors)
+        run_verify(alloc, coords, &document.table, &document.vectors)
     })
 }

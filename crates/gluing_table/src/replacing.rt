@@ -16,13 +16,13 @@ use std::marker::Model;
 /// A replacement to be made: the rows of a table, the numbers of those to remove, and fresh rows with their numbers in
 /// the new table. Both lists ascend.
 #[derive(Drop)]
-pub struct Exchange<'a> {
+pub struct ReplacingRows<'a> {
     pub rows: &'a [Row],
     pub removed: &'a [u32],
     pub fresh: &'a [(u32, Row)],
 }
 
-impl<'a> Model for Exchange<'a> {
+impl<'a> Model for ReplacingRows<'a> {
     ghost use Rattle.gluing_table.specs.Exchanges as definition;
 
     ghost Value = { definition.Exchange };
@@ -139,7 +139,7 @@ fn back_to_fresh(fresh: &[(u32, Row)], target: Face) -> Option<Glue>
 }
 
 /// The gluing of `face` in the new table, in a retained row whose old number is `tet`.
-fn retained_glue(swap: &Exchange<'_>, tet: u32, face: Face) -> Option<Glue>
+fn retained_glue(swap: &ReplacingRows<'_>, tet: u32, face: Face) -> Option<Glue>
     requires { tet < length swap.now.rows }
     ensures { result ≡ exchange.kept_gluing swap.now.rows swap.now.by face (gluings.glue swap.now.rows (record { tet = tet; face = face.face })) }
 {
@@ -159,7 +159,7 @@ fn retained_glue(swap: &Exchange<'_>, tet: u32, face: Face) -> Option<Glue>
 }
 
 /// Row `number` of the new table, a retained row whose old number is `tet`.
-fn retained_row(swap: &Exchange<'_>, tet: u32, number: u32) -> Row
+fn retained_row(swap: &ReplacingRows<'_>, tet: u32, number: u32) -> Row
     requires { tet < length swap.now.rows }
     ensures { result ≡ exchange.kept_row swap.now.rows swap.now.by tet number }
 {
@@ -200,7 +200,7 @@ fn retained_row(swap: &Exchange<'_>, tet: u32, number: u32) -> Row
 }
 
 /// Row `number` of the new table.
-fn new_row(swap: &Exchange<'_>, number: u32) -> Row
+fn new_row(swap: &ReplacingRows<'_>, number: u32) -> Row
     requires { number < replaced_length swap.now.rows swap.now.by }
     ensures { result ≡ exchange.replaced_row swap.now.rows swap.now.by number }
 {
@@ -212,7 +212,7 @@ fn new_row(swap: &Exchange<'_>, number: u32) -> Row
 }
 
 /// The number of rows of the new table of `swap`.
-fn new_length(swap: &Exchange<'_>) -> u32
+fn new_length(swap: &ReplacingRows<'_>) -> u32
     ensures value { result ≡ replaced_length swap.now.rows swap.now.by }
     ensures few { result ≤ max_tets }
     ensures is_table { IsTable (replaced swap.now.rows swap.now.by) }
@@ -221,7 +221,7 @@ fn new_length(swap: &Exchange<'_>) -> u32
 }
 
 /// Writes the rows of the new table into `new`, which is empty and has room for a table of any size. Allocates nothing.
-pub fn write_replaced(new: &mut Vec<Row>, swap: &Exchange<'_>)
+pub fn write_replaced(new: &mut Vec<Row>, swap: &ReplacingRows<'_>)
     requires empty { new.old.items ≡ [] }
     requires room { max_tets ≤ vec_capacity new.old }
     ensures rows { new.new.items ≡ replaced swap.now.rows swap.now.by }

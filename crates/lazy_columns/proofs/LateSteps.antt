@@ -22,7 +22,7 @@ use Rattle.ray_steps.proofs.RayLemmas.{length-rays_of, ray_at-rays_of}
 use Rattle.cone_definitions.proofs.Unordered.{place_of}
 use Rattle.cone_row_laws.specs.Fresh.{IsUntouched}
 use Rattle.lazy_columns.specs.declared.entering.LateRays.{LateRays}
-use Rattle.lazy_columns.specs.declared.fresh.Fresh.{Fresh}
+use Rattle.lazy_columns.specs.declared.fresh.NewColumn.{NewColumn}
 use Rattle.lazy_columns.specs.Late.{IsUnseen, held_rows, AreLate, AreSeen}
 use Rattle.lazy_columns.specs.Fresh.{oriented, IsFreshColumn}
 use Rattle.lazy_columns.specs.Raised.{HasRoom, AreRaised}
@@ -126,7 +126,7 @@ oriented_zero true row x = ((turned_zero row x).1, (turned_zero row x).0)
 oriented_zero false row x = (λ z. z, λ z. z)
 
 -- the row has a fresh column
-pub late_extended : (limit columns : ℕ) (rows : List Row) (pairs : List Clash) (row : Row) (fresh : Fresh) (late next : LateRays) → IsFreshColumn columns row pairs late.seen.items fresh →
+pub late_extended : (limit columns : ℕ) (rows : List Row) (pairs : List Clash) (row : Row) (fresh : NewColumn) (late next : LateRays) → IsFreshColumn columns row pairs late.seen.items fresh →
     next.seen.items ≡ set late.seen.items fresh.column true →
     AreRaised limit pairs (oriented fresh.is_turned row) fresh.column (rays_of late.ray_list.items) (rays_of next.ray_list.items) → AreLate columns rows pairs late → AreLate columns (rows ++ row ∷ []) pairs next
 late_extended limit columns rows pairs row fresh late next f same raised h = record {

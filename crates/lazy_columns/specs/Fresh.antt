@@ -6,7 +6,7 @@ use Rattle.cone_definitions.specs.Surfaces.{Clash}
 use Rattle.cone_definitions.specs.Vectors.{unit}
 use Rattle.cone_row_laws.specs.Operations.{turned}
 use Rattle.lazy_columns.specs.Late.{IsUnseen}
-use Rattle.lazy_columns.specs.declared.fresh.Fresh.{Fresh}
+use Rattle.lazy_columns.specs.declared.fresh.NewColumn.{NewColumn}
 
 -- the row, or the negated row
 abbrev pub oriented : Bool → Row → Row
@@ -26,14 +26,14 @@ abbrev pub IsFree : List Clash → ℕ → Type 0
 IsFree pairs column = All (λ pair. (pair.0 ≢ column) × (pair.1 ≢ column)) pairs
 
 -- a column that has not entered, with the coefficient 1 or -1, which clashes with no column
-pub record IsFreeColumn (columns : ℕ) (row : Row) (pairs : List Clash) (seen : List Bool) (fresh : Fresh) : Type 0 where
+pub record IsFreeColumn (columns : ℕ) (row : Row) (pairs : List Clash) (seen : List Bool) (fresh : NewColumn) : Type 0 where
   pub in_range : fresh.column < columns
   pub unseen : IsUnseen seen fresh.column
   pub one : HasOne columns row fresh.column fresh.is_turned
   pub free : IsFree pairs fresh.column
 
 -- the only column of the row that has not entered, with the coefficient 1 or -1, which clashes with no column
-pub record IsFreshColumn (columns : ℕ) (row : Row) (pairs : List Clash) (seen : List Bool) (fresh : Fresh) : Type 0 where
+pub record IsFreshColumn (columns : ℕ) (row : Row) (pairs : List Clash) (seen : List Bool) (fresh : NewColumn) : Type 0 where
   pub in_range : fresh.column < columns
   pub unseen : IsUnseen seen fresh.column
   pub lone : IsLone row seen fresh.column

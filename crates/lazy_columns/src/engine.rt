@@ -13,7 +13,7 @@ ghost use Rattle.lazy_columns.specs.Passing.{PassesNext, HasPassedStep};
 
 use crate::elimination::next_rays;
 use crate::entering::{LateRays, enter_all, enter_others, enter_row, none_seen};
-use crate::fresh::{Fresh, free_column};
+use crate::fresh::{NewColumn, free_column};
 use crate::raising::raised_rays;
 use cone_arithmetic::{PackedRay, SparseRow, System};
 use out_of_memory::NoMemory;
@@ -56,7 +56,7 @@ fn eliminate_with_fresh<C: Compatible>(
     alloc: Global,
     clashes: &Clashes<C>,
     row: &SparseRow,
-    fresh: Fresh,
+    fresh: NewColumn,
     mut late: LateRays,
     most: u64,
 ) -> Result<LateRays, StepFault>

@@ -11,7 +11,7 @@ use std::alloc::Global;
 
 /// A free column of a row, and whether its coefficient is -1, so that the row has to be negated.
 #[derive(Clone, Copy)]
-pub struct Fresh {
+pub struct NewColumn {
     pub column: u32,
     pub is_turned: bool,
 }
@@ -69,14 +69,14 @@ pub fn free_column(
     clashes: &[(u32, u32)],
     row: &SparseRow,
     seen: &[bool],
-) -> Result<Option<Fresh>, NoMemory>
+) -> Result<Option<NewColumn>, NoMemory>
     requires columns { length seen.now ≡ columns }
     requires in_range { IsInRange columns row.now }
     ensures { IfOk result (λ answer. IfSome answer (IsFreeColumn columns row.now clashes.now seen.now)) }
 {
     if let Some(column) = first_free(clashes, row.entries(), seen) {
         if let Some(is_turned) = turning(alloc, columns, row, column)? {
-            return Ok(Some(Fresh { column, is_turned }));
+            return Ok(Some(NewColumn { column, is_turned }));
         }
     }
     Ok(None)

@@ -12,7 +12,7 @@ ghost use Rattle.lazy_columns.specs.Fresh.{oriented};
 ghost use Rattle.lazy_columns.specs.Passing.{PassesAt};
 ghost use Rattle.lazy_columns.specs.Raised.{HasRoom, AppendsRaised, IsRaisedFrom, AreRaised};
 
-use crate::fresh::Fresh;
+use crate::fresh::NewColumn;
 use cone_arithmetic::{Limit, MAX_ENTRY};
 use out_of_memory::NoMemory;
 use ray_steps::{Compatible, RayWithSupport, Sign, Step, StepFault, StepInput};
@@ -107,7 +107,7 @@ fn raise_all(
 pub fn raised_rays<C: Compatible>(
     alloc: Global,
     input: StepInput<C>,
-    fresh: Fresh,
+    fresh: NewColumn,
 ) -> Result<Vec<RayWithSupport>, StepFault>
     requires rays { AreStepRays input.clashes.now.columns input.most input.clashes.now.pairs input.ray_list.items }
     requires room { All (HasRoom fresh.column) input.ray_list.items }

@@ -8,7 +8,7 @@ use normal_discs::{before_octagons, first_column, octagons_each, triangles_each}
 use surface_definitions::{Coords, Piece};
 
 /// `before` + `number`, or `None` if `number` is not below `count`.
-fn place(number: u8, count: u32, before: u32) -> Option<u32>
+fn piece_offset(number: u8, count: u32, before: u32) -> Option<u32>
     requires { before ≤ 7 }
     ensures { result ≡ (if nat_lt number count then Some (before + number) else None) }
 {
@@ -27,9 +27,9 @@ fn local_column(coords: Coords, piece: Piece) -> Option<u32>
     ensures in_range { IfSome result (λ place. place < coordinates.columns_each coords) }
 {
     match piece {
-        Piece::Tri(vertex) => place(vertex, triangles_each(coords), 0),
-        Piece::Quad(kind) => place(kind, 3, triangles_each(coords)),
-        Piece::Oct(kind) => place(kind, octagons_each(coords), before_octagons(coords)),
+        Piece::Tri(vertex) => piece_offset(vertex, triangles_each(coords), 0),
+        Piece::Quad(kind) => piece_offset(kind, 3, triangles_each(coords)),
+        Piece::Oct(kind) => piece_offset(kind, octagons_each(coords), before_octagons(coords)),
     }
 }
 

@@ -53,7 +53,7 @@ fn second_columns(alloc: Global, corners: &[Corner]) -> Result<Vec<u32>, NoMemor
 }
 
 /// Appends the equation of the `corners` around an edge.
-fn push_round(alloc: Global, corners: &[Corner], system: &mut System) -> Result<(), NoMemory>
+fn push_around(alloc: Global, corners: &[Corner], system: &mut System) -> Result<(), NoMemory>
     requires corners { AreCornersIn max_tets corners.now }
     requires few { length corners.now ≤ 1000000 }
     requires room { length system.old.rows + 1 < 2 ^ 32 }
@@ -88,7 +88,7 @@ fn push_edge(
     if skeleton.is_boundary_edge(class) {
         return Ok(());
     }
-    push_round(alloc, skeleton.around(class), system)?;
+    push_around(alloc, skeleton.around(class), system)?;
     Ok(())
 }
 

@@ -36,7 +36,7 @@ pub fn equations(alloc: Global, skeleton: &Skeleton, coords: Coords) -> Result<S
 }
 
 /// The equations of `table` in quad coordinates; builds its skeleton.
-fn equations_round_edges(alloc: Global, table: &Table) -> Result<System, NoMemory>
+fn edge_equations(alloc: Global, table: &Table) -> Result<System, NoMemory>
     ensures columns { IfOk result (λ s. s.columns ≡ coordinates.columns Coords.Quad (length table.now)) }
     ensures equations { IfOk result (λ s. AreEquations Coords.Quad table.now s.rows) }
 {
@@ -51,7 +51,7 @@ pub fn equations_of_table(alloc: Global, table: &Table, coords: Coords) -> Resul
 {
     match coords {
         Coords::Standard => matching_system(alloc, DiscCoords::STANDARD, table),
-        Coords::Quad => equations_round_edges(alloc, table),
+        Coords::Quad => edge_equations(alloc, table),
         Coords::Octagon => matching_system(alloc, DiscCoords::OCTAGON, table),
     }
 }

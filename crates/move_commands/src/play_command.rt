@@ -16,7 +16,7 @@ use outcome_definitions::Status;
 use std::alloc::Global;
 
 /// The outcome for `table` and `steps`.
-fn answer(alloc: Global, table: Table, steps: &[Step]) -> Result<Outcome, NoMemory>
+fn run_play(alloc: Global, table: Table, steps: &[Step]) -> Result<Outcome, NoMemory>
     ensures { IfOk result (IsScriptAnswer (table, all_steps steps.now)) }
 {
     let mut session = Session::new(alloc, table);
@@ -32,7 +32,7 @@ pub fn play(alloc: Global, bytes: &[u8]) -> Result<Outcome, NoMemory>
     ensures { IfOk result (IsReadOutcome (steps_document bytes.now) IsScriptAnswer) }
 {
     match read_table_and_steps(alloc, bytes) {
-        Ok(document) => answer(alloc, document.table, &document.steps),
+        Ok(document) => run_play(alloc, document.table, &document.steps),
         Err(fault) => fault_outcome(alloc, fault),
     }
 }

@@ -80,7 +80,7 @@ fn glue_in(row: &Row, face: u8) -> Option<Glue>
 }
 
 /// The label of vertex `v` of the tetrahedron across the face opposite `label`.
-fn label_behind(labels: &[u8; 4], label: u8, perm: Perm4, v: u8) -> u8
+fn label_across(labels: &[u8; 4], label: u8, perm: Perm4, v: u8) -> u8
     requires { v < 4 }
     ensures { result ≡ substitute label 4 (image labels.now (preimage perm v)) }
 {
@@ -96,10 +96,10 @@ pub fn facet_behind(own: Facet, label: u8, glue: Glue) -> Facet
         tet: glue.tet,
         missing: label,
         labels: [
-            label_behind(&own.labels, label, glue.perm, 0),
-            label_behind(&own.labels, label, glue.perm, 1),
-            label_behind(&own.labels, label, glue.perm, 2),
-            label_behind(&own.labels, label, glue.perm, 3),
+            label_across(&own.labels, label, glue.perm, 0),
+            label_across(&own.labels, label, glue.perm, 1),
+            label_across(&own.labels, label, glue.perm, 2),
+            label_across(&own.labels, label, glue.perm, 3),
         ],
     }
 }

@@ -32,7 +32,7 @@ pub struct Label {
 
 /// A table, a move on it, and facets. Invariant: `facets` are those that the move removes.
 #[derive(Clone, Copy)]
-pub struct TakenOut<'a> {
+pub struct RemovedFacets<'a> {
     pub table: &'a Table,
     pub m: &'a Move,
     pub facets: &'a [Facet],
@@ -68,7 +68,7 @@ pub fn new_facet(table: &Table, m: &Move, label: Label) -> Facet
 }
 
 /// The vertex of `facet` with label `label`, or with `missing` if `label` is the one that `facet` lacks.
-fn vertex_beside(facet: Facet, missing: u8, label: u8) -> u8
+fn vertex_next_to(facet: Facet, missing: u8, label: u8) -> u8
     ensures value { result ≡ moves.vertex_of facet (substitute facet.missing missing label) }
 {
     vertex_of(&facet.labels, replace_label(label, facet.missing, missing))
@@ -81,10 +81,10 @@ fn label_by_label(f: Facet, g: Facet) -> Perm4
 {
     let [a, b, c, d] = f.labels;
     match Perm4::new(
-        vertex_beside(g, f.missing, a),
-        vertex_beside(g, f.missing, b),
-        vertex_beside(g, f.missing, c),
-        vertex_beside(g, f.missing, d),
+        vertex_next_to(g, f.missing, a),
+        vertex_next_to(g, f.missing, b),
+        vertex_next_to(g, f.missing, c),
+        vertex_next_to(g, f.missing, d),
     ) {
         Some(perm) => perm,
         None => unreachable!(),
@@ -125,7 +125,7 @@ pub fn closed_number(facets: &[Facet], tet: u32) -> u32
 }
 
 /// The image of `tet`, a tetrahedron that the move retains.
-fn retained_stand_in(taken: TakenOut<'_>, tet: u32) -> Glue
+fn retained_stand_in(taken: RemovedFacets<'_>, tet: u32) -> Glue
     ensures { result ≡ moves.kept_place_after taken.entry.table.now taken.entry.m.now tet }
 {
     Glue {
@@ -147,7 +147,7 @@ pub fn facet_of(facets: &[Facet], tet: u32) -> Option<Facet>
 }
 
 /// The image, at face `x`, of its tetrahedron.
-fn stand_in(taken: TakenOut<'_>, x: Face) -> Option<Glue>
+fn stand_in(taken: RemovedFacets<'_>, x: Face) -> Option<Glue>
     ensures { result ≡ moves.place_after taken.entry.table.now taken.entry.m.now x }
 {
     match facet_of(taken.facets, x.tet) {
@@ -167,7 +167,7 @@ fn glue_under(s: Glue, r: Glue, glue: Glue) -> Glue
 }
 
 /// The gluing `glue` of face `x` after the move; `s` is the image of the tetrahedron of `x`.
-pub fn moved_glue(taken: TakenOut<'_>, x: Face, s: Glue, glue: Glue) -> Option<Glue>
+pub fn moved_glue(taken: RemovedFacets<'_>, x: Face, s: Glue, glue: Glue) -> Option<Glue>
     ensures { result ≡ moves.moved_gluing taken.entry.table.now taken.entry.m.now x s glue }
 {
     let r = stand_in(taken, glue.other_side(x))?;

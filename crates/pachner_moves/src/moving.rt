@@ -13,7 +13,7 @@ ghost use Rattle.move_laws.specs.Facets.{IsFacet, outer_gluing, fresh_gluing, pu
 use crate::cores::{inverse_on, retained};
 use crate::facet::{glue_opposite, vertex_of};
 use crate::facets::{
-    Label, TakenOut, glue_to_new, moved_glue, new_facet, other_labels, retained_in,
+    Label, RemovedFacets, glue_to_new, moved_glue, new_facet, other_labels, retained_in,
 };
 use crate::legality::is_of_facet;
 use crate::{Facet, Move, MoveFault, Pattern, legal};
@@ -43,7 +43,7 @@ impl Model for Undo {
 }
 
 /// The gluing of the face of a new facet that is the image of the face of `old` opposite `label`.
-fn outer_glue(taken: TakenOut<'_>, old: Facet, label: Label) -> Option<Glue>
+fn outer_glue(taken: RemovedFacets<'_>, old: Facet, label: Label) -> Option<Glue>
     requires { IsFacet old }
     ensures { result ≡ outer_gluing taken.entry.table.now taken.entry.m.now old label.number }
 {
@@ -68,7 +68,7 @@ fn inner_glue(table: &Table, m: &Move, own: Label, label: Label) -> Glue
 }
 
 /// The gluing of the face opposite `label` of the new facet that lacks `own`.
-fn fresh_glue(taken: TakenOut<'_>, own: Label, label: Label) -> Option<Glue>
+fn fresh_glue(taken: RemovedFacets<'_>, own: Label, label: Label) -> Option<Glue>
     ensures { result ≡ fresh_gluing taken.entry.table.now taken.entry.m.now own.number label.number }
 {
     let m = taken.m;
@@ -80,7 +80,7 @@ fn fresh_glue(taken: TakenOut<'_>, own: Label, label: Label) -> Option<Glue>
 }
 
 /// The row of the new facet that lacks `own`.
-fn fresh_row(taken: TakenOut<'_>, own: Label) -> Row
+fn fresh_row(taken: RemovedFacets<'_>, own: Label) -> Row
     ensures { result ≡ put_row taken.entry.table.now taken.entry.m.now own.number }
 {
     let [a, b, c, d] = other_labels(own);
@@ -93,7 +93,7 @@ fn fresh_row(taken: TakenOut<'_>, own: Label) -> Row
 }
 
 /// The rows of the new facets of the move `taken.m`, with their numbers.
-fn fresh_rows(taken: TakenOut<'_>) -> ArrayVec<(u32, Row), 4>
+fn fresh_rows(taken: RemovedFacets<'_>) -> ArrayVec<(u32, Row), 4>
     ensures { result.items ≡ put_rows taken.entry.table.now taken.entry.m.now }
 {
     let mut rows = ArrayVec::new();
@@ -109,7 +109,7 @@ fn fresh_rows(taken: TakenOut<'_>) -> ArrayVec<(u32, Row), 4>
 }
 
 /// The numbers of the tetrahedra of `taken.facets`, ascending.
-fn taken_numbers(taken: TakenOut<'_>) -> ArrayVec<u32, 4>
+fn taken_numbers(taken: RemovedFacets<'_>) -> ArrayVec<u32, 4>
     ensures { result.items ≡ undos.taken_numbers taken.entry.table.now taken.entry.m.now }
 {
     let mut numbers = ArrayVec::new();
@@ -145,14 +145,14 @@ fn saved_rows(table: &Table, numbers: &[u32]) -> ArrayVec<(u32, Row), 4>
 
 /// The tetrahedra that a move removes, the rows that it adds, and the record that takes it back.
 #[derive(Drop)]
-struct Exchange {
+struct MoveReplacement {
     removed: ArrayVec<u32, 4>,
     fresh: ArrayVec<(u32, Row), 4>,
     undo: Undo,
 }
 
 /// What the move `taken.m` removes and adds.
-fn exchange_of(taken: TakenOut<'_>) -> Exchange
+fn exchange_of(taken: RemovedFacets<'_>) -> MoveReplacement
     ensures removed { result.removed.items ≡ undos.taken_numbers taken.entry.table.now taken.entry.m.now }
     ensures fresh { result.fresh.items ≡ put_rows taken.entry.table.now taken.entry.m.now }
     ensures undo { result.undo ≡ undos.undo_of taken.entry.table.now taken.entry.m.now }
@@ -163,7 +163,7 @@ fn exchange_of(taken: TakenOut<'_>) -> Exchange
         tets: taken.table.len(),
         rows: saved_rows(taken.table, &removed),
     };
-    Exchange {
+    MoveReplacement {
         removed,
         fresh: fresh_rows(taken),
         undo,
@@ -192,11 +192,11 @@ pub fn apply_legal(table: &mut Table, m: Move, pattern: &Pattern) -> Result<Undo
     if !keeps_limit(table, m) {
         return Err(MoveFault::TooMany);
     }
-    let Exchange {
+    let MoveReplacement {
         removed,
         fresh,
         undo,
-    } = exchange_of(TakenOut {
+    } = exchange_of(RemovedFacets {
         table: &*table,
         m: &m,
         facets: &pattern.facets,

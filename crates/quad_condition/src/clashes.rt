@@ -73,7 +73,7 @@ pub fn clash_list(alloc: Global, coords: Coords, tets: u32) -> Result<Vec<(u32, 
 }
 
 /// The first nonzero column after `first` that clashes with it, or `None`, also if `x` is 0 at `first`.
-fn first_partner(coords: Coords, tets: u32, x: &[u128], first: u32) -> Option<u32>
+fn first_clashing(coords: Coords, tets: u32, x: &[u128], first: u32) -> Option<u32>
     requires tets { tets ≤ max_tets }
     requires width { length x.now ≡ coordinates.columns coords tets }
     requires in_range { first < length x.now }
@@ -98,7 +98,7 @@ pub fn first_clash(coords: Coords, tets: u32, x: &[u128]) -> Option<(u32, u32)>
     ensures { result ≡ find (both_nonzero x.now) (coordinates.clash_list coords tets) }
 {
     for first in 0..columns(coords, tets) {
-        if let Some(second) = first_partner(coords, tets, x, first) {
+        if let Some(second) = first_clashing(coords, tets, x, first) {
             return Some((first, second));
         }
     }

@@ -72,7 +72,7 @@ fn mask(
 }
 
 /// The masks for `tets` tetrahedra of the distances within a tetrahedron, from 1 on.
-fn near_masks(alloc: Global, coords: Coords, tets: u32) -> Result<Vec<Vec<u64>>, NoMemory>
+fn distance_masks(alloc: Global, coords: Coords, tets: u32) -> Result<Vec<Vec<u64>>, NoMemory>
     requires { tets ≤ max_tets }
     ensures { IfOk result (λ near. AreDistanceMasks coords tets near.items) }
 {
@@ -85,7 +85,7 @@ fn near_masks(alloc: Global, coords: Coords, tets: u32) -> Result<Vec<Vec<u64>>,
 }
 
 /// Whether, for a mask, a column of it and the one at its distance ahead both are in the union of `a` and `b`.
-fn has_near(near: &[Vec<u64>], a: &[u64], b: &[u64]) -> bool
+fn has_pair_at_distance(near: &[Vec<u64>], a: &[u64], b: &[u64]) -> bool
     requires few { length near.now ≤ 10 }
     requires first { (k : ℕ) (d : Vec ℕ Global) → k < length near.now → length (slice_index_or near.now k d).items ≡ length a.now }
     requires second { length b.now ≡ length a.now }
@@ -105,7 +105,7 @@ impl Masks {
         requires { tets ≤ max_tets }
         ensures { IfOk result (λ masks. masks ≡ record { coords = coords; tets = tets }) }
     {
-        let near = near_masks(alloc, coords, tets)?;
+        let near = distance_masks(alloc, coords, tets)?;
         let octagons = mask(alloc, coords, tets, before_octagons(coords), 0)?;
         Ok(Masks {
             coords,
@@ -123,6 +123,6 @@ impl Masks {
     {
         let first = a.words();
         let second = b.words();
-        !has_near(&self.near, first, second) && !has_two(&self.octagons, first, second)
+        !has_pair_at_distance(&self.near, first, second) && !has_two(&self.octagons, first, second)
     }
 }

@@ -23,7 +23,7 @@ pub struct Crossing {
 
 impl QuadVector<'_> {
     /// The number of quads with an arc around `v` in `face`.
-    fn quads_round(&self, face: Face, v: u8) -> u128
+    fn quads_around(&self, face: Face, v: u8) -> u128
         requires in_range { face.tet < length self.now.skeleton.now.rows }
         requires a_vertex { v < 4 }
         requires off { v ≢ face.face }
@@ -55,8 +55,8 @@ impl QuadVector<'_> {
         let w = glue.perm.image(v);
         Some(Crossing {
             other: 4 * glue.tet + w as u32,
-            up: self.quads_round(here, v),
-            down: self.quads_round(glue.other_side(here), w),
+            up: self.quads_around(here, v),
+            down: self.quads_around(glue.other_side(here), w),
         })
     }
 }

@@ -12,7 +12,7 @@ use Rattle.support_table.specs.Tables.{Table}
 use Rattle.support_table.specs.Joins.{AreClashingColumns}
 use Rattle.ray_steps.specs.declared.rays.RayWithSupport.{RayWithSupport}
 use Rattle.ray_steps.specs.Signs.{IsAdjacentPair}
-use Rattle.ray_steps.specs.declared.rivals.Rivals.{Rivals}
+use Rattle.ray_steps.specs.declared.rivals.CompatibleRays.{CompatibleRays}
 use Rattle.ray_steps.specs.Rays.{rays_of}
 use Rattle.ray_steps.specs.Rivals.{IsCompatible, AreCompatible, HasSupportsOf, HaveCompatible, AreCompatibleWith, IsThirdInside}
 use Rattle.ray_steps.proofs.SupportLemmas.{inside_iff, clash_free_iff}
@@ -103,7 +103,7 @@ inside_rival rays i j columns m places table a b h within a_is b_is =
     rw (support_of_rival rays columns places table m h within, a_is, b_is) (inside_iff (ray_at rays (get_or places m 0)) (ray_at rays i) (ray_at rays j))
 
 -- a pair with a third ray
-pub not_face_third : (pairs : List Clash) (rays : List (List ℕ)) (i j columns m : ℕ) (rivals : Rivals) (a b : List Bool) → AreCompatibleWith pairs rays i columns rivals → a ≡ support_of (ray_at rays i) → b ≡ support_of (ray_at rays j) →
+pub not_face_third : (pairs : List Clash) (rays : List (List ℕ)) (i j columns m : ℕ) (rivals : CompatibleRays) (a b : List Bool) → AreCompatibleWith pairs rays i columns rivals → a ≡ support_of (ray_at rays i) → b ≡ support_of (ray_at rays j) →
     m < length rivals.places.items → IsThirdInside rivals.places.items rivals.table.supports i j a b m → ¬ IsAdjacentPair pairs rays i j
 not_face_third pairs rays i j columns m rivals a b h a_is b_is within third face =
     let k = get_or rivals.places.items m 0 in
@@ -111,7 +111,7 @@ not_face_third pairs rays i j columns m rivals a b h a_is b_is within third face
     (face.no_third k (h.listed.places.in_range m 0 within) ((inside_rival rays i j columns m rivals.places.items rivals.table a b h.listed.table within a_is b_is).0 third.2))
 
 -- where no third rival lies inside, an admissible union makes a pair
-pub face_from_rivals : (pairs : List Clash) (rays : List (List ℕ)) (i j columns : ℕ) (rivals : Rivals) (a b : List Bool) → AreCompatibleWith pairs rays i columns rivals → a ≡ support_of (ray_at rays i) → b ≡ support_of (ray_at rays j) →
+pub face_from_rivals : (pairs : List Clash) (rays : List (List ℕ)) (i j columns : ℕ) (rivals : CompatibleRays) (a b : List Bool) → AreCompatibleWith pairs rays i columns rivals → a ≡ support_of (ray_at rays i) → b ≡ support_of (ray_at rays j) →
     ((m : ℕ) → m < length rivals.places.items → ¬ IsThirdInside rivals.places.items rivals.table.supports i j a b m) →
     IsAdmissibleUnion pairs (ray_at rays i) (ray_at rays j) → IsAdjacentPair pairs rays i j
 face_from_rivals pairs rays i j columns rivals a b h a_is b_is none admissible = record {
@@ -136,14 +136,14 @@ face_from_rivals pairs rays i j columns rivals a b h a_is b_is none admissible =
         )
 
 -- the same columns clash with the ray at i, so the rivals at hand are its own
-pub rivals_kept : (pairs : List Clash) (ray_list : List RayWithSupport) (i columns : ℕ) (before : Rivals) (v : RayWithSupport) (joined : List Bool) → ray_at (rays_of ray_list) i ≡ v.ray → AreClashingColumns pairs v.support joined → joined ≡ before.joined →
+pub rivals_kept : (pairs : List Clash) (ray_list : List RayWithSupport) (i columns : ℕ) (before : CompatibleRays) (v : RayWithSupport) (joined : List Bool) → ray_at (rays_of ray_list) i ≡ v.ray → AreClashingColumns pairs v.support joined → joined ≡ before.joined →
     HaveCompatible (rays_of ray_list) columns before → AreCompatibleWith pairs (rays_of ray_list) i columns before
 rivals_kept pairs ray_list i columns before v joined read joins same listed = record {
   joined = subst₂ (AreClashingColumns pairs) (support_read v (ray_at (rays_of ray_list) i) read) same joins;
   listed = listed;
 }
 
-pub rivals_made : {E : Type 0} (pairs : List Clash) (ray_list : List RayWithSupport) (i columns : ℕ) (v : RayWithSupport) (joined : List Bool) (made : Result Rivals E) → ray_at (rays_of ray_list) i ≡ v.ray → AreClashingColumns pairs v.support joined →
+pub rivals_made : {E : Type 0} (pairs : List Clash) (ray_list : List RayWithSupport) (i columns : ℕ) (v : RayWithSupport) (joined : List Bool) (made : Result CompatibleRays E) → ray_at (rays_of ray_list) i ≡ v.ray → AreClashingColumns pairs v.support joined →
     IfOk made (λ rivals. rivals.joined ≡ joined) → IfOk made (HaveCompatible (rays_of ray_list) columns) → IfOk made (AreCompatibleWith pairs (rays_of ray_list) i columns)
 rivals_made pairs ray_list i columns v joined (Ok rivals) read joins same listed = rivals_kept pairs ray_list i columns rivals v joined read joins (sym same) listed
 rivals_made pairs ray_list i columns v joined (Err fault) read joins same listed = tt

@@ -6,7 +6,7 @@ use Rattle.cone_definitions.specs.Vectors.{ray_at}
 use Rattle.support_bits.specs.Columns.{support_of, IsInsideUnionOf, Meets}
 use Rattle.support_table.specs.Joins.{AreClashingColumns}
 use Rattle.support_table.specs.Tables.{Table}
-use Rattle.ray_steps.specs.declared.rivals.Rivals.{Rivals}
+use Rattle.ray_steps.specs.declared.rivals.CompatibleRays.{CompatibleRays}
 
 -- the support of ray k contains none of the columns
 abbrev pub IsCompatible : List (List ℕ) → List Bool → ℕ → Type 0
@@ -28,13 +28,13 @@ pub record HasAllSupports (rays : List (List ℕ)) (columns : ℕ) (table : Tabl
   pub supports : table.supports ≡ map support_of rays
 
 -- the indices and supports of all rays that contain none of the columns `rivals.joined`
-pub record HaveCompatible (rays : List (List ℕ)) (columns : ℕ) (rivals : Rivals) : Type 0 where
+pub record HaveCompatible (rays : List (List ℕ)) (columns : ℕ) (rivals : CompatibleRays) : Type 0 where
   pub count : length rivals.joined ≡ columns
   pub places : AreCompatible rays rivals.joined (length rays) rivals.places.items
   pub table : HasSupportsOf rays columns rivals.places.items rivals.table
 
 -- `rivals.joined` is the set of columns that clash with ray i, and `rivals` are the rays that contain none of them
-pub record AreCompatibleWith (pairs : List Clash) (rays : List (List ℕ)) (i columns : ℕ) (rivals : Rivals) : Type 0 where
+pub record AreCompatibleWith (pairs : List Clash) (rays : List (List ℕ)) (i columns : ℕ) (rivals : CompatibleRays) : Type 0 where
   pub joined : AreClashingColumns pairs (support_of (ray_at rays i)) rivals.joined
   pub listed : HaveCompatible rays columns rivals
 

@@ -16,7 +16,7 @@ use Rattle.support_table.specs.Joins.{AreClashingColumns}
 use Rattle.ray_steps.specs.Turned.{turned_sign}
 use Rattle.ray_steps.specs.declared.combinations.Combinations.{Combinations}
 use Rattle.ray_steps.specs.declared.combinations.CombinationsSoFar.{CombinationsSoFar}
-use Rattle.ray_steps.specs.declared.combinations.Search.{Search}
+use Rattle.ray_steps.specs.declared.combinations.ThirdRaySearch.{ThirdRaySearch}
 use Rattle.ray_steps.specs.Clashes.{ClashData}
 use Rattle.ray_steps.specs.Unions.{HaveSmallUnions, MakeSinglesPairs}
 
@@ -58,7 +58,7 @@ abbrev pub IsAdjacentIfAdmissible : StepData → ℕ → ℕ → Type 0
 IsAdjacentIfAdmissible step i j = IsAdmissibleUnion step.pairs (ray_at step.rays i) (ray_at step.rays j) → IsAdjacentPair step.pairs step.rays i j
 
 -- a search for the third rays of ray i
-pub record IsSearchAt (step : StepData) (i : ℕ) (search : Search) : Type 0 where
+pub record IsSearchAt (step : StepData) (i : ℕ) (search : ThirdRaySearch) : Type 0 where
   pub in_range : i < length step.rays
   pub joined : AreClashingColumns step.pairs (support_of (ray_at step.rays i)) search.joined
   pub rivals : IfSome search.rivals (HaveCompatible step.rays step.columns)

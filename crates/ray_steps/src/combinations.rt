@@ -1,7 +1,7 @@
 //! The combinations found so far in a step, and the state of a search for third rays.
 
 use crate::rays::RayWithSupport;
-use crate::rivals::Rivals;
+use crate::rivals::CompatibleRays;
 use crate::signs::Sign;
 use support_bits::Support;
 
@@ -9,15 +9,15 @@ use support_bits::Support;
 #[derive(Drop)]
 pub struct CombinationsSoFar {
     pub ray_list: Vec<RayWithSupport>,
-    pub rivals: Option<Rivals>,
+    pub rivals: Option<CompatibleRays>,
 }
 
 /// The search for third rays for one positive ray: the columns that clash with its support, its compatible rays once
 /// they are needed, and the index among them of the third ray found last, which is tried first.
 #[derive(Drop)]
-pub struct Search {
+pub struct ThirdRaySearch {
     pub joined: Support,
-    pub rivals: Option<Rivals>,
+    pub rivals: Option<CompatibleRays>,
     pub hint: usize,
 }
 

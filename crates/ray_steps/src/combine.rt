@@ -8,7 +8,7 @@ ghost use Rattle.ray_steps.specs.Steps.{AreMadeBelow, AreMadeTo, AreMadeOf, IsAd
 
 use crate::combinations::CombinationsSoFar;
 use crate::compatible::Compatible;
-use crate::negatives::{Negatives, first_near, negatives_of};
+use crate::negatives::{Negatives, first_not_excluded, negatives_of};
 use crate::pairs::combine_pair;
 use crate::ray_list::RayList;
 use crate::rays::{RayWithSupport, StepFault};
@@ -42,7 +42,7 @@ impl<'a, C: Compatible> Step<'a, C> {
         let mut search = self.search_at(alloc, i, made.rivals.take())?;
         let places = negatives.places.as_slice();
         let table = &negatives.table;
-        let mut m = first_near(table, &u.support, &search.joined, self.most, 0);
+        let mut m = first_not_excluded(table, &u.support, &search.joined, self.most, 0);
         while m < places.len() {
             let j = places[m];
             if let Sign::Negative(at_w) = self.signs[j] {
@@ -51,7 +51,7 @@ impl<'a, C: Compatible> Step<'a, C> {
                     made.ray_list.push(kept)?;
                 }
             }
-            m = first_near(table, &u.support, &search.joined, self.most, m + 1);
+            m = first_not_excluded(table, &u.support, &search.joined, self.most, m + 1);
         }
         made.rivals = search.rivals;
         Ok(())
@@ -91,7 +91,7 @@ impl<'a, C: Compatible> Step<'a, C> {
 
     /// Appends the combinations of ray `i`, if it is positive, with each adjacent negative ray, which are found by
     /// minimal residuals: one pass over all rays for each positive ray. Skipped if no negative ray passes the test of
-    /// `first_near`. Fails with `Large` at the first pair of which an entry exceeds the limit.
+    /// `first_not_excluded`. Fails with `Large` at the first pair of which an entry exceeds the limit.
     fn combine_minimal(
         &self,
         alloc: Global,
@@ -113,7 +113,7 @@ impl<'a, C: Compatible> Step<'a, C> {
         let clashes = self.clashes;
         let u = &self.ray_list[i];
         let joined = clashes.joined(alloc, &u.support)?;
-        let near = first_near(&negatives.table, &u.support, &joined, self.most, 0);
+        let near = first_not_excluded(&negatives.table, &u.support, &joined, self.most, 0);
         if near == negatives.places.len() {
             return Ok(());
         }

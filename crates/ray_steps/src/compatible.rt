@@ -5,7 +5,7 @@ ghost use Rattle.cone_definitions.specs.Surfaces.{Clash};
 ghost use Rattle.ray_steps.specs.Clashes.{AreClashes, IsClashFree, IsFree};
 ghost use Rattle.support_table.specs.Joins.{AreClashingColumns};
 
-use crate::partners::{partners_of, partners_of_support};
+use crate::partners::{clash_sets, clashing_columns};
 use out_of_memory::NoMemory;
 use std::alloc::Global;
 use std::marker::Model;
@@ -66,7 +66,7 @@ impl<C: Compatible> Clashes<C> {
         ensures columns { IfOk result (λ clashes. clashes.columns ≡ C.width test) }
         ensures pairs { IfOk result (λ clashes. clashes.pairs ≡ C.clashing test) }
     {
-        let partners = partners_of(alloc, test.pairs(), test.columns())?;
+        let partners = clash_sets(alloc, test.pairs(), test.columns())?;
         Ok(Clashes { test, partners })
     }
 
@@ -108,6 +108,6 @@ impl<C: Compatible> Clashes<C> {
         requires { length support.now ≡ self.now.columns }
         ensures { IfOk result (AreClashingColumns self.now.pairs support.now) }
     {
-        partners_of_support(alloc, &self.partners, support)
+        clashing_columns(alloc, &self.partners, support)
     }
 }

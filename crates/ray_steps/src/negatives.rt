@@ -45,7 +45,7 @@ pub fn negatives_of(alloc: Global, rays: RayList, signs: &[Sign]) -> Result<Nega
 
 /// Whether the support with index `place` rules out adjacency to a ray of support `a`: it contains a column of
 /// `joined`, or its union with `a` has more than `most` columns.
-fn is_far(table: &SupportTable, place: usize, a: &Support, joined: &Support, most: u64) -> bool
+fn is_excluded(table: &SupportTable, place: usize, a: &Support, joined: &Support, most: u64) -> bool
     requires in_range { place < length table.now.supports }
     requires first { length a.now ≡ table.now.columns }
     requires second { length joined.now ≡ table.now.columns }
@@ -56,9 +56,9 @@ fn is_far(table: &SupportTable, place: usize, a: &Support, joined: &Support, mos
     have_common(words, joined.words()) || union_count(a.words(), words) > most
 }
 
-/// The least index from `start` on whose support is not far from `a` (see `is_far`), or the number of supports if all
+/// The least index from `start` on whose support is not excluded (see `is_excluded`), or the number of supports if all
 /// are.
-pub fn first_near(
+pub fn first_not_excluded(
     table: &SupportTable,
     a: &Support,
     joined: &Support,
@@ -72,7 +72,7 @@ pub fn first_near(
 {
     let mut place = start;
     while place < table.len() {
-        if !is_far(table, place, a, joined, most) {
+        if !is_excluded(table, place, a, joined, most) {
             return place;
         }
         place += 1;

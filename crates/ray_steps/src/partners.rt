@@ -10,7 +10,7 @@ use std::alloc::Global;
 use support_bits::Support;
 
 /// One empty set for each of `columns` columns.
-fn no_partners(alloc: Global, columns: u32) -> Result<Vec<Support>, NoMemory>
+fn empty_clash_sets(alloc: Global, columns: u32) -> Result<Vec<Support>, NoMemory>
     ensures { IfOk result (λ partners. AreClashSets columns [] partners.items) }
 {
     let mut partners = Vec::with_capacity(alloc, columns as usize)?;
@@ -21,7 +21,7 @@ fn no_partners(alloc: Global, columns: u32) -> Result<Vec<Support>, NoMemory>
 }
 
 /// Inserts `other` into the set of column `one`.
-fn note(partners: &mut Vec<Support>, one: u32, other: u32)
+fn insert_clash(partners: &mut Vec<Support>, one: u32, other: u32)
     requires one { one < length partners.old.items }
     requires other { other < length (slice_index_or partners.old.items one []) }
     ensures { IsInserted one other partners.old.items partners.new.items }
@@ -30,7 +30,7 @@ fn note(partners: &mut Vec<Support>, one: u32, other: u32)
 }
 
 /// For each of `columns` columns the set of columns that clash with it, from the clashing pairs.
-pub fn partners_of(
+pub fn clash_sets(
     alloc: Global,
     clashes: &[(u32, u32)],
     columns: u32,
@@ -38,16 +38,16 @@ pub fn partners_of(
     requires { AreClashes columns clashes.now }
     ensures { IfOk result (λ partners. AreClashSets columns clashes.now partners.items) }
 {
-    let mut partners = no_partners(alloc, columns)?;
+    let mut partners = empty_clash_sets(alloc, columns)?;
     for pair in clashes {
-        note(&mut partners, pair.0, pair.1);
-        note(&mut partners, pair.1, pair.0);
+        insert_clash(&mut partners, pair.0, pair.1);
+        insert_clash(&mut partners, pair.1, pair.0);
     }
     Ok(partners)
 }
 
 /// The columns that clash with a column of `support`: the union of the sets `partners[c]` over its columns `c`.
-pub fn partners_of_support(
+pub fn clashing_columns(
     alloc: Global,
     partners: &[Support],
     support: &Support,

@@ -14,14 +14,14 @@ use support_table::SupportTable;
 
 /// The columns that clash with a given ray, and the indices and supports of all rays that contain none of them.
 #[derive(Drop)]
-pub struct Rivals {
+pub struct CompatibleRays {
     pub joined: Support,
     pub places: Vec<usize>,
     pub table: SupportTable,
 }
 
 /// The indices of the rays whose supports contain none of `columns`.
-fn places_apart(
+fn compatible_indices(
     alloc: Global,
     ray_list: &[RayWithSupport],
     columns: &Support,
@@ -52,14 +52,18 @@ pub fn supports_at(alloc: Global, rays: RayList, places: &[usize]) -> Result<Sup
 }
 
 /// Gathers the rays whose supports contain none of the columns `joined`.
-pub fn rivals_with(alloc: Global, rays: RayList, joined: Support) -> Result<Rivals, NoMemory>
+pub fn compatible_rays(
+    alloc: Global,
+    rays: RayList,
+    joined: Support,
+) -> Result<CompatibleRays, NoMemory>
     requires { length joined ≡ rays.columns }
     ensures joined { IfOk result (λ rivals. rivals.joined ≡ joined) }
     ensures rivals { IfOk result (HaveCompatible (rays_of rays.entry.items.now) rays.entry.columns) }
 {
-    let places = places_apart(alloc, rays.items, &joined)?;
+    let places = compatible_indices(alloc, rays.items, &joined)?;
     let table = supports_at(alloc, rays, &places)?;
-    Ok(Rivals {
+    Ok(CompatibleRays {
         joined,
         places,
         table,

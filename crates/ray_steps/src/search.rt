@@ -5,10 +5,10 @@ ghost use Rattle.ray_steps.specs.Rivals.{HaveCompatible, HasAllSupports};
 ghost use Rattle.ray_steps.specs.Signs.{IsAdjacentPair};
 ghost use Rattle.ray_steps.specs.Steps.{IsSearchAt};
 
-use crate::combinations::Search;
+use crate::combinations::ThirdRaySearch;
 use crate::compatible::Compatible;
 use crate::ray_list::RayList;
-use crate::rivals::{Rivals, all_supports, rivals_with};
+use crate::rivals::{CompatibleRays, all_supports, compatible_rays};
 use crate::step::Step;
 use crate::thirds::{has_single, third_inside};
 use crate::turned::positive_count;
@@ -26,15 +26,15 @@ impl<'a, C: Compatible> Step<'a, C> {
         &self,
         alloc: Global,
         i: usize,
-        rivals: Option<Rivals>,
-    ) -> Result<Search, NoMemory>
+        rivals: Option<CompatibleRays>,
+    ) -> Result<ThirdRaySearch, NoMemory>
         requires in_range { i < length self.now.rays }
         requires rivals { IfSome rivals (HaveCompatible self.now.rays self.now.columns) }
         ensures { IfOk result (IsSearchAt self.now i) }
     {
         let clashes = self.clashes;
         let joined = clashes.joined(alloc, &self.ray_list[i].support)?;
-        Ok(Search {
+        Ok(ThirdRaySearch {
             joined,
             rivals,
             hint: 0,
@@ -47,8 +47,8 @@ impl<'a, C: Compatible> Step<'a, C> {
         &self,
         alloc: Global,
         joined: &Support,
-        before: Option<Rivals>,
-    ) -> Result<Rivals, NoMemory>
+        before: Option<CompatibleRays>,
+    ) -> Result<CompatibleRays, NoMemory>
         requires count { length joined.now ≡ self.now.columns }
         requires before { IfSome before (HaveCompatible self.now.rays self.now.columns) }
         ensures joined { IfOk result (λ rivals. rivals.joined ≡ joined.now) }
@@ -65,7 +65,7 @@ impl<'a, C: Compatible> Step<'a, C> {
             columns: clashes.columns(),
             items: &self.ray_list,
         };
-        rivals_with(alloc, rays, joined)
+        compatible_rays(alloc, rays, joined)
     }
 
     /// Whether rays `i` and `j` are adjacent. Gathers the compatible rays of ray `i` only if both have more than one
@@ -75,7 +75,7 @@ impl<'a, C: Compatible> Step<'a, C> {
         alloc: Global,
         i: usize,
         j: usize,
-        search: &mut Search,
+        search: &mut ThirdRaySearch,
     ) -> Result<bool, NoMemory>
         requires second { j < length self.now.rays }
         requires search { IsSearchAt self.now i search.old }

@@ -11,7 +11,7 @@ use crate::compatible::{Clashes, Compatible};
 use crate::input::StepInput;
 use crate::rays::{RayWithSupport, StepFault};
 use crate::signs::{Sign, signs_at};
-use crate::turned::{has_more_positives, turned_signs};
+use crate::turned::{has_more_positives, negated_signs};
 use crate::zeros::keep_zeros;
 use cone_arithmetic::Limit;
 use out_of_memory::NoMemory;
@@ -67,7 +67,7 @@ impl<'a, C: Compatible> Step<'a, C> {
         ensures step { IfOk result (λ both. both.0 ≡ turned_step self.entry) }
         ensures signs { IfOk result (λ both. both.1.items ≡ self.entry.signs) }
     {
-        let signs = turned_signs(alloc, &self.signs)?;
+        let signs = negated_signs(alloc, &self.signs)?;
         let turned = Step {
             clashes: self.clashes,
             ray_list: self.ray_list,

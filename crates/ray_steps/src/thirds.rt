@@ -5,7 +5,7 @@ ghost use Rattle.ray_steps.specs.Rivals.{IsThirdInside};
 ghost use Rattle.ray_steps.specs.Unions.{HasSingle};
 ghost use Rattle.support_table.specs.Counts.{columns_in_either};
 
-use crate::rivals::Rivals;
+use crate::rivals::CompatibleRays;
 use support_bits::Support;
 use support_table::union_count;
 
@@ -34,7 +34,7 @@ fn is_third(place: usize, i: usize, j: usize) -> bool
 /// The index in `rivals` of a ray other than `i` and `j` whose support lies in the union of `a` and `b`: `hint` if that
 /// is one, or else the first; `None` if there is none.
 pub fn third_inside(
-    rivals: &Rivals,
+    rivals: &CompatibleRays,
     a: &Support,
     b: &Support,
     i: usize,

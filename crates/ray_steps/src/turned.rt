@@ -19,7 +19,7 @@ fn turned_sign(sign: Sign) -> Sign
 }
 
 /// The signs of the negated row, if those of the row are `signs`.
-pub fn turned_signs(alloc: Global, signs: &[Sign]) -> Result<Vec<Sign>, NoMemory>
+pub fn negated_signs(alloc: Global, signs: &[Sign]) -> Result<Vec<Sign>, NoMemory>
     ensures { IfOk result (λ turned. turned.items ≡ map turned_sign signs.now) }
 {
     let turned = signs.iter().map(|sign| turned_sign(*sign)).collect(alloc)?;

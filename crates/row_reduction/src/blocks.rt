@@ -10,10 +10,10 @@ ghost use Rattle.row_reduction.specs.Passing.{PassesFor, PassesAtPivot, PassesAm
 
 use crate::clear::{clear_rows, coefficient_at, copy};
 use crate::fault::SolveFault;
-use crate::known::stands_in;
+use crate::known::contains_up_to_sign;
 use crate::late::{named_columns, put_further_last};
 use crate::order::in_cheapest_order;
-use crate::thin::thin_rows;
+use crate::thin::sparsify;
 use cone_arithmetic::{SparseRow, System};
 use out_of_memory::NoMemory;
 use std::alloc::Global;
@@ -120,7 +120,7 @@ fn push_distinct(rows: &mut Vec<SparseRow>, row: SparseRow) -> Result<(), NoMemo
     ensures adds { OnOk result (AddsRow rows.old.items row rows.new.items) }
     ensures keeps { OnOk result (KeepsRow rows.old.items row rows.new.items) }
 {
-    if !row.entries().is_empty() && !stands_in(rows, &row) {
+    if !row.entries().is_empty() && !contains_up_to_sign(rows, &row) {
         rows.push(row)?;
     }
     Ok(())
@@ -153,7 +153,7 @@ fn ordered_rows(
     ensures passed { IfErr result (IfPassed (PassesAmong unsolved.items)) }
 {
     let mut rows = distinct_rows(alloc, unsolved)?;
-    thin_rows(alloc, columns, &mut rows)?;
+    sparsify(alloc, columns, &mut rows)?;
     Ok(in_cheapest_order(alloc, each, rows)?)
 }
 

@@ -7,7 +7,7 @@ use out_of_memory::NoMemory;
 use std::alloc::Global;
 
 /// Marks `column` as named.
-fn note(named: &mut [bool], column: u32) {
+fn mark_named(named: &mut [bool], column: u32) {
     let place = column as usize;
     if place < named.len() {
         named[place] = true;
@@ -15,16 +15,16 @@ fn note(named: &mut [bool], column: u32) {
 }
 
 /// Marks the columns of `row` as named.
-fn note_row(named: &mut [bool], row: &SparseRow) {
+fn mark_columns_of(named: &mut [bool], row: &SparseRow) {
     for (column, _) in row.entries() {
-        note(named, *column);
+        mark_named(named, *column);
     }
 }
 
 /// Marks the columns of all `rows` as named.
-fn note_rows(named: &mut [bool], rows: &[SparseRow]) {
+fn mark_all_columns(named: &mut [bool], rows: &[SparseRow]) {
     for row in rows {
-        note_row(named, row);
+        mark_columns_of(named, row);
     }
 }
 
@@ -37,9 +37,9 @@ pub(crate) fn named_columns(
 ) -> Result<Vec<bool>, NoMemory> {
     let mut named = vec![in alloc; false; columns as usize]?;
     for column in pivots {
-        note(&mut named, *column);
+        mark_named(&mut named, *column);
     }
-    note_rows(&mut named, rows);
+    mark_all_columns(&mut named, rows);
     Ok(named)
 }
 

@@ -29,7 +29,7 @@ struct Rank {
 /// The blocks named so far, and the cost so far: the sum over the rows taken of the squared number of blocks named up
 /// to each.
 #[derive(Clone, Copy)]
-struct Walk {
+struct OrderState {
     seen: u64,
     cost: u64,
 }
@@ -113,12 +113,12 @@ fn next_position(seen: u64, rows: &[RowBlocks], left: &[usize], start: usize) ->
 }
 
 /// The state after row `place` is taken; an empty row costs nothing.
-fn step(walk: Walk, rows: &[RowBlocks], place: usize) -> Walk {
+fn step(walk: OrderState, rows: &[RowBlocks], place: usize) -> OrderState {
     match rows.get(place) {
         Some(row) if row.terms > 0 => {
             let seen = walk.seen | row.blocks;
             let count = u64::from(seen.count_ones());
-            Walk {
+            OrderState {
                 seen,
                 cost: walk.cost.saturating_add(count.saturating_mul(count)),
             }
@@ -136,7 +136,7 @@ fn order_from(
 ) -> Result<Option<RowOrder>, NoMemory> {
     let mut left: Vec<usize> = (0..rows.len()).collect(alloc)?;
     let mut positions = Vec::with_capacity(alloc, left.len())?;
-    let mut walk = Walk { seen: 0, cost: 0 };
+    let mut walk = OrderState { seen: 0, cost: 0 };
     while !left.is_empty() {
         let position = next_position(walk.seen, rows, &left, start);
         positions.push(position)?;

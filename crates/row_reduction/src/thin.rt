@@ -87,7 +87,7 @@ fn thinning_factor(row: &[(u32, i32)], other: &[(u32, i32)]) -> Option<i32>
 
 /// Makes row `i` sparser by row `j` if that leaves fewer terms, and returns whether it did. Fails with `Passed` if a
 /// coefficient exceeds 1,000,000.
-fn thin_by(
+fn sparsify_by(
     alloc: Global,
     columns: u32,
     rows: &mut Vec<SparseRow>,
@@ -129,8 +129,8 @@ fn note(rounds: &mut [u32], i: usize, round: u32) {
     }
 }
 
-/// As `thin_by`, with the same errors, but tries only if row `i` or row `j` changed since this pair was tried last.
-fn thin_pair(
+/// As `sparsify_by`, with the same errors, but tries only if row `i` or row `j` changed since this pair was tried last.
+fn sparsify_pair(
     alloc: Global,
     columns: u32,
     rows: &mut Vec<SparseRow>,
@@ -152,15 +152,15 @@ fn thin_pair(
     if !is_recent(rounds, i, round) && !is_recent(rounds, j, round) {
         return Ok(false);
     }
-    let thinner = thin_by(alloc, columns, rows, i, j)?;
+    let thinner = sparsify_by(alloc, columns, rows, i, j)?;
     if thinner {
         note(rounds, i, round);
     }
     Ok(thinner)
 }
 
-/// Makes row `i` sparser by each other row, and returns whether it changed. Fails as `thin_by`.
-fn thin_row(
+/// Makes row `i` sparser by each other row, and returns whether it changed. Fails as `sparsify_by`.
+fn sparsify_row(
     alloc: Global,
     columns: u32,
     rows: &mut Vec<SparseRow>,
@@ -179,14 +179,14 @@ fn thin_row(
     let mut thinner = false;
     for j in 0..rows.len() {
         if j != i {
-            thinner |= thin_pair(alloc, columns, rows, i, j, round, rounds)?;
+            thinner |= sparsify_pair(alloc, columns, rows, i, j, round, rounds)?;
         }
     }
     Ok(thinner)
 }
 
-/// One pass: makes each of `rows` sparser by all others, and returns whether a row changed. Fails as `thin_by`.
-fn thin_once(
+/// One pass: makes each of `rows` sparser by all others, and returns whether a row changed. Fails as `sparsify_by`.
+fn sparsify_pass(
     alloc: Global,
     columns: u32,
     rows: &mut Vec<SparseRow>,
@@ -201,13 +201,13 @@ fn thin_once(
 {
     let mut thinner = false;
     for i in 0..rows.len() {
-        thinner |= thin_row(alloc, columns, rows, i, round, rounds)?;
+        thinner |= sparsify_row(alloc, columns, rows, i, round, rounds)?;
     }
     Ok(thinner)
 }
 
 /// Makes `rows` sparser, in passes, until a pass changes nothing or `ROUNDS` are done.
-pub(crate) fn thin_rows(
+pub(crate) fn sparsify(
     alloc: Global,
     columns: u32,
     rows: &mut Vec<SparseRow>,
@@ -220,7 +220,7 @@ pub(crate) fn thin_rows(
 {
     let mut rounds = vec![in alloc; 0u32; rows.len()]?;
     for round in 0..ROUNDS {
-        if !thin_once(alloc, columns, rows, round + 1, &mut rounds)? {
+        if !sparsify_pass(alloc, columns, rows, round + 1, &mut rounds)? {
             break;
         }
     }

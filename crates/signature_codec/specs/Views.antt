@@ -16,7 +16,7 @@ use Rattle.signature_codec.specs.declared.read.Types.{Types}
 use Rattle.signature_codec.specs.declared.read.TypesRead.{TypesRead}
 use Rattle.signature_codec.specs.declared.read.Parts.{Parts}
 use Rattle.signature_codec.specs.declared.joining.Joining.{Joining}
-use Rattle.signature_codec.specs.declared.walk.Walk.{Walk}
+use Rattle.signature_codec.specs.declared.walk.TraversalSoFar.{TraversalSoFar}
 use Rattle.signature_codec.specs.declared.walk.NotOrdered.{NotOrdered}
 use Rattle.out_of_memory.specs.declared.Failure.{Failure}
 use Rattle.out_of_memory.specs.declared.Failure.TheVariants.{NoMemory, Fault}
@@ -53,7 +53,7 @@ abbrev pub glued_at : Slots → Face → gluings.Gluing → Slots
 glued_at s x g = record s { met = meet_at s.met x g; parts = record s.parts { destinations = drop 1 s.parts.destinations; gluings = drop 1 s.parts.gluings } }
 
 -- what a call stores, as the definitions see it
-abbrev pub walk_view : Walk → Walking
+abbrev pub walk_view : TraversalSoFar → Walking
 walk_view w = record { seen = w.seen; types = w.types.items; gluings = w.gluings.items }
 
 -- the face that the error names
@@ -67,7 +67,7 @@ TakesFace new x (Err NoMemory) taken = Unit {0}
 TakesFace new x (Err (Fault f)) taken = (taken ≡ None) × (named_face f ≡ x)
 
 -- the visit of all faces of rows, which are walk-ordered
-pub record IsWholeWalk (rows : List Row) (w : Walk) : Type 0 where
+pub record IsWholeWalk (rows : List Row) (w : TraversalSoFar) : Type 0 where
   pub ordered : IsWalkOrdered rows
   pub types : w.types.items ≡ face_types rows
   pub gluings : w.gluings.items ≡ seen_gluings rows

@@ -19,7 +19,7 @@ pub enum Segment {
 /// The form of a section: `many` numbers, each in `width` characters and below `bound`. Invariant: `many` is at most
 /// 4,000, and `width` at most 3.
 #[derive(Clone, Copy)]
-pub struct Numbers {
+pub struct NumberField {
     pub segment: Segment,
     pub many: u32,
     pub width: u32,
@@ -81,7 +81,7 @@ pub fn number_in(text: &[u8], width: u32, at: usize) -> Result<u32, SigFault>
 pub fn numbers_in(
     alloc: Global,
     text: &[u8],
-    numbers: Numbers,
+    numbers: NumberField,
     at: usize,
 ) -> Result<Vec<(u32, usize)>, SigFault>
     requires { at ≤ length text.now }

@@ -7,7 +7,7 @@ ghost use Rattle.signature_codec.specs.Views.{head_view, types_view, parts_view}
 ghost use Rattle.signature_text_laws.specs.Parts.{parts_of};
 
 use crate::SigFault;
-use crate::numbers::{Numbers, Segment, numbers_in};
+use crate::numbers::{NumberField, Segment, numbers_in};
 use crate::read::{Head, Parts, TypesRead};
 use std::alloc::Global;
 
@@ -37,7 +37,7 @@ pub fn read_parts(
         return Err(SigFault::Unreached);
     }
     let (width, at) = (head.width, types.next);
-    let destinations = Numbers {
+    let destinations = NumberField {
         segment: Segment::Destinations,
         many: twos,
         width,
@@ -45,7 +45,7 @@ pub fn read_parts(
     };
     let destinations = numbers_in(alloc, text, destinations, at)?;
     let gluings_at = at + (width * twos) as usize;
-    let gluings = Numbers {
+    let gluings = NumberField {
         segment: Segment::Gluings,
         many: twos,
         width: 1,

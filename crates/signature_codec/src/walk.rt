@@ -14,7 +14,7 @@ use std::alloc::Global;
 
 /// The number of tetrahedra seen, the types of the faces, and the gluings of those of type 2.
 #[derive(Drop)]
-pub struct Walk {
+pub struct TraversalSoFar {
     pub seen: u32,
     pub types: Vec<u8>,
     pub gluings: Vec<Glue>,
@@ -47,7 +47,7 @@ fn is_identity(perm: Perm4) -> bool
 }
 
 /// Visits `face`, and fails with `NotOrdered` if it is not in order.
-fn take_face(walk: &mut Walk, table: &Table, face: Face) -> Result<(), SpellFault>
+fn take_face(walk: &mut TraversalSoFar, table: &Table, face: Face) -> Result<(), SpellFault>
     requires { face.tet < length table.now }
     ensures takes { TakesFace (walk_view walk.new) face result (walks.take_face table.now face (walk_view walk.old)) }
 {
@@ -76,11 +76,11 @@ fn take_face(walk: &mut Walk, table: &Table, face: Face) -> Result<(), SpellFaul
 
 /// Visits all faces of `table` in order. Fails with `NotOrdered` at the first face at which `table` is not
 /// walk-ordered.
-pub fn walk_of(alloc: Global, table: &Table) -> Result<Walk, SpellFault>
+pub fn walk_of(alloc: Global, table: &Table) -> Result<TraversalSoFar, SpellFault>
     ensures whole { IfOk result (IsWholeWalk table.now) }
     ensures stops { IfErr result (StopsAt table.now) }
 {
-    let mut walk = Walk {
+    let mut walk = TraversalSoFar {
         seen: 1,
         types: Vec::new(alloc),
         gluings: Vec::new(alloc),

@@ -68,7 +68,7 @@ fn check_blocks(
 }
 
 /// The outcome for `blocks`, by the equations `system` of `table`.
-fn answer_by(
+fn run_addup_with_system(
     alloc: Global,
     coords: Coords,
     table: &Table,
@@ -86,7 +86,7 @@ fn answer_by(
 }
 
 /// The outcome for `table` and `blocks`.
-fn answer(
+fn run_addup(
     alloc: Global,
     coords: Coords,
     table: &Table,
@@ -95,7 +95,7 @@ fn answer(
     ensures { IfOk result (IsAddupAnswer coords (table.now, all_blocks blocks.now)) }
 {
     let system = equations_of_table(alloc, table, coords)?;
-    answer_by(alloc, coords, table, &system, blocks)
+    run_addup_with_system(alloc, coords, table, &system, blocks)
 }
 
 /// The outcome of `addup` for the input `bytes`, a table and blocks: `accepted` if in each block the vector and its
@@ -105,7 +105,7 @@ pub fn addup(alloc: Global, coords: Coords, bytes: &[u8]) -> Result<Outcome, NoM
     ensures answer { IfOk result (IsReadOutcome (blocks_document bytes.now) (IsAddupAnswer coords)) }
 {
     match read_table_and_blocks(alloc, bytes) {
-        Ok(document) => answer(alloc, coords, &document.table, &document.blocks),
+        Ok(document) => run_addup(alloc, coords, &document.table, &document.blocks),
         Err(fault) => fault_outcome(alloc, fault),
     }
 }

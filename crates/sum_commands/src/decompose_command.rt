@@ -77,7 +77,7 @@ fn sums(
 }
 
 /// The outcome for `table` and admissible solutions `vectors`, by the list of its vertex surfaces.
-fn outcome_of(
+fn outcome_of_list(
     alloc: Global,
     table: &Table,
     system: &System,
@@ -102,7 +102,7 @@ fn outcome_of(
 }
 
 /// The outcome for `table` and `vectors`, by the equations `system` of the table.
-fn answer_by(
+fn run_decompose_with_system(
     alloc: Global,
     coords: Coords,
     limit: u128,
@@ -125,14 +125,14 @@ fn answer_by(
         );
     }
     match surfaces_by(alloc, table, system, coords, NamedOrder::GIVEN, limit) {
-        Ok(list) => outcome_of(alloc, table, system, &list, vectors, limit),
+        Ok(list) => outcome_of_list(alloc, table, system, &list, vectors, limit),
         Err(Failure::Fault(large)) => large_outcome(alloc, &large.order, &large.kind),
         Err(Failure::NoMemory) => Err(NoMemory),
     }
 }
 
 /// The outcome for `table` and `vectors`.
-fn answer(
+fn run_decompose(
     alloc: Global,
     coords: Coords,
     limit: u128,
@@ -145,7 +145,7 @@ fn answer(
     ensures { IfOk result (IsDecomposeAnswer coords limit (table.now, all_entries vectors.now)) }
 {
     let system = equations_of_table(alloc, table, coords)?;
-    answer_by(alloc, coords, limit, table, &system, vectors)
+    run_decompose_with_system(alloc, coords, limit, table, &system, vectors)
 }
 
 /// The outcome of `decompose` for the input `bytes`, a table and vectors: each vector as a sum of vertex surfaces in
@@ -163,7 +163,7 @@ pub fn decompose(
     ensures answer { IfOk result (IsReadOutcome (vectors_document bytes.now) (IsDecomposeAnswer coords limit)) }
 {
     match read_table_and_vectors(alloc, bytes) {
-        Ok(document) => answer(alloc, coords, limit, &document.table, &document.vectors),
+        Ok(document) => run_decompose(alloc, coords, limit, &document.table, &document.vectors),
         Err(fault) => fault_outcome(alloc, fault),
     }
 }

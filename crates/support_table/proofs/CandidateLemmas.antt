@@ -11,7 +11,7 @@ use Rattle.cone_laws.proofs.DistinctLemmas.{apart_permutation}
 use Rattle.support_bits.specs.Columns.{IsInsideUnionOf}
 use Rattle.support_table.specs.Counts.{columns_in_either}
 use Rattle.support_table.specs.declared.least.Least.{Least}
-use Rattle.support_table.specs.declared.rivals.Rival.{Rival}
+use Rattle.support_table.specs.declared.rivals.Candidate.{Candidate}
 use Rattle.support_table.specs.Residuals.{support_at, IsResidualInside, IsRival, IsMinimal, AreMinimal}
 use Rattle.support_table.specs.Rivals.{IsSized, HasPlace, AreRivals, AreMarks, IsHit, AreUnhit, AreCandidates, AreInOrder, AreLeast, AreUnrepeated, IsCovered, rival_at, LiesInside}
 use Rattle.support_table.proofs.SizeLemmas.{inside_chain, inside_self, size_within, single_inside}
@@ -28,23 +28,23 @@ pub inside_residual : (outer s t : List Bool) → IsInsideUnionOf s outer t → 
 inside_residual outer s t inside column has beside = elim (inside column has) [ inl is ↦ absurd (beside is) | inr is ↦ is ]
 
 -- places of an ascending list differ
-apart_places : (rivals : List Rival) → AllPairs (λ (r s : Rival). r.place < s.place) rivals → AllPairs (λ p q. p ≢ q) (map (λ (r : Rival). r.place) rivals)
+apart_places : (rivals : List Candidate) → AllPairs (λ (r s : Candidate). r.place < s.place) rivals → AllPairs (λ p q. p ≢ q) (map (λ (r : Candidate). r.place) rivals)
 apart_places rivals up i j d less within same =
-    let j_in : j < length rivals = omega (arith, within, length-map rivals (λ (r : Rival). r.place)) in
-    let z : Rival = record { place = 0; size = 0 } in
-    let one : get_or (map (λ (r : Rival). r.place) rivals) i d ≡ (get_or rivals i z).place = get_or-map (λ (r : Rival). r.place) rivals i z d (omega arith) in
-    let other : get_or (map (λ (r : Rival). r.place) rivals) j d ≡ (get_or rivals j z).place = get_or-map (λ (r : Rival). r.place) rivals j z d j_in in
+    let j_in : j < length rivals = omega (arith, within, length-map rivals (λ (r : Candidate). r.place)) in
+    let z : Candidate = record { place = 0; size = 0 } in
+    let one : get_or (map (λ (r : Candidate). r.place) rivals) i d ≡ (get_or rivals i z).place = get_or-map (λ (r : Candidate). r.place) rivals i z d (omega arith) in
+    let other : get_or (map (λ (r : Candidate). r.place) rivals) j d ≡ (get_or rivals j z).place = get_or-map (λ (r : Candidate). r.place) rivals j z d j_in in
     let before : (get_or rivals i z).place < (get_or rivals j z).place = up i j z less j_in in
     omega (arith, one, other, before, same)
 
-module _ (supports : List (List Bool)) (outer joined : List Bool) (own most single : ℕ) (rivals left : List Rival) (marks : List ℕ)
+module _ (supports : List (List Bool)) (outer joined : List Bool) (own most single : ℕ) (rivals left : List Candidate) (marks : List ℕ)
     (h : AreRivals supports outer joined own most (length supports) rivals) (m : AreMarks supports outer single rivals marks) (u : AreUnhit supports marks single rivals left)
     (single_is : single ≡ columns_in_either outer outer + 1) where
-  sized : (r : Rival) → Contains rivals r → IsSized supports outer joined own most r
+  sized : (r : Candidate) → Contains rivals r → IsSized supports outer joined own most r
   sized r listed = All-contains (IsSized supports outer joined own most) rivals r h.each listed
 
   -- of a residual that is hit none is hit that contains it
-  hit_inside : (r t : Rival) → Contains rivals r → Contains rivals t → IsInsideUnionOf (support_at supports t.place) outer (support_at supports r.place) → IsHit supports marks single t → IsHit supports marks single r
+  hit_inside : (r t : Candidate) → Contains rivals r → Contains rivals t → IsInsideUnionOf (support_at supports t.place) outer (support_at supports r.place) → IsHit supports marks single t → IsHit supports marks single r
   hit_inside r t r_listed t_listed inside hit = record {
     more = (let one = (sized r r_listed).size in let other = (sized t t_listed).size in let within = size_within outer (support_at supports t.place) (support_at supports r.place) inside in
         omega (arith, one, other, within, hit.more));
@@ -54,7 +54,7 @@ module _ (supports : List (List Bool)) (outer joined : List Bool) (own most sing
   }
 
   -- and none is minimal
-  hit_not_minimal : (t : Rival) → Contains rivals t → IsHit supports marks single t → IsMinimal supports outer joined own most t.place → ⊥
+  hit_not_minimal : (t : Candidate) → Contains rivals t → IsHit supports marks single t → IsMinimal supports outer joined own most t.place → ⊥
   hit_not_minimal t listed hit minimal =
       let mark = m.each hit.column hit.marked in
       let s = sized mark.rival mark.listed in
@@ -77,7 +77,7 @@ module _ (supports : List (List Bool)) (outer joined : List Bool) (own most sing
         (t.0, u.complete t.0 t.1 (λ hit. hit_not_minimal t.0 t.1 hit (subst (IsMinimal supports outer joined own most) (sym t.2) minimal)), t.2);
   }
     where
-      closed : (r : Rival) (place : ℕ) → Contains left r → IsRival supports outer joined own most place → IsInsideUnionOf (support_at supports place) outer (support_at supports r.place) → HasPlace left place
+      closed : (r : Candidate) (place : ℕ) → Contains left r → IsRival supports outer joined own most place → IsInsideUnionOf (support_at supports place) outer (support_at supports r.place) → HasPlace left place
       closed r place listed rival inside =
           let t = h.complete place rival.in_range rival in
           let kept = All-contains (λ r. Contains rivals r × (¬ IsHit supports marks single r)) left r u.each listed in
@@ -85,27 +85,27 @@ module _ (supports : List (List Bool)) (outer joined : List Bool) (own most sing
 
 -- ---- in the order of their sizes
 
-pub candidates_moved : (supports : List (List Bool)) (outer joined : List Bool) (own most : ℕ) (before after : List Rival) → IsPermutation before after →
+pub candidates_moved : (supports : List (List Bool)) (outer joined : List Bool) (own most : ℕ) (before after : List Candidate) → IsPermutation before after →
     AreCandidates supports outer joined own most before → AreCandidates supports outer joined own most after
 candidates_moved supports outer joined own most before after moves h = record {
   each = All-permutation (IsSized supports outer joined own most) before after moves h.each;
-  apart = apart_permutation (map (λ (r : Rival). r.place) before) (map (λ (r : Rival). r.place) after) (IsPermutation-map (λ (r : Rival). r.place) before after moves) h.apart;
+  apart = apart_permutation (map (λ (r : Candidate). r.place) before) (map (λ (r : Candidate). r.place) after) (IsPermutation-map (λ (r : Candidate). r.place) before after moves) h.apart;
   closed = λ r place listed rival inside. let back = was r listed in let t = h.closed r place back rival inside in (t.0, Contains-permutation before after t.0 moves t.1, t.2);
   complete = λ place minimal. let t = h.complete place minimal in (t.0, Contains-permutation before after t.0 moves t.1, t.2);
 }
   where
-    was : (r : Rival) → Contains after r → Contains before r
+    was : (r : Candidate) → Contains after r → Contains before r
     was r listed = All-contains (Contains before) after r (All-permutation (Contains before) before after moves (All-contains_itself before)) listed
 
-pub in_order_from_sorted : (supports : List (List Bool)) (outer joined : List Bool) (own most : ℕ) (order : List Rival) → AreCandidates supports outer joined own most order →
-    IsNonDecreasingBy (λ (r : Rival). r.size) order → AreInOrder supports outer order
+pub in_order_from_sorted : (supports : List (List Bool)) (outer joined : List Bool) (own most : ℕ) (order : List Candidate) → AreCandidates supports outer joined own most order →
+    IsNonDecreasingBy (λ (r : Candidate). r.size) order → AreInOrder supports outer order
 in_order_from_sorted supports outer joined own most order h up = record {
   found = λ k d within. (h.each k d within).rival.in_range;
   wide = λ k d within. (h.each k d within).wide;
   sized = λ k d within. (h.each k d within).size;
   apart = λ i j d less within same.
-      let n = length-map order (λ (r : Rival). r.place) in
-      h.apart i j d.place less (omega arith) (get_or-map (λ (r : Rival). r.place) order i d d.place (omega arith) ∙ same ∙ sym (get_or-map (λ (r : Rival). r.place) order j d d.place within));
+      let n = length-map order (λ (r : Candidate). r.place) in
+      h.apart i j d.place less (omega arith) (get_or-map (λ (r : Candidate). r.place) order i d d.place (omega arith) ∙ same ∙ sym (get_or-map (λ (r : Candidate). r.place) order j d d.place within));
   ascending = λ i j d less within. up i j d (omega arith) within;
 }
 
@@ -137,7 +137,7 @@ module _ (least : Least) (n : ℕ) (places : List ℕ) (h : AreUnrepeated least 
 
 -- ---- the minimal ones
 
-module _ (supports : List (List Bool)) (outer joined : List Bool) (own most : ℕ) (order : List Rival) (c : AreCandidates supports outer joined own most order) (o : AreInOrder supports outer order)
+module _ (supports : List (List Bool)) (outer joined : List Bool) (own most : ℕ) (order : List Candidate) (c : AreCandidates supports outer joined own most order) (o : AreInOrder supports outer order)
     (least : Least) (h : AreLeast supports outer order (length order) least) where
   -- one of least residual that no other doubles is minimal
   pub minimal_from_alone : (i : ℕ) → i < length least.rivals.items → get_or least.doubled.items i false ≡ false → IsMinimal supports outer joined own most (rival_at least.rivals.items i).place
@@ -158,10 +158,10 @@ module _ (supports : List (List Bool)) (outer joined : List Bool) (own most : �
 
       only : (k : ℕ) → HasPlace order k → IsInsideUnionOf (support_at supports k) outer (support_at supports (rival_at least.rivals.items i).place) → k ≡ (rival_at least.rivals.items i).place
       only k t inside = elim cover.how [
-        | inl own_place ↦ sym t.2 ∙ ap (λ (r : Rival). r.place) (sym at) ∙ sym own_place ∙ ap (λ j. (rival_at least.rivals.items j).place) same
+        | inl own_place ↦ sym t.2 ∙ ap (λ (r : Candidate). r.place) (sym at) ∙ sym own_place ∙ ap (λ j. (rival_at least.rivals.items j).place) same
         | inr (inl less) ↦ absurd (let few = smaller supports outer order o t.1.0 stands.0 t.1.1 stands.1 (subst₂ (LiesInside supports outer) (sym at) (sym stands.2) t_inside) in
             let e = ap (λ j. (rival_at least.rivals.items j).size) same in
-            let f = ap (λ (r : Rival). r.size) stands.2 in
+            let f = ap (λ (r : Candidate). r.size) stands.2 in
             omega (arith, less, few, e, f))
         | inr (inr twice) ↦ absurd (false≢true (sym (ap (λ j. get_or least.doubled.items j false) same ∙ single) ∙ twice))
       ]
@@ -194,7 +194,7 @@ module _ (supports : List (List Bool)) (outer joined : List Bool) (own most : �
       cover = h.covered t.1.0 t.1.1
 
       place_is : (rival_at order t.1.0).place ≡ place
-      place_is = ap (λ (r : Rival). r.place) at ∙ t.2
+      place_is = ap (λ (r : Candidate). r.place) at ∙ t.2
 
       ordered : (k : ℕ) → k < length order → IsRival supports outer joined own most (rival_at order k).place
       ordered k within = (c.each k (record { place = 0; size = 0 }) within).rival
@@ -203,7 +203,7 @@ module _ (supports : List (List Bool)) (outer joined : List Bool) (own most : �
       stands = h.from cover.place cover.in_range
 
       is : (rival_at least.rivals.items cover.place).place ≡ place
-      is = minimal.minimal (rival_at least.rivals.items cover.place).place (subst (λ (r : Rival). IsRival supports outer joined own most r.place) stands.2 (ordered stands.0 stands.1))
+      is = minimal.minimal (rival_at least.rivals.items cover.place).place (subst (λ (r : Candidate). IsRival supports outer joined own most r.place) stands.2 (ordered stands.0 stands.1))
           (inside_residual outer (support_at supports (rival_at least.rivals.items cover.place).place) (support_at supports place)
           (subst (λ k. IsInsideUnionOf (support_at supports (rival_at least.rivals.items cover.place).place) outer (support_at supports k)) place_is cover.inside))
 

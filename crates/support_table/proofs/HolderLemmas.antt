@@ -10,7 +10,7 @@ use Rattle.support_bits.proofs.WordLemmas.{bit_of-column, bit_after}
 use Rattle.support_table.specs.Tables.{Table}
 use Rattle.support_table.specs.Holders.{IsHolder, AreHolders, AreAsLong, IsMeetingBelow, IsMeeting, TellsMeeting, NamesApart}
 use Rattle.support_table.specs.Residuals.{support_at}
-use Rattle.support_table.specs.declared.rivals.Rival.{Rival}
+use Rattle.support_table.specs.declared.rivals.Candidate.{Candidate}
 use Rattle.support_table.specs.Rivals.{AreRivals}
 use Rattle.support_table.proofs.RivalLemmas.{rival_skip}
 use Rattle.support_table.proofs.SizeLemmas.{column_within}
@@ -171,20 +171,20 @@ module _ (supports : List (List Bool)) (columns : List Bool) where
     }
 
   -- rays that have one of the columns are passed over
-  pub rivals_past : (outer : List Bool) (own most n d : ℕ) (rivals : List Rival) → ((i : ℕ) → i < d → Meets (support_at supports (n + i)) columns) → AreRivals supports outer columns own most n rivals → AreRivals supports outer columns own most (n + d) rivals
+  pub rivals_past : (outer : List Bool) (own most n d : ℕ) (rivals : List Candidate) → ((i : ℕ) → i < d → Meets (support_at supports (n + i)) columns) → AreRivals supports outer columns own most n rivals → AreRivals supports outer columns own most (n + d) rivals
   rivals_past outer own most n zero rivals meet h = subst (λ k. AreRivals supports outer columns own most k rivals) {x = n} {y = n + 0} (omega arith) h
   rivals_past outer own most n (suc d) rivals meet h =
       subst (λ k. AreRivals supports outer columns own most k rivals) {x = n + 1 + d} {y = n + suc d} (omega arith)
       (rivals_past outer own most (n + 1) d rivals (λ i less. let e : n + suc i ≡ n + 1 + i = omega arith in subst (λ k. Meets (support_at supports k) columns) e (meet (suc i) (omega arith)))
       (rival_skip supports outer columns own most n rivals h (λ r. r.apart (let e : n + 0 ≡ n = omega arith in subst (λ k. Meets (support_at supports k) columns) e (meet 0 (omega arith))))))
 
-  pub rivals_to_end : (outer : List Bool) (own most first place : ℕ) (rivals : List Rival) → place ≤ first + 64 → NamesApart supports columns place (first + 64) 0 → AreRivals supports outer columns own most place rivals →
+  pub rivals_to_end : (outer : List Bool) (own most first place : ℕ) (rivals : List Candidate) → place ≤ first + 64 → NamesApart supports columns place (first + 64) 0 → AreRivals supports outer columns own most place rivals →
       AreRivals supports outer columns own most (first + 64) rivals
   rivals_to_end outer own most first place rivals low names h =
       subst (λ k. AreRivals supports outer columns own most k rivals) {x = place + (first + 64 - place)} {y = first + 64} (omega arith)
       (rivals_past outer own most place (first + 64 - place) rivals (λ i less. names.unset i (bit_at-zero i) (omega arith)) h)
 
-  pub rivals_all : (outer : List Bool) (own most n : ℕ) (rivals : List Rival) → length supports ≤ n → AreRivals supports outer columns own most n rivals → AreRivals supports outer columns own most (length supports) rivals
+  pub rivals_all : (outer : List Bool) (own most n : ℕ) (rivals : List Candidate) → length supports ≤ n → AreRivals supports outer columns own most n rivals → AreRivals supports outer columns own most (length supports) rivals
   rivals_all outer own most n rivals all h = record {
     each = h.each;
     below = λ k d within. (h.each k d within).rival.in_range;

@@ -4,12 +4,12 @@ use Rattle.std.proofs.lemmas.Bool.{cases_eq, cases_lt, false≢true}
 use Rattle.std.proofs.lemmas.List.{get_or_default, get_or_append_left}
 use Rattle.std.proofs.Math.Seq.{get_or-append_seam}
 use Rattle.support_table.specs.declared.least.Least.{Least}
-use Rattle.support_table.specs.declared.rivals.Rival.{Rival}
+use Rattle.support_table.specs.declared.rivals.Candidate.{Candidate}
 use Rattle.support_table.specs.Residuals.{support_at}
 use Rattle.support_table.specs.Rivals.{AreFound, rival_at, LiesInside, IsCovered, IsDoubled, AreLeast, AreInOrder, IsOneMore, IsRepeated, IsRecorded}
 use Rattle.support_table.proofs.SizeLemmas.{inside_self, size_within, same_size}
 
-module _ (supports : List (List Bool)) (outer : List Bool) (order : List Rival) (o : AreInOrder supports outer order) where
+module _ (supports : List (List Bool)) (outer : List Bool) (order : List Candidate) (o : AreInOrder supports outer order) where
   -- a residual inside another has no more columns, and with as many both are equal
   pub smaller : (i j : ℕ) → i < length order → j < length order → LiesInside supports outer (rival_at order i) (rival_at order j) → (rival_at order i).size ≤ (rival_at order j).size
   smaller i j i_in j_in inside =
@@ -27,7 +27,7 @@ module _ (supports : List (List Bool)) (outer : List Bool) (order : List Rival) 
 
   pub least_found : (n : ℕ) (least : Least) → n ≤ length order → AreLeast supports outer order n least → AreFound supports least.rivals.items
   least_found n least most h i d within = let s = h.from i within in
-      subst (λ (r : Rival). r.place < length supports) (s.2 ∙ get_or_default least.rivals.items i (record { place = 0; size = 0 }) d within)
+      subst (λ (r : Candidate). r.place < length supports) (s.2 ∙ get_or_default least.rivals.items i (record { place = 0; size = 0 }) d within)
       (o.found s.0 (record { place = 0; size = 0 }) (let l = s.1 in omega arith))
 
   module _ (n : ℕ) (within : n < length order) (old new : Least) (h : AreLeast supports outer order n old) where
@@ -38,14 +38,14 @@ module _ (supports : List (List Bool)) (outer : List Bool) (order : List Rival) 
     -- it isn't larger than the rival at n
     not_larger : (i : ℕ) → i < length old.rivals.items → (rival_at old.rivals.items i).size ≤ (rival_at order n).size
     not_larger i i_in = let s = stood i i_in in
-        subst (λ (r : Rival). r.size ≤ (rival_at order n).size) s.2 (o.ascending s.0 n (record { place = 0; size = 0 }) s.1 within)
+        subst (λ (r : Candidate). r.size ≤ (rival_at order n).size) s.2 (o.ascending s.0 n (record { place = 0; size = 0 }) s.1 within)
 
     -- where its residual lies inside and is as large, the other lies inside its own
     turned : (i : ℕ) → i < length old.rivals.items → LiesInside supports outer (rival_at old.rivals.items i) (rival_at order n) → (rival_at order n).size ≤ (rival_at old.rivals.items i).size →
         LiesInside supports outer (rival_at order n) (rival_at old.rivals.items i)
     turned i i_in inside few = let s = stood i i_in in
         subst (λ r. LiesInside supports outer (rival_at order n) r) s.2
-        (equal s.0 n (let l = s.1 in omega arith) within (subst (λ r. LiesInside supports outer r (rival_at order n)) (sym s.2) inside) (subst (λ (r : Rival). (rival_at order n).size ≤ r.size) (sym s.2) few))
+        (equal s.0 n (let l = s.1 in omega arith) within (subst (λ r. LiesInside supports outer r (rival_at order n)) (sym s.2) inside) (subst (λ (r : Candidate). (rival_at order n).size ≤ r.size) (sym s.2) few))
 
     -- and where the other lies inside, it is as large
     as_large : (i : ℕ) → i < length old.rivals.items → LiesInside supports outer (rival_at order n) (rival_at old.rivals.items i) → LiesInside supports outer (rival_at old.rivals.items i) (rival_at order n)
@@ -63,10 +63,10 @@ module _ (supports : List (List Bool)) (outer : List Bool) (order : List Rival) 
       new_length = ap length more.rivals ∙ length-append old.rivals.items (rival_at order n ∷ [])
 
       kept : (i : ℕ) → i < length old.rivals.items → rival_at new.rivals.items i ≡ rival_at old.rivals.items i
-      kept i i_in = ap (λ (rs : List Rival). rival_at rs i) more.rivals ∙ get_or_append_left old.rivals.items (rival_at order n ∷ []) (record { place = 0; size = 0 }) i i_in
+      kept i i_in = ap (λ (rs : List Candidate). rival_at rs i) more.rivals ∙ get_or_append_left old.rivals.items (rival_at order n ∷ []) (record { place = 0; size = 0 }) i i_in
 
       last : (i : ℕ) → i ≡ length old.rivals.items → rival_at new.rivals.items i ≡ rival_at order n
-      last i e = ap (λ k. rival_at new.rivals.items k) e ∙ ap (λ (rs : List Rival). rival_at rs (length old.rivals.items)) more.rivals ∙ get_or-append_seam old.rivals.items (rival_at order n) [] (record { place = 0; size = 0 })
+      last i e = ap (λ k. rival_at new.rivals.items k) e ∙ ap (λ (rs : List Candidate). rival_at rs (length old.rivals.items)) more.rivals ∙ get_or-append_seam old.rivals.items (rival_at order n) [] (record { place = 0; size = 0 })
 
       kept_double : (i : ℕ) → i < length old.rivals.items → get_or new.doubled.items i false ≡ get_or old.doubled.items i false
       kept_double i i_in = ap (λ (ds : List Bool). get_or ds i false) more.doubled ∙ get_or_append_left old.doubled.items (false ∷ []) false i (omega (arith, h.count))
@@ -83,8 +83,8 @@ module _ (supports : List (List Bool)) (outer : List Bool) (order : List Rival) 
         in_range = omega (arith, c.in_range, new_length);
         inside = subst (λ r. LiesInside supports outer r (rival_at order k)) (sym (kept c.place c.in_range)) c.inside;
         how = elim c.how [
-          | inl own ↦ inl (ap (λ (r : Rival). r.place) (kept c.place c.in_range) ∙ own)
-          | inr (inl less) ↦ inr (inl (subst (λ (r : Rival). r.size < (rival_at order k).size) (sym (kept c.place c.in_range)) less))
+          | inl own ↦ inl (ap (λ (r : Candidate). r.place) (kept c.place c.in_range) ∙ own)
+          | inr (inl less) ↦ inr (inl (subst (λ (r : Candidate). r.size < (rival_at order k).size) (sym (kept c.place c.in_range)) less))
           | inr (inr twice) ↦ inr (inr (kept_double c.place c.in_range ∙ twice))
         ];
       }
@@ -113,7 +113,7 @@ module _ (supports : List (List Bool)) (outer : List Bool) (order : List Rival) 
             place = length old.rivals.items;
             in_range = omega (arith, new_length);
             inside = subst (λ r. LiesInside supports outer r (rival_at order n)) (sym (last (length old.rivals.items) refl)) (inside_self outer (support_at supports (rival_at order n).place));
-            how = inl (ap (λ (r : Rival). r.place) (last (length old.rivals.items) refl));
+            how = inl (ap (λ (r : Candidate). r.place) (last (length old.rivals.items) refl));
           }
 
           apart : (i j : ℕ) → i < length new.rivals.items → j < length new.rivals.items → LiesInside supports outer (rival_at new.rivals.items i) (rival_at new.rivals.items j) → i ≡ j
@@ -132,7 +132,7 @@ module _ (supports : List (List Bool)) (outer : List Bool) (order : List Rival) 
 
     module _ (met : IsRepeated supports outer (rival_at order n) old new) where
       as_before : (i : ℕ) → rival_at new.rivals.items i ≡ rival_at old.rivals.items i
-      as_before i = ap (λ (rs : List Rival). rival_at rs i) met.rivals
+      as_before i = ap (λ (rs : List Candidate). rival_at rs i) met.rivals
 
       still_long : length new.rivals.items ≡ length old.rivals.items
       still_long = ap length met.rivals
@@ -155,8 +155,8 @@ module _ (supports : List (List Bool)) (outer : List Bool) (order : List Rival) 
         in_range = omega (arith, c.in_range, still_long);
         inside = subst (λ r. LiesInside supports outer r (rival_at order k)) (sym (as_before c.place)) c.inside;
         how = elim c.how [
-          | inl own ↦ inl (ap (λ (r : Rival). r.place) (as_before c.place) ∙ own)
-          | inr (inl less) ↦ inr (inl (subst (λ (r : Rival). r.size < (rival_at order k).size) (sym (as_before c.place)) less))
+          | inl own ↦ inl (ap (λ (r : Candidate). r.place) (as_before c.place) ∙ own)
+          | inr (inl less) ↦ inr (inl (subst (λ (r : Candidate). r.size < (rival_at order k).size) (sym (as_before c.place)) less))
           | inr (inr twice) ↦ inr (inr (still_doubled c.place c.in_range twice))
         ];
       }
@@ -168,7 +168,7 @@ module _ (supports : List (List Bool)) (outer : List Bool) (order : List Rival) 
         inside = subst (λ r. LiesInside supports outer r (rival_at order n)) (sym (as_before met.k)) met.at.inside;
         how = elim met.doubled [
           | inl d ↦ inr (inr (ap (λ (ds : List Bool). get_or ds met.k false) d.1 ∙ get_or-set_same old.doubled.items met.k true false (omega (arith, h.count, met.at.in_range))))
-          | inr d ↦ inr (inl (subst (λ (r : Rival). r.size < (rival_at order n).size) (sym (as_before met.k)) (let most = not_larger met.k met.at.in_range in omega (arith, most, d.0))))
+          | inr d ↦ inr (inl (subst (λ (r : Candidate). r.size < (rival_at order n).size) (sym (as_before met.k)) (let most = not_larger met.k met.at.in_range in omega (arith, most, d.0))))
         ];
       }
 
@@ -179,7 +179,7 @@ module _ (supports : List (List Bool)) (outer : List Bool) (order : List Rival) 
       now_doubled same = let s = stood met.k met.at.in_range in record {
         place = n;
         in_range = omega arith;
-        other = λ e. o.apart s.0 n (record { place = 0; size = 0 }) s.1 within (ap (λ (r : Rival). r.place) s.2 ∙ sym e);
+        other = λ e. o.apart s.0 n (record { place = 0; size = 0 }) s.1 within (ap (λ (r : Candidate). r.place) s.2 ∙ sym e);
         inside = turned met.k met.at.in_range met.at.inside (omega (arith, same));
       }
 

@@ -4,19 +4,19 @@ use Rattle.std.specs.List.{All}
 use Rattle.std.proofs.lemmas.Bool.{cases_lt}
 use Rattle.std.proofs.lemmas.List.Elements.{All-push, Contains-push, Contains-append_left}
 use Rattle.std.proofs.lemmas.List.Quantifiers.{all_pairs_push}
-use Rattle.support_table.specs.declared.rivals.Rival.{Rival}
+use Rattle.support_table.specs.declared.rivals.Candidate.{Candidate}
 use Rattle.support_table.specs.Residuals.{IsRival}
 use Rattle.support_table.specs.Rivals.{IsSized, AreRivals}
 
-module _ (supports : List (List Bool)) (outer joined : List Bool) (own most n : ℕ) (rivals : List Rival) (h : AreRivals supports outer joined own most n rivals) where
-  still_below : All (λ (r : Rival). r.place < n + 1) rivals
+module _ (supports : List (List Bool)) (outer joined : List Bool) (own most n : ℕ) (rivals : List Candidate) (h : AreRivals supports outer joined own most n rivals) where
+  still_below : All (λ (r : Candidate). r.place < n + 1) rivals
   still_below k d within = let less = h.below k d within in omega arith
 
-  pub rival_push : (r : Rival) → r.place ≡ n → IsSized supports outer joined own most r → AreRivals supports outer joined own most (n + 1) (rivals ++ r ∷ [])
+  pub rival_push : (r : Candidate) → r.place ≡ n → IsSized supports outer joined own most r → AreRivals supports outer joined own most (n + 1) (rivals ++ r ∷ [])
   rival_push r at sized = record {
     each = All-push (IsSized supports outer joined own most) rivals r h.each sized;
-    below = All-push (λ (r : Rival). r.place < n + 1) rivals r still_below (omega (arith, at));
-    ascending = all_pairs_push (λ (r s : Rival). r.place < s.place) rivals r h.ascending (λ k d within. subst (λ m. (get_or rivals k d).place < m) (sym at) (h.below k d within));
+    below = All-push (λ (r : Candidate). r.place < n + 1) rivals r still_below (omega (arith, at));
+    ascending = all_pairs_push (λ (r s : Candidate). r.place < s.place) rivals r h.ascending (λ k d within. subst (λ m. (get_or rivals k d).place < m) (sym at) (h.below k d within));
     complete = λ place less rival. ⊎_elim
         (λ old. let p = h.complete place old rival in (p.0, Contains-append_left rivals (r ∷ []) p.0 p.1, p.2))
         (λ last. (r, Contains-push rivals r, omega (arith, at)))

@@ -3,7 +3,7 @@
 ghost use Rattle.std.specs.Prelude.{◌≡◌, ℕ, ◌<◌, length, IfOk, IfSome, IfNone, OnOk};
 ghost use Rattle.support_table.specs.Rivals.{AreFound, AreInOrder, AreLeast, IsRecorded, IsInsideAt};
 
-use crate::rivals::Rival;
+use crate::rivals::Candidate;
 use crate::table::SupportTable;
 use out_of_memory::NoMemory;
 use std::alloc::Global;
@@ -14,7 +14,7 @@ use support_bits::Support;
 /// affects speed alone.
 #[derive(Drop)]
 pub struct Least {
-    pub rivals: Vec<Rival>,
+    pub rivals: Vec<Candidate>,
     pub doubled: Vec<bool>,
     pub hint: usize,
 }
@@ -24,7 +24,7 @@ pub struct Least {
 fn one_inside(
     table: &SupportTable,
     outer: &Support,
-    rivals: &[Rival],
+    rivals: &[Candidate],
     place: usize,
     hint: usize,
 ) -> Option<usize>
@@ -46,11 +46,11 @@ fn one_inside(
 }
 
 /// Adds `rival`, which is not smaller than those before, unless a residual in `least` lies inside its own.
-fn note(
+fn record_minimal(
     table: &SupportTable,
     outer: &Support,
     least: &mut Least,
-    rival: Rival,
+    rival: Candidate,
 ) -> Result<(), NoMemory>
     requires outer { length outer.now ≡ table.now.columns }
     requires places { AreFound table.now.supports least.old.rivals.items }
@@ -74,11 +74,11 @@ fn note(
 }
 
 /// The candidates in `order` whose residual is minimal under inclusion; `order` is by size.
-pub fn least_of(
+pub fn minimal_candidates(
     alloc: Global,
     table: &SupportTable,
     outer: &Support,
-    order: &[Rival],
+    order: &[Candidate],
 ) -> Result<Least, NoMemory>
     requires outer { length outer.now ≡ table.now.columns }
     requires order { AreInOrder table.now.supports outer.now order.now }
@@ -90,7 +90,7 @@ pub fn least_of(
         hint: 0,
     };
     for rival in order {
-        note(table, outer, &mut least, *rival)?;
+        record_minimal(table, outer, &mut least, *rival)?;
     }
     Ok(least)
 }

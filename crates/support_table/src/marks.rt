@@ -3,7 +3,7 @@
 ghost use Rattle.std.specs.Prelude.{◌≡◌, ◌+◌, ◌/◌, ◌<◌, ◌↔◌, length, IsTrue, IfOk};
 ghost use Rattle.support_table.specs.Rivals.{AreFound, AddsBeside, AreMarks, IsHit, AreUnhit};
 
-use crate::rivals::Rival;
+use crate::rivals::Candidate;
 use crate::table::SupportTable;
 use out_of_memory::NoMemory;
 use std::alloc::Global;
@@ -26,7 +26,7 @@ pub fn marks_of(
     table: &SupportTable,
     outer: &Support,
     single: u64,
-    rivals: &[Rival],
+    rivals: &[Candidate],
 ) -> Result<Vec<u64>, NoMemory>
     requires columns { length outer.now ≡ table.now.columns }
     requires places { AreFound table.now.supports rivals.now }
@@ -43,7 +43,7 @@ pub fn marks_of(
 }
 
 /// Whether the residual of `rival` has more than one column, and a marked one.
-fn is_hit(table: &SupportTable, marks: &[u64], single: u64, rival: Rival) -> bool
+fn is_hit(table: &SupportTable, marks: &[u64], single: u64, rival: Candidate) -> bool
     requires place { rival.place < length table.now.supports }
     requires words { length marks.now ≡ (table.now.columns + 63) / 64 }
     ensures { IsTrue result ↔ IsHit table.now.supports marks.now single rival }
@@ -57,8 +57,8 @@ pub fn unhit(
     table: &SupportTable,
     marks: &[u64],
     single: u64,
-    rivals: &[Rival],
-) -> Result<Vec<Rival>, NoMemory>
+    rivals: &[Candidate],
+) -> Result<Vec<Candidate>, NoMemory>
     requires places { AreFound table.now.supports rivals.now }
     requires words { length marks.now ≡ (table.now.columns + 63) / 64 }
     ensures { IfOk result (λ left. AreUnhit table.now.supports marks.now single rivals.now left.items) }

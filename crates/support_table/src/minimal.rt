@@ -7,10 +7,10 @@ ghost use Rattle.support_table.specs.Residuals.{AreMinimal};
 ghost use Rattle.support_table.specs.Rivals.{AreCandidates, AreUnrepeated};
 
 use crate::counts::union_count;
-use crate::least::{Least, least_of};
+use crate::least::{Least, minimal_candidates};
 use crate::marks::{marks_of, unhit};
 use crate::ray_table::RayTable;
-use crate::rivals::{Rival, rivals_of};
+use crate::rivals::{Candidate, rivals_of};
 use out_of_memory::NoMemory;
 use std::alloc::Global;
 use support_bits::Support;
@@ -31,7 +31,7 @@ fn candidates(
     joined: &Support,
     own: usize,
     most: u64,
-) -> Result<Vec<Rival>, NoMemory>
+) -> Result<Vec<Candidate>, NoMemory>
     requires outer { length outer.now ≡ rays.now.columns }
     requires joined { length joined.now ≡ rays.now.columns }
     ensures { IfOk result (λ candidates. AreCandidates rays.now.supports outer.now joined.now own most candidates.items) }
@@ -44,7 +44,7 @@ fn candidates(
 }
 
 /// Sorts `rivals` by size.
-fn sort_by_size(rivals: &mut Vec<Rival>)
+fn sort_by_size(rivals: &mut Vec<Candidate>)
     ensures permutation { IsPermutation rivals.old.items rivals.new.items }
     ensures sorted { IsNonDecreasingBy (λ r. r.size) rivals.new.items }
 {
@@ -82,7 +82,7 @@ pub fn minimal_places(
 {
     let mut order = candidates(alloc, rays, outer, joined, own, most)?;
     sort_by_size(&mut order);
-    let least = least_of(alloc, rays.table(), outer, &order)?;
+    let least = minimal_candidates(alloc, rays.table(), outer, &order)?;
     let mut places = alone(alloc, &least)?;
     places.sort_unstable();
     Ok(places)

@@ -11,7 +11,7 @@ use support_bits::Support;
 
 /// The index of a candidate, and the number of columns in its union with the outer ray.
 #[derive(Clone, Copy)]
-pub struct Rival {
+pub struct Candidate {
     pub place: usize,
     pub size: u64,
 }
@@ -24,7 +24,7 @@ fn push_rival(
     own: usize,
     most: u64,
     place: usize,
-    rivals: &mut Vec<Rival>,
+    rivals: &mut Vec<Candidate>,
 ) -> Result<(), NoMemory>
     requires { length outer.now ≡ table.now.columns }
     ensures { OnOk result (IsRivalPushed table.now.supports outer.now own most place rivals.old.items rivals.new.items) }
@@ -32,7 +32,7 @@ fn push_rival(
     if place != own && place < table.len() {
         let size = table.union_count(place, outer);
         if size <= most {
-            rivals.push(Rival { place, size })?;
+            rivals.push(Candidate { place, size })?;
         }
     }
     Ok(())
@@ -46,7 +46,7 @@ fn push_rivals(
     most: u64,
     first: usize,
     word: u64,
-    rivals: &mut Vec<Rival>,
+    rivals: &mut Vec<Candidate>,
 ) -> Result<(), NoMemory>
     requires outer { length outer.now ≡ table.now.columns }
     requires room { first + 64 < 2 ^ 64 }
@@ -73,7 +73,7 @@ pub fn rivals_of(
     joined: &Support,
     own: usize,
     most: u64,
-) -> Result<Vec<Rival>, NoMemory>
+) -> Result<Vec<Candidate>, NoMemory>
     requires outer { length outer.now ≡ rays.now.columns }
     requires joined { length joined.now ≡ rays.now.columns }
     ensures { IfOk result (λ rivals. AreRivals rays.now.supports outer.now joined.now own most (length rays.now.supports) rivals.items) }

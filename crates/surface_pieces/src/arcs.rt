@@ -5,9 +5,9 @@ ghost use Rattle.surface_definitions.specs.Pieces as pieces;
 ghost use Rattle.surface_laws.specs.PieceLaws.{IsPieceOf};
 ghost use Rattle.surface_pieces.specs.Arcs.{IsOnlyArcOf, HasNoArc};
 
-use crate::columns::{Corner, SurfaceArc, first_nonzero_of};
-use crate::counts::Piece;
-use crate::surface::Surface;
+use crate::columns::{FaceCorner, SurfaceArc, first_nonzero_of};
+use crate::counts::NumberedDisc;
+use crate::surface::SmallSurface;
 use normal_discs::{keeping, octagon_arcs, partner, quad_column, tet_of, triangle_column, type_of};
 
 /// The column of the arcs after those of the triangles, and whether its discs have the vertex on the side of vertex 0.
@@ -29,7 +29,7 @@ fn number_from_end(entry: u32, place: u32, by_zero: bool) -> u32
     }
 }
 
-impl<'a> Surface<'a> {
+impl<'a> SmallSurface<'a> {
     /// The number of triangles around the vertex of `arc`.
     fn triangles(&self, arc: SurfaceArc) -> u32
         requires { arc.tet < length self.now.table.now }
@@ -57,20 +57,20 @@ impl<'a> Surface<'a> {
     }
 
     /// The normal disc that has `arc` on its boundary.
-    pub fn piece_of(&self, arc: SurfaceArc) -> Piece
+    pub fn piece_of(&self, arc: SurfaceArc) -> NumberedDisc
         requires { arc.tet < length self.now.table.now }
         ensures { result ≡ pieces.disc_of self.now.coords.system self.now.entries.now arc }
     {
         let triangles = self.triangles(arc);
         if arc.place < triangles {
-            return Piece {
+            return NumberedDisc {
                 column: triangle_column(self.coords, arc.tet, arc.vertex),
                 number: arc.place,
             };
         }
         let further = self.behind(arc);
         let entry = self.entries[further.column as usize];
-        Piece {
+        NumberedDisc {
             column: further.column,
             number: number_from_end(entry, arc.place - triangles, further.by_zero),
         }
@@ -88,13 +88,13 @@ impl<'a> Surface<'a> {
     }
 
     /// The arc of the disc `piece` around a vertex of a face, or `None` if it has none there.
-    pub fn arc_of(&self, piece: Piece, corner: Corner) -> Option<SurfaceArc>
+    pub fn arc_of(&self, piece: NumberedDisc, corner: FaceCorner) -> Option<SurfaceArc>
         requires { IsPieceOf self.now.entries.now piece }
         ensures some { IfSome result (IsOnlyArcOf self.now.coords.system self.now.entries.now piece corner.face corner.vertex) }
         ensures none { IfNone result (HasNoArc self.now.coords.system self.now.entries.now piece corner.face corner.vertex) }
     {
         let tet = tet_of(self.coords.system, piece.column);
-        let Corner { face, vertex } = corner;
+        let FaceCorner { face, vertex } = corner;
         let first = SurfaceArc {
             tet,
             face,

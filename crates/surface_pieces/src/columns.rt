@@ -9,7 +9,7 @@ use std::marker::Model;
 
 /// A vertex of a face. Invariant: `vertex` is not the one opposite `face`.
 #[derive(Clone, Copy)]
-pub struct Corner {
+pub struct FaceCorner {
     pub face: u8,
     pub vertex: u8,
     pub ghost a_face: { face < 4 },
@@ -41,7 +41,7 @@ fn slot_vertex(place: u32, slot: u32) -> u8
 
 /// The face and the vertex of `slot` for a disc, by the index of its column among those of its tetrahedron, or `None`
 /// if the disc has no such arc.
-pub fn corner_at(place: u32, slot: u32) -> Option<Corner>
+pub fn corner_at(place: u32, slot: u32) -> Option<FaceCorner>
     requires place { place < 10 }
     requires slot { slot < 8 }
     ensures some { IfSome result (λ corner. corner.face ≡ slot % 4 × corner.vertex ≡ slots.slot_vertex place slot) }
@@ -52,7 +52,7 @@ pub fn corner_at(place: u32, slot: u32) -> Option<Corner>
     if vertex == face {
         return None;
     }
-    Some(Corner { face, vertex })
+    Some(FaceCorner { face, vertex })
 }
 
 /// A normal arc: the one at position `place` around `vertex` in `face` of tetrahedron `tet`, counted from the vertex

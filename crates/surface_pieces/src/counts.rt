@@ -9,12 +9,12 @@ use std::marker::Model;
 
 /// A normal disc: its column, and its number among the discs of that column.
 #[derive(Clone, Copy)]
-pub struct Piece {
+pub struct NumberedDisc {
     pub column: u32,
     pub number: u32,
 }
 
-impl Model for Piece {
+impl Model for NumberedDisc {
     ghost use Rattle.surface_definitions.specs.Pieces as pieces;
 
     ghost Value = { pieces.NormalDisc };

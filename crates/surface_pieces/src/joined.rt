@@ -4,13 +4,13 @@ use std::marker::Model;
 
 /// The disc across an arc, and which signs are equal on both sides of it. Invariant: `piece` is at most 100,000.
 #[derive(Clone, Copy)]
-pub struct Joined {
+pub struct Adjacent {
     pub piece: u32,
     pub keeps_sides: bool,
     pub keeps_orientation: bool,
 }
 
-impl Model for Joined {
+impl Model for Adjacent {
     ghost use Rattle.std.specs.Prelude.{◌≤◌};
     ghost use Rattle.surface_vector_definitions.specs.Components.{most_pieces};
     ghost use Rattle.surface_pieces.specs.Across.{Across};

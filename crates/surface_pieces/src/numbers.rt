@@ -6,22 +6,22 @@ ghost use Rattle.surface_definitions.specs.Pieces as pieces;
 ghost use Rattle.surface_laws.specs.PieceLaws.{IsPieceOf};
 ghost use Rattle.surface_pieces.specs.Starts.{AreStarts};
 
-use crate::counts::Piece;
-use crate::surface::{NumberedPieces, Surface};
+use crate::counts::NumberedDisc;
+use crate::surface::{NumberedDiscs, SmallSurface};
 use std::alloc::{AllocError, Global};
 
 /// Appends the `entry` discs of `column`.
-fn append_column(listed: &mut Vec<Piece>, column: u32, entry: u32) -> Result<(), AllocError>
+fn append_column(listed: &mut Vec<NumberedDisc>, column: u32, entry: u32) -> Result<(), AllocError>
     ensures { OnOk result (listed.new.items ≡ listed.old.items ++ map (λ i. record { column = column; number = i }) (below entry)) }
 {
     for number in 0..entry {
-        listed.push(Piece { column, number })?;
+        listed.push(NumberedDisc { column, number })?;
     }
     Ok(())
 }
 
 /// For each column of `surface` the number of discs in the columns before it.
-pub fn starts_of(alloc: Global, surface: &Surface) -> Result<Vec<u32>, AllocError>
+pub fn starts_of(alloc: Global, surface: &SmallSurface) -> Result<Vec<u32>, AllocError>
     ensures { IfOk result (λ starts. AreStarts surface.now.entries.now starts.items) }
 {
     let mut starts = Vec::with_capacity(alloc, surface.entries.len())?;
@@ -34,7 +34,7 @@ pub fn starts_of(alloc: Global, surface: &Surface) -> Result<Vec<u32>, AllocErro
 }
 
 /// All discs of `surface`, by column and number.
-pub fn all_pieces(alloc: Global, surface: &Surface) -> Result<Vec<Piece>, AllocError>
+pub fn all_pieces(alloc: Global, surface: &SmallSurface) -> Result<Vec<NumberedDisc>, AllocError>
     ensures { IfOk result (λ listed. listed.items ≡ pieces.discs_of surface.now.entries.now) }
 {
     let mut listed = Vec::new(alloc);
@@ -44,9 +44,9 @@ pub fn all_pieces(alloc: Global, surface: &Surface) -> Result<Vec<Piece>, AllocE
     Ok(listed)
 }
 
-impl<'a> NumberedPieces<'a> {
+impl<'a> NumberedDiscs<'a> {
     /// The index of `piece` among all discs.
-    pub fn number_of(&self, piece: Piece) -> u32
+    pub fn number_of(&self, piece: NumberedDisc) -> u32
         requires { IsPieceOf self.now.surface.entries.now piece }
         ensures { result ≡ pieces.disc_number self.now.surface.entries.now piece }
     {

@@ -10,11 +10,11 @@ ghost use Rattle.surface_pieces.specs.ComponentLists.{no_component};
 ghost use Rattle.surface_pieces.specs.Slots.{slots_each};
 
 use crate::counts::{entries_of, total};
-use crate::joined::{Joined, SearchKind, SignKind};
+use crate::joined::{Adjacent, SearchKind, SignKind};
 use crate::numbers::{all_pieces, starts_of};
 use crate::rows::joined_rows;
 use crate::signs::signs_of;
-use crate::surface::{JoinedPieces, NumberedPieces, Surface};
+use crate::surface::{AdjacentDiscs, NumberedDiscs, SmallSurface};
 use crate::vectors::vectors_of;
 use normal_discs::{DiscCoords, has_octagons};
 use out_of_memory::Failure;
@@ -53,19 +53,22 @@ pub type PiecesFault = Failure<ManyPieces>;
 const MOST_PIECES: u128 = 100_000;
 
 /// The components of a surface, by rows of `N` slots.
-fn find_components<const N: usize>(alloc: Global, surface: &Surface) -> Result<Pieces, AllocError>
+fn find_components<const N: usize>(
+    alloc: Global,
+    surface: &SmallSurface,
+) -> Result<Pieces, AllocError>
     requires { N ≡ slots_each surface.now.coords.system }
     ensures { IfOk result (AreListedComponents surface.now.table.now surface.now.coords.system surface.now.entries.now) }
 {
     let starts = starts_of(alloc, surface)?;
     let listed = all_pieces(alloc, surface)?;
-    let pieces = NumberedPieces {
+    let pieces = NumberedDiscs {
         surface: *surface,
         listed: &listed,
         starts: &starts,
     };
-    let rows: Vec<[Option<Joined>; N]> = joined_rows(alloc, &pieces)?;
-    let joined = JoinedPieces {
+    let rows: Vec<[Option<Adjacent>; N]> = joined_rows(alloc, &pieces)?;
+    let joined = AdjacentDiscs {
         surface: *surface,
         rows: &rows,
     };
@@ -81,7 +84,7 @@ fn find_components<const N: usize>(alloc: Global, surface: &Surface) -> Result<P
 }
 
 /// The components of a surface, by rows that are as short as its coordinates allow.
-fn components_of(alloc: Global, surface: &Surface) -> Result<Pieces, AllocError>
+fn components_of(alloc: Global, surface: &SmallSurface) -> Result<Pieces, AllocError>
     ensures { IfOk result (AreListedComponents surface.now.table.now surface.now.coords.system surface.now.entries.now) }
 {
     if has_octagons(surface.coords.system) {
@@ -112,7 +115,7 @@ impl Pieces {
         }
         let entries = entries_of(alloc, x)?;
         let coords = DiscCoords { system: coords };
-        let surface = Surface {
+        let surface = SmallSurface {
             table: skeleton.table(),
             coords,
             entries: &entries,

@@ -8,13 +8,13 @@ ghost use Rattle.surface_pieces.specs.Searches.{HasClasses};
 ghost use Rattle.surface_pieces.specs.Readings as readings;
 ghost use Rattle.surface_pieces.specs.Readings.{IsReadRow, AreReadRows};
 
-use crate::joined::{Joined, SearchKind, SignKind};
-use crate::surface::JoinedPieces;
+use crate::joined::{Adjacent, SearchKind, SignKind};
+use crate::surface::AdjacentDiscs;
 use finite_walks::{Numbering, classes};
 use std::alloc::{AllocError, Global};
 
 /// Whether the sign of kind `signs` is equal on both sides of an arc.
-fn keeps(signs: SignKind, joined: Joined) -> bool
+fn keeps(signs: SignKind, joined: Adjacent) -> bool
     ensures { result ≡ readings.keeps signs joined }
 {
     match signs {
@@ -24,7 +24,7 @@ fn keeps(signs: SignKind, joined: Joined) -> bool
 }
 
 /// The number of the neighbour of `number`: of a disc, or of a disc with its sign.
-fn number_across(kind: SearchKind, number: u32, joined: Joined) -> u32
+fn number_across(kind: SearchKind, number: u32, joined: Adjacent) -> u32
     ensures { result ≡ readings.read_across kind number joined }
 {
     let SearchKind::Signed(signs) = kind else {
@@ -38,7 +38,7 @@ fn number_across(kind: SearchKind, number: u32, joined: Joined) -> u32
 }
 
 /// As `number_across`, if there is a neighbour `joined`.
-fn number_at(kind: SearchKind, number: u32, joined: Option<Joined>) -> Option<u32>
+fn number_at(kind: SearchKind, number: u32, joined: Option<Adjacent>) -> Option<u32>
     ensures { result ≡ readings.read_at kind number joined }
 {
     let across = joined?;
@@ -47,7 +47,7 @@ fn number_at(kind: SearchKind, number: u32, joined: Option<Joined>) -> Option<u3
 
 /// The neighbours of `number`, by the row `joined` of its disc.
 fn row_of<const N: usize>(
-    joined: &[Option<Joined>; N],
+    joined: &[Option<Adjacent>; N],
     kind: SearchKind,
     number: u32,
 ) -> [Option<u32>; N]
@@ -70,7 +70,7 @@ fn piece_in(kind: SearchKind, number: usize) -> usize
     }
 }
 
-impl<'a, const N: usize> JoinedPieces<'a, N> {
+impl<'a, const N: usize> AdjacentDiscs<'a, N> {
     /// The number of numbers in a search of kind `kind`.
     fn numbers(&self, kind: SearchKind) -> usize
         ensures value { result ≡ searches.numbers kind (length self.now.rows.now) }

@@ -7,7 +7,7 @@ ghost use Rattle.surface_pieces.specs.Joinings.{AreJoined};
 ghost use Rattle.surface_pieces.specs.Searches.{IsFree, AreSigned};
 
 use crate::joined::{SearchKind, SignKind};
-use crate::surface::JoinedPieces;
+use crate::surface::AdjacentDiscs;
 use finite_walks::Numbering;
 use std::alloc::{AllocError, Global};
 
@@ -44,7 +44,7 @@ fn free_components(
 /// For each of `components` whether signs of kind `signs` exist on it.
 pub fn signs_of<const N: usize>(
     alloc: Global,
-    joined: &JoinedPieces<N>,
+    joined: &AdjacentDiscs<N>,
     components: &Numbering,
     signs: SignKind,
 ) -> Result<Vec<bool>, AllocError>

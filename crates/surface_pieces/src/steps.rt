@@ -7,10 +7,10 @@ ghost use Rattle.surface_pieces.specs.Meetings.{IsMeetingAt, HasNoMeeting};
 ghost use Rattle.surface_pieces.specs.Joinings.{IsJoinedAt};
 ghost use Rattle.surface_pieces.specs.Slots.{vertex_of_slot};
 
-use crate::columns::{Corner, SurfaceArc, corner_at};
-use crate::counts::Piece;
-use crate::joined::Joined;
-use crate::surface::{NumberedPieces, Surface};
+use crate::columns::{FaceCorner, SurfaceArc, corner_at};
+use crate::counts::NumberedDisc;
+use crate::joined::Adjacent;
+use crate::surface::{NumberedDiscs, SmallSurface};
 use gluing_table::{Face, Glue};
 use normal_discs::place_of;
 
@@ -34,9 +34,9 @@ pub struct Meeting {
     pub odd: bool,
 }
 
-impl<'a> Surface<'a> {
+impl<'a> SmallSurface<'a> {
     /// The arc of `piece` around a vertex of a face, if it has one there and the face is glued.
-    fn meeting_at(&self, piece: Piece, corner: Corner) -> Option<Meeting>
+    fn meeting_at(&self, piece: NumberedDisc, corner: FaceCorner) -> Option<Meeting>
         requires { IsPieceOf self.now.entries.now piece }
         ensures some { IfSome result (λ m. IsMeetingAt self.now.table.now self.now.coords.system self.now.entries.now piece corner.face corner.vertex m.arc m.other m.odd) }
         ensures none { IfNone result (HasNoMeeting self.now.table.now self.now.coords.system self.now.entries.now piece corner.face corner.vertex) }
@@ -54,10 +54,10 @@ impl<'a> Surface<'a> {
     }
 }
 
-impl<'a> NumberedPieces<'a> {
+impl<'a> NumberedDiscs<'a> {
     /// The neighbour of `piece` across its arc of `slot`, or `None` if it has no such arc or the arc is in a boundary
     /// face.
-    pub fn joined_at(&self, piece: Piece, slot: u32) -> Option<Joined>
+    pub fn joined_at(&self, piece: NumberedDisc, slot: u32) -> Option<Adjacent>
         requires piece { IsPieceOf self.now.surface.entries.now piece }
         requires a_slot { slot < 8 }
         ensures some { IfSome result (IsJoinedAt self.now.surface.table.now self.now.surface.coords.system self.now.surface.entries.now piece (slot % 4) (vertex_of_slot self.now.surface.coords.system piece slot)) }
@@ -70,7 +70,7 @@ impl<'a> NumberedPieces<'a> {
         let from = self.surface.looks_positive(meeting.arc);
         let to = self.surface.looks_positive(meeting.other);
         let keeps_sides = from == to;
-        Some(Joined {
+        Some(Adjacent {
             piece: self.number_of(other),
             keeps_sides,
             keeps_orientation: meeting.odd == keeps_sides,

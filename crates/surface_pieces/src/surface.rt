@@ -8,14 +8,14 @@ ghost use Rattle.surface_vector_definitions.specs.Components.{most_pieces};
 ghost use Rattle.surface_laws.specs.PieceLaws.{IsSurface};
 ghost use Rattle.surface_pieces.specs.Starts.{AreStarts};
 
-use crate::counts::Piece;
-use crate::joined::Joined;
+use crate::counts::NumberedDisc;
+use crate::joined::Adjacent;
 use gluing_table::Table;
 use normal_discs::DiscCoords;
 
 /// A surface in a table with at most 100,000 discs, by the entries of its vector.
 #[derive(Clone, Copy)]
-pub struct Surface<'a> {
+pub struct SmallSurface<'a> {
     pub table: &'a Table,
     pub coords: DiscCoords,
     pub entries: &'a [u32],
@@ -27,9 +27,9 @@ pub struct Surface<'a> {
 
 /// The discs of a surface in order, and for each column the number of discs in the columns before it.
 #[derive(Clone, Copy)]
-pub struct NumberedPieces<'a> {
-    pub surface: Surface<'a>,
-    pub listed: &'a [Piece],
+pub struct NumberedDiscs<'a> {
+    pub surface: SmallSurface<'a>,
+    pub listed: &'a [NumberedDisc],
     pub starts: &'a [u32],
     pub ghost all: { listed.now ≡ discs_of surface.entries.now },
     pub ghost counted: { AreStarts surface.entries.now starts.now },
@@ -37,9 +37,9 @@ pub struct NumberedPieces<'a> {
 
 /// The neighbours of each disc of a surface, by the slots of its arcs.
 #[derive(Clone, Copy)]
-pub struct JoinedPieces<'a, const N: usize> {
-    pub surface: Surface<'a>,
-    pub rows: &'a [[Option<Joined>; N]],
+pub struct AdjacentDiscs<'a, const N: usize> {
+    pub surface: SmallSurface<'a>,
+    pub rows: &'a [[Option<Adjacent>; N]],
     pub ghost few: { length rows.now ≤ most_pieces },
     pub ghost few_slots: { N ≤ 8 },
 }

@@ -4,7 +4,7 @@ ghost use Rattle.std.specs.Prelude.{◌≡◌, ◌+◌, ◌<◌, ◌^◌, ℕ, l
 ghost use Rattle.surface_vector_definitions.specs.Entries.{all_entries};
 ghost use Rattle.surface_pieces.specs.Vectors.{AreVectors};
 
-use crate::surface::NumberedPieces;
+use crate::surface::NumberedDiscs;
 use std::alloc::{AllocError, Global};
 
 /// `count` vectors of `columns` zeros.
@@ -30,7 +30,7 @@ fn count_piece(vector: &mut [u128], column: u32)
 /// For each of `count` components its number of discs in each column. `components` has the component of each disc.
 pub fn vectors_of(
     alloc: Global,
-    pieces: &NumberedPieces,
+    pieces: &NumberedDiscs,
     components: &[u32],
     count: u32,
 ) -> Result<Vec<Vec<u128>>, AllocError>

@@ -17,7 +17,7 @@ use surface_vector_definitions::{Properties, PropertyFault, SurfaceSum};
 use text_io::LIMIT;
 
 /// Whether `column` is that of a quad or an octagon and its entry in `x` is nonzero.
-fn has_others(coords: Coords, x: &[u128], column: usize) -> bool
+fn is_quad_or_octagon_entry(coords: Coords, x: &[u128], column: usize) -> bool
     requires { column < length x.now }
     ensures some { IsTrue result → is_quad_or_octagon coords column ≡ true × (0 < slice_index x.now column) }
     ensures none { result ≡ false → is_quad_or_octagon coords column ≡ true → slice_index x.now column ≡ 0 }
@@ -31,7 +31,7 @@ pub fn is_linking(coords: Coords, x: &[u128]) -> bool
     ensures { result ≡ characteristic.is_linking coords x.now }
 {
     for column in 0..x.len() {
-        if has_others(coords, x, column) {
+        if is_quad_or_octagon_entry(coords, x, column) {
             return false;
         }
     }

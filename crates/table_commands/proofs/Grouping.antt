@@ -10,16 +10,16 @@ use Rattle.signature_definitions.specs.Spelling.{IsSignature}
 use Rattle.signature_definitions.specs.Census.{table_in, IsCensus, IsClassed}
 use Rattle.signature_definitions.proofs.CensusLaws.{census_goes_on}
 use Rattle.signature_laws.proofs.Uniqueness.{tells_tables}
-use Rattle.table_commands.specs.declared.groups.NotConnected.{NotConnected}
+use Rattle.table_commands.specs.declared.groups.DisconnectedTable.{DisconnectedTable}
 use Rattle.table_commands.specs.declared.groups.Groups.{Groups}
 use Rattle.table_commands.specs.Groups.{AreConnected, AreClassed, IsFirstFound, AreGroupedBy, AreGrouped}
 
-classed_where : (tables : List (List Row)) (classes : List ℕ) (signatures : List (List ℕ)) (found : Option NotConnected) → found ≡ None
+classed_where : (tables : List (List Row)) (classes : List ℕ) (signatures : List (List ℕ)) (found : Option DisconnectedTable) → found ≡ None
     → AreGroupedBy tables classes signatures found → AreClassed tables classes signatures
 classed_where tables classes signatures None e h = h
 classed_where tables classes signatures (Some f) e h = absurd cc
 
-where_classed : (tables : List (List Row)) (classes : List ℕ) (signatures : List (List ℕ)) (found : Option NotConnected) → found ≡ None
+where_classed : (tables : List (List Row)) (classes : List ℕ) (signatures : List (List ℕ)) (found : Option DisconnectedTable) → found ≡ None
     → AreClassed tables classes signatures → AreGroupedBy tables classes signatures found
 where_classed tables classes signatures None e h = h
 where_classed tables classes signatures (Some f) e h = absurd cc
@@ -91,7 +91,7 @@ module _ (tables : List (List Row)) (a : List Row) where
       place = let n = so_far.census.numbering.one_each in omega (arith, before.classes.ok.0)
 
   -- behind it nothing more is to be known
-  pub still_found : (before : Groups) (found : NotConnected) → before.found ≡ Some found → IsTable a → AreGrouped tables before → AreGrouped more before
+  pub still_found : (before : Groups) (found : DisconnectedTable) → before.found ≡ Some found → IsTable a → AreGrouped tables before → AreGrouped more before
   still_found before found e table g = record {
     are_tables = each_more IsTable g.are_tables table;
     few_classes = let few = g.few_classes in omega (arith, one_more);

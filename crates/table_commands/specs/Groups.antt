@@ -6,7 +6,7 @@ use Rattle.table_definitions.specs.Places.{IsConnected, IsLeastUnreached}
 use Rattle.signature_definitions.specs.declared.InputFault.{InputFault}
 use Rattle.signature_definitions.specs.declared.InputFault.TheVariants.{NoMemory}
 use Rattle.signature_definitions.specs.Census.{table_in, IsCensus}
-use Rattle.table_commands.specs.declared.groups.NotConnected.{NotConnected}
+use Rattle.table_commands.specs.declared.groups.DisconnectedTable.{DisconnectedTable}
 use Rattle.table_commands.specs.declared.groups.Groups.{Groups}
 
 -- the first k tables are connected
@@ -19,12 +19,12 @@ pub record AreClassed (tables : List (List Row)) (classes : List ℕ) (signature
   pub census : IsCensus tables classes signatures
 
 -- the first disconnected table, and its least tetrahedron not reached from tetrahedron 0
-pub record IsFirstFound (tables : List (List Row)) (found : NotConnected) : Type 0 where
+pub record IsFirstFound (tables : List (List Row)) (found : DisconnectedTable) : Type 0 where
   pub in_range : found.table < length tables
   pub before : AreConnected tables found.table
   pub unreached : IsLeastUnreached (table_in tables found.table) found.tet
 
-abbrev pub AreGroupedBy : List (List Row) → List ℕ → List (List ℕ) → Option NotConnected → Type 0
+abbrev pub AreGroupedBy : List (List Row) → List ℕ → List (List ℕ) → Option DisconnectedTable → Type 0
 AreGroupedBy tables classes signatures None = AreClassed tables classes signatures
 AreGroupedBy tables classes signatures (Some found) = IsFirstFound tables found
 

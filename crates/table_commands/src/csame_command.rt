@@ -14,7 +14,7 @@ use out_of_memory::NoMemory;
 use std::alloc::Global;
 
 /// The outcome for the tables `first` and `second`.
-fn answer(alloc: Global, first: &Table, second: &Table) -> Result<Outcome, NoMemory>
+fn run_csame(alloc: Global, first: &Table, second: &Table) -> Result<Outcome, NoMemory>
     ensures { IfOk result (IsSamePartsAnswer (first.now, second.now)) }
 {
     match same_parts(alloc, first, second)? {
@@ -30,6 +30,6 @@ pub fn csame(alloc: Global, bytes: &[u8]) -> Result<Outcome, NoMemory>
     ensures answer { IfOk result (IsReadOutcome (two_tables_document bytes.now) IsSamePartsAnswer) }
 {
     answer_read(alloc, read_two_tables(alloc, bytes), |tables| {
-        answer(alloc, &tables.first, &tables.second)
+        run_csame(alloc, &tables.first, &tables.second)
     })
 }

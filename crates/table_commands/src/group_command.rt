@@ -10,7 +10,7 @@ ghost use Rattle.outcome_definitions.specs.Canonical as canonical;
 ghost use Rattle.outcome_definitions.specs.Canonical.{done, IsGroupAnswer};
 ghost use Rattle.table_commands.specs.Groups.{AreGrouped};
 
-use crate::groups::{Groups, NotConnected, read_groups_document};
+use crate::groups::{DisconnectedTable, Groups, read_groups_document};
 use command_answers::{Outcome, fault_outcome, not_connected_outcome};
 use out_of_memory::NoMemory;
 use outcome_definitions::Status;
@@ -78,7 +78,7 @@ fn census_text(alloc: Global, classes: &[u32], census: &Census) -> Result<Vec<u8
 }
 
 /// The outcome for `classes` and their `census`.
-fn outcome_of(alloc: Global, classes: &[u32], census: &Census) -> Result<Outcome, NoMemory>
+fn outcome_of_classes(alloc: Global, classes: &[u32], census: &Census) -> Result<Outcome, NoMemory>
     ensures { IfOk result (λ o. o ≡ done (canonical.census_text classes.now census.now)) }
 {
     let text = census_text(alloc, classes, census)?;
@@ -86,12 +86,12 @@ fn outcome_of(alloc: Global, classes: &[u32], census: &Census) -> Result<Outcome
 }
 
 /// The outcome for the tables of `groups`.
-fn answer(alloc: Global, groups: &Groups) -> Result<Outcome, NoMemory>
+fn run_group(alloc: Global, groups: &Groups) -> Result<Outcome, NoMemory>
     ensures { IfOk result (λ o. (tables : List (List Row)) → AreGrouped tables groups.now → IsGroupAnswer tables o) }
 {
     match groups.found {
-        Some(NotConnected { table, tet }) => not_connected_outcome(alloc, table, tet),
-        None => outcome_of(alloc, &groups.classes, &groups.census),
+        Some(DisconnectedTable { table, tet }) => not_connected_outcome(alloc, table, tet),
+        None => outcome_of_classes(alloc, &groups.classes, &groups.census),
     }
 }
 
@@ -102,7 +102,7 @@ pub fn group(alloc: Global, bytes: &[u8]) -> Result<Outcome, NoMemory>
     ensures { IfOk result (IsReadOutcome (tables_document bytes.now) IsGroupAnswer) }
 {
     match read_groups_document(alloc, bytes) {
-        Ok(groups) => answer(alloc, &groups),
+        Ok(groups) => run_group(alloc, &groups),
         Err(fault) => fault_outcome(alloc, fault),
     }
 }

@@ -15,7 +15,7 @@ use text_io::Lexer;
 
 /// A disconnected table, counted from 0, with its least tetrahedron not reached from tetrahedron 0.
 #[derive(Clone, Copy)]
-pub struct NotConnected {
+pub struct DisconnectedTable {
     pub table: u32,
     pub tet: u32,
 }
@@ -26,7 +26,7 @@ pub struct NotConnected {
 pub struct Groups {
     pub census: Census,
     pub classes: Vec<u32>,
-    pub found: Option<NotConnected>,
+    pub found: Option<DisconnectedTable>,
 }
 
 /// No tables.
@@ -55,7 +55,7 @@ fn classify(groups: &mut Groups, table: &Table) -> Result<(), NoMemory>
         Err(Failure::Fault(fault)) => {
             let table = groups.classes.len() as u32;
             let tet = fault.tet;
-            groups.found = Some(NotConnected { table, tet });
+            groups.found = Some(DisconnectedTable { table, tet });
             Ok(())
         }
         Err(Failure::NoMemory) => Err(NoMemory),

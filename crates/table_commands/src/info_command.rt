@@ -35,7 +35,7 @@ fn is_orientable(skeleton: &Skeleton) -> bool
 }
 
 /// The outcome for the table of `skeleton`.
-fn answer_by(alloc: Global, skeleton: &Skeleton) -> Result<Outcome, NoMemory>
+fn run_info_on_skeleton(alloc: Global, skeleton: &Skeleton) -> Result<Outcome, NoMemory>
     ensures { IfOk result (IsInformationAnswer skeleton.now.rows) }
 {
     let links = links(alloc, skeleton)?;
@@ -53,11 +53,11 @@ fn answer_by(alloc: Global, skeleton: &Skeleton) -> Result<Outcome, NoMemory>
 }
 
 /// The outcome for `table`.
-fn answer(alloc: Global, table: &Table) -> Result<Outcome, NoMemory>
+fn run_info(alloc: Global, table: &Table) -> Result<Outcome, NoMemory>
     ensures { IfOk result (IsInformationAnswer table.now) }
 {
     let skeleton = Skeleton::of(alloc, table)?;
-    answer_by(alloc, &skeleton)
+    run_info_on_skeleton(alloc, &skeleton)
 }
 
 /// The outcome of `info` for the input `bytes`, a table: its counts, its vertex and edge classes and the vertex links;
@@ -69,6 +69,6 @@ pub fn info(alloc: Global, bytes: &[u8]) -> Result<Outcome, NoMemory>
     answer_read(
         alloc,
         read_table_document(alloc, bytes),
-        |table| answer(alloc, &table),
+        |table| run_info(alloc, &table),
     )
 }

@@ -73,7 +73,7 @@ pub fn relabelling_outcome(alloc: Global, tets: u32, by: &Relabelling) -> Result
 }
 
 /// The outcome for the tables `first` and `second`.
-fn answer(alloc: Global, first: &Table, second: &Table) -> Result<Outcome, NoMemory>
+fn run_same(alloc: Global, first: &Table, second: &Table) -> Result<Outcome, NoMemory>
     ensures { IfOk result (IsSameAnswer (first.now, second.now)) }
 {
     match least_relabelling(alloc, first, second) {
@@ -92,6 +92,6 @@ pub fn same(alloc: Global, bytes: &[u8]) -> Result<Outcome, NoMemory>
     ensures { IfOk result (IsReadOutcome (two_tables_document bytes.now) IsSameAnswer) }
 {
     answer_read(alloc, read_two_tables(alloc, bytes), |tables| {
-        answer(alloc, &tables.first, &tables.second)
+        run_same(alloc, &tables.first, &tables.second)
     })
 }

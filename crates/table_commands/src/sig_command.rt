@@ -14,7 +14,7 @@ use out_of_memory::{Failure, NoMemory};
 use std::alloc::Global;
 
 /// The outcome for `table`.
-fn answer(alloc: Global, table: &Table) -> Result<Outcome, NoMemory>
+fn run_sig(alloc: Global, table: &Table) -> Result<Outcome, NoMemory>
     ensures { IfOk result (IsSignatureAnswer table.now) }
 {
     match signature(alloc, table) {
@@ -33,6 +33,6 @@ pub fn sig(alloc: Global, bytes: &[u8]) -> Result<Outcome, NoMemory>
     answer_read(
         alloc,
         read_table_document(alloc, bytes),
-        |table| answer(alloc, &table),
+        |table| run_sig(alloc, &table),
     )
 }

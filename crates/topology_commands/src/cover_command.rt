@@ -17,7 +17,7 @@ use std::alloc::Global;
 use text_io::append;
 
 /// The outcome for `cover`.
-fn outcome_of(alloc: Global, cover: &Cover) -> Result<Outcome, NoMemory>
+fn outcome_of_cover(alloc: Global, cover: &Cover) -> Result<Outcome, NoMemory>
     ensures { IfOk result (IsCoverAnswered cover.now) }
 {
     let connected = cover.table().is_connected(alloc)?;
@@ -36,22 +36,22 @@ fn too_many(alloc: Global) -> Result<Outcome, NoMemory>
 }
 
 /// The outcome for the table of `skeleton`.
-fn answer_by_skeleton(alloc: Global, skeleton: &Skeleton) -> Result<Outcome, NoMemory>
+fn run_cover_on_skeleton(alloc: Global, skeleton: &Skeleton) -> Result<Outcome, NoMemory>
     ensures { IfOk result (IsCoverAnswer skeleton.now.rows) }
 {
     match Cover::of(alloc, skeleton) {
-        Ok(cover) => outcome_of(alloc, &cover),
+        Ok(cover) => outcome_of_cover(alloc, &cover),
         Err(Failure::Fault(_)) => too_many(alloc),
         Err(Failure::NoMemory) => Err(NoMemory),
     }
 }
 
 /// The outcome for `table`.
-fn answer(alloc: Global, table: &Table) -> Result<Outcome, NoMemory>
+fn run_cover(alloc: Global, table: &Table) -> Result<Outcome, NoMemory>
     ensures { IfOk result (IsCoverAnswer table.now) }
 {
     let skeleton = Skeleton::of(alloc, table)?;
-    answer_by_skeleton(alloc, &skeleton)
+    run_cover_on_skeleton(alloc, &skeleton)
 }
 
 /// The outcome of `cover` for the input `bytes`, a table: its orientable double cover, or a refusal.
@@ -62,6 +62,6 @@ pub fn cover(alloc: Global, bytes: &[u8]) -> Result<Outcome, NoMemory>
     answer_read(
         alloc,
         read_table_document(alloc, bytes),
-        |table| answer(alloc, &table),
+        |table| run_cover(alloc, &table),
     )
 }

@@ -20,7 +20,7 @@ use skeleton::Skeleton;
 use std::alloc::Global;
 
 /// The outcome for the presentation `group`.
-fn outcome_of(alloc: Global, group: &Group) -> Result<Outcome, NoMemory>
+fn outcome_of_group(alloc: Global, group: &Group) -> Result<Outcome, NoMemory>
     ensures { IfOk result (λ o. o ≡ done (presented.presentation_text group.now.presentation)) }
 {
     let text = presentation_text(alloc, group)?;
@@ -28,12 +28,12 @@ fn outcome_of(alloc: Global, group: &Group) -> Result<Outcome, NoMemory>
 }
 
 /// The outcome for the table of `skeleton`.
-fn answer_by(alloc: Global, skeleton: &Skeleton) -> Result<Outcome, NoMemory>
+fn run_pi1(alloc: Global, skeleton: &Skeleton) -> Result<Outcome, NoMemory>
     requires { IsSkeleton skeleton.now }
     ensures { IfOk result (IsPresentationAnswer skeleton.now.rows) }
 {
     match Group::of(alloc, skeleton) {
-        Ok(group) => outcome_of(alloc, &group),
+        Ok(group) => outcome_of_group(alloc, &group),
         Err(Failure::Fault(GroupFault::NotConnected { tet })) => {
             not_connected_outcome(alloc, 0, tet)
         }
@@ -51,6 +51,6 @@ pub fn pi1(alloc: Global, bytes: &[u8]) -> Result<Outcome, NoMemory>
 {
     answer_read(alloc, read_table_document(alloc, bytes), |table| {
         let skeleton = Skeleton::of(alloc, &table)?;
-        answer_by(alloc, &skeleton)
+        run_pi1(alloc, &skeleton)
     })
 }

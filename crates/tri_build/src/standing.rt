@@ -14,14 +14,14 @@ use std::marker::Model;
 /// The inverse move of a step, the number of tetrahedra that it retains, the facets that it removes, and its label that
 /// corresponds to each label of the step. Invariant: `kept` is at most `MAX_TETS`, and each label is below 5.
 #[derive(Drop)]
-pub struct Back {
+pub struct InverseMove {
     pub played: Move,
     pub kept: u32,
     pub pattern: Pattern,
     pub labels: [u8; 5],
 }
 
-impl Model for Back {
+impl Model for InverseMove {
     ghost use Rattle.std.specs.Prelude.{◌<◌, ◌≤◌, All};
     ghost use Rattle.table_definitions.specs.Table.{max_tets};
     ghost use Rattle.tri_build.specs.Standing as standing;
@@ -33,7 +33,7 @@ impl Model for Back {
     ghost invariant = { λ b. (b.kept ≤ max_tets) × All (λ l. l < 5) b.labels };
 }
 
-impl Back {
+impl InverseMove {
     /// The label of the inverse move that corresponds to `label` of the step.
     fn label_of(&self, label: Label) -> Label
         ensures { result.number ≡ slice_index self.now.labels label.number }
@@ -56,7 +56,7 @@ fn vertex_without(missing: Label, label: Label) -> u8
 }
 
 /// The image of tetrahedron `tet`, which the step retained.
-fn retained_stands(step: &PlayedMove, back: &Back, on: &Relabelling, tet: u32) -> Glue
+fn retained_stands(step: &PlayedMove, back: &InverseMove, on: &Relabelling, tet: u32) -> Glue
     requires { number_without step.now.facets tet < length on.now.images }
     ensures { result ≡ retained_stands step.now back.now on.now tet }
 {
@@ -68,14 +68,14 @@ fn retained_stands(step: &PlayedMove, back: &Back, on: &Relabelling, tet: u32) -
 }
 
 /// The image of the vertex with label `label` in the facet that the inverse move adds for `missing`.
-fn vertex_back(back: &Back, missing: Label, label: Label) -> u8
+fn vertex_back(back: &InverseMove, missing: Label, label: Label) -> u8
     ensures { result ≡ preimage (put_in 0 (slice_index back.now.labels missing.number)).labels (slice_index back.now.labels label.number) }
 {
     vertex_without(back.label_of(missing), back.label_of(label))
 }
 
 /// The image of the facet `f`, which the step removed.
-fn facet_stands(back: &Back, f: Facet) -> Glue
+fn facet_stands(back: &InverseMove, f: Facet) -> Glue
     requires { CanStand back.now f }
     ensures { result ≡ facet_stands back.now f }
 {
@@ -97,7 +97,7 @@ fn facet_stands(back: &Back, f: Facet) -> Glue
 
 /// The image of tetrahedron `tet`, from before `step`, in the table after the inverse move `back`. `on` carries the
 /// table after the step to the one on which `back` is played.
-pub fn stands_at(step: &PlayedMove, back: &Back, on: &Relabelling, tet: u32) -> Glue
+pub fn stands_at(step: &PlayedMove, back: &InverseMove, on: &Relabelling, tet: u32) -> Glue
     requires { CanStandAt step.now back.now on.now tet }
     ensures { result ≡ stands_at step.now back.now on.now tet }
 {

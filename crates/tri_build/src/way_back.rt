@@ -11,7 +11,7 @@ ghost use Rattle.tri_build.specs.Standing.{IsBack, IsImageRelabelling};
 
 use crate::carrying::move_under;
 use crate::labels::labels_back;
-use crate::standing::{Back, stands_at};
+use crate::standing::{InverseMove, stands_at};
 use crate::steps::PlayedMove;
 use gluing_table::{Relabelling, Table};
 use out_of_memory::NoMemory;
@@ -24,7 +24,7 @@ use std::alloc::Global;
 fn carry_back(
     alloc: Global,
     step: &PlayedMove,
-    back: &Back,
+    back: &InverseMove,
     on: &Relabelling,
 ) -> Result<Relabelling, NoMemory>
     requires { (by : labels.Relabelling) × IsImageRelabelling step.now back.now on.now by }
@@ -41,13 +41,13 @@ fn carry_back(
 }
 
 /// The inverse move of a step, carried by `on`, with what it removes.
-fn back_of(step: &PlayedMove, now: &Table, on: &Relabelling) -> Back
+fn back_of(step: &PlayedMove, now: &Table, on: &Relabelling) -> InverseMove
     requires { CanGoBack step.now now.now on.now }
     ensures { IsBack step.now now.now on.now result }
 {
     let played = move_under(on, step.inverse());
     match legal(now, played) {
-        Ok(pattern) => Back {
+        Ok(pattern) => InverseMove {
             played,
             kept: retained(now.len(), played.core),
             pattern,
@@ -60,13 +60,13 @@ fn back_of(step: &PlayedMove, now: &Table, on: &Relabelling) -> Back
 /// The inverse moves so far, the table to which they led, and the relabelling that carries to it the table after the
 /// steps that are left.
 #[derive(Drop)]
-struct WayBack {
+struct InverseMoves {
     now: Table,
     on: Relabelling,
     moves: Vec<Move>,
 }
 
-impl WayBack {
+impl InverseMoves {
     /// Plays the inverse move of `step`.
     fn go_back(&mut self, alloc: Global, step: &PlayedMove) -> Result<(), NoMemory>
         requires { CanGoBack step.now self.old.now self.old.on }
@@ -108,7 +108,7 @@ pub fn way_back(
     requires { (first : List Row) × AreSteps first steps.items table.now }
     ensures { IfOk result (λ moves. (first : List Row) → AreSteps first steps.items table.now → (end : List Row) × (by : labels.Relabelling) × AreCarriedBack first (moves_of steps.items) table.now moves.items end by) }
 {
-    let mut way = WayBack {
+    let mut way = InverseMoves {
         now: table.copy(alloc)?,
         on: staying(alloc, table)?,
         moves: Vec::new(alloc),

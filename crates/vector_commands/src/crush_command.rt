@@ -19,7 +19,7 @@ use surface_refusals::check;
 use surface_vector_definitions::Refusal;
 
 /// The outcome for `table` and an admissible solution.
-fn outcome_of(alloc: Global, table: &Table, x: &[u128]) -> Result<Outcome, NoMemory>
+fn outcome_of_crushing(alloc: Global, table: &Table, x: &[u128]) -> Result<Outcome, NoMemory>
     requires { length x.now ≡ columns Standard (length table.now) }
     ensures { IfOk result (IsCrushOutcome table.now x.now) }
 {
@@ -30,12 +30,12 @@ fn outcome_of(alloc: Global, table: &Table, x: &[u128]) -> Result<Outcome, NoMem
 }
 
 /// The outcome for `table` and `x`.
-fn answer(alloc: Global, table: &Table, x: &[u128]) -> Result<Outcome, NoMemory>
+fn run_crush(alloc: Global, table: &Table, x: &[u128]) -> Result<Outcome, NoMemory>
     ensures { IfOk result (IsCrushAnswer (table.now, x.now)) }
 {
     let system = equations_of_table(alloc, table, Coords::Standard)?;
     match check(Coords::Standard, table, &system, x) {
-        Ok(()) => outcome_of(alloc, table, x),
+        Ok(()) => outcome_of_crushing(alloc, table, x),
         Err(fault) => refusal_outcome(alloc, 0, Refusal::Unfit { fault }),
     }
 }
@@ -47,6 +47,6 @@ pub fn crush(alloc: Global, bytes: &[u8]) -> Result<Outcome, NoMemory>
     ensures { IfOk result (IsReadOutcome (vector_document bytes.now) IsCrushAnswer) }
 {
     answer_read(alloc, read_table_and_vector(alloc, bytes), |document| {
-        answer(alloc, &document.table, &document.vector)
+        run_crush(alloc, &document.table, &document.vector)
     })
 }

@@ -82,7 +82,7 @@ impl<'a> Matching<'a> {
     }
 
     /// Appends the lines of the vector `x` to `text`. Fails if it is refused.
-    fn append_vector(
+    fn append_vector_with_description(
         &self,
         alloc: Global,
         x: &[u128],
@@ -112,7 +112,7 @@ impl<'a> Matching<'a> {
     {
         let mut text = Vec::new(alloc);
         for v in 0..vectors.len() {
-            match self.append_vector(alloc, &vectors[v], &mut text) {
+            match self.append_vector_with_description(alloc, &vectors[v], &mut text) {
                 Ok(()) => {}
                 Err(Failure::Fault(refusal)) => {
                     return Err(Failure::Fault(FirstRefusal { vector: v, refusal }));
@@ -155,7 +155,7 @@ fn describe_where_valid(
 }
 
 /// The outcome for `table` and `vectors`.
-fn answer(
+fn run_describe(
     alloc: Global,
     table: &Table,
     coords: DiscCoords,
@@ -180,6 +180,6 @@ pub fn describe(alloc: Global, coords: Coords, bytes: &[u8]) -> Result<Outcome, 
 {
     let coords = DiscCoords { system: coords };
     answer_read(alloc, read_table_and_vectors(alloc, bytes), |document| {
-        answer(alloc, &document.table, coords, &document.vectors)
+        run_describe(alloc, &document.table, coords, &document.vectors)
     })
 }

@@ -93,7 +93,7 @@ impl<'a> QuadMatching<'a> {
 }
 
 /// The outcome for `table` and quad vectors `vectors`.
-fn answer(alloc: Global, table: &Table, vectors: &[Vec<u128>]) -> Result<Outcome, NoMemory>
+fn run_lift(alloc: Global, table: &Table, vectors: &[Vec<u128>]) -> Result<Outcome, NoMemory>
     ensures { IfOk result (IsLiftsAnswer (table.now, all_entries vectors.now)) }
 {
     let skeleton = Skeleton::of(alloc, table)?;
@@ -116,6 +116,6 @@ pub fn lift(alloc: Global, bytes: &[u8]) -> Result<Outcome, NoMemory>
     ensures { IfOk result (IsReadOutcome (vectors_document bytes.now) IsLiftsAnswer) }
 {
     answer_read(alloc, read_table_and_vectors(alloc, bytes), |document| {
-        answer(alloc, &document.table, &document.vectors)
+        run_lift(alloc, &document.table, &document.vectors)
     })
 }

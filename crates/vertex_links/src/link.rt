@@ -6,7 +6,7 @@ ghost use Rattle.skeleton_definitions.specs.Skeleton.{AreLinks};
 ghost use Rattle.skeleton_class_laws.specs.Numberings.{AreClassesOf};
 ghost use Rattle.skeleton_class_laws.specs.Tallies.{CountsCorners};
 
-use crate::sides::{first_sides, least_corners, open_sides, owners, turned_vertices};
+use crate::sides::{boundary_sides, first_sides, least_corners, owners, turned_vertices};
 use crate::tally::tally;
 use out_of_memory::NoMemory;
 use skeleton::{Kind, Numbering, Skeleton, classes_of};
@@ -103,7 +103,7 @@ fn open_tally(alloc: Global, corners: Corners<'_>) -> Result<Vec<u32>, NoMemory>
     ensures closed { IfOk result (λ t. (c : ℕ) → c < corners.entry.skeleton.now.vertices.count → (slice_index t.items c == 0) ≡ definition.is_closed_link corners.entry.skeleton.now.rows corners.entry.skeleton.now.vertices.classes c) }
 {
     let skeleton = corners.skeleton;
-    let passes = open_sides(alloc, skeleton.table())?;
+    let passes = boundary_sides(alloc, skeleton.table())?;
     let tallies = tally(alloc, &passes, corners.owners, skeleton.vertices() as usize)?;
     Ok(tallies)
 }

@@ -82,7 +82,7 @@ pub fn first_sides(alloc: Global, table: &Table) -> Result<Vec<bool>, NoMemory>
 }
 
 /// For each of the 12n sides of link triangles, whether it lies in a boundary face of `table`.
-pub fn open_sides(alloc: Global, table: &Table) -> Result<Vec<bool>, NoMemory>
+pub fn boundary_sides(alloc: Global, table: &Table) -> Result<Vec<bool>, NoMemory>
     ensures size { IfOk result (λ passes. length passes.items ≡ 12 * length table.now) }
     ensures passes { IfOk result (λ passes. (j : ℕ) → j < 12 * length table.now → slice_index_or passes.items j false ≡ is_boundary table.now (side_at j)) }
 {

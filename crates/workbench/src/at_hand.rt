@@ -4,7 +4,7 @@ ghost use Rattle.outcome_definitions.specs.Answers.{IsOutcome, IsRequestOutcome}
 ghost use Rattle.command_definitions.specs.Requests.{HoldsRange};
 ghost use Rattle.workbench.specs.Runs.{IsAnswered};
 
-use crate::dispatch::{MOST_BYTES, answer, reads_input};
+use crate::dispatch::{MOST_BYTES, outcome_of_request, reads_input};
 use command_answers::Outcome;
 use command_words::{Request, WordsFault, read_words};
 use out_of_memory::NoMemory;
@@ -18,12 +18,12 @@ fn answer_at_hand(alloc: Global, request: Request, input: &[u8]) -> Result<Outco
     ensures answered { IfOk result (λ o. IsAnswered o.status) }
 {
     if !reads_input(request) {
-        return answer(alloc, request, &[]);
+        return outcome_of_request(alloc, request, &[]);
     }
     if MOST_BYTES < input.len() as u64 {
         return Ok(Outcome::too_long());
     }
-    answer(alloc, request, input)
+    outcome_of_request(alloc, request, input)
 }
 
 /// The outcome for `words` and the input `input`, with the text that a run would write. Its status is never

@@ -45,7 +45,11 @@ use vector_commands::{crush, describe, lift};
 pub const MOST_BYTES: u64 = 1_048_576;
 
 /// The outcome of the command `request` for the input `bytes`, which has at most `MOST_BYTES` bytes.
-pub fn answer(alloc: Global, request: Request, bytes: &[u8]) -> Result<Outcome, NoMemory>
+pub fn outcome_of_request(
+    alloc: Global,
+    request: Request,
+    bytes: &[u8],
+) -> Result<Outcome, NoMemory>
     requires size { length bytes.now ≤ most_bytes }
     requires in_range { HoldsRange request }
     ensures answer { IfOk result (λ o. IsAnswerTo request bytes.now o) }
@@ -87,7 +91,7 @@ pub fn reads_input(request: Request) -> bool
 
 /// The outcome of `request`, which reads `source`.
 #[tactic(auto, using(outcome_definitions::proofs::OwnStatus::answer_own))]
-fn respond_to_input<S: Source>(
+fn outcome_of_bytes<S: Source>(
     alloc: Global,
     request: Request,
     source: &mut S,
@@ -98,7 +102,7 @@ fn respond_to_input<S: Source>(
     ensures no_memory { OnErr result (IsWithoutMemory (S.left source.old) (S.left source.new) (S.faults source.old) (S.faults source.new)) }
 {
     match read_all(alloc, source, MOST_BYTES) {
-        Ok(bytes) => answer(alloc, request, &bytes),
+        Ok(bytes) => outcome_of_request(alloc, request, &bytes),
         Err(ReadEnd::Failed) => Ok(Outcome::read_fault()),
         Err(ReadEnd::TooLong) => Ok(Outcome::too_long()),
         Err(ReadEnd::NoMemory) => Err(NoMemory),
@@ -106,20 +110,24 @@ fn respond_to_input<S: Source>(
 }
 
 /// The outcome of `request`; a command that reads no input leaves `source` unchanged.
-fn respond<S: Source>(alloc: Global, request: Request, source: &mut S) -> Result<Outcome, NoMemory>
+fn outcome_of_source<S: Source>(
+    alloc: Global,
+    request: Request,
+    source: &mut S,
+) -> Result<Outcome, NoMemory>
     requires { HoldsRange request }
     ensures response { IfOk result (IsResponse request (S.left source.old) (S.left source.new) (S.faults source.old) (S.faults source.new)) }
     ensures no_memory { OnErr result (IsWithoutMemory (S.left source.old) (S.left source.new) (S.faults source.old) (S.faults source.new)) }
     ensures untouched { reads_input request ≡ false → source.new ≡ source.old }
 {
     if reads_input(request) {
-        return respond_to_input(alloc, request, source);
+        return outcome_of_bytes(alloc, request, source);
     }
-    answer(alloc, request, &[])
+    outcome_of_request(alloc, request, &[])
 }
 
 /// Writes `outcome` to `sink`, and returns the status.
-fn deliver<K: Sink>(outcome: &Outcome, sink: &mut K) -> Status
+fn write_outcome<K: Sink>(outcome: &Outcome, sink: &mut K) -> Status
     ensures { IsDelivered outcome.now result (K.held sink.old) (K.held sink.new) (K.faults sink.old) (K.faults sink.new) }
 {
     match write_all(sink, outcome.text()) {
@@ -129,7 +137,7 @@ fn deliver<K: Sink>(outcome: &Outcome, sink: &mut K) -> Status
 }
 
 /// Reads `words`, then the input from `source`, and writes the answer or the one line of a refusal to `sink`.
-fn carry_out<S: Source, K: Sink>(
+fn run_request<S: Source, K: Sink>(
     alloc: Global,
     words: &Words,
     source: &mut S,
@@ -139,11 +147,11 @@ fn carry_out<S: Source, K: Sink>(
         sink.old sink.new (K.held sink.old) (K.held sink.new) (K.faults sink.old) (K.faults sink.new) }
 {
     match read_words(alloc, words) {
-        Ok(request) => match respond(alloc, request, source) {
-            Ok(outcome) => deliver(&outcome, sink),
+        Ok(request) => match outcome_of_source(alloc, request, source) {
+            Ok(outcome) => write_outcome(&outcome, sink),
             Err(NoMemory) => Status::NoMemory,
         },
-        Err(WordsFault::Usage) => deliver(&Outcome::usage(), sink),
+        Err(WordsFault::Usage) => write_outcome(&Outcome::usage(), sink),
         Err(WordsFault::NoMemory) => Status::NoMemory,
     }
 }
@@ -256,5 +264,5 @@ pub fn run<S: Source, K: Sink>(alloc: Global, words: &Words, source: &mut S, sin
     ensures answered { S.faults source.old < 2 ^ 64 - 1 → K.faults sink.old < 2 ^ 64 - 1 → S.faults source.new ≡ S.faults source.old
         → K.faults sink.new ≡ K.faults sink.old → IsAnswered result ⊎ (result ≡ Status.NoMemory) }
 {
-    carry_out(alloc, words, source, sink)
+    run_request(alloc, words, source, sink)
 }

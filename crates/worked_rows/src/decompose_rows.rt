@@ -1,58 +1,58 @@
 //! Rows of `decompose`.
-use crate::running::{Row, are_answered};
+use crate::running::{RunRow, are_answered};
 use std::test::Fail;
 use workbench::Status;
 
-const ROWS: [Row; 9] = [
-    Row {
+const ROWS: [RunRow; 9] = [
+    RunRow {
         words: &["decompose"],
         input: b"sig bkaagj\nvec 3 3 1 1 2 0 0\n",
         status: Status::Done,
         text: b"tri 1\n0:1023 0:1023 0:1230 0:3012\nvec 3 3 1 1 2 0 0\ntimes 1 2\nterm 2 1 1 0 0 1 0 0\nterm 1 1 1 1 1 0 0 0\n",
     },
-    Row {
+    RunRow {
         words: &["decompose"],
         input: b"tri 0\nvec\n",
         status: Status::Done,
         text: b"tri 0\nvec\ntimes 1 0\n",
     },
-    Row {
+    RunRow {
         words: &["decompose"],
         input: b"sig bkaagj\n",
         status: Status::Done,
         text: b"tri 1\n0:1023 0:1023 0:1230 0:3012\n",
     },
-    Row {
+    RunRow {
         words: &["decompose"],
         input: b"sig bkaagj\nvec 0 0 0 0 0 0 0\nvec 1 1 1 1 0 0 0\n",
         status: Status::Done,
         text: b"tri 1\n0:1023 0:1023 0:1230 0:3012\nvec 0 0 0 0 0 0 0\ntimes 1 0\nvec 1 1 1 1 0 0 0\ntimes 1 1\nterm 1 1 1 1 1 0 0 0\n",
     },
-    Row {
+    RunRow {
         words: &["decompose", "--coords", "quad"],
         input: b"sig bkaagj\nvec 2 0 0\n",
         status: Status::Done,
         text: b"tri 1\n0:1023 0:1023 0:1230 0:3012\nvec 2 0 0\ntimes 1 1\nterm 2 1 0 0\n",
     },
-    Row {
+    RunRow {
         words: &["decompose"],
         input: b"sig bkaagj\nvec 1 1 1 1 0 0 0\nvec 1 1 1 1 0 0\n",
         status: Status::Refused,
         text: b"refused: vector 1 length 6\n",
     },
-    Row {
+    RunRow {
         words: &["decompose"],
         input: b"sig bkaagj\nvec 1 0 0 0 0 0 0\n",
         status: Status::Refused,
         text: b"refused: vector 0 fails 0\n",
     },
-    Row {
+    RunRow {
         words: &["decompose", "--max-entry", "2"],
         input: b"sig bkaagj\nvec 1 1 0 0 1 0 0\nvec 3 3 1 1 2 0 0\n",
         status: Status::Large,
         text: b"refused: vector 1 large-times 0 0\n",
     },
-    Row {
+    RunRow {
         words: &["decompose"],
         input: b"sig bkaagj\nvec x\n",
         status: Status::Input,

@@ -1,52 +1,52 @@
 //! Rows of `lift`.
-use crate::running::{Row, are_answered};
+use crate::running::{RunRow, are_answered};
 use std::test::Fail;
 use workbench::Status;
 
-const ROWS: [Row; 8] = [
-    Row {
+const ROWS: [RunRow; 8] = [
+    RunRow {
         words: &["lift"],
         input: b"sig cPcbbbiht\nvec 2 0 0 0 0 1\n",
         status: Status::Refused,
         text: b"refused: vector 0 no-lift 0\n",
     },
-    Row {
+    RunRow {
         words: &["lift"],
         input: b"sig bkaagj\nvec 1 0 0\n",
         status: Status::Done,
         text: b"vec 1 1 0 0 1 0 0\n",
     },
-    Row {
+    RunRow {
         words: &["lift"],
         input: b"sig bkaagj\nvec 0 1 1\n",
         status: Status::Refused,
         text: b"refused: vector 0 clash 1 2\n",
     },
-    Row {
+    RunRow {
         words: &["lift"],
         input: b"sig bkaagj\nvec 170141183460469231731687303715884105727 0 0\n",
         status: Status::Large,
         text: b"refused: vector 0 large-lift\n",
     },
-    Row {
+    RunRow {
         words: &["lift"],
         input: b"sig cPcbbbiht\n",
         status: Status::Done,
         text: b"",
     },
-    Row {
+    RunRow {
         words: &["lift"],
         input: b"sig bkaagj\nvec 1 0 0\nvec 0 1 1\n",
         status: Status::Refused,
         text: b"refused: vector 1 clash 1 2\n",
     },
-    Row {
+    RunRow {
         words: &["lift"],
         input: b"sig bkaagj\nvec 1 0 0\nvec 2 0 0\n",
         status: Status::Done,
         text: b"vec 1 1 0 0 1 0 0\nvec 2 2 0 0 2 0 0\n",
     },
-    Row {
+    RunRow {
         words: &["lift"],
         input: b"sig bkaagj\nvec 1 0\n",
         status: Status::Refused,

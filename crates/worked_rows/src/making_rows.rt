@@ -1,5 +1,5 @@
 //! Rows of `make` and `bulk`.
-use crate::running::{Row, STEADY, answered, are_answered};
+use crate::running::{RunRow, STEADY, answered, are_answered};
 use std::test::Fail;
 use workbench::Status;
 
@@ -7,56 +7,56 @@ use workbench::Status;
 const FOUR: &[u8] =
     b"tri 4\n1:0123 2:1023 3:1203 1:0123\n0:0123 2:0123 3:0213 0:0123\n0:1023 1:0123 3:0123 3:1203\n0:2013 1:0213 2:0123 2:2013\n41 0 3\n";
 
-const ROWS: [Row; 9] = [
-    Row {
+const ROWS: [RunRow; 9] = [
+    RunRow {
         words: &["make", "--seed", "0", "--moves", "2"],
         input: b"",
         status: Status::Done,
         text: b"tri 3\n1:3120 1:3120 1:3120 2:1032\n2:0123 0:3120 0:3120 0:3120\n1:0123 2:0321 0:1032 2:0321\n23 1 0\n41 3 2\n",
     },
-    Row {
+    RunRow {
         words: &["make", "--moves", "0", "--seed", "7"],
         input: b"",
         status: Status::Done,
         text: b"tri 1\n0:1023 0:1023 0:1230 0:3012\n",
     },
-    Row {
+    RunRow {
         words: &["make", "--seed", "0", "--moves", "1"],
         input: b"",
         status: Status::Done,
         text: FOUR,
     },
-    Row {
+    RunRow {
         words: &["make", "--seed", "1", "--moves", "1"],
         input: b"",
         status: Status::Done,
         text: FOUR,
     },
-    Row {
+    RunRow {
         words: &["make", "--seed=7", "--moves=1"],
         input: b"what stands here is not read",
         status: Status::Done,
         text: FOUR,
     },
-    Row {
+    RunRow {
         words: &["make", "--seed", "18446744073709551615", "--moves", "1"],
         input: b"",
         status: Status::Done,
         text: FOUR,
     },
-    Row {
+    RunRow {
         words: &["bulk", "--seed", "0", "--moves", "0"],
         input: b"",
         status: Status::Done,
         text: b"seed 0\nmoves 0\ntetrahedra 1\ncertificate accepted 0\nsurfaces 2\nlargest 1\nlinking 1\n",
     },
-    Row {
+    RunRow {
         words: &["make", "--seed", "0", "--moves", "1001"],
         input: b"",
         status: Status::Usage,
         text: b"refused: usage\n",
     },
-    Row {
+    RunRow {
         words: &["bulk", "--seed", "0", "--moves", "6"],
         input: b"",
         status: Status::Usage,

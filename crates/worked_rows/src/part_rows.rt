@@ -1,64 +1,64 @@
 //! Rows of `csig` and `csame`.
-use crate::running::{Row, are_answered};
+use crate::running::{RunRow, are_answered};
 use std::test::Fail;
 use workbench::Status;
 
-const ROWS: [Row; 10] = [
-    Row {
+const ROWS: [RunRow; 10] = [
+    RunRow {
         words: &["csig"],
         input: b"tri 2\n- - - -\n- - - -\n",
         status: Status::Done,
         text: b"baa.baa\n",
     },
-    Row {
+    RunRow {
         words: &["csig"],
         input: b"tri 2\n0:1023 0:1023 0:1230 0:3012\n1:1023 1:1023 1:1230 1:3012\n# tet 0 over 0 sheet 0\n# tet 1 over 0 sheet 1\n# connected no\n",
         status: Status::Done,
         text: b"bkaagj.bkaagj\n",
     },
-    Row {
+    RunRow {
         words: &["csig"],
         input: b"tri 0\n",
         status: Status::Done,
         text: b"a\n",
     },
-    Row {
+    RunRow {
         words: &["csame"],
         input: b"tri 2\n- - - -\n1:1023 1:1023 1:1230 1:3012\ntri 2\n0:1023 0:1023 0:1230 0:3012\n- - - -\n",
         status: Status::Done,
         text: b"same\n0 1 0123\n1 0 0123\n",
     },
-    Row {
+    RunRow {
         words: &["csame"],
         input: b"tri 0\ntri 1\n- - - -\n",
         status: Status::Done,
         text: b"different\n",
     },
-    Row {
+    RunRow {
         words: &["csig"],
         input: b"tri 2\n1:1023 1:1023 1:1230 1:3012\n- - - -\n",
         status: Status::Input,
         text: b"refused: table not-mutual 0 0\n",
     },
-    Row {
+    RunRow {
         words: &["csig"],
         input: b"tri 2\n0:1023 0:1023 0:1230 0:3012\n- - - -\n",
         status: Status::Done,
         text: b"baa.bkaagj\n",
     },
-    Row {
+    RunRow {
         words: &["csig"],
         input: b"sig cPcbbbiht\n",
         status: Status::Done,
         text: b"cPcbbbiht\n",
     },
-    Row {
+    RunRow {
         words: &["csame"],
         input: b"sig bkaagn\nsig bkaagj\n",
         status: Status::Done,
         text: b"same\n0 0 0132\n",
     },
-    Row {
+    RunRow {
         words: &["csame"],
         input: b"tri 0\n",
         status: Status::Input,

@@ -10,7 +10,7 @@ use workbench::{Status, run};
 
 /// Words and an input, with the expected status and text.
 #[derive(Clone, Copy)]
-pub struct Row {
+pub struct RunRow {
     pub words: &'static [&'static str],
     pub input: &'static [u8],
     pub status: Status,
@@ -53,7 +53,7 @@ pub fn answered(
 }
 
 /// Asserts that each of `rows` has its status and its text.
-pub fn are_answered(rt: &impl Abort, alloc: Global, rows: &[Row]) -> Result<(), Fail> {
+pub fn are_answered(rt: &impl Abort, alloc: Global, rows: &[RunRow]) -> Result<(), Fail> {
     for row in rows {
         let answer = answered(alloc, row.words, row.input, STEADY, STEADY, 1 << 16)?;
         assert!(rt; answer.status == row.status);

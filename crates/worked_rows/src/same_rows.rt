@@ -1,58 +1,58 @@
 //! Rows of `same`.
-use crate::running::{Row, are_answered};
+use crate::running::{RunRow, are_answered};
 use std::test::Fail;
 use workbench::Status;
 
-const ROWS: [Row; 9] = [
-    Row {
+const ROWS: [RunRow; 9] = [
+    RunRow {
         words: &["same"],
         input: b"sig bkaagn\nsig bkaagj\n",
         status: Status::Done,
         text: b"same\n0 0 0132\n",
     },
-    Row {
+    RunRow {
         words: &["same"],
         input: b"sig bkaagb\nsig bkaagj\n",
         status: Status::Done,
         text: b"different\n",
     },
-    Row {
+    RunRow {
         words: &["same"],
         input: b"tri 2\n- - - -\n- - - -\nsig bkaagj\n",
         status: Status::Refused,
         text: b"refused: not-connected 0 1\n",
     },
-    Row {
+    RunRow {
         words: &["same"],
         input: b"sig bkaagj\ntri 2\n- - - -\n- - - -\n",
         status: Status::Refused,
         text: b"refused: not-connected 1 1\n",
     },
-    Row {
+    RunRow {
         words: &["same"],
         input: b"tri 2\n- - - -\n- - - -\nsig bkaag\n",
         status: Status::Input,
         text: b"refused: signature short 5\n",
     },
-    Row {
+    RunRow {
         words: &["same"],
         input: b"sig bkaagj\n",
         status: Status::Input,
         text: b"refused: input 2 1 missing-word\n",
     },
-    Row {
+    RunRow {
         words: &["same"],
         input: b"sig bkaagj\nsig bkaagj\nsig bkaagj\n",
         status: Status::Input,
         text: b"refused: input 3 1 extra-word\n",
     },
-    Row {
+    RunRow {
         words: &["same"],
         input: b"tri 0\ntri 0\n",
         status: Status::Done,
         text: b"same\n",
     },
-    Row {
+    RunRow {
         words: &["same"],
         input: b"sig -b-beeeeeeeeeeeeeeeeeeeeeeeeeeeeeeeeeeeeeeeeeeeeeeeeeeeeeeeeeeeeeaa\nsig -b-beeeeeeeeeeeeeeeeeeeeeeeeeeeeeeeeeeeeeeeeeeeeeeeeeeeeeeeeeeeeeaa\n",
         status: Status::Done,

@@ -1,70 +1,70 @@
 //! Words that are accepted, and words that are not.
-use crate::running::{Row, are_answered};
+use crate::running::{RunRow, are_answered};
 use std::test::Fail;
 use workbench::Status;
 
-const ROWS: [Row; 25] = [
-    Row {
+const ROWS: [RunRow; 25] = [
+    RunRow {
         words: &[],
         input: b"tri 0\n",
         status: Status::Usage,
         text: b"refused: usage\n",
     },
-    Row {
+    RunRow {
         words: &["Verify"],
         input: b"tri 0\n",
         status: Status::Usage,
         text: b"refused: usage\n",
     },
-    Row {
+    RunRow {
         words: &["verify", "verify"],
         input: b"tri 0\n",
         status: Status::Usage,
         text: b"refused: usage\n",
     },
-    Row {
+    RunRow {
         words: &["help"],
         input: b"tri 0\n",
         status: Status::Usage,
         text: b"refused: usage\n",
     },
-    Row {
+    RunRow {
         words: &["surfaces", "--order"],
         input: b"tri 0\n",
         status: Status::Usage,
         text: b"refused: usage\n",
     },
-    Row {
+    RunRow {
         words: &["surface"],
         input: b"tri 0\n",
         status: Status::Usage,
         text: b"refused: usage\n",
     },
-    Row {
+    RunRow {
         words: &["surfaces", "--max-entry", "0"],
         input: b"tri 0\n",
         status: Status::Usage,
         text: b"refused: usage\n",
     },
-    Row {
+    RunRow {
         words: &["surfaces", "--max-entry="],
         input: b"tri 0\n",
         status: Status::Usage,
         text: b"refused: usage\n",
     },
-    Row {
+    RunRow {
         words: &["surfaces", "-c", "quad"],
         input: b"tri 0\n",
         status: Status::Usage,
         text: b"refused: usage\n",
     },
-    Row {
+    RunRow {
         words: &["rays", "--coords", "standard"],
         input: b"cone 0 0\n",
         status: Status::Usage,
         text: b"refused: usage\n",
     },
-    Row {
+    RunRow {
         words: &[
             "rays",
             "--max-entry=170141183460469231731687303715884105728",
@@ -73,7 +73,7 @@ const ROWS: [Row; 25] = [
         status: Status::Usage,
         text: b"refused: usage\n",
     },
-    Row {
+    RunRow {
         words: &[
             "rays",
             "--max-entry=170141183460469231731687303715884105727",
@@ -82,7 +82,7 @@ const ROWS: [Row; 25] = [
         status: Status::Done,
         text: b"# rays 0\n",
     },
-    Row {
+    RunRow {
         words: &[
             "rays",
             "--max-entry",
@@ -92,7 +92,7 @@ const ROWS: [Row; 25] = [
         status: Status::Done,
         text: b"# rays 0\n",
     },
-    Row {
+    RunRow {
         words: &[
             "rays",
             "--max-entry",
@@ -102,67 +102,67 @@ const ROWS: [Row; 25] = [
         status: Status::Usage,
         text: b"refused: usage\n",
     },
-    Row {
+    RunRow {
         words: &["rays", "--order=short", "--max-entry=4"],
         input: b"cone 3 2\n1 -2 0\n0 1 -2\n",
         status: Status::Done,
         text: b"# rays 1\nvec 4 2 1\n",
     },
-    Row {
+    RunRow {
         words: &["rays", "--max-entry", "4", "--order", "given"],
         input: b"cone 3 2\n1 -2 0\n0 1 -2\n",
         status: Status::Done,
         text: b"# rays 1\nvec 4 2 1\n",
     },
-    Row {
+    RunRow {
         words: &["rays", "--order", "given", "--order", "given"],
         input: b"cone 0 0\n",
         status: Status::Usage,
         text: b"refused: usage\n",
     },
-    Row {
+    RunRow {
         words: &["make", "--seed", "0"],
         input: b"",
         status: Status::Usage,
         text: b"refused: usage\n",
     },
-    Row {
+    RunRow {
         words: &["surfaces", "--order"],
         input: b"",
         status: Status::Usage,
         text: b"refused: usage\n",
     },
-    Row {
+    RunRow {
         words: &["verify", "--coords", "quad", "--coords", "quad"],
         input: b"sig bkaagj\n",
         status: Status::Usage,
         text: b"refused: usage\n",
     },
-    Row {
+    RunRow {
         words: &["verify", "--"],
         input: b"sig bkaagj\n",
         status: Status::Usage,
         text: b"refused: usage\n",
     },
-    Row {
+    RunRow {
         words: &["verify", "--help"],
         input: b"sig bkaagj\n",
         status: Status::Usage,
         text: b"refused: usage\n",
     },
-    Row {
+    RunRow {
         words: &["surfaces", "--max-entry", "0"],
         input: b"sig bkaagj\n",
         status: Status::Usage,
         text: b"refused: usage\n",
     },
-    Row {
+    RunRow {
         words: &["surfaces", "--max-entry="],
         input: b"sig bkaagj\n",
         status: Status::Usage,
         text: b"refused: usage\n",
     },
-    Row {
+    RunRow {
         words: &["surfaces", "-c", "quad"],
         input: b"sig bkaagj\n",
         status: Status::Usage,

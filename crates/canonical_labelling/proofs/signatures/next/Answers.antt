@@ -15,6 +15,6 @@ pub returns-clause-search : goal.returns-clause-search
 returns-clause-search c =
     let e = c.in_ok-best.ensures in
     let m = c.in_ok-mark_orbit.ensures in
-    search_walks c.args.table.now c.args.number c.args.best.by c.in_ok-best.best.by c.args.best.text.items c.in_ok-best.best.text.items c.args.orbits.now c.better.new.orbits c.mark_orbit.new.orbits c.requires.table c.requires.in_range c.requires.search
+    search_walks c.args.table.now c.args.number c.args.best.by c.in_ok-best.best.by c.args.best.text.items c.in_ok-best.best.text.items c.args.orbits.now c.lesser_text.new.orbits c.mark_orbit.new.orbits c.requires.table c.requires.in_range c.requires.search
     e.lesser e.found e.orbits e.marks
-    (orbits_marked c.args.table.now c.better.new.orbits c.mark_orbit.new.orbits e.orbits m.orbits m.size m.automorphisms) m.marked
+    (orbits_marked c.args.table.now c.lesser_text.new.orbits c.mark_orbit.new.orbits e.orbits m.orbits m.size m.automorphisms) m.marked

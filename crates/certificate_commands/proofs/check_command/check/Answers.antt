@@ -5,8 +5,8 @@ use Rattle.command_answers.proofs.RefusalLines.{input_refused}
 use Rattle.certificate_commands.proofs.MoveLines.{few_moves}
 use Rattle.certificate_commands.proofs.check_command.check.Goals as goal
 
-pub answer-requires : goal.answer-requires
-answer-requires c = omega (arith, few_moves c.args.bytes.now _ c.in-Ok.document.moves.items c.in-Ok.ensures, ap length c.deref.ensures.value, c.requires)
+pub run_check-requires : goal.run_check-requires
+run_check-requires c = omega (arith, few_moves c.args.bytes.now _ c.in-Ok.document.moves.items c.in-Ok.ensures, ap length c.deref.ensures.value, c.requires)
 
 pub returns-in-Err : goal.returns-in-Err
 returns-in-Err c = record { answer = IfOk-weaker c.fault_outcome.result _ _ (λ o h. input_refused _ c.in-Err.fault _ o c.in-Err.ensures h) c.fault_outcome.ensures }

@@ -3,12 +3,12 @@ use Rattle.skeleton_class_laws.proofs.EdgeCorners.{round_of}
 use Rattle.matching_equations.proofs.ClassRows.{row_appended}
 use Rattle.matching_equations.proofs.quads.push_edge.Goals as goal
 
-pub push_round-requires-clause-corners : goal.push_round-requires-clause-corners
-push_round-requires-clause-corners c =
+pub push_around-requires-clause-corners : goal.push_around-requires-clause-corners
+push_around-requires-clause-corners c =
     (round_of c.args.skeleton.now c.args.class c.around.result.now c.requires.skeleton c.requires.class (sym c.if-is_boundary_edge.ensures) c.around.ensures).inside
 
-pub push_round-requires-clause-few : goal.push_round-requires-clause-few
-push_round-requires-clause-few c =
+pub push_around-requires-clause-few : goal.push_around-requires-clause-few
+push_around-requires-clause-few c =
     (round_of c.args.skeleton.now c.args.class c.around.result.now c.requires.skeleton c.requires.class (sym c.if-is_boundary_edge.ensures) c.around.ensures).few
 
 pub returns-clause-rows : goal.returns-clause-rows

@@ -6,13 +6,13 @@ use Rattle.cone_arithmetic.specs.Sparse.{IsInRange}
 use Rattle.row_reduction.proofs.RowLemmas.{all_of_these, zeros_follow, zeros_reordered}
 use Rattle.row_reduction.proofs.blocks.ordered_rows.Goals as goal
 
-pub thin_rows-requires : goal.thin_rows-requires
-thin_rows-requires c = record { in_range = all_of_these (IsInRange c.args.columns) c.args.unsolved.items c.in_ok-rows.rows.items c.in_ok-rows.ensures.stand c.requires }
+pub sparsify-requires : goal.sparsify-requires
+sparsify-requires c = record { in_range = all_of_these (IsInRange c.args.columns) c.args.unsolved.items c.in_ok-rows.rows.items c.in_ok-rows.ensures.stand c.requires }
 
 pub returns-clause-same : goal.returns-clause-same
 returns-clause-same c =
-    let thin = zeros_follow c.args.unsolved.items c.in_ok-rows.rows.items c.thin_rows.new.rows.items c.in_ok-rows.ensures.same c.in_ok-thin_rows.ensures.same in
-    zeros_follow c.args.unsolved.items c.thin_rows.new.rows.items c.in_ok-in_cheapest_order.field-0.items thin (zeros_reordered _ _ c.in_ok-in_cheapest_order.ensures)
+    let thin = zeros_follow c.args.unsolved.items c.in_ok-rows.rows.items c.sparsify.new.rows.items c.in_ok-rows.ensures.same c.in_ok-thin_rows.ensures.same in
+    zeros_follow c.args.unsolved.items c.sparsify.new.rows.items c.in_ok-in_cheapest_order.field-0.items thin (zeros_reordered _ _ c.in_ok-in_cheapest_order.ensures)
 
 pub returns-clause-in_range : goal.returns-clause-in_range
 returns-clause-in_range c = All-permutation (IsInRange c.args.columns) _ _ c.in_ok-in_cheapest_order.ensures c.in_ok-thin_rows.ensures.in_range

@@ -6,6 +6,6 @@ use Rattle.sum_commands.specs.Telling.{AreInRange}
 use Rattle.sum_commands.proofs.Decomposed.{document_in_range}
 use Rattle.sum_commands.proofs.decompose_command.decompose.Goals as goal
 
-pub answer-requires-clause-entries : goal.answer-requires-clause-entries
-answer-requires-clause-entries c =
+pub run_decompose-requires-clause-entries : goal.run_decompose-requires-clause-entries
+run_decompose-requires-clause-entries c =
     subst (λ (vs : List (Vec ℕ Global)). AreInRange (all_entries vs)) (sym c.deref.ensures.value) (document_in_range _ _ _ c.in-Ok.ensures)

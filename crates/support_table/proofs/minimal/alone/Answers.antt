@@ -1,6 +1,6 @@
 use Rattle.std.proofs.Common.{◌<◌, ◌+◌, false, length, subst, sym, ap, ◌∙◌, arith}
 use Rattle.std.proofs.lemmas.List.{get_or_default}
-use Rattle.support_table.specs.declared.rivals.Rival.{Rival}
+use Rattle.support_table.specs.declared.rivals.Candidate.{Candidate}
 use Rattle.support_table.specs.Rivals.{AreUnrepeated}
 use Rattle.support_table.proofs.CandidateLemmas.{alone_push, alone_skip}
 use Rattle.support_table.proofs.minimal.alone.Goals.{then-not-index+in_ok-push, else-not-index}
@@ -16,7 +16,7 @@ loop-at-preserved c =
     elim c.if-not-index.branch [
       | then-not-index+in_ok-push w ↦ subst (AreUnrepeated least (at + 1)) (sym (ap (λ v. v.items) w.places-is ∙ w.in_ok-push.ensures.items))
           (alone_push least at places c.loop-at.invariant within w.index-then-not-index.result.now.place
-          (ap (λ (r : Rival). r.place) (w.index-then-not-index.ensures ∙ get_or_default least.rivals.items at w.index-then-not-index.result.now (record { place = 0; size = 0 }) within))
+          (ap (λ (r : Candidate). r.place) (w.index-then-not-index.ensures ∙ get_or_default least.rivals.items at w.index-then-not-index.result.now (record { place = 0; size = 0 }) within))
           (sym doubled ∙ w.if-not-index.true))
       | else-not-index w ↦ subst (AreUnrepeated least (at + 1)) (sym (ap (λ v. v.items) w.places-is))
           (alone_skip least at places c.loop-at.invariant (sym doubled ∙ w.if-not-index.false))

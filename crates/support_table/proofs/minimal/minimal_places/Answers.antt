@@ -5,8 +5,8 @@ use Rattle.support_table.specs.Rivals.{AreInOrder, AreLeast}
 use Rattle.support_table.proofs.CandidateLemmas.{candidates_moved, in_order_from_sorted, are_minimal}
 use Rattle.support_table.proofs.minimal.minimal_places.Goals as goal
 
-pub least_of-requires-clause-order : goal.least_of-requires-clause-order
-least_of-requires-clause-order c =
+pub minimal_candidates-requires-clause-order : goal.minimal_candidates-requires-clause-order
+minimal_candidates-requires-clause-order c =
     let supports = c.args.rays.now.supports in
     let outer = c.args.outer.now in
     let order = c.sort_by_size.new.rivals.items in

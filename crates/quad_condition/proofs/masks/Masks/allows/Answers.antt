@@ -23,7 +23,7 @@ pub returns-else-not-has_near : goal.returns-else-not-has_near
 returns-else-not-has_near c =
     let a : List ℕ = c.words-first.result.now in
     let b : List ℕ = c.words-second.result.now in
-    subst (λ (m : Masked). IsTrue (not c.has_near.result) ↔ IsClashFree (clash_list m.coords m.tets) c.args.a.now c.args.b.now) c.self.view_is
-    (decides_near c.self.inside.coords c.self.inside.tets c.self.inside.near.items c.self.inside.octagons.items c.args.a.now c.args.b.now a b c.has_near.result
+    subst (λ (m : Masked). IsTrue (not c.has_pair_at_distance.result) ↔ IsClashFree (clash_list m.coords m.tets) c.args.a.now c.args.b.now) c.self.view_is
+    (decides_near c.self.inside.coords c.self.inside.tets c.self.inside.near.items c.self.inside.octagons.items c.args.a.now c.args.b.now a b c.has_pair_at_distance.result
     c.self.invariant c.words-first.ensures c.words-second.ensures c.if-not-has_near.false
-    (subst (λ (v : List (Vec ℕ Global)). IsTrue c.has_near.result ↔ HasPairAtDistance v a b) c.deref.ensures.value c.has_near.ensures))
+    (subst (λ (v : List (Vec ℕ Global)). IsTrue c.has_pair_at_distance.result ↔ HasPairAtDistance v a b) c.deref.ensures.value c.has_pair_at_distance.ensures))

@@ -10,16 +10,16 @@ pub returns : goal.returns
 returns g c =
     let support = c.args.support.now in
     let columns = ap (λ d. d.columns) c.self.view_is in
-    IfOk-weaker c.partners_of_support.result _ _
+    IfOk-weaker c.clashing_columns.result _ _
     (λ joined h. subst (λ pairs. AreClashingColumns pairs support joined) (ap (λ d. d.pairs) c.self.view_is)
     (joined_all _ _ c.self.inside.partners.items support joined c.self.invariant.0 (c.requires ∙ sym columns)
     (subst (λ ps. IsJoinedBelow (length support) ps support joined) c.deref.ensures.value h)))
-    c.partners_of_support.ensures
+    c.clashing_columns.ensures
 
-pub partners_of_support-requires-clause-count : goal.partners_of_support-requires-clause-count
-partners_of_support-requires-clause-count g c = ap length c.deref.ensures.value ∙ c.self.invariant.0.count ∙ ap (λ d. d.columns) c.self.view_is ∙ sym c.requires
+pub clashing_columns-requires-clause-count : goal.clashing_columns-requires-clause-count
+clashing_columns-requires-clause-count g c = ap length c.deref.ensures.value ∙ c.self.invariant.0.count ∙ ap (λ d. d.columns) c.self.view_is ∙ sym c.requires
 
-pub partners_of_support-requires-clause-widths : goal.partners_of_support-requires-clause-widths
-partners_of_support-requires-clause-widths g c =
+pub clashing_columns-requires-clause-widths : goal.clashing_columns-requires-clause-widths
+clashing_columns-requires-clause-widths g c =
     subst (All (λ partner. length partner ≡ length c.args.support.now)) (sym c.deref.ensures.value)
     (partner_widths _ (length c.args.support.now) _ c.self.inside.partners.items c.self.invariant.0 (ap (λ d. d.columns) c.self.view_is ∙ sym c.requires))
