@@ -31,7 +31,7 @@ number_place k s h t e =
     let low = at.1 in
     (omega (arith, n, low), ap (λ j. (start_at s.order j).tet) n ∙ at.2)
 
--- one that isn't gets the next number
+-- one that is not gets the next number
 fresh_numbers : (k : ℕ) (s : ComparisonView) (b : Start) → IsComparison k s → b.tet < length s.numbers → is_visited s.order b.tet ≡ false
     → (i : ℕ) → i < length (s.order ++ b ∷ []) → slice_index (slice_set s.numbers b.tet (length s.order)) (start_at (s.order ++ b ∷ []) i).tet ≡ i
 fresh_numbers k s b h l unmet i m = ⊎_elim

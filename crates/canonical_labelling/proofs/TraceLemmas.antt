@@ -123,7 +123,7 @@ begun_below n start order e h = subst (AreBelow n) (sym e) one
     one : AreBelow n (start ∷ [])
     one i l = let z : 0 ≡ i = omega arith in subst (λ j. (start_at (start ∷ []) j).tet < n) z h
 
--- a face that isn't glued, by test
+-- a face that is not glued, by test
 pub none_by_test : {X : Type 0} (o : Option X) (b : Bool) → o ≡ None → is_some o ≡ not b → b ≡ true
 none_by_test o true e t = refl
 none_by_test o false e t = absurd (let z = ap is_some (sym e) ∙ t in cc)

@@ -305,7 +305,7 @@ fn unmark_first(marks: &mut [bool], count: usize)
     }
 }
 
-/// Takes back all that a traversal touched but the numbers, which need not be reset: marks tell which of them count.
+/// Resets all of `comparison` that a traversal changed, except the numbers: only those of marked tetrahedra are used.
 fn clean(comparison: &mut Comparison)
     requires { IsComparison (4 * length comparison.old.numbers.items) (comparison_view comparison.old) }
     ensures clean { IsClean (comparison_view comparison.new) }

@@ -40,7 +40,7 @@ pub listed_told : (n : Numbers) (rows : List Row) (list : List (List ℕ)) (grea
 listed_told n rows list greatest o a g same =
     record { equations = a.0; of_table = a.1; told = inl (record { taken = (a.2).taken; list = list; listed = (a.2).listed; greatest = greatest; is_greatest = g; outcome = same }) }
 
--- a number passes the limit
+-- a number exceeds the limit
 pub large_told : (n : Numbers) (rows : List Row) (large : LargeStep) (o : Outcome) → IsTableRefused limit Standard rows Given (Fault large) → o ≡ large_outcome large.order.items large.kind → IsSummary n rows o
 large_told n rows large o a same = record { equations = a.0; of_table = a.1; told = inr (large.order.items, large.kind, a.2, same) }
 

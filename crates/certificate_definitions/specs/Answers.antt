@@ -1,4 +1,4 @@
--- What is answered to a table and moves that are to certify it, and to a table that is to be made smaller.
+-- The answers to a table and moves that may certify it, and to a table that is to be simplified.
 use Rattle.std.specs.Prelude.{◌≡◌, ◌≢◌, ◌↔◌, ℕ, ◌+◌, Bool, true, List, ◌∷◌, ◌++◌, length, Some, Result, Ok, Err, codes}
 use Rattle.table_definitions.specs.Table.{Row}
 use Rattle.table_definitions.specs.Places.{IsConnected, IsLeastUnreached}
@@ -23,12 +23,12 @@ pub record IsRefusedAt (rows : List Row) (moves : List Move) (step : ℕ) (fault
 abbrev pub sphere_text : List ℕ
 sphere_text = codes "bkaagj"
 
--- what is answered to a table and moves: they certify it, or why not
+-- the answer to a table and moves: they certify it, or the reason why not
 abbrev pub CheckAnswer : Type 0
 CheckAnswer = Result (Unit {0}) (CheckFault (List ℕ))
 
 -- The moves are a certificate; or the first move that is refused, by its place from 1; or the last table has a
--- tetrahedron that isn't reached; or it has this signature, which isn't that of the standard sphere.
+-- tetrahedron that is not reached; or it has this signature, which is not that of the standard sphere.
 abbrev pub IsChecked : List Row → List Move → CheckAnswer → Type 0
 IsChecked rows moves (Ok u) = IsCertificate rows moves
 IsChecked rows moves (Err (Illegal step fault)) = IsRefusedAt rows moves step fault
@@ -46,7 +46,7 @@ pub record IsDescended (rows : List Row) (d : Descended) : Type 0 where
   pub descent : IsDescent rows d.moves d.table
   pub reached : (d.reached ≡ true) ↔ IsStandard d.table
 
--- what is answered to a table that is to be made smaller: its descent, or the least tetrahedron that isn't reached
+-- the answer to a table that is to be simplified: its descent, or the least tetrahedron not joined to tetrahedron 0
 abbrev pub DescentAnswer : Type 0
 DescentAnswer = Result Descended ℕ
 

@@ -1,5 +1,5 @@
--- The way back from the table that was made: for each step its inverse move, carried to the table to which the later
--- ones led.
+-- The inverse moves of a making, from its last step to its first: each is carried to the table that results from the
+-- ones before it.
 use Rattle.std.specs.Prelude.{◌≡◌, ℕ, ◌<◌, ◌≤◌, Bool, false, ◌&&◌, List, [], ◌∷◌, ◌++◌, length, map, ◌==◌, Option, Some, find, slice_index, IsTrue}
 use Rattle.std.specs.List.{list_all}
 use Rattle.table_definitions.specs.Lists.{below, has}

@@ -1,4 +1,4 @@
--- What is answered to tables whose signature is known, and to one that isn't connected.
+-- What is answered to tables whose signature is known, and to one that is not connected.
 use Rattle.std.proofs.Common.{◌≡◌, ℕ, zero, suc, ◌<◌, false, List, [], ◌∷◌, Some, None, Err, refl, ap, ◌∙◌, arith, inr}
 use Rattle.std.specs.Prelude.{codes}
 use Rattle.std.proofs.lemmas.Bool.{false≢true}

@@ -49,7 +49,7 @@ StepsGoBack =
     (old : List Row) (m : Move) (new now : List Row) (on : Relabelling) → Plays old m new → IsRelabelling (length new) on → Carries on new now
     → (end : List Row) × (by : Relabelling) × Plays now (move_back old m on) end × IsCarriedBack old m now (move_back old m on) on by × Carries by old end
 
--- moves that lead on can be carried back, in one way, to a relabelling of the first table
+-- the inverses of moves that were played lead back, in exactly one way, to a relabelling of the first table
 abbrev pub WaysLeadBack : Type 0
 WaysLeadBack =
     (rows : List Row) (moves : List Move) (last : List Row) → IsTable rows → PlaysAll rows moves last
@@ -88,14 +88,14 @@ SphereHasSignature = IsSignature standard_sphere sphere_text
 abbrev pub TextsTellStandard : Type 0
 TextsTellStandard = (rows : List Row) (text : List ℕ) → IsTable rows → IsSignature rows text → (text ≡ sphere_text) ↔ IsStandard rows
 
--- a table and moves are answered in one way, and there is an answer where each move has a core
+-- a table and moves have at most one answer, and there is one if each move has a core
 abbrev pub AnswersAgree : Type 0
 AnswersAgree = (rows : List Row) (moves : List Move) (answer other : CheckAnswer) → IsTable rows → IsChecked rows moves answer → IsChecked rows moves other → answer ≡ other
 
 abbrev pub AnswersExist : Type 0
 AnswersExist = (rows : List Row) (moves : List Move) → IsTable rows → All (λ (m : Move). IsCore m.core) moves → (answer : CheckAnswer) × IsChecked rows moves answer
 
--- each move of a descent lessens the number of tetrahedra
+-- each move of a descent reduces the number of tetrahedra
 abbrev pub DescentsLessen : Type 0
 DescentsLessen = (rows : List Row) (m : Move) (next : List Row) → descent_move rows ≡ Some m → Plays rows m next → length next < length rows
 

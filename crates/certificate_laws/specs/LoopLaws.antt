@@ -1,4 +1,4 @@
--- Laws of what is done so far: how it begins, goes on and ends.
+-- Theorems on the states of a descent and of a making: the first one, the next one and the last one.
 use Rattle.std.specs.Prelude.{◌≡◌, ℕ, ◌+◌, ◌<◌, ◌≤◌, ◌⊎◌, List, [], ◌∷◌, ◌++◌, length, take, drop, Some, None}
 use Rattle.std.specs.List.{slice_index_or}
 use Rattle.table_definitions.specs.Table.{Row}

@@ -1,4 +1,4 @@
--- A making goes on to its end while the number of tetrahedra allows it.
+-- A making has as many moves as requested while the number of tetrahedra allows it.
 use Rattle.std.specs.Prelude.{◌≡◌, ◌≢◌, ℕ, ◌+◌, ◌*◌, ◌<◌, ◌≤◌, List, [], length, None, ◌⊎◌}
 use Rattle.table_definitions.specs.Permutation.{four}
 use Rattle.table_definitions.specs.Table.{max_tets, Row}

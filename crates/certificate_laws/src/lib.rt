@@ -83,8 +83,8 @@ pub fn descents_are_answered()
     ensures one { DescentAnswersAgree }
 {}
 
-/// Theorem: if the first k of a list of moves lead to a table on which move k leads on, the first k + 1 lead to its
-/// result; if move k fails there, the list fails at this move with its error.
+/// Theorem: suppose that the first k moves of a list can be played and result in T. If move k, counted from 0, is legal
+/// on T, the first k + 1 can be played and have its result; otherwise the list fails at move k, with its error.
 pub fn checks_go_on()
     ensures on { ChecksGoOn }
     ensures refuse { ChecksRefuse }

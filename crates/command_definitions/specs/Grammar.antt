@@ -12,8 +12,8 @@ use Rattle.command_definitions.specs.Commands.{Kind, Coordinates, PieceCoordinat
 use Rattle.command_definitions.specs.Options.{Given, is_hyphened}
 use Rattle.command_definitions.specs.Values.{coordinates_named, order_named, limit_named, decimal_up_to, most_seed}
 
--- The words of an option: `--name=value` in one word, or `--name` and then the value in a word of its own, which
--- doesn't begin with a hyphen, unless it is a hyphen alone.
+-- The words of an option: `--name=value` in one word, or `--name` and then the value in a word of its own, which does
+-- not begin with a hyphen, unless it is a hyphen alone.
 abbrev pub IsSpelled : Given → List (List ℕ) → Type 0
 IsSpelled option words =
     (words ≡ (codes "--" ++ option.0 ++ codes "=" ++ option.1) ∷ [])

@@ -1,4 +1,4 @@
--- Words are accepted exactly where they are in the grammar.
+-- Words are accepted if and only if they are in the grammar.
 use Rattle.std.proofs.Common.{◌≡◌, Bool, true, inl, inr, refl, sym, ap, ◌∙◌, subst, List, [], ◌∷◌, Option, Some, None, arith}
 use Rattle.std.specs.List.{Contains, list_all}
 use Rattle.std.proofs.lemmas.Bool.{and_parts}

@@ -122,7 +122,7 @@ module _ (names : List Text) where
   option_step option spelling ws seen (inr e) plain known fresh =
       ap (λ (s : List Text). options_from names (s ++ ws) seen None) e.0 ∙ two_words option.0 option.1 ws seen plain known e.1 fresh
 
-  -- an option that comes behind others isn't among them
+  -- an option that comes behind others is not among them
   others : (seen : List Given) (option : Given) (rest : List Given) → AreApart (seen ++ option ∷ rest) → is_named seen option.0 ≡ false
   others seen option rest apart = absent_named option.0 seen (recursion_from_All (λ (g : Given). g.0 ≢ option.0) seen (λ k d less.
       let differ = apart k (length seen) d less (let more : length seen < length (seen ++ option ∷ rest) = omega (arith, length-append seen (option ∷ rest)) in more) in

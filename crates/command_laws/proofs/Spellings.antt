@@ -69,7 +69,7 @@ sign_of (x ∷ xs) ys = or_right (x == 61) (has_sign (xs ++ (61 ∷ ys))) (sign_
 
 -- ---- words as they are spelled
 
--- a name that can be spelled: it has no equals sign, and isn't empty
+-- a name that can be spelled: it has no equals sign, and is not empty
 abbrev pub is_plain : Text → Bool
 is_plain [] = false
 is_plain (c ∷ cs) = not (has_sign (c ∷ cs))

@@ -7,11 +7,11 @@ use Rattle.command_definitions.specs.Requests.{HoldsRange}
 use Rattle.command_definitions.specs.Values.{most_seed}
 use Rattle.command_definitions.specs.Words.{accepted_request}
 
--- words are accepted for a request exactly where they spell it
+-- words are accepted for a request if and only if they spell it
 abbrev pub RequestsAreAccepted : Type 0
 RequestsAreAccepted = (words : List (List ℕ)) (r : Request) → (accepted_request words ≡ Some r) ↔ IsRequest words r
 
--- words are refused exactly where they spell no request
+-- words are refused if and only if they spell no request
 abbrev pub OthersAreRefused : Type 0
 OthersAreRefused = (words : List (List ℕ)) → (accepted_request words ≡ None) ↔ ((r : Request) → IsRequest words r → ⊥)
 

@@ -1,4 +1,4 @@
-//! The grammar of the command line as a relation, whatever the code: words are accepted exactly where they are a
+//! The grammar of the command line as a relation, whatever the code: words are accepted if and only if they are a
 //! command's name and its options, in any order, none twice. The functions here have no code: their contracts are laws
 //! over the definitions.
 #![tactic(auto)]
@@ -6,7 +6,7 @@
 ghost use Rattle.command_laws.specs.Laws.{RequestsAreAccepted, OthersAreRefused, WordsAskOnce, RequestsAreSpelled};
 ghost use Rattle.command_laws.specs.WorkedWords.{WorkedWords};
 
-/// Words are accepted for a request exactly where they spell it, refused exactly where they spell none, and spell one
+/// Words are accepted for a request if and only if they spell it, refused if and only if they spell none, and spell one
 /// at most.
 pub fn requests_are_accepted()
     ensures accepted { RequestsAreAccepted }

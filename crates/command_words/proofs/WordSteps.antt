@@ -59,7 +59,7 @@ module _ (name : Text) (names : List Text) where
   out-next w v x ws e f = ap (λ t. answer (or_else (or_else t (walk_fault s [] (walked (rules_for names) [] w x) ws)) (settle_fault (rules_for names) false (end_of w (x ∷ ws)))) (settled (rules_for names) (end_of w (x ∷ ws))).rows) e
       ∙ ap (λ u. out u ws) f
 
-  -- what a word is that isn't `--`
+  -- what a word is that is not `--`
   abbrev met : Waiting → Text → Held → Held × Step
   met waiting x h = long_or_other (rules_for names) waiting x (long_of x) h
 

@@ -1,4 +1,4 @@
--- The relabelling that is answered of two tables, part by part.
+-- The relabelling from one table to another that `csame` prints, component by component.
 use Rattle.std.specs.Prelude.{◌≡◌, ℕ, ◌<◌, true, List, [], length, slice_index, IsPermutation, ◌⊎◌}
 use Rattle.std.specs.List.{slice_index_or, AllZip}
 use Rattle.table_definitions.specs.Lists.{below, is_list_before}

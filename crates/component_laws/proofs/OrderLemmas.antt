@@ -48,7 +48,7 @@ module _ (parts : List Part) (entries : List Entry) (o : AreInOrder parts entrie
   abbrev at : List Entry → ℕ → Entry
   at es i = slice_index_or es i (record { text = []; number = 0 })
 
-  -- a later one isn't before an earlier one
+  -- a later one is not before an earlier one
   later : (i j : ℕ) → i ≤ j → j < length entries → is_lt (compared (at entries j) (at entries i)) ≡ false
   later i j l m = sorted_far (λ x y. is_lt (compared x y)) (ranks_by (then_total (on_total (λ (e : Entry). e.text) nat_list_cmp_total) (on_total (λ (e : Entry). e.number) nat_cmp_total)) (λ (e : Entry). e)) entries o.sorted i j (record { text = []; number = 0 }) l m
 

@@ -119,7 +119,7 @@ permuted_from xs ys t l = subst₂ IsPermutation (map-below xs) there (IsPermuta
 abbrev pub InOrder : Texts → Type 0
 InOrder texts = AllPairs (λ text later. is_list_before later text ≡ false) texts
 
--- the head isn't after any element
+-- the head is not after any element
 head_first : (x y : List ℕ) (xs : Texts) → InOrder (x ∷ xs) → Contains (x ∷ xs) y → is_list_before y x ≡ false
 head_first x y xs h c = go c.0 c.1 c.2
   where

@@ -1,4 +1,4 @@
--- Two tables have one component signature exactly where a relabelling carries one to the other.
+-- Two tables have one component signature if and only if a relabelling carries one to the other.
 use Rattle.std.proofs.Common.{◌≡◌, ℕ, zero, suc, ◌<◌, ◌↔◌, List, [], ◌∷◌, length, All, IsPermutation, subst, sym, ap, ◌∙◌, arith}
 use Rattle.std.specs.List.{AllZip}
 use Rattle.std.proofs.lemmas.List.Elements.{All-from_get_or, All-head, All-tail}

@@ -125,7 +125,7 @@ same_front (x ∷ s) (y ∷ t) more others a b e = let r = same_front s t more o
 no_nil : (x : ℕ) (xs : List ℕ) → [] ≡ x ∷ xs → ⊥
 no_nil x xs e = let z : 0 ≡ length (x ∷ xs) = ap length e in absurd (omega arith)
 
--- a text without a full stop isn't one with it
+-- a text without a full stop is not one with it
 no_front : (s t more : List ℕ) → HasNoStop s → s ≡ t ++ 46 ∷ more → ⊥
 no_front [] [] more a e = no_nil 46 more e
 no_front [] (y ∷ t) more a e = no_nil y (t ++ 46 ∷ more) e

@@ -19,7 +19,7 @@ SomeListOfParts = (rows : List Row) → IsTable rows → (parts : List Part) × 
 abbrev pub OneListOfParts : Type 0
 OneListOfParts = (rows : List Row) (parts others : List Part) → IsTable rows → AreParts rows parts → AreParts rows others → parts ≡ others
 
--- two tables have equal component signatures exactly where a relabelling carries one to the other
+-- two tables have equal component signatures if and only if a relabelling carries one to the other
 abbrev pub ComponentSignaturesTellTables : Type 0
 ComponentSignaturesTellTables =
     (first second : List Row) (text other : List ℕ) → IsTable first → IsTable second → IsComponentSignature first text → IsComponentSignature second other
@@ -33,7 +33,7 @@ OneComponentSignature = (rows : List Row) (text other : List ℕ) → IsTable ro
 abbrev pub ConnectedHasSignature : Type 0
 ConnectedHasSignature = (rows : List Row) (text : List ℕ) → IsTable rows → IsConnected rows → IsComponentSignature rows text ↔ IsSignature rows text
 
--- what is answered of two tables part by part carries the one to the other, and is one relabelling
+-- the relabelling found component by component carries the one table to the other, and is unique
 abbrev pub SamePartsCarry : Type 0
 SamePartsCarry = (first second : List Row) (by : Relabelling) → IsTable first → IsTable second → IsSameParts first second by → Carries by first second
 

@@ -57,7 +57,7 @@ entries_gcd_one x i some = record {
       (cases_lt column i));
 }
 
--- two values that aren't 0 have a common divisor that isn't, and each divided by it isn't
+-- two values that are not 0 have a common divisor that is not, and each divided by it is not
 pub positive_divisor : (a b g : ℕ) → IsGcd a b g → 1 ≤ a → 0 < g
 positive_divisor a b g h some = pos_of_dvd_of_pos h.0 some
 
@@ -67,7 +67,7 @@ quotient_positive a g h some = ⊎_elim (λ none. absurd (no_quotient (a / g) (m
     no_quotient : (q : ℕ) → g * q ≡ a → q ≡ 0 → ⊥
     no_quotient q e z = let f : g * q ≡ 0 = ap (λ n. g * n) z ∙ (let k : g * 0 ≡ 0 = omega arith in k) in omega arith
 
--- a combination of two rays isn't 0
+-- a combination of two rays is not 0
 pub sums_nonzero : (a b : ℕ) (w u : List ℕ) → length u ≡ length w → 1 ≤ b → IsNonzero u → IsNonzero (sum_of (multiple a w) (multiple b u))
 sums_nonzero a b w u same some nonzero =
     (nonzero.0, λ e. product_positive b (get_or u nonzero.0 0) some nonzero.1 (let f : a * get_or w nonzero.0 0 + b * get_or u nonzero.0 0 ≡ 0 = sym (entry-sums a b w u same nonzero.0) ∙ e in omega arith))
@@ -77,7 +77,7 @@ sums_nonzero a b w u same some nonzero =
     product_positive (suc p) (suc q) h k e = omega arith
     product_positive zero q h k e = omega arith
 
--- the common divisor of entries that aren't all 0
+-- the common divisor of entries that are not all 0
 pub entries_gcd_positive : (z : List ℕ) (g : ℕ) → IsEntriesGcd z g → IsNonzero z → 0 < g
 entries_gcd_positive z g h nonzero = pos_of_dvd_of_pos (h.divides nonzero.0) (let k : get_or z nonzero.0 0 ≢ 0 = nonzero.1 in omega arith)
 

@@ -13,7 +13,7 @@ use Rattle.cone_bound_laws.proofs.Minors.{minor, minor_swaps, repeated_column}
 use Rattle.cone_bound_laws.proofs.Built.{column_of, columns_of, Apart, Distinct, at, built, length-built, entry-built, sum_of_units, built_linear}
 use Rattle.cone_bound_laws.proofs.Relations.{plus_sum, minus_sum, in_front, Related, related_minors}
 
--- the vector isn't 0 at any of the columns
+-- the vector is not 0 at any of the columns
 abbrev pub OfSupport : List ℕ → List ℕ → Type 0
 OfSupport x js = AllByRecursion (λ j. slice_index x j ≢ 0) js
 

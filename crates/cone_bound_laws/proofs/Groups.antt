@@ -4,7 +4,7 @@ use Rattle.std.specs.Prelude.{◌==◌}
 use Rattle.cone_bound_laws.specs.Caps.{caps_product}
 use Rattle.std.proofs.lemmas.Bool.{cases_eq, cases_Bool, eq-eqb, ne_eqb}
 
--- no column of the list that isn't free is in this group
+-- no column of the list that is not free is in this group
 unfoldable pub Alone : (ℕ → Bool) → (ℕ → ℕ) → ℕ → List ℕ → Type 0
 Alone free group k [] = Unit {0}
 Alone free group k (j ∷ js) = (free j ≡ false → group j ≢ k) × Alone free group k js
@@ -17,7 +17,7 @@ unfoldable pub GroupsBelow : (ℕ → Bool) → (ℕ → ℕ) → ℕ → List �
 GroupsBelow free group n [] = Unit {0}
 GroupsBelow free group n (j ∷ js) = (free j ≡ false → group j < n) × GroupsBelow free group n js
 
--- the product of the caps of those that aren't free
+-- the product of the caps of those that are not free
 unfoldable pub bound_product : (ℕ → Bool) → (ℕ → ℕ) → (ℕ → ℕ) → List ℕ → ℕ
 bound_product free group cap [] = 1
 bound_product free group cap (j ∷ js) = cond (free j) 1 (cap (group j)) * bound_product free group cap js

@@ -17,7 +17,7 @@ unfoldable pub product : List Row → List Column → ℕ
 product rows [] = 1
 product rows (c ∷ xs) = factor rows c * product rows xs
 
--- what one row has in a column that isn't free
+-- what one row has in a column that is not free
 abbrev pub share : Row → Column → ℕ
 share row c = cond c.free 0 (c.plus row + c.minus row)
 
@@ -46,7 +46,7 @@ product_more row rows (c ∷ xs) = let h = more_of_product (share row c) (factor
     let g : factor (row ∷ rows) c * product (row ∷ rows) xs ≡ (share row c + factor rows c) * product (row ∷ rows) xs = ap (λ n. n * product (row ∷ rows) xs) e in
     omega (arith, h, g)
 
--- a free column doesn't count
+-- a free column does not count
 pub free_product : (rows : List Row) (c : Column) (xs : List Column) → c.free ≡ true → product rows (c ∷ xs) ≡ product rows xs
 unfolding product
 free_product rows c xs e = let g : factor rows c ≡ 1 = ap (λ b. cond b 1 (weight c rows)) e in let h : factor rows c * product rows xs ≡ 1 * product rows xs = ap (λ n. n * product rows xs) g in omega (arith, h)

@@ -13,8 +13,8 @@ abbrev pub EntriesAreBounded : Type 0
 EntriesAreBounded = (columns : ℕ) (rows : List Row) (pairs : List Clash) (free : ℕ → Bool) (group cap : ℕ → ℕ) (groups size : ℕ) →
     HasCaps columns rows pairs free group cap groups size → (x : List ℕ) → IsVertexSurface columns rows pairs x → (j : ℕ) → slice_index x j ≤ caps_product cap groups
 
--- so no number of a step passes a limit that is at least the size of the rows times the square of that, in any order of
--- the rows
+-- so no number of a step exceeds a limit that is at least the size of the rows times the square of that, in any order
+-- of the rows
 abbrev pub NumbersAreBounded : Type 0
 NumbersAreBounded = (limit : ℕ) (system : System) (pairs : List Clash) (free : ℕ → Bool) (group cap : ℕ → ℕ) (groups size : ℕ) →
     HasCaps system.columns system.rows pairs free group cap groups size → size * (caps_product cap groups * caps_product cap groups) ≤ limit →

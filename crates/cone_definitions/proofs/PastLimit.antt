@@ -1,4 +1,4 @@
--- An enumeration in a named order passes the limit at one ray or pair, in one step, and nowhere if it has a list.
+-- An enumeration in a named order exceeds the limit at one ray or pair, in one step, and nowhere if it has a list.
 use Rattle.std.proofs.Common.{◌≡◌, ◌≢◌, ℕ, ◌<◌, ◌≤◌, ⊎_elim, List, [], Contains, length, length-take, take, drop, get_or, slice_index_or, zero-add, subst, sym, ap, ap₂, ◌∙◌, arith}
 use Rattle.std.specs.List.{range_with_len}
 use Rattle.std.proofs.lemmas.Bool.{cases_lt}
@@ -79,7 +79,7 @@ none_left e all taken list some r named less =
     m.1 (subst (λ (xs : List ℕ). Contains xs z) same
     (Contains-permutation (range_with_len 0 (length e.system.rows)) all z r.all (z, omega arith, get_or-range_with_len 0 (length e.system.rows) z z below ∙ zero-add z)))
 
--- what is listed doesn't pass the limit
+-- what is listed does not exceed the limit
 pub none_past : (e : Enumeration) (all taken : List ℕ) (list : List (List ℕ)) (kind : Named) → e.order ≢ Free → IsListed e all list → ¬ IsPastLimit e taken kind
 none_past e all taken list kind some r h = ⊎_elim
     (λ less. none_left e all taken list some r h.named less)

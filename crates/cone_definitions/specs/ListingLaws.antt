@@ -1,4 +1,4 @@
--- A named order of the rows is one, and so is what passes the limit in it.
+-- A named order of the rows is one, and so is what exceeds the limit in it.
 use Rattle.std.specs.Prelude.{◌≡◌, ◌≢◌, ℕ, ◌≤◌, List, length, take}
 use Rattle.cone_definitions.specs.Elimination.{Named}
 use Rattle.cone_definitions.specs.Systems.{System}

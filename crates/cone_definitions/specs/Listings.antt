@@ -1,4 +1,5 @@
--- What an enumeration is of, and what it gives: the surface list, or the first step of which a number passes the limit.
+-- What an enumeration is of, and what it gives: the surface list, or the first step at which a number exceeds the
+-- limit.
 use Rattle.std.specs.Prelude.{◌≡◌, ℕ, ◌+◌, ◌<◌, List, [], length}
 use Rattle.std.specs.List.{range_with_len}
 use Rattle.std.specs.List.Sorted.{IsPermutation}
@@ -8,7 +9,7 @@ use Rattle.cone_definitions.specs.Systems.{System}
 use Rattle.cone_definitions.specs.Orders.{AreNamed}
 use Rattle.cone_definitions.specs.declared.Order.{Order}
 
--- no number of a step of the rows in this order passes the limit
+-- no number of a step of the rows in this order exceeds the limit
 abbrev pub AreWithin : ℕ → System → List Clash → List ℕ → Type 0
 AreWithin limit system pairs taken = (k : ℕ) → k < length taken → IsWithin limit (step_at system.columns (in_order system.rows taken) pairs k)
 
@@ -31,7 +32,8 @@ pub record IsListed (e : Enumeration) (taken : List ℕ) (list : List (List ℕ)
   pub named : AreNamed e.order e.system taken
   pub within : AreWithin e.limit e.system e.pairs taken
 
--- in the order's own order of the rows, the last row taken is that of the first step of which a number passes the limit
+-- in the order's own order of the rows, the last row taken is that of the first step at which a number exceeds the
+-- limit
 pub record IsPastLimit (e : Enumeration) (taken : List ℕ) (kind : Named) : Type 0 where
   pub step : ℕ
   pub count : length taken ≡ step + 1

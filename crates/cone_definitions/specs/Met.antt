@@ -3,7 +3,7 @@ use Rattle.std.specs.Prelude.{ℕ, ◌<◌, List, [], slice_index_or}
 use Rattle.cone_definitions.specs.Rows.{Row, IsZeroAt}
 use Rattle.cone_definitions.specs.Elimination.{HasPartsWithin}
 
--- the row is 0 at the vector, and no part passes the limit
+-- the row is 0 at the vector, and no part exceeds the limit
 pub record HoldsWithin (limit : ℕ) (x : List ℕ) (row : Row) : Type 0 where
   pub within : HasPartsWithin limit row x
   pub zero : IsZeroAt row x

@@ -31,12 +31,12 @@ abbrev pub IsNamed : Order → System → List ℕ → ℕ → Type 0
 IsNamed Free system rows position = position < length rows
 IsNamed order system rows position = IsFirstBest (prefers order system) rows (length rows) position
 
--- the numbers of the rows that aren't taken, ascending
+-- the numbers of the rows that are not taken, ascending
 pub record AreLeft (count : ℕ) (taken left : List ℕ) : Type 0 where
   pub ascending : AllPairs (λ one other. one < other) left
   pub members : (number : ℕ) → Contains left number ↔ ((number < count) × ¬ Contains taken number)
 
--- the row is the one that the order names among those that aren't taken
+-- the row is the one that the order names among those that are not taken
 pub record IsNamedTurn (order : Order) (system : System) (taken : List ℕ) (number : ℕ) : Type 0 where
   pub left : List ℕ
   pub left_of : AreLeft (length system.rows) taken left

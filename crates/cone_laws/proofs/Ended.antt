@@ -1,4 +1,4 @@
--- An enumeration has a list, or a number passes the limit.
+-- An enumeration has a list, or a number exceeds the limit.
 use Rattle.std.proofs.Common.{◌≡◌, ℕ, ◌+◌, ◌<◌, ◌≤◌, ◌⊎◌, inl, inr, List, [], length, take, slice_index_or, sym, subst, subst₂, arith}
 use Rattle.std.specs.List.{take-map}
 use Rattle.std.proofs.lemmas.List.{length-take-le, get_or-take}
@@ -19,7 +19,7 @@ named_fewer order system taken n within h k l =
     let size : length (take n taken) ≡ n = length-take-le n taken within in
     subst₂ (IsNamedTurn order system) (sym (take_shorter taken n k (omega arith) within)) (sym (get_or-take n taken k 0 (omega arith))) (h k (omega arith))
 
--- what passes the limit at a step does so in the rows up to it
+-- what exceeds the limit at a step does so in the rows up to it
 large_shorter : (limit columns : ℕ) (rows : List Row) (pairs : List Clash) (n k : ℕ) (named : Named) → k < n → n ≤ length rows → IsLarge limit columns rows pairs k named →
     IsLarge limit columns (take n rows) pairs k named
 large_shorter limit columns rows pairs n k named less within h = record {

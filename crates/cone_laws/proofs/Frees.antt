@@ -12,14 +12,14 @@ use Rattle.cone_definitions.proofs.Units.{length-unit, entry-unit_same, entry-un
 use Rattle.cone_laws.proofs.Counts.{count_but_one}
 use Rattle.cone_laws.proofs.Mixed.{IsBalanced, more_at, mixed, mixed_balanced, mixed_keeps, length-mixed, entry-mixed, mixed_equal, mixed_apart}
 
--- each row is 0 at p - m, which is 0 at the columns that aren't of the start
+-- each row is 0 at p - m, which is 0 at the columns that are not of the start
 pub record IsDifference (columns : ℕ) (rows : List Row) (start : ℕ → Bool) (p m : List ℕ) : Type 0 where
   pub p_width : length p ≡ columns
   pub m_width : length m ≡ columns
   pub balanced : All (λ row. IsBalanced row p m) rows
   pub outside : (j : ℕ) → start j ≡ false → slice_index p j ≡ slice_index m j
 
--- for each free column a difference that isn't 0 there, and is 0 at the other free columns
+-- for each free column a difference that is not 0 there, and is 0 at the other free columns
 pub record Frees (columns : ℕ) (rows : List Row) (start : ℕ → Bool) : Type 0 where
   pub free : ℕ → Bool
   pub p : ℕ → List ℕ
@@ -119,7 +119,7 @@ module _ (columns : ℕ) (rows : List Row) (start : ℕ → Bool) (row : Row) wh
       other = F.other;
     }
 
-    -- or it isn't at one, which is mixed into the others
+    -- or it is not at one, which is mixed into the others
     module _ (q : ℕ) (q_free : F.free q ≡ true) (differ : more_of q ≢ less_of q) where
       new_p : ℕ → List ℕ
       new_p c = mixed columns (more_at row (F.p c) (F.m c)) (more_at row (F.m c) (F.p c)) (more_at row (F.p q) (F.m q)) (more_at row (F.m q) (F.p q)) (F.p c) (F.m c) (F.p q) (F.m q)

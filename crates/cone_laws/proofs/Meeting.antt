@@ -1,4 +1,4 @@
--- Inside a union, the rows that don't meet it are 0.
+-- Inside a union, the rows that do not meet it are 0.
 use Rattle.std.proofs.Common.{◌≡◌, ℕ, ◌+◌, ◌*◌, ◌≤◌, inl, inr, Bool, false, cond, List, [], ◌∷◌, slice_index, All, ℤ, subst, ◌∙◌, sym, arith}
 use Rattle.std.specs.List.{filter, sum_by}
 use Rattle.std.proofs.lemmas.Bool.{cases_Bool, or_parts, ltb-false}
@@ -18,7 +18,7 @@ out_of_union : (u w : List ℕ) (j : ℕ) → is_in_union u w j ≡ false → (s
 out_of_union u w j h = let p = or_parts _ _ h in let a : slice_index u j ≤ 0 = ltb-false 0 (slice_index u j) p.0 in let b : slice_index w j ≤ 0 = ltb-false 0 (slice_index w j) p.1 in
     (omega arith, omega arith)
 
--- what a weight gives over a row that doesn't meet the union, at a vector inside it
+-- what a weight gives over a row that does not meet the union, at a vector inside it
 weight_zero : (weight : ℕ × ℤ → ℕ) (u w x : List ℕ) → IsInsideUnion x u w → (row : Row) → meets_union u w row ≡ false → sum_by (λ term. weight term * slice_index x term.0) row ≡ 0
 weight_zero weight u w x inside [] h = omega arith
 weight_zero weight u w x inside (term ∷ row) h = let p = or_parts _ _ h in let o = out_of_union u w term.0 p.0 in
@@ -28,7 +28,7 @@ weight_zero weight u w x inside (term ∷ row) h = let p = or_parts _ _ h in let
 unmet_zero : (u w x : List ℕ) → IsInsideUnion x u w → (row : Row) → meets_union u w row ≡ false → IsZeroAt row x
 unmet_zero u w x inside row h = weight_zero (λ term. positive_coefficient term.1) u w x inside row h ∙ sym (weight_zero (λ term. negative_coefficient term.1) u w x inside row h)
 
--- what holds of the rows that pass and of those that don't
+-- what holds of the rows that pass and of those that do not
 All-from_filter : (p : Row → Bool) (P : Row → Type 0) → ((row : Row) → p row ≡ false → P row) → (rows : List Row) → All P (filter p rows) → All P rows
 All-from_filter p P other [] h = λ k d l. absurd (omega arith)
 All-from_filter p P other (row ∷ rows) h = elim (cases_Bool (p row)) [

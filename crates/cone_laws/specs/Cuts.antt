@@ -1,4 +1,4 @@
--- The bound by the steps that cut. A step whose row is 0 at all rays changes nothing, and doesn't count.
+-- The bound by the steps that cut. A step whose row is 0 at all rays changes nothing, and does not count.
 use Rattle.std.specs.Prelude.{◌≡◌, ◌==◌, ℕ, ◌+◌, ◌<◌, ◌≤◌, Bool, not, List, [], length, slice_index_or}
 use Rattle.std.specs.List.{All, count_by, list_all, range_with_len}
 use Rattle.cone_definitions.specs.Rows.{Row, plus_part, minus_part, IsZeroAt}
@@ -47,7 +47,7 @@ LargeUnionsOfFewHaveThird = (columns : ℕ) (pairs : List Clash) (count : ℕ) (
 abbrev pub is_flat : Row → List (List ℕ) → Bool
 is_flat row rays = list_all (λ ray. plus_part row ray == minus_part row ray) rays
 
--- how many of the first k steps have a row that isn't 0 at all rays
+-- how many of the first k steps have a row that is not 0 at all rays
 abbrev pub cuts_before : List Row → (ℕ → List (List ℕ)) → ℕ → ℕ
 cuts_before rows lists k = count_by (λ i. not (is_flat (slice_index_or rows i []) (lists i))) (range_with_len 0 k)
 

@@ -1,4 +1,4 @@
--- Each enumeration ends: with a list, or with a number that passes the limit.
+-- Each enumeration ends: with a list, or with a number that exceeds the limit.
 use Rattle.std.specs.Prelude.{ℕ, List, length, ◌⊎◌}
 use Rattle.std.specs.List.{range_with_len}
 use Rattle.std.specs.List.Sorted.{IsPermutation}
@@ -13,7 +13,7 @@ use Rattle.cone_definitions.specs.declared.Order.{Order}
 abbrev pub RowsAreTaken : Type 0
 RowsAreTaken = (order : Order) (system : System) → (taken : List ℕ) × IsPermutation (range_with_len 0 (length system.rows)) taken × AreNamed order system taken
 
--- where each pair is of two different columns, there is a list, or a number passes the limit
+-- where each pair is of two different columns, there is a list, or a number exceeds the limit
 abbrev pub EnumerationsEnd : Type 0
 EnumerationsEnd = (e : Enumeration) → PairsAreOfTwoColumns e.pairs →
     ((taken : List ℕ) × (list : List (List ℕ)) × IsListed e taken list) ⊎ ((taken : List ℕ) × (kind : Named) × IsPastLimit e taken kind)

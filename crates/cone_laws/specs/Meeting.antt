@@ -1,4 +1,4 @@
--- The bound by the rows that meet a union: rows with no term at a column of it are 0 inside it, and don't count.
+-- The bound by the rows that meet a union: rows with no term at a column of it are 0 inside it, and do not count.
 use Rattle.std.specs.Prelude.{ℕ, ◌+◌, ◌<◌, ◌≤◌, Bool, List, [], ◌∷◌, ◌++◌, length}
 use Rattle.std.specs.List.{count_by, list_any}
 use Rattle.cone_definitions.specs.Vectors.{IsInsideUnion, ray_at}

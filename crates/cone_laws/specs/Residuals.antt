@@ -1,4 +1,4 @@
--- Third rays by residuals: what a ray has beside the columns of another.
+-- Third rays by residuals: the columns of a ray that another ray does not have.
 use Rattle.std.specs.Prelude.{◌≡◌, ◌≢◌, ℕ, ◌==◌, ◌<◌, ◌≤◌, ◌⊎◌, ◌↔◌, cond, List, map, length, slice_index}
 use Rattle.std.specs.List.{All, range_with_len}
 use Rattle.cone_definitions.specs.Vectors.{IsInside, IsInsideUnion, ray_at}
@@ -9,7 +9,7 @@ use Rattle.cone_laws.specs.Unions.{union_size}
 abbrev pub residual : List ℕ → List ℕ → List ℕ
 residual u x = map (λ column. cond (slice_index u column == 0) (slice_index x column) 0) (range_with_len 0 (length x))
 
--- t lies inside the union of u and w exactly where its residual lies inside that of w
+-- t lies inside the union of u and w if and only if its residual lies inside that of w
 abbrev pub ResidualsDecide : Type 0
 ResidualsDecide = (u w t : List ℕ) → IsInsideUnion t u w ↔ IsInside (residual u t) (residual u w)
 
@@ -21,7 +21,7 @@ IsMinimalResidual rays i j = (k : ℕ) → k < length rays → k ≢ i → IsIns
 abbrev pub HasNoThirdPlace : List (List ℕ) → ℕ → ℕ → Type 0
 HasNoThirdPlace rays i j = (k : ℕ) → k < length rays → IsInsideUnion (ray_at rays k) (ray_at rays i) (ray_at rays j) → (k ≡ i) ⊎ (k ≡ j)
 
--- which is so exactly where that residual is minimal
+-- which is so if and only if that residual is minimal
 abbrev pub MinimalResidualsHaveNoThird : Type 0
 MinimalResidualsHaveNoThird = (rays : List (List ℕ)) (i j : ℕ) → IsMinimalResidual rays i j ↔ HasNoThirdPlace rays i j
 

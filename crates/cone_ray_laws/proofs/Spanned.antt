@@ -48,7 +48,7 @@ extreme_spans columns rows x ex = record {
   );
 }
 
--- a vector on the ray of x that is 0 where x isn't is 0 everywhere
+-- a vector on the ray of x that is 0 where x is not is 0 everywhere
 zero_on_ray : (x y : List ℕ) → IsOnRay x y → (k : ℕ) → slice_index y k ≡ 0 → slice_index x k ≢ 0 → (j : ℕ) → slice_index y j ≡ 0
 zero_on_ray x y r k gone was j = mul_cancel r.y_times (slice_index y j) 0 r.some_y (on_ray_entry x y r j ∙ rw none (omega arith))
   where

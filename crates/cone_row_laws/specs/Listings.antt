@@ -1,4 +1,4 @@
--- Where all numbers are bounded, a surface list that was found in any way is the answer in each order of the rows.
+-- If all numbers are bounded, a surface list that was found in any way is the answer in each order of the rows.
 use Rattle.std.specs.Prelude.{◌≢◌, ℕ, ◌*◌, ◌≤◌, Bool, List, length}
 use Rattle.std.specs.List.{range_with_len}
 use Rattle.std.specs.List.Sorted.{IsPermutation}
@@ -20,7 +20,7 @@ ListsOfBoundedAreListed = (e : Enumeration) (free : ℕ → Bool) (group cap : �
     (taken : List ℕ) (list : List (List ℕ)) → IsPermutation (range_with_len 0 (length e.system.rows)) taken → AreNamed e.order e.system taken →
     IsSurfaceList e.system.columns e.system.rows e.pairs list → IsListed e taken list
 
--- and nothing passes the limit, where the order names its rows
+-- and nothing exceeds the limit, where the order names its rows
 abbrev pub BoundedIsNotPast : Type 0
 BoundedIsNotPast = (e : Enumeration) (free : ℕ → Bool) (group cap : ℕ → ℕ) (groups size : ℕ) → IsBounded e free group cap groups size → e.order ≢ Free →
     (all taken : List ℕ) (list : List (List ℕ)) (kind : Named) → IsPermutation (range_with_len 0 (length e.system.rows)) all → AreNamed e.order e.system all →

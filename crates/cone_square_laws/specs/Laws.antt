@@ -26,7 +26,7 @@ EntriesAreBoundedBySquares = (columns : ℕ) (rows : List Row) (pairs : List Cla
     HasSquareCaps columns rows pairs group cap groups size → (x : List ℕ) → IsVertexSurface columns rows pairs x → (j : ℕ) →
     slice_index x j * slice_index x j ≤ caps_product cap groups
 
--- so no number of a step passes a limit that is at least the size of the rows times that product, in any order of the
+-- so no number of a step exceeds a limit that is at least the size of the rows times that product, in any order of the
 -- rows
 abbrev pub NumbersAreBoundedBySquares : Type 0
 NumbersAreBoundedBySquares = (limit : ℕ) (system : System) (pairs : List Clash) (group cap : ℕ → ℕ) (groups size : ℕ) →

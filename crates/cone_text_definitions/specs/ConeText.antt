@@ -53,7 +53,7 @@ abbrev pub is_zero : ℤ → Bool
 is_zero (pos n) = n == 0
 is_zero (negsuc n) = false
 
--- the columns of a row whose coefficient isn't 0, each with its coefficient
+-- the columns of a row whose coefficient is not 0, each with its coefficient
 abbrev pub sparse : List ℤ → Row
 sparse row = filter (λ (term : ℕ × ℤ). not (is_zero term.1)) (enumerate_from 0 row)
 

@@ -51,7 +51,7 @@ is_accepted rows m = is_none (play_fault rows m)
 unfoldable pub descent_move : List Row → Option Move
 descent_move rows = option_or (find (is_accepted rows) (four_one_moves (length rows))) (find (is_accepted rows) (three_two_moves (length rows)))
 
--- while a table isn't standard, the descent plays its move; it ends at a table that is standard or has none
+-- while a table is not standard, the descent plays its move; it ends at a table that is standard or has none
 abbrev pub IsDescent : List Row → List Move → List Row → Type 0
 IsDescent rows [] last = (rows ≡ last) × (IsStandard rows ⊎ (descent_move rows ≡ None))
 IsDescent rows (m ∷ ms) last = (IsStandard rows → ⊥) × (descent_move rows ≡ Some m) × ((next : List Row) × Plays rows m next × IsDescent next ms last)

@@ -40,7 +40,7 @@ IsRefused s m fault = (table : List Row) × IsTableOf s table × (play_fault tab
 abbrev pub IsAccepted : Session → Move → Type 0
 IsAccepted s m = (table : List Row) × IsTableOf s table × (play_fault table m ≡ None)
 
--- what is answered to a step
+-- the result of a step
 pub data StepAnswer : Type 0 where
   done : StepAnswer
   illegal : MoveFault → StepAnswer
@@ -48,7 +48,7 @@ pub data StepAnswer : Type 0 where
   redone : StepAnswer
   nothing : StepAnswer
 
--- a step of a session is answered so, and the session is this one then
+-- a step of a session has this result, and changes the session to this one
 abbrev pub IsSessionStep : Session → text.Step → StepAnswer → Session → Type 0
 IsSessionStep s (text.play m) done after = IsAccepted s m × (after ≡ with_move s m)
 IsSessionStep s (text.play m) (illegal fault) after = IsRefused s m fault × (after ≡ s)

@@ -14,7 +14,7 @@ pub enum MoveFault {
     Boundary { label: u8 },
     /// The facet that lacks this label is a tetrahedron that is another facet already.
     Repeated { label: u8 },
-    /// The facets that lack these labels aren't glued to each other label by label.
+    /// The facets that lack these labels are not glued to each other label by label.
     NotMatched { first: u8, second: u8 },
     /// The new table would have more than 1,000 tetrahedra.
     TooMany,

@@ -23,7 +23,7 @@ facets_below rows m label = filter_map (moves.facet rows m) (range_with_len (len
 abbrev pub found_facets : List Row → moves.Move → List moves.Facet
 found_facets rows m = filter_map (moves.facet rows m) (moves.found_labels m)
 
--- the first pair of at most three facets that aren't glued to each other
+-- the first pair of at most three facets that are not glued to each other
 unfoldable pub pairs_fault : List Row → List moves.Facet → Option MoveFault
 pairs_fault rows (f ∷ g ∷ []) = moves.pair_fault rows (Some f) (Some g)
 pairs_fault rows (f ∷ g ∷ h ∷ []) =

@@ -21,7 +21,7 @@ pub record MeetsByLabels (rows : List Row) (f g : Facet) : Type 0 where
   pub tet : by.tet ≡ g.tet
   pub keeps : (v : ℕ) → v < 4 → image f.labels v ≢ g.missing → image g.labels (image by.perm v) ≡ image f.labels v
 
--- the labels that the core's vertices don't have; there are 5 less the core's size of them
+-- the labels that the core's vertices do not have; there are 5 less the core's size of them
 abbrev pub IsOldLabel : Move → ℕ → Type 0
 IsOldLabel m i = (length m.core ≤ i) × (i < 5)
 

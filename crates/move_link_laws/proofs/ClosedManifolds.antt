@@ -1,4 +1,4 @@
--- The Euler characteristic of a closed table without invalid edges is at least 0, and 0 exactly where each link has 2.
+-- The Euler characteristic of a closed table without invalid edges is at least 0, and 0 if and only if each link has 2.
 use Rattle.std.proofs.Common.{◌≡◌, ◌*◌, List, [], ◌∷◌, length, map, None, refl, arith}
 use Rattle.std.specs.Prelude.{ℤ, pos, ◌-ℤ◌, ◌+ℤ◌, ◌≤ℤ◌}
 use Rattle.std.specs.List.{AllByRecursion, slice_index_or}

@@ -1,4 +1,5 @@
--- A step of the new table is followed in the old one: so chains join places of the old table exactly where they join those for which these stand.
+-- A step of the new table is followed in the old one: so chains join places of the old table if and only if they join
+-- those for which these stand.
 use Rattle.std.proofs.Common.{◌≡◌, ◌≢◌, ℕ, ◌+◌, ◌<◌, false, List, [], ◌∷◌, length, map, Option, Some, None, ◌⊎◌, inl, inr, refl, sym, ap, ◌∙◌, subst, arith}
 use Rattle.std.specs.Prelude.{option_and_then}
 use Rattle.std.specs.List.{AllByRecursion}
@@ -145,7 +146,7 @@ module _ (old : List Row) (m : Move) (new : List Row) (table : IsTable old) (h :
       let rest : Precedes q' one.there = led_under fs s.0 q' one.there s.2 one.tie in
       record { there = rest.there; tie = rest.tie; joined = joined_trans old p one.there rest.there one.joined rest.joined }
 
-  -- chains join the ones exactly where they join the others
+  -- chains join the ones if and only if they join the others
   pub joined_over : (p p' q q' : Place) → Tie p q → Tie p' q' → IsJoined old p p' → IsJoined new q q'
   joined_over p p' q q' t t' j = let f = led_over j.0 p p' q j.1 t in joined_trans new q f.there q' f.joined (stands_once old m new table h p' f.there q' f.tie t')
 

@@ -1,4 +1,5 @@
--- Vertex classes of the two tables that correspond: a vertex that stands for one is of the one class exactly where that is of the other.
+-- Vertex classes of the two tables that correspond: a vertex that stands for one is of the one class if and only if
+-- that is of the other.
 use Rattle.std.proofs.Common.{◌≡◌, ℕ, ◌+◌, ◌*◌, ◌<◌, List, [], ◌∷◌, length, map, inl, inr, refl, sym, ap, ◌∙◌, subst, arith}
 use Rattle.std.proofs.lemmas.Bool.{false≢true}
 use Rattle.table_definitions.specs.Lists.{has, rank_without}
@@ -27,7 +28,7 @@ module _ (old : List Row) (m : Move) (new : List Row) (table : IsTable old) (h :
   abbrev at : ℕ → Facet
   at j = new_at old m new table h j
 
-  -- what stands for a place isn't buried
+  -- what stands for a place is not buried
   pub tie_not_buried : (ls : List ℕ) (p q : Place) → Tie p q → Buried old m new table h ls p → ⊥
   tie_not_buried ls p q t b = elim (tie_shape old m new table h p q t) [
     | inl k ↦ false≢true (sym k.stays ∙ ap (λ (r : Place). has (old_tets old m) r.tet) b.from ∙ old_has old m new table h b.i b.f b.old_is)

@@ -67,7 +67,7 @@ module _ (old : List Row) (m : Move) (new : List Row) (table : IsTable old) (h :
       let lists : a ∷ b ∷ [] ≡ b ∷ a ∷ [] = ap (λ (p : Place). p.vertices) z.to ∙ ap (λ k. map (vertex_of (new_at old m new table h k)) ls) same ∙ ap (λ (p : Place). p.vertices) (sym w.to) in
       cc
 
-  -- so the one table has valid edges exactly where the other has
+  -- so the one table has valid edges if and only if the other has
   valid_forth : HasValidEdges old → HasValidEdges new
   valid_forth valid i l j = elim (new_tied_or_buried old m new table h (pair e.t e.a e.b) lt (e.low_a, (e.low_b, tt)) (free_of_two e.a e.b)) [
     | inl w ↦ tied w.0 w.1

@@ -13,7 +13,7 @@ ClosedCharacteristicsAreOfLinks =
     (s : Skeleton) (links : List Link) → IsSkeleton s → AreLinks s s.vertices.count links → IsTrue (is_closed s.rows) → HasValidEdges s.rows
     → characteristic s +ℤ characteristic s ≡ integer_sum (map (λ (link : Link). pos 2 -ℤ link.euler) links)
 
--- so it is never negative, since no link has more than 2, and it is 0 exactly where each has 2, as a sphere has
+-- so it is never negative, since no link has more than 2, and it is 0 if and only if each has 2, as a sphere has
 abbrev pub ClosedManifoldsHaveCharacteristicZero : Type 0
 ClosedManifoldsHaveCharacteristicZero =
     (s : Skeleton) (links : List Link) → IsSkeleton s → AreLinks s s.vertices.count links → IsTrue (is_closed s.rows) → HasValidEdges s.rows

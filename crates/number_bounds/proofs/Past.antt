@@ -140,7 +140,7 @@ no_product system none = ones (λ column. max (sum_of_squares system.rows column
 pub large_past : (size product limit : ℕ) → 1 ≤ size → limit < product → limit < size * product
 large_past size product limit some past = let more : 1 * product ≤ size * product = mul-le 1 product size product some (omega arith) in omega (arith, more, past)
 
--- the greatest size times a product passes the limit: then the numbers of some row do
+-- the greatest size times a product exceeds the limit: then the numbers of some row do
 pub past_limit : (rows : List Row) (limit size product whole : ℕ) → (size ≡ 0) ⊎ Any (λ row. row_size row ≡ size) rows → product ≡ whole → limit < size * product →
     Any (λ row. limit < row_size row * whole) rows
 past_limit rows limit size product whole attained is past = elim attained [

@@ -10,7 +10,7 @@ use Rattle.outcome_definitions.specs.Outcomes.{Outcome, too_long_outcome, IsRead
 use Rattle.outcome_definitions.specs.Answers.{IsOutcomeOf, IsAnswerTo, is_too_long, most_bytes}
 use Rattle.outcome_answer_laws.specs.Requests.{IsOutcomeTo, Means}
 
--- an input that isn't too long is answered
+-- an input that is not too long is answered
 pub within : (b : Bool) (A : Type 0) (o : Outcome) → b ≡ false → MatchBool b (o ≡ too_long_outcome) A → A
 within true A o e h = absurd (let z : true ≡ false = e in cc)
 within false A o e h = h

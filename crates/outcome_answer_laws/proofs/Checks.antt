@@ -1,4 +1,4 @@
--- Moves are accepted exactly where they are a certificate.
+-- Moves are accepted if and only if they are a certificate.
 use Rattle.std.proofs.Common.{◌≡◌, ◌↔◌, ℕ, List, Ok, Err, sym, ◌∙◌, ap}
 use Rattle.table_definitions.specs.Table.{Row, IsTable}
 use Rattle.move_definitions.specs.Moves.{Move}

@@ -46,7 +46,7 @@ told_is_done : (first second : List Row) (o : Outcome) → IsTold first second o
 told_is_done first second o (inl h) = status_of o (done (relabelling_text h.0)) h.2
 told_is_done first second o (inr h) = status_of o different_outcome h.1
 
--- a table that isn't connected is refused
+-- a table that is not connected is refused
 refused : {P : Type 0} (k : ℕ) (rows : List Row) (o : Outcome) → IsNotConnected k rows o → o.status ≡ Done → P
 refused k rows o h e = (let z : Refused ≡ Done = sym (status_of o (not_connected_outcome k h.0) h.2) ∙ e in absurd cc)
 

@@ -1,4 +1,4 @@
--- The components of two tables match up exactly where `csame` says `same`.
+-- The components of two tables match up if and only if `csame` says `same`.
 use Rattle.std.proofs.Common.{◌≡◌, ◌⊎◌, ◌<◌, ◌≤◌, ℕ, List, length, slice_index, IsPermutation, inl, inr, sym, ◌∙◌, ap, subst, arith}
 use Rattle.std.proofs.lemmas.Bool.{cases_lt}
 use Rattle.table_definitions.specs.Lists.{below}

@@ -33,7 +33,7 @@ two_lie_over n t u lt lu = (by_sheet, lies)
     lies (inl e) = ap (over n) e ∙ over_above n t 0 lt (omega arith)
     lies (inr e) = ap (over n) e ∙ over_above n t 1 lt (omega arith)
 
--- ---- each face is glued exactly where the face below it is
+-- ---- each face is glued if and only if the face below it is
 
 glued_below : {A B : Type 0} (f : A → B) (o : Option A) (h : B) → option_map f o ≡ Some h → (g : A) × (o ≡ Some g)
 glued_below f None h e = absurd cc

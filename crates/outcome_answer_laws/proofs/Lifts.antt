@@ -49,7 +49,7 @@ module _ (s : Skeleton) (k : IsSkeleton s) (links : List Link) (h : HasSphereAnd
   told_another vectors (Ok lifts) t = tt
   told_another vectors (Err refusal) t = another (slice_index_or vectors refusal.0 []) refusal.1 t.refused
 
-  -- a small solution isn't refused
+  -- a small solution is not refused
   never_refused : (xs : List ℕ) (refusal : Refusal) → IsSmallSolution s.rows equations xs → IsLifted s equations xs (Err refusal) → ⊥
   never_refused xs (Unfit fault) small t = fit_or_not s.rows equations xs fault small.fit t
   never_refused xs (LargeSum n) small t = t

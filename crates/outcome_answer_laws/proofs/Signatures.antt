@@ -16,7 +16,7 @@ use Rattle.outcome_laws.proofs.Labelled.{not_both}
 use Rattle.outcome_answer_laws.specs.Signatures.{IsTableOutcome, SignaturesTell, ComponentSignaturesTell}
 use Rattle.outcome_answer_laws.proofs.Asked.{answer_to, answer_to_value}
 
--- lines are equal exactly where their texts are
+-- lines are equal if and only if their texts are
 same_lines : (text other : List ℕ) (o p : Outcome) → o ≡ done (line text) → p ≡ done (line other) → (o ≡ p) ↔ (text ≡ other)
 same_lines text other o p told tells = (
   (λ e. append_cancel_right text other (10 ∷ []) (ap (λ (q : Outcome). q.text) (sym told ∙ e ∙ tells))),

@@ -1,4 +1,4 @@
--- Sums that are told are sums of vertex surfaces, and sums are accepted exactly where they are true.
+-- Sums that are told are sums of vertex surfaces, and sums are accepted if and only if they are true.
 use Rattle.std.proofs.Common.{◌≡◌, ◌↔◌, ◌≤◌, ℕ, List, [], ◌∷◌, length, map, None, Result, Ok, Err, inl, inr, refl, sym, ◌∙◌, arith}
 use Rattle.std.specs.List.{All, AllZip, AllByRecursion, slice_index_or}
 use Rattle.std.proofs.lemmas.List.Elements.{All-from_recursion, recursion_from_All}

@@ -26,7 +26,7 @@ pub record AreCompared (first second : List Row) (o : Outcome) : Type 0 where
   pub different : (o ≡ different_outcome) ↔ (¬ AreIsomorphic first second)
   pub told : AreIsomorphic first second → (by : Relabelling) × Relabels first second by × (o ≡ done (relabelling_text by))
 
--- both tables are connected exactly where the comparison is done
+-- both tables are connected if and only if the comparison is done
 pub record IsComparison (pair : List Row × List Row) (o : Outcome) : Type 0 where
   pub is_done : (o.status ≡ Done) ↔ (IsConnected pair.0 × IsConnected pair.1)
   pub compared : IsConnected pair.0 → IsConnected pair.1 → AreCompared pair.0 pair.1 o
@@ -50,8 +50,8 @@ pub record IsComponentComparison (pair : List Row × List Row) (o : Outcome) : T
   pub compared : AreCompared pair.0 pair.1 o
   pub components : SaysSame o ↔ ComponentsMatch pair.0 pair.1
 
--- each table is in one class, each class has a table, and two are in one exactly where a relabelling carries the one to
--- the other
+-- each table is in one class, each class has a table, and two are in one if and only if a relabelling carries the one
+-- to the other
 pub record AreClassified (tables : List (List Row)) (o : Outcome) : Type 0 where
   pub classes : List ℕ
   pub signatures : List (List ℕ)

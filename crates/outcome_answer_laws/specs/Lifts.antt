@@ -1,4 +1,4 @@
--- What `lift` answers where the link of each vertex class is a sphere or a disc (Tollefson).
+-- The answer of `lift` if the link of each vertex class is a sphere or a disc (Tollefson 1998).
 use Rattle.std.specs.Prelude.{◌≡◌, ◌*◌, ◌≤◌, ℕ, List, Result, Ok, Err, All, sum, ⊤}
 use Rattle.std.specs.List.{AllZip}
 use Rattle.text_definitions.specs.Written.{limit}
@@ -46,7 +46,7 @@ NoneWithoutLift =
     (words : List (List ℕ)) (bytes : List ℕ) (o : Outcome) (rows : List Row) (vectors : List (List ℕ)) → IsOutcomeTo Lift words bytes o
     → vectors_document bytes ≡ Ok (rows, vectors) → HasSphereAndDiscVertices rows → (answer : IsLiftsAnswer (rows, vectors) o) × AreLiftsOrAnotherReason answer.told
 
--- an admissible solution of the quad equations, of which no sum passes the limit
+-- an admissible solution of the quad equations, of which no sum exceeds the limit
 pub record IsSmallSolution (rows : List Row) (equations : List EquationRow) (xs : List ℕ) : Type 0 where
   pub fit : IsFit Quad rows equations xs
   pub small : 4 * sum xs ≤ limit

@@ -1,4 +1,4 @@
--- What `make` and `bulk` answer where three tetrahedra for each move are within the limit of tetrahedra.
+-- The answers of `make` and `bulk` if three tetrahedra for each move are within the limit of tetrahedra.
 use Rattle.std.specs.Prelude.{◌≡◌, ◌≤◌, ℕ, List, length}
 use Rattle.table_definitions.specs.Table.{Row}
 use Rattle.move_definitions.specs.Moves.{Move}

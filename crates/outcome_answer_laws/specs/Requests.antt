@@ -1,4 +1,4 @@
--- Accepted words, an input that isn't too long, and their outcome.
+-- Accepted words, an input that is not too long, and their outcome.
 use Rattle.std.specs.Prelude.{◌≡◌, ◌≤◌, ℕ, List, length, Some, Result, Ok}
 use Rattle.signature_definitions.specs.declared.InputFault.{InputFault}
 use Rattle.command_definitions.specs.declared.Request.{Request}

@@ -1,4 +1,4 @@
--- What `play` answers: the table to which the moves lead that stand at the end.
+-- The table that `play` prints: the result of the moves in effect at the end.
 use Rattle.std.specs.Prelude.{◌≡◌, ◌≤◌, ℕ, List, ◌++◌, length, map, take, replicate}
 use Rattle.table_definitions.specs.Table.{Row}
 use Rattle.move_definitions.specs.Moves.{Move, PlaysAll}

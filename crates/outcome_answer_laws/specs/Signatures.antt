@@ -1,4 +1,4 @@
--- Equal answers of `sig`, and of `csig`, tell tables of which a relabelling carries the one to the other.
+-- Answers of `sig`, and of `csig`, are equal if and only if the tables are isomorphic.
 use Rattle.std.specs.Prelude.{◌≡◌, ◌↔◌, ℕ, List, Ok}
 use Rattle.table_definitions.specs.Table.{Row}
 use Rattle.table_definitions.specs.Places.{IsConnected}

@@ -79,7 +79,7 @@ pub record IsTrueSum (coords : Coords) (rows : List Row) (equations : List Equat
   pub fit : AreFit coords rows equations block
   pub adds_up : AddsUp limit block.vector block.times block.terms
 
--- sums are accepted exactly where they are all true
+-- sums are accepted if and only if they are all true
 pub record IsAddition (coords : Coords) (d : List Row × List Block) (o : Outcome) : Type 0 where
   pub equations : List EquationRow
   pub of_table : AreEquations coords d.0 equations

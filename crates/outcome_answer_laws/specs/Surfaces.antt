@@ -1,4 +1,4 @@
--- What `surfaces` answers where no number can pass the limit.
+-- The answer of `surfaces` if no number can exceed the limit.
 use Rattle.std.specs.Prelude.{◌≡◌, ◌≤◌, ℕ, List, length, Ok, codes}
 use Rattle.text_definitions.specs.Written.{limit}
 use Rattle.cone_definitions.specs.Rows.{Row as EquationRow}

@@ -38,8 +38,8 @@ verify_outcome coords rows equations vectors = record { status = Done; text = ve
 abbrev pub IsVerdictsAnswer : Coords → List Row × List (List ℕ) → Outcome → Type 0
 IsVerdictsAnswer coords d o = (equations : List EquationRow) × AreEquations coords d.0 equations × (o ≡ verify_outcome coords d.0 equations d.1)
 
--- The outcome of a command on an input that isn't too long. That of `make` or `bulk`, which read nothing, is one of the
--- words alone.
+-- The outcome of a command on an input that is not too long. That of `make` or `bulk`, which read nothing, is one of
+-- the words alone.
 abbrev pub IsAnswerTo : Request → List ℕ → Outcome → Type 0
 IsAnswerTo (Verify coords) bytes o = IsReadOutcome (vectors_document bytes) (IsVerdictsAnswer coords) o
 IsAnswerTo Info bytes o = IsReadOutcome (table_document bytes) IsInformationAnswer o

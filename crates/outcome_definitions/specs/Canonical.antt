@@ -1,5 +1,5 @@
--- What `sig`, `same` and `group` are to answer: signatures, the relabelling that is answered of two tables, and the
--- classes of tables.
+-- The answers of `sig`, `same` and `group`: signatures, a relabelling from one table to another, and the classes of
+-- tables.
 use Rattle.std.specs.Prelude.{◌≡◌, ℕ, ◌<◌, ◌⊎◌, List, ◌++◌, length, slice_index, codes, decimal}
 use Rattle.table_definitions.specs.Permutation.{digits_of}
 use Rattle.table_definitions.specs.Table.{Gluing, Row}

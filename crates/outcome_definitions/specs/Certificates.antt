@@ -17,7 +17,7 @@ use Rattle.outcome_definitions.specs.Outcomes.{Outcome}
 use Rattle.outcome_definitions.specs.Canonical.{done, not_connected_line, not_connected_outcome}
 
 -- why moves certify no table: the first move that is refused, by its place from 1, or the last table, which is table 0,
--- isn't connected, or has another signature than the standard sphere
+-- is not connected, or has another signature than the standard sphere
 unfoldable pub check_line : CheckFault (List ℕ) → List ℕ
 check_line (Illegal step fault) = line (codes "refused: check illegal " ++ decimal step ++ codes " " ++ move_fault_text fault)
 check_line (NotConnected t) = not_connected_line 0 t

@@ -1,4 +1,4 @@
--- What a run that lists rays or surfaces is to answer: the list, or the first step of which a number passes the limit.
+-- The answer of a run that lists rays or surfaces: the list, or the first step at which a number exceeds the limit.
 use Rattle.std.specs.Prelude.{◌≡◌, ℕ, ◌-◌, ◌≤◌, List, ◌++◌, length, codes, decimal, ◌⊎◌, slice_index, All}
 use Rattle.cone_definitions.specs.Rows.{Row as EquationRow}
 use Rattle.cone_definitions.specs.Elimination.{Named}

@@ -1,5 +1,5 @@
--- What `make` and `bulk` are to answer, which read nothing: a table that is made with its certificate, and what is
--- answered of its surfaces.
+-- The answers of `make` and `bulk`, which read nothing: a table that is made with its certificate, and numbers of its
+-- surfaces.
 use Rattle.std.specs.Prelude.{◌≡◌, ◌⊎◌, ℕ, ◌≤◌, List, ◌++◌, length, codes, count_by}
 use Rattle.cone_definitions.specs.Rows.{Row as EquationRow}
 use Rattle.cone_definitions.specs.Listings.{Enumeration, IsListed}
@@ -60,7 +60,7 @@ pub record AreSummedUp (n : Numbers) (e : Enumeration) (o : Outcome) : Type 0 wh
   pub is_greatest : IsGreatestEntry list greatest
   pub outcome : o ≡ summary_outcome n list greatest
 
--- what is answered of the vertex surfaces of a table in standard coordinates, unless a number passes the limit
+-- the answer about the vertex surfaces of a table in standard coordinates, unless a number exceeds the limit
 pub record IsSummary (n : Numbers) (table : List Row) (o : Outcome) : Type 0 where
   pub equations : List EquationRow
   pub of_table : AreEquations Standard table equations

@@ -1,5 +1,4 @@
--- What `csig` and `csame` are to answer: the component signature of a table, and the relabelling that is answered of
--- two tables.
+-- The answers of `csig` and `csame`: the component signature of a table, and a relabelling from one table to another.
 use Rattle.std.specs.Prelude.{◌≡◌, ◌⊎◌, ℕ, List}
 use Rattle.table_definitions.specs.Table.{Row}
 use Rattle.table_definitions.specs.Relabelling.{Relabelling, AreIsomorphic}

@@ -41,12 +41,12 @@ pub record IsFirst {A : Type 0} (Passes Fails : A → Type 0) (list : List A) (n
 abbrev pub IsFirstRefused : {A B E : Type 0} → (A → Result B E → Type 0) → List A → ℕ → E → Type 0
 IsFirstRefused {A} {B} IsTold list v refusal = IsFirst (λ x. (answer : B) × IsTold x (Ok answer)) (λ x. IsTold x (Err refusal)) list v
 
--- what is answered of all of a list: the answer to each, or the number of the first that is refused, and why
+-- the answer for a list: the result of each element, or the index of the first that is refused, with the reason
 abbrev pub AreAnswered : {A B E : Type 0} → (A → Result B E → Type 0) → List A → Result (List B) (ℕ × E) → Type 0
 AreAnswered IsTold list (Ok answers) = AllZip (λ x answer. IsTold x (Ok answer)) list answers
 AreAnswered IsTold list (Err refusal) = IsFirstRefused IsTold list refusal.0 refusal.1
 
--- a number is too large, or the vector doesn't allow what is asked
+-- a number is too large, or the vector does not allow what is asked
 abbrev pub unfit_status : VectorFault → Status
 unfit_status (faults.Length n) = statuses.Refused
 unfit_status (faults.Large i) = statuses.Large

@@ -1,5 +1,5 @@
--- What `crush`, `lift` and `describe` are to answer: what is answered of the vectors of a table, or the first that is
--- refused, and why.
+-- The answers of `crush`, `lift` and `describe`: the results for the vectors of a table, or the first vector that is
+-- refused, with the reason.
 use Rattle.std.specs.Prelude.{◌≡◌, ◌⊎◌, ℕ, List, None, Some, Result, Ok, Err}
 use Rattle.std.specs.List.{flat_map}
 use Rattle.cone_definitions.specs.Rows.{Row as EquationRow}
@@ -18,7 +18,7 @@ use Rattle.outcome_definitions.specs.declared.Status.{Status}
 use Rattle.outcome_definitions.specs.declared.Status.TheVariants.{Done, Refused, Large}
 use Rattle.outcome_definitions.specs.Outcomes.{Outcome}
 
--- a number is too large, or the vector doesn't allow what is asked
+-- a number is too large, or the vector does not allow what is asked
 abbrev pub refusal_status : Refusal → Status
 refusal_status (Unfit (faults.Length n)) = Refused
 refusal_status (Unfit (faults.Large i)) = Large

@@ -76,7 +76,7 @@ module _ (tables : List (List Row)) (are : (k : ℕ) → k < length tables → I
   census_exists : ((k : ℕ) → k < length tables → IsConnected (table_in tables k)) → HasCensus tables
   census_exists connected = subst HasCensus (take_all (length tables) tables (omega arith)) (census_up_to connected (length tables) (omega arith))
 
-  -- a table of the list is connected, or it has a least tetrahedron that isn't reached
+  -- a table of the list is connected, or it has a least tetrahedron that is not reached
   abbrev Connected : ℕ → Type 0
   Connected k = k < length tables → IsConnected (table_in tables k)
 

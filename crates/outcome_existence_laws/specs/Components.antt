@@ -11,13 +11,13 @@ use Rattle.component_definitions.specs.SameParts.{IsSameParts}
 abbrev pub SomeComponentSignature : Type 0
 SomeComponentSignature = (rows : List Row) → IsTable rows → (text : List ℕ) × IsComponentSignature rows text
 
--- of two connected tables, of which one can be relabelled to the other, a relabelling is answered
+-- isomorphic connected tables have a relabelling as their answer
 abbrev pub SomeLeastRelabelling : Type 0
 SomeLeastRelabelling =
     (first second : List Row) → IsTable first → IsTable second → IsConnected first → IsConnected second → AreIsomorphic first second
     → (by : Relabelling) × IsLeastRelabelling first second by
 
--- of two tables, of which one can be relabelled to the other, a relabelling is answered part by part
+-- isomorphic tables have a relabelling component by component as their answer
 abbrev pub SomeSameParts : Type 0
 SomeSameParts = (first second : List Row) → IsTable first → IsTable second → AreIsomorphic first second → (by : Relabelling) × IsSameParts first second by
 

@@ -1,4 +1,4 @@
--- Words and an input are due an outcome.
+-- Each command line and input has a correct outcome.
 use Rattle.std.specs.Prelude.{◌≡◌, ℕ, List}
 use Rattle.command_definitions.specs.declared.Request.{Request}
 use Rattle.command_definitions.specs.Requests.{HoldsRange}

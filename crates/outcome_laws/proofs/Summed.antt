@@ -166,7 +166,7 @@ module _ (coords : Coords) (rows : List Row) (equations : List EquationRow) wher
   some_same : (o : Option AddFault) (f g : AddFault) → o ≡ Some f → o ≡ Some g → f ≡ g
   some_same o f g h k = (let z : Some f ≡ Some g = sym h ∙ k in cc)
 
-  -- terms that are all fit have no first that isn't
+  -- terms that are all fit have no first that is not
   no_unfit_term : (terms : List Term) (i : ℕ) (fault : VectorFault) → All (λ (term : Term). verdict_in coords rows equations term.vector ≡ solution) terms → IsFirstRefused (IsTermVerdict coords rows equations) terms i fault → ⊥
   no_unfit_term terms i fault all h = at_value h.before (subst (λ (ts : List Term). All (λ (term : Term). verdict_in coords rows equations term.vector ≡ solution) ts) h.stands all)
     where

@@ -1,4 +1,4 @@
--- What is due to words and an input is one outcome.
+-- A command line and an input have at most one correct outcome.
 use Rattle.std.specs.Prelude.{◌≡◌, ℕ, List}
 use Rattle.outcome_definitions.specs.Outcomes.{Outcome}
 use Rattle.outcome_definitions.specs.Answers.{IsOutcome}

@@ -1,4 +1,5 @@
--- What is answered of each listed surface decides 0-efficiency: those of positive Euler characteristic are the links exactly where they are linking.
+-- What is answered of each listed surface decides 0-efficiency: those of positive Euler characteristic are the links if
+-- and only if they are linking.
 use Rattle.std.proofs.Common.{◌≡◌, ◌↔◌, ℕ, pos, ◌<ℤ◌, List, ◌++◌, map, Result, Ok, Err, inl, inr, All, Contains, sym, ap, ◌∙◌, subst}
 use Rattle.std.specs.List.{AllZip, slice_index_or}
 use Rattle.std.proofs.lemmas.List.Elements.{All-contains, Contains-get_or}

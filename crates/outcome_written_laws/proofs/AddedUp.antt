@@ -1,4 +1,4 @@
--- Sums of surfaces are accepted, unless a part of an equation passes the limit at a term.
+-- Sums of surfaces are accepted, unless a part of an equation exceeds the limit at a term.
 use Rattle.std.proofs.Common.{◌≡◌, ℕ, ◌*◌, ◌≤◌, inl, inr, ◌↔◌, None, ℤ, List, [], ◌∷◌, ◌++◌, length, map, slice_index, Ok, Err, refl, sym, ap, ◌∙◌, subst, arith}
 use Rattle.std.specs.List.{All, AllZip, AllByRecursion, Contains, slice_index_or}
 use Rattle.std.proofs.lemmas.List.Elements.{recursion_from_All, All-from_recursion, All-weaker, All-contains}

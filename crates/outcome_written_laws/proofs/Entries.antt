@@ -39,7 +39,7 @@ module _ (columns : ℕ) (pairs : List Clash) (x : List ℕ) (h : IsVertexSurfac
     | inr some ↦ (let one : slice_index x j ≡ 1 = h.primitive (slice_index x j) (entry_divides j some) in omega arith)
   ]
 
--- a divisor that isn't 0 leaves no more
+-- a divisor that is not 0 leaves no more
 divided_less : (d n z : ℕ) → z ≡ d * n → d ≢ 0 → n ≤ z
 divided_less d n z e some = let l : 1 * n ≤ d * n = mul-le-mul_right n (omega arith) in omega arith
 

@@ -26,7 +26,7 @@ use Rattle.outcome_written_laws.specs.Surfaces.{IsReadAsSurfaces, SurfacesAreRea
 use Rattle.outcome_written_laws.proofs.Entries.{listed_within}
 use Rattle.outcome_written_laws.proofs.Verdicts.{surfaces_are_solutions}
 
--- what passes the limit is not done
+-- what exceeds the limit is not done
 large_not_done : (o : Outcome) (taken : List ℕ) (kind : Named) → o ≡ large_outcome taken kind → o.status ≡ Done → ⊥
 large_not_done o taken kind e done = let same : Large ≡ Done = sym (ap (λ (q : Outcome). q.status) e) ∙ done in cc
 

@@ -1,4 +1,4 @@
--- Terms and blocks of which no part of an equation passes the limit, or the first of which one does.
+-- Terms and blocks of which no part of an equation exceeds the limit, or the first of which one does.
 use Rattle.std.proofs.Common.{◌⊎◌, ℕ, inl, inr, List}
 use Rattle.std.specs.List.{All}
 use Rattle.cone_definitions.specs.Rows.{Row as EquationRow}

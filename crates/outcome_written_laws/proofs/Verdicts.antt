@@ -1,4 +1,4 @@
--- The verdict on a vertex surface: a solution, or the first equation of which a part passes the limit.
+-- The verdict on a vertex surface: a solution, or the first equation of which a part exceeds the limit.
 use Rattle.std.proofs.Common.{◌≡◌, ◌⊎◌, ℕ, suc, ◌+◌, ◌<◌, inl, inr, List, [], ◌∷◌, ◌++◌, length, refl, sym, ap, ◌∙◌, subst, arith, slice_index_or}
 use Rattle.std.specs.List.{All}
 use Rattle.std.proofs.Math.Seq.{get_or-append_seam}
@@ -48,7 +48,7 @@ module _ {A W : Type 0} (Passes : A → Type 0) (Fails : W → A → Type 0) (de
     ]
   ]
 
--- no part passes the limit, or there is a first equation of which one does
+-- no part exceeds the limit, or there is a first equation of which one does
 pub small_or_large : (equations : List EquationRow) (x : List ℕ) → All (λ (equation : EquationRow). HasPartsWithin limit equation x) equations ⊎ ((row : ℕ) × IsFirstLarge equations x row)
 small_or_large equations x = elim (all_or_first (λ (equation : EquationRow). HasPartsWithin limit equation x) (λ (w : Unit {0}) (equation : EquationRow). HasLargePart limit equation x) decide equations) [
   | inl all ↦ inl all
@@ -93,7 +93,7 @@ module _ (coords : Coords) (rows : List Row) (equations : List EquationRow) (x :
           let zero : IsZeroAt (slice_index_or equations j []) x = All-get_or (λ (equation : EquationRow). IsZeroAt equation x) equations j [] here s.solves.zero in
           record { within = subst (λ (equation : EquationRow). HasPartsWithin limit equation x) (sym same) parts; zero = zero }
 
--- such a solution is told to be one, or the first equation of which a part passes the limit
+-- such a solution is told to be one, or the first equation of which a part exceeds the limit
 pub solutions_are_told : (coords : Coords) (rows : List Row) (equations : List EquationRow) (x : List ℕ) → IsSolution (columns coords (length rows)) equations x
     → IsAdmissible (clash_list coords (length rows)) x → IsSolutionUnlessLarge coords rows equations x
 solutions_are_told coords rows equations x solves admissible = elim (small_or_large equations x) [

@@ -14,7 +14,7 @@ use Rattle.outcome_definitions.specs.Lines.{accepted_text}
 use Rattle.outcome_definitions.specs.Certificates.{table_then_moves, IsCheckAnswer}
 use Rattle.outcome_definitions.specs.Answers.{IsOutcome, most_bytes}
 
--- `check` answers that moves are accepted exactly where they are a certificate
+-- `check` answers that moves are accepted if and only if they are a certificate
 abbrev pub AcceptedAreCertificates : Type 0
 AcceptedAreCertificates = (rows : List Row) (moves : List Move) (o : Outcome) → IsTable rows → IsCheckAnswer (rows, moves) o → (o ≡ done accepted_text) ↔ IsCertificate rows moves
 

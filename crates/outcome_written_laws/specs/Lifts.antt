@@ -1,4 +1,4 @@
--- What `lift` answers, behind its table, is a document of `verify` and `describe`, and its vectors are solutions.
+-- A table followed by the answer of `lift` is a document of `verify` and `describe`, and its vectors are solutions.
 use Rattle.std.specs.Prelude.{◌≡◌, ◌*◌, ◌≤◌, ℕ, List, ◌++◌, length, Ok, sum, slice_index, All}
 use Rattle.std.specs.List.{AllZip}
 use Rattle.table_definitions.specs.Table.{Row}
@@ -34,7 +34,7 @@ pub record IsReadAsLifts (rows : List Row) (vectors : List (List ℕ)) (text : L
   pub surfaces : All (IsSurface rows Standard) lifts
   pub read : vectors_document (table_text rows ++ text) ≡ Ok (rows, lifts)
 
--- so is each answer of `lift` that isn't a refusal
+-- so is each answer of `lift` that is not a refusal
 abbrev pub LiftsAreRead : Type 0
 LiftsAreRead =
     (words : List (List ℕ)) (bytes : List ℕ) (o : Outcome) (rows : List Row) (vectors : List (List ℕ)) → IsOutcomeTo Lift words bytes o → vectors_document bytes ≡ Ok (rows, vectors)

@@ -1,5 +1,5 @@
 -- The laws of sums that are written: what `decompose` answers is read again by `addup`, and accepted, unless a part of
--- an equation at a listed surface passes the limit.
+-- an equation at a listed surface exceeds the limit.
 use Rattle.std.specs.Prelude.{◌≡◌, ◌↔◌, ◌⊎◌, ℕ, ◌≤◌, List, Ok}
 use Rattle.std.specs.List.{All, AllZip}
 use Rattle.text_definitions.specs.Written.{limit}
@@ -49,14 +49,15 @@ WrittenSumsAreRead =
     (coords : Coords) (most : ℕ) (rows : List Row) (equations : List EquationRow) (vectors : List (List ℕ)) (blocks : List Block) → IsTable rows → most ≤ limit
     → AreSumsOf coords most rows equations vectors blocks → blocks_document (sums_text rows blocks) ≡ Ok (rows, blocks)
 
--- no part of an equation passes the limit at the term, and at none of the block's terms
+-- no part of an equation exceeds the limit at the term, and at none of the block's terms
 abbrev pub IsSmallTerm : List EquationRow → Term → Type 0
 IsSmallTerm equations term = All (λ equation. HasPartsWithin limit equation term.vector) equations
 
 abbrev pub IsSmallBlock : List EquationRow → Block → Type 0
 IsSmallBlock equations block = All (IsSmallTerm equations) block.terms
 
--- the first equation of which a part passes the limit at the term; the first such term of a block; the first such block
+-- the first equation of which a part exceeds the limit at the term; the first such term of a block; the first such
+-- block
 abbrev pub IsLargeTerm : List EquationRow → ℕ → Term → Type 0
 IsLargeTerm equations row term = IsFirstLarge equations term.vector row
 
@@ -85,7 +86,7 @@ WholeSumsAreAccepted =
     → AreSumsOf coords most rows equations vectors blocks → All (λ (block : Block). block.times ≡ 1) blocks → (o : Outcome) → IsAddupAnswer coords (rows, blocks) o ↔ (o ≡ accepted_outcome)
 
 -- the bytes were read as a table and vectors; the text is read as the table and blocks that are the sums of these
--- vectors, and `addup` accepts it, unless a part passes the limit
+-- vectors, and `addup` accepts it, unless a part exceeds the limit
 pub record IsReadAgain (coords : Coords) (most : ℕ) (bytes text : List ℕ) : Type 0 where
   pub rows : List Row
   pub vectors : List (List ℕ)

@@ -1,4 +1,4 @@
--- What `surfaces` answers, behind its table, is a document of `verify`, `describe` and `decompose`.
+-- A table followed by the answer of `surfaces` is a document of `verify`, `describe` and `decompose`.
 use Rattle.std.specs.Prelude.{◌≡◌, ◌⊎◌, ℕ, List, ◌++◌, length, Ok, Err, All}
 use Rattle.text_definitions.specs.Written.{limit}
 use Rattle.cone_definitions.specs.Rows.{Row as EquationRow}
@@ -39,11 +39,11 @@ SurfacesAreRead =
     (words : List (List ℕ)) (bytes : List ℕ) (o : Outcome) (coords : Coords) (order : Order) (most : ℕ) (rows : List Row) → IsOutcomeTo (Surfaces coords order most) words bytes o
     → table_document bytes ≡ Ok rows → o.status ≡ Done → IsReadAsSurfaces coords rows o.text
 
--- the first equation of which a part passes the limit at x
+-- the first equation of which a part exceeds the limit at x
 abbrev pub IsFirstLarge : List EquationRow → List ℕ → ℕ → Type 0
 IsFirstLarge equations x row = IsFirst (λ equation. HasPartsWithin limit equation x) (λ equation. HasLargePart limit equation x) equations row
 
--- the verdict on x is that it is a solution where no part passes the limit, and else the first equation of which one
+-- the verdict on x is that it is a solution where no part exceeds the limit, and else the first equation of which one
 -- does
 abbrev pub IsSolutionUnlessLarge : Coords → List Row → List EquationRow → List ℕ → Type 0
 IsSolutionUnlessLarge coords rows equations x = (All (λ equation. HasPartsWithin limit equation x) equations × (verdict_in coords rows equations x ≡ solution))

@@ -11,7 +11,7 @@ plain g = record { generator = g; inverse = false }
 abbrev turned : ℕ → Letter
 turned g = record { generator = g; inverse = true }
 
--- the figure eight: face classes 1 to 3, which don't turn, and 2 -1 3 1 -3 and 1 2 -3 -2
+-- the figure eight: face classes 1 to 3, which do not turn, and 2 -1 3 1 -3 and 1 2 -3 -2
 eight_group : presentation_of (skeleton_of figure_eight) ≡ record {
   generators = 1 ∷ 2 ∷ 3 ∷ [];
   turning = false ∷ false ∷ false ∷ [];

@@ -33,7 +33,7 @@ pub record HasGroup (s : Skeleton) : Type 0 where
   pub connected : IsConnected s.rows
   pub valid : IsFirstInvalid s None
 
--- why there is none: a table that isn't connected comes before an invalid edge class
+-- why there is none: a table that is not connected comes before an invalid edge class
 abbrev pub IsGroupFault : Skeleton → GroupFault → Type 0
 IsGroupFault s (NotConnected tet) = IsLeastUnreached s.rows tet
 IsGroupFault s (InvalidEdge class) = IsConnected s.rows × IsFirstInvalid s (Some class)

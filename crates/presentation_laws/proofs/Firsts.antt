@@ -45,7 +45,7 @@ module _ (s : Skeleton) (h : IsSkeleton s) where
             let c : slice_index s.faces.classes (slice_index firsts s.faces.count) ≡ s.faces.count = a.member s.faces.count past in absurd (omega arith)
       ]
 
-  -- a class has two members exactly where its least one is glued
+  -- a class has two members if and only if its least one is glued
   module _ (c : ℕ) (l : c < s.faces.count) where
     abbrev first : ℕ
     first = least s.faces.classes c

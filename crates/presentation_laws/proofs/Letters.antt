@@ -1,4 +1,4 @@
--- The letter of a face turns exactly as the face does; a face without a letter doesn't turn.
+-- The letter of a face turns exactly as the face does; a face without a letter does not turn.
 use Rattle.std.proofs.Common.{◌≡◌, ℕ, zero, suc, ◌+◌, ◌*◌, ◌<◌, ◌⊎◌, inl, inr, Bool, true, false, not, List, [], ◌∷◌, length, Option, Some, None, slice_index, slice_index_or, subst, sym, ap, ap₂, ◌∙◌, arith}
 use Rattle.std.specs.Prelude.{◌==◌, if◌then◌else◌}
 use Rattle.std.specs.List.{position_or_len, AllZip}
@@ -39,7 +39,7 @@ module _ (s : Skeleton) (h : IsSkeleton s) (connected : IsConnected s.rows) wher
   both_turn x y g k e d (inr same) = let z : Some k ≡ Some (way_back x g) = sym d ∙ ap (glue s.rows) same ∙ h.table.leads_back x g e in let w : k ≡ way_back x g = cc in
       ap₂ (λ (a : Face) (b : Gluing). turn_of a.tet b) same w ∙ turn_back s.rows h.table connected x g e
 
-  -- a face whose class holds a tree face doesn't turn
+  -- a face whose class holds a tree face does not turn
   held_turns_not : (x : Face) (g : Gluing) → glue s.rows x ≡ Some g → HoldsTreeFace s (class_at x) → turn_of x.tet g ≡ false
   unfolding class_of
   held_turns_not x g e w =
@@ -88,7 +88,7 @@ module _ (s : Skeleton) (h : IsSkeleton s) (connected : IsConnected s.rows) wher
     abbrev letter_if : Bool → Face → Option Letter
     letter_if b x = if b then Some (record { generator = position_or_len (λ c. c == class_at x) p.generators + 1; inverse = not (is_least s.faces.classes (face_number x)) }) else None
 
-    -- a face with a letter turns as the letter, and one without doesn't turn
+    -- a face with a letter turns as the letter, and one without does not turn
     pub record TurnsAs (o : Option Letter) (b : Bool) : Type 0 where
       pub none : o ≡ None → b ≡ false
       pub some : (letter : Letter) → o ≡ Some letter → turns p letter ≡ b

@@ -1,4 +1,4 @@
--- No generator turns exactly where the table is orientable.
+-- No generator turns if and only if the table is orientable.
 use Rattle.std.proofs.Common.{◌≡◌, ℕ, ◌-◌, ◌<◌, inl, inr, ◌↔◌, Bool, true, false, not, List, [], ◌∷◌, length, map, Option, Some, None, All, if◌then◌else◌, subst, sym, ap, ap₂, refl, ◌∙◌, arith}
 use Rattle.std.specs.List.{slice_index_or}
 use Rattle.std.proofs.lemmas.Bool.{cases_lt}
@@ -21,7 +21,7 @@ use Rattle.presentation_laws.proofs.TreeLaws.{path_of}
 use Rattle.presentation_laws.proofs.Parity.{differs, differs_self, odd_more, sign, sign_is, turn, turn_is}
 use Rattle.presentation_laws.proofs.Letters.{TurnsAs, letter_turns, zip_at}
 
--- a gluing that doesn't turn agrees with the signs
+-- a gluing that does not turn agrees with the signs
 agrees : (odd here there : Bool) → differs here (differs (not odd) there) ≡ false → there ≡ (if odd then here else not here)
 agrees true true true e = refl
 agrees true true false e = sym e
@@ -32,7 +32,7 @@ agrees false true false e = refl
 agrees false false true e = refl
 agrees false false false e = sym e
 
--- and one that agrees doesn't turn
+-- and one that agrees does not turn
 never_turns : (odd start here : Bool) → differs (differs start here) (differs (not odd) (differs start (if odd then here else not here))) ≡ false
 never_turns true true true = refl
 never_turns true true false = refl

@@ -107,7 +107,7 @@ module _ (rows : List Row) (table : IsTable rows) (connected : IsConnected rows)
       across : is_odd_number (evens rows (x ∷ [])) ≡ not (is_odd g.perm)
       across = odd_more (λ y. is_even_gluing (glue rows y)) x [] ∙ differs_false (is_even_gluing (glue rows x)) ∙ ap is_even_gluing e
 
-  -- a tree face doesn't turn
+  -- a tree face does not turn
   pub tree_turn : (t : ℕ) (x : Face) (g : Gluing) → IsTreeFace rows t x → glue rows x ≡ Some g → turn x.tet g ≡ false
   unfolding turn
   tree_turn t x g h e = ap (λ c. differs (sign x.tet) (differs (not (is_odd g.perm)) c)) there ∙ ap (differs (sign x.tet)) (sym (differs_assoc (not (is_odd g.perm)) (not (is_odd g.perm)) (sign x.tet)) ∙ ap (λ c. differs c (sign x.tet)) (differs_self (not (is_odd g.perm)))) ∙ differs_self (sign x.tet)

@@ -36,7 +36,7 @@ abbrev pub RelatorsTurnEvenly : Type 0
 RelatorsTurnEvenly = (s : Skeleton) (p : Presentation) → IsSkeleton s → IsConnected s.rows → IsPresentation s p →
     All (λ letters. is_odd_number (count_by (turns p) letters) ≡ false) p.relators
 
--- no generator turns exactly where the table is orientable
+-- no generator turns if and only if the table is orientable
 abbrev pub NoneTurnsExactly : Type 0
 NoneTurnsExactly = (s : Skeleton) (p : Presentation) → IsSkeleton s → IsConnected s.rows → IsPresentation s p →
     All (λ turning. turning ≡ false) p.turning ↔ IsOrientable s.rows

@@ -176,7 +176,7 @@ pub none_two : (mask a b : List ℕ) → ((k : ℕ) → k < length mask → mark
 none_two mask a b none h =
     nonzero_word (marked_word mask a b (h.first / 64)) (h.first % 64) (none (h.first / 64) (within_words mask h.first h.first_in.marked)) (at_marked mask a b h.first h.first_in)
 
--- two in the first word that isn't 0, or one there and one behind it
+-- two in the first word that is not 0, or one there and one behind it
 pub two_in_word : (mask a b : List ℕ) (k : ℕ) → HasTwoBits (marked_word mask a b k) → HasTwo mask a b
 two_in_word mask a b k h = record {
   first = 64 * k + h.first;

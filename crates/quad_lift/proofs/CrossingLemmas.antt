@@ -68,7 +68,7 @@ crossed_to s k xs i f other up down li x =
           ∙ ap (λ n. h (vertex_number g.tet w) + n) (sym x.down_is) ∙ ap (λ n. h n + down) (sym x.other_is);
     }
 
--- no vertex is met where the face isn't at the vertex, or is free
+-- no vertex is met where the face is not at the vertex, or is free
 pub crossed_none : (rows : List Row) (i f : ℕ) → (i % 4 ≢ f → glue rows (record { tet = i / 4; face = f }) ≡ None) → crossed_vertex rows i f ≡ None
 unfolding crossed_vertex
 crossed_none rows i f free = go (has (i % 4 ∷ []) f) refl

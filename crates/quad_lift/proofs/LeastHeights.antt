@@ -33,7 +33,7 @@ module _ (s : Skeleton) (heights : List ℕ) where
   later : (n c low : ℕ) → IsReached s heights n c low → IsReached s heights (n + 1) c low
   later n c low r = record { member = r.member; within = (let l = r.within in omega arith); in_class = r.in_class; reached = r.reached }
 
-  -- a height that isn't less
+  -- a height that is not less
   pub lows_stay : (n : ℕ) (lows : List ℕ) → AreLowsBefore s heights n lows → slice_index lows (class_of n) ≤ slice_index heights n → AreLowsBefore s heights (n + 1) lows
   lows_stay n lows b l = record {
     one_each = b.one_each;

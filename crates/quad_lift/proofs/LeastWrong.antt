@@ -25,7 +25,7 @@ module _ (s : Skeleton) (xs heights : List ℕ) (n : ℕ) where
   earlier : (least : ℕ) → IsLeastWrongBefore s xs heights n least → least < s.vertices.count → (i : ℕ) × (i < n + 1) × (class_of i ≡ least) × (AgreesRound s xs heights i → ⊥)
   earlier least b l = (let r : (i : ℕ) × (i < n) × (class_of i ≡ least) × (AgreesRound s xs heights i → ⊥) = b.wrong l in (r.0, (let m : r.0 < n = r.1 in omega arith), r.2, r.3))
 
-  -- a vertex of a class that isn't less, or at which they agree
+  -- a vertex of a class that is not less, or at which they agree
   pub wrong_stays : (least : ℕ) → IsLeastWrongBefore s xs heights n least → (class_of n < least → AgreesRound s xs heights n) → IsLeastWrongBefore s xs heights (n + 1) least
   wrong_stays least b here = record {
     within = b.within;

@@ -161,7 +161,7 @@ module _ (columns : ℕ) (rows : List Row) (list : List (List ℕ)) (x : List �
 pub counts_fit : (terms lent : List Term) (q limit most : ℕ) → lent ≡ terms → All (λ (term : Term). q * term.count ≤ limit) terms → limit < most → All (λ (term : Term). q * term.count < most) lent
 counts_fit terms lent q limit most e h l k d m = let n : q * (slice_index_or lent k d).count ≤ limit = subst (λ ts. All (λ (term : Term). q * term.count ≤ limit) ts) (sym e) h k d m in omega arith
 
--- one place more, whose vector isn't inside
+-- one place more, whose vector is not inside
 pub none_there : (list : List (List ℕ)) (rest : List ℕ) (i : ℕ) → NoneBefore list rest i → (IsInside (slice_index_or list i []) rest → ⊥) → NoneBefore list rest (i + 1)
 none_there list rest i none out k b c = elim (cases_eq k i) [
   | inl e ↦ out (subst (λ n. IsInside (slice_index_or list n []) rest) e c)

@@ -36,7 +36,7 @@ is_repeated new old times same h = ext_get_or d new (map (repeated times) old) (
 pub refilled : {A : Type 0} (n : ℕ) (xs ys : List A) → length xs ≡ n → take n (xs ++ drop (length xs) ys) ≡ xs
 refilled n xs ys same = take-append-le n xs (drop (length xs) ys) (omega arith) ∙ take_all n xs (omega arith)
 
--- ---- no entry up to a place, taken so many times, passes the limit
+-- ---- no entry up to a place, taken so many times, exceeds the limit
 
 pub within_more : (x : List ℕ) (times limit i : ℕ) → ((k : ℕ) → k < i → times * slice_index x k ≤ limit) → (limit < times * slice_index x i → ⊥) → (k : ℕ) → k < i + 1 →
     times * slice_index x k ≤ limit

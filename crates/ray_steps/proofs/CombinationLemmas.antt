@@ -120,7 +120,7 @@ module _ (limit : ℕ) (pairs : List Clash) (rays : List (List ℕ)) (signs : Li
     apart = h.apart;
   }
 
-  -- a ray that isn't positive is in no such pair
+  -- a ray that is not positive is in no such pair
   pub made_skip_all : (i : ℕ) (made : List (List ℕ)) → ((at_u : ℕ) → ¬ (slice_index_or signs i Zero ≡ Positive at_u)) → IsMadeUpTo limit pairs rays signs i 0 made → IsMadeUpTo limit pairs rays signs (i + 1) 0 made
   made_skip_all i made none h = record {
     comes = All-weaker (ComesFromPlaces limit pairs rays signs i 0) (ComesFromPlaces limit pairs rays signs (i + 1) 0)

@@ -7,7 +7,7 @@ use Rattle.cone_definitions.proofs.Units.{length-unit, entry-unit_same, entry-un
 use Rattle.support_bits.specs.Columns.{support_of}
 use Rattle.support_bits.proofs.WordLemmas.{get_or-support_of, length-support_of}
 
--- an entry that isn't 0 gives its column
+-- an entry that is not 0 gives its column
 pub inserted : (x : List ℕ) (column left : ℕ) → column < length x → 1 ≤ left → set (support_of x) column true ≡ support_of (set x column left)
 inserted x column left within some = ext_get_or false (set (support_of x) column true) (support_of (set x column left))
     (length-set (support_of x) column true ∙ length-support_of x ∙ sym (length-set x column left) ∙ sym (length-support_of (set x column left)))

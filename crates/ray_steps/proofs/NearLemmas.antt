@@ -31,7 +31,7 @@ not_face_far pairs rays signs i columns most k joined negatives a h small n coun
     (λ large. not_face_large columns most pairs rays i j a (get_or negatives.table.supports k []) small i_in j_in a_is b_is wide large)
     far
 
--- up to the first ray that isn't far, the pairs are taken
+-- up to the first ray that is not far, the pairs are taken
 pub near_taken : (limit : ℕ) (pairs : List Clash) (ray_list : List RayWithSupport) (signs : List Sign) (i columns most m n : ℕ) (joined : List Bool) (negatives : Negatives) (u : RayWithSupport) (made : List (List ℕ)) →
     AreClashingColumns pairs (support_of (ray_at (rays_of ray_list) i)) joined → HaveSmallUnions columns most pairs (rays_of ray_list) → AreNegatives (rays_of ray_list) signs columns negatives → length signs ≡ length ray_list →
     i < length ray_list → AreOfWidth columns ray_list → ray_at (rays_of ray_list) i ≡ u.ray → IsFirstNotRuledOut u.support joined most negatives.table.supports m n →

@@ -26,7 +26,7 @@ partner_none columns column = record {
   );
 }
 
--- a column that isn't one of the support
+-- a column that is not one of the support
 pub joined_skip : (n : ℕ) (partners : List (List Bool)) (support joined : List Bool) → IsJoinedBelow n partners support joined → ¬ HasColumn support n → IsJoinedBelow (n + 1) partners support joined
 joined_skip n partners support joined h none = record {
   count = h.count;

@@ -9,7 +9,7 @@ use Rattle.ray_steps.specs.declared.signs.Sign.TheVariants.{Zero}
 use Rattle.ray_steps.specs.Signs.{IsNegative, AreNegativePlaces, IsSignedPair, ComesFromPlaces, IsMadeUpTo}
 use Rattle.ray_steps.proofs.CombinationLemmas.{made_skip}
 
--- the first m places come before a place, and the others don't
+-- the first m places come before a place, and the others do not
 pub record AreReached (places : List ℕ) (m up_to : ℕ) : Type 0 where
   pub before : (k d : ℕ) → k < m → k < length places → get_or places k d < up_to
   pub after : (k d : ℕ) → m ≤ k → k < length places → up_to ≤ get_or places k d
@@ -72,7 +72,7 @@ module _ (limit : ℕ) (pairs : List Clash) (rays : List (List ℕ)) (signs : Li
       (cases_lt w (length signs)))
       taken
 
-  -- the pairs up to a place are taken, of which the first m negative places come before and the others don't
+  -- the pairs up to a place are taken, of which the first m negative places come before and the others do not
   pub record HaveTaken (places : List ℕ) (i m : ℕ) (made : List (List ℕ)) : Type 0 where
     pub up_to : ℕ
     pub reached : AreReached places m up_to

@@ -95,7 +95,7 @@ support_of_rival rays columns places table m h within =
 pub count_of_rivals : (rays : List (List ℕ)) (columns : ℕ) (places : List ℕ) (table : Table) → HasSupportsOf rays columns places table → length table.supports ≡ length places
 count_of_rivals rays columns places table h = ap length h.supports ∙ length-map places (λ k. support_of (ray_at rays k))
 
--- the support of a rival lies inside the union of two exactly where its ray does
+-- the support of a rival lies inside the union of two if and only if its ray does
 inside_rival : (rays : List (List ℕ)) (i j columns m : ℕ) (places : List ℕ) (table : Table) (a b : List Bool) → HasSupportsOf rays columns places table → m < length places →
     a ≡ support_of (ray_at rays i) → b ≡ support_of (ray_at rays j) →
     IsInsideUnionOf (get_or table.supports m []) a b ↔ IsInsideUnion (ray_at rays (get_or places m 0)) (ray_at rays i) (ray_at rays j)

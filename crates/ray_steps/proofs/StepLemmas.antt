@@ -64,7 +64,7 @@ module _ (limit columns : ℕ) (pairs : List Clash) (before : List Row) (row : R
       (positive_read limit pairs rays signs row signed i j p).1 (negative_read limit pairs rays signs row signed i j p).1 h.combines in
       subst (λ y. slice_index y column ≤ limit) (same_combination row (ray_at rays i) (ray_at rays j) h.combination z made combines) (h.within column)
 
-  -- no number of the step passes the limit
+  -- no number of the step exceeds the limit
   pub within_step : (next : List (List ℕ)) → IsNextFrom limit pairs rays signs 0 next → IsWithin limit (step_of pairs columns before row)
   within_step next h = within_from_list (step_of pairs columns before row) rays surfaces limit signed.within
       (λ i j i_in j_in p z combines column.

@@ -103,7 +103,7 @@ pub unit_at : (row : Row) (place column : ℕ) → IsSparse row → place < leng
 unit_at row place column sparse within is u = unit_found row column (term_at row place).1 sparse
     (place, within, get_or_default row place (column, (term_at row place).1) (0, pos 0) within ∙ ap (λ n. (n, (term_at row place).1)) is) u
 
--- ---- the row at a place has 1 or -1 at the column, or hasn't
+-- ---- the row at a place has 1 or -1 at the column, or has not
 
 one_abs : (number : ℤ) → unsigned_abs number ≡ 1 → IsUnit number
 one_abs (pos n) e = inl (ap (λ m. pos m) e)

@@ -16,7 +16,7 @@ use Rattle.signature_text_laws.proofs.Simulation.{slots_join}
 use Rattle.signature_codec.specs.Views.{glued_at}
 use Rattle.signature_codec.proofs.SeenJoined.{some_left}
 
--- a face of a tetrahedron that is seen, and that isn't met, is joined by the next type
+-- a face of a tetrahedron that is seen, and that is not met, is joined by the next type
 pub face_typed : (x : Face) (u type : ℕ) (xs : List ℕ) (s : Slots) → s.parts.types ≡ drop u xs → x.tet < s.seen → u < length xs → type ≡ get_or xs u type → is_some (slot s.met x) ≡ false
     → slot_face x s ≡ slot_type x type (with_types (drop (u + 1) xs) s)
 face_typed x u type xs s types seen inside is unmet =

@@ -1,4 +1,4 @@
--- A face that is joined to a tetrahedron which is seen, or isn't.
+-- A face that is joined to a tetrahedron which is seen, or is not.
 use Rattle.std.proofs.Common.{◌≡◌, ℕ, ◌<◌, ◌≤◌, Bool, true, false, List, [], ◌∷◌, length, drop, refl, sym, ap, ◌∙◌, subst₂, arith, length-drop}
 use Rattle.std.specs.Prelude.{Result, Err, Ok, All, is_some, ◌||◌}
 use Rattle.std.specs.List.{slice_index_or}

@@ -68,7 +68,7 @@ module _ (tell : (a b : List Row) (s t : List ℕ) → IsTable a → IsTable b �
         sym m.2 ∙ (numbers.together m.0 n.0 m.1 n.1).1
         ((tell (table_in tables m.0) (table_in tables n.0) (text_of m.0) (text_of n.0) (s.are_tables m.0 m.1) (s.are_tables n.0 n.1) (s.census.signed m.0 m.1) (s.census.signed n.0 n.1)).0 same) ∙ n.2
 
-    -- the class of an earlier table is that of the new one exactly where their signatures are equal
+    -- the class of an earlier table is that of the new one if and only if their signatures are equal
     by_signature : (i : ℕ) → i < length tables → (slice_index classes i ≡ class) ↔ (text_of i ≡ text)
     by_signature i h = ⊎_elim (λ (k : IsOldClass before text class now). known k) (λ (f : IsNewClass before text class now). fresh f) s.placed
       where

@@ -1,4 +1,4 @@
--- Laws of walks, of relabellings, of signatures and of the relabelling that is answered of two tables.
+-- Theorems on traversals, relabellings and signatures, and on the relabelling that `same` prints.
 use Rattle.std.specs.Prelude.{◌≡◌, ◌↔◌, ◌<◌, ℕ, List, length}
 use Rattle.table_definitions.specs.Table.{Row, IsTable}
 use Rattle.table_definitions.specs.Places.{IsConnected}
@@ -35,7 +35,7 @@ SignaturesTellTables =
     (first second : List Row) (text other : List ℕ) → IsTable first → IsTable second → IsSignature first text → IsSignature second other
     → (text ≡ other) ↔ AreIsomorphic first second
 
--- one relabelling is answered of two tables
+-- two tables have at most one relabelling as their answer
 abbrev pub OneLeastRelabelling : Type 0
 OneLeastRelabelling =
     (first second : List Row) (by other : Relabelling) → IsTable first → IsConnected first → IsLeastRelabelling first second by

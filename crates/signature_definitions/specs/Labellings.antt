@@ -1,4 +1,4 @@
--- Walks from a start, and the relabelling that is answered of two tables.
+-- Traversals from a start, and the relabelling from one table to another that `same` prints.
 use Rattle.std.specs.Prelude.{◌≡◌, ℕ, Bool, false, ◌&&◌, ◌||◌, List, length, nat_lt, ◌==◌}
 use Rattle.table_definitions.specs.Permutation.{index}
 use Rattle.table_definitions.specs.Table.{Gluing, Row}

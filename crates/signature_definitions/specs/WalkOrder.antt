@@ -23,7 +23,7 @@ is_ordered_gluing rows x (Some g) = is_seen rows x g.tet || (list_all (is_seen r
 abbrev pub is_ordered_at : List Row → Face → Bool
 is_ordered_at rows x = is_seen rows (record { tet = x.tet; face = 0 }) x.tet && is_ordered_gluing rows x (glue rows x)
 
--- the first face at which a table isn't walk-ordered
+-- the first face at which a table is not walk-ordered
 unfoldable pub first_unordered : List Row → Option Face
 first_unordered rows = find (λ x. not (is_ordered_at rows x)) (faces (length rows))
 

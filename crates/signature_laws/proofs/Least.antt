@@ -20,7 +20,7 @@ use Rattle.signature_laws.proofs.Standing.{made_relabelling}
 use Rattle.signature_laws.proofs.Agreeing.{one_walk}
 use Rattle.signature_laws.proofs.Uniqueness.{before_before}
 
--- a walk-ordered table has no face at which it isn't
+-- a walk-ordered table has no face at which it is not
 none_found : (p : Face → Bool) (xs : List Face) → list_all p xs ≡ true → find (λ x. not (p x)) xs ≡ None
 none_found p [] e = refl
 none_found p (x ∷ xs) e = let b = and_parts (p x) (list_all p xs) e in rw b.0 (none_found p xs b.1)
@@ -44,7 +44,7 @@ one_text rows start text other table l a b =
     let w = one_walk rows a.1 b.1 a.0 b.0 table start l a.2 b.2 in
     a.3.spelled ∙ ap spelling w.1 ∙ sym b.3.spelled
 
--- a text that is one of the first start's isn't before it
+-- a text that is one of the first start's is not before it
 not_before_same : (xs ys : List ℕ) → xs ≡ ys → is_list_before xs ys ≡ false
 not_before_same xs ys e = ap (is_list_before xs) (sym e) ∙ not_before_itself xs
 

@@ -1,5 +1,4 @@
--- Relabellings by what stands for each tetrahedron: the way back of one, one after another, and one and back by
--- another.
+-- Relabellings by the image of each tetrahedron: inverses, compositions, and one followed by the inverse of another.
 use Rattle.std.specs.Prelude.{◌==◌, ℕ, List, [], length, map, slice_index}
 use Rattle.std.specs.List.{slice_index_or, position_or_len}
 use Rattle.table_definitions.specs.Lists.{below}

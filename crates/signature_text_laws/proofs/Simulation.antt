@@ -150,7 +150,7 @@ type_agrees n x (suc (suc zero)) slots met seen rest shown taking ht hf seen_x =
     (record rest { destinations = drop 1 rest.destinations; gluings = drop 1 rest.gluings }) shown taking.size lt (taking.indices 0 (0, 0) here) ht hf
 type_agrees n x (suc (suc (suc type))) slots met seen rest shown taking ht hf seen_x = absurd (let small : suc (suc (suc type)) < 3 = taking.small 0 0 (omega arith) in omega arith)
 
--- the next face, if it isn't met
+-- the next face, if it is not met
 next_agrees : (n : ℕ) (x : Face) (ts : List ℕ) (slots : List (Option (Option Gluing))) (met : List (Face × Option Gluing)) (seen : ℕ) (parts : signatures.Parts)
     → Shown n slots met → IsSlots n (record { met = slots; seen = seen; parts = record parts { types = ts } }) → x.tet < n → x.face < 4 → x.tet < seen
     → Agrees n (slot_next x ts (record { met = slots; seen = seen; parts = record parts { types = ts } })) (signatures.join_next x ts (record { met = met; seen = seen; parts = record parts { types = ts } }))

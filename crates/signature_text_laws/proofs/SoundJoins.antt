@@ -31,7 +31,7 @@ not_known met x h = cases (known_in met x) (is_some-known met x ∙ h)
     cases None e = refl
     cases (Some g) e = cc
 
--- a face that isn't met is none that is
+-- a face that is not met is none that is
 known_apart : (met : List (Face × Option Gluing)) (x y : Face) (o : Option Gluing) → known_in met x ≡ None → known_in met y ≡ Some o → same_face x y ≡ false
 known_apart met x y o none some = by_bool (same_face x y) (λ same. absurd (clash (same_face-true x y same))) (λ apart. apart)
   where
@@ -151,7 +151,7 @@ both_sound met seen next x g free free' apart hx hg more hf p h = record {
         subst Q e (subst R (sym f)
         (ap (known_in (met_both x g met)) (there_and_back x g p hf) ∙ known_both-x met x g ∙ ap (λ m. Some (Some m)) (sym (back_again x g p))))
 
--- a tetrahedron that isn't seen has no face that is met
+-- a tetrahedron that is not seen has no face that is met
 unseen : (met : List (Face × Option Gluing)) (seen : ℕ) (y : Face) → IsSound met seen → seen ≤ y.tet → known_in met y ≡ None
 unseen met seen y h late = cases (known_in met y) refl
   where

@@ -18,7 +18,7 @@ use Rattle.signature_text_laws.specs.Slots.{Slots, slot, meet_at, slot_boundary,
 use Rattle.signature_text_laws.proofs.SlotLaws.{unless_ok, ok_same, times-same}
 use Rattle.signature_text_laws.proofs.Simulation.{not_le}
 
--- one for a face that isn't met
+-- one for a face that is not met
 abbrev pub free : Option (Option Gluing) → ℕ
 free None = 1
 free (Some o) = 0

@@ -1,4 +1,4 @@
--- The walk through the faces of a table takes each that is in order, and stops at the first that isn't.
+-- The walk through the faces of a table takes each that is in order, and stops at the first that is not.
 use Rattle.std.proofs.Common.{◌≡◌, ℕ, zero, suc, ◌+◌, ◌*◌, ◌/◌, ◌%◌, ◌<◌, ◌≤◌, Bool, true, false, List, [], ◌∷◌, ◌++◌, length, map, Option, Some, None, refl, sym, ap, ◌∙◌, subst, arith, ◌⊎◌, inl, inr, ⊎_elim, append-nil, below_more}
 use Rattle.std.specs.Prelude.{nat_lt, not, find, filter_map, ◌||◌, ◌&&◌, ◌==◌}
 use Rattle.std.specs.List.{list_all, range_with_len}
@@ -187,7 +187,7 @@ takes_on rows k w v table l h taken = by_bool (nat_lt (k / 4) w.seen)
         (walk_more rows k w (with_type 0 w) None (Some 0) None l h e (λ u. or_none (nat_lt u w.seen)) (ordered_here rows k w None l h e seen refl) refl refl refl (sym (append-nil w.gluings)) h.most)
     entry (Some g) e seen made = glued_on rows k w v g table l h e seen made
 
--- a face that isn't taken isn't in order
+-- a face that is not taken is not in order
 glued_off : (rows : List Row) (k : ℕ) (w : Walking) (g : Gluing) → ((u : ℕ) → is_seen rows (face_of k) u ≡ nat_lt u w.seen) → take_glued (face_of k) g w ≡ None
     → is_ordered_gluing rows (face_of k) (Some g) ≡ false
 glued_off rows k w g seen stopped = by_bool (is_face_before (other_side (face_of k) g) (face_of k))
@@ -237,7 +237,7 @@ walk_types rows k w e h = h.types ∙ ap (λ m. filter_map (λ x. type_of rows x
 pub walk_gluings : (rows : List Row) (k : ℕ) (w : Walking) → k ≡ 4 * length rows → IsWalkTo rows k w → w.gluings ≡ seen_gluings rows
 walk_gluings rows k w e h = h.gluings ∙ ap (λ m. filter_map (λ x. seen_gluing rows x (glue rows x)) (map face_of (below m))) e ∙ ap (filter_map (λ x. seen_gluing rows x (glue rows x))) (sym (faces-places (length rows)))
 
--- the first face that isn't in order
+-- the first face that is not in order
 find_at : (p : Face → Bool) (a c k : ℕ) → a ≤ k → k < a + c → ((m : ℕ) → a ≤ m → m < k → p (face_of m) ≡ false) → p (face_of k) ≡ true → find p (map face_of (range_with_len a c)) ≡ Some (face_of k)
 find_at p a zero k low high before here = absurd (omega arith)
 find_at p a (suc c) k low high before here = ⊎_elim

@@ -1,10 +1,10 @@
--- What a text spells, and what is read of it, are the same.
+-- The table that a text spells is the table that is read from it.
 use Rattle.std.specs.Prelude.{◌≡◌, ◌↔◌, ℕ, List, Ok}
 use Rattle.table_definitions.specs.Table.{Row}
 use Rattle.signature_definitions.specs.Spelling.{Spells}
 use Rattle.signature_definitions.specs.SignatureText.{signature_table}
 
--- a table is read of a text exactly where the text spells it
+-- a table is read from a text if and only if the text spells it
 abbrev pub ReadExactlyWhereSpelled : Type 0
 ReadExactlyWhereSpelled = (text : List ℕ) (rows : List Row) → (signature_table text ≡ Ok rows) ↔ Spells text rows
 

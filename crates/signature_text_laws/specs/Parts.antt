@@ -1,4 +1,4 @@
--- What is read of a text behind its head and its types.
+-- The parts of a signature's text after its number of tetrahedra and its face types.
 use Rattle.std.specs.Prelude.{ℕ, ◌+◌, ◌*◌, List, [], length, nat_lt, Result, Ok}
 use Rattle.text_definitions.specs.Reading.{◌>>=◌}
 use Rattle.table_definitions.specs.Lists.{times_in}

@@ -1,4 +1,4 @@
--- A link is orientable exactly where no member is joined to itself with the other sign.
+-- A link is orientable if and only if no member is joined to itself with the other sign.
 use Rattle.std.proofs.Common.{◌≡◌, ◌≢◌, ◌↔◌, inl, inr, ℕ, zero, suc, ◌+◌, ◌-◌, ◌*◌, ◌/◌, ◌%◌, ◌<◌, Bool, true, false, cond, List, [], ◌∷◌, length, map, Option, Some, None, refl, sym, ap, ◌∙◌, arith}
 use Rattle.std.specs.Prelude.{◌==◌, ◌&&◌, not, nat_lt, slice_index, count_by, option_and_then, IsTrue, if◌then◌else◌}
 use Rattle.std.specs.List.{slice_index_or}

@@ -227,7 +227,7 @@ module _ (rows : List Row) (table : IsTable rows) (classes : List ℕ) (count : 
   same_by p q j ep (inl eq) joined = inl (subst₂ (IsJoined rows) ep eq joined)
   same_by p q j ep (inr eq) joined = inr (subst₂ (IsJoined rows) ep eq joined)
 
-  -- a corner whose face isn't glued
+  -- a corner whose face is not glued
   open_edge : (x : ℕ) → x < 24 * length rows → IsJoined rows (edge_of rows table (start_of first)) (edge_of rows table x) → glue rows (record { tet = x / 24; face = image (word_at x) 2 }) ≡ None
       → is_boundary_edge rows classes (slice_index classes first) ≡ true
   open_edge x lx joined free =

@@ -1,4 +1,4 @@
--- Corners round edges that are corners of tetrahedra.
+-- Corners around edges that are corners of tetrahedra.
 use Rattle.std.specs.Prelude.{◌≢◌, ℕ, ◌<◌, List}
 use Rattle.std.specs.List.{All}
 use Rattle.skeleton_definitions.specs.Corners.{Corner}

@@ -9,7 +9,7 @@ use Rattle.skeleton_class_laws.specs.declared.Kind.{Kind}
 use Rattle.skeleton_class_laws.specs.Neighbours.{AreNeighbours}
 use Rattle.skeleton_class_laws.specs.Numberings.{per_tet, crossing, same}
 
--- numbers are joined by what lies across faces exactly where they are the same thing
+-- numbers are joined by what lies across faces if and only if they are the same thing
 abbrev pub JoinedIsSame : Type 0
 JoinedIsSame = (kind : Kind) (rows : List Row) (table : List (List (Option ℕ))) → IsTable rows → AreNeighbours (per_tet kind * length rows) (crossing kind rows) table →
     (i j : ℕ) → i < per_tet kind * length rows → j < per_tet kind * length rows → IsJoined (neighbours_of table) i j ↔ same kind rows i j

@@ -1,4 +1,4 @@
--- Tables of neighbours, and what a list of choices of neighbours leads to.
+-- Lists of neighbours, and the place that a list of choices of neighbours reaches.
 use Rattle.std.specs.Prelude.{◌≡◌, ℕ, ◌<◌, List, [], ◌∷◌, length, Option, Some, option_and_then}
 use Rattle.std.specs.List.{slice_index_or}
 

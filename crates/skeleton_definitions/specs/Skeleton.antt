@@ -1,4 +1,4 @@
--- A table with its vertex, edge and face classes, and what is asked of them. The links of its vertex classes.
+-- A table with its vertex, edge and face classes and their properties, and the links of its vertex classes.
 use Rattle.std.specs.Prelude.{◌≡◌, ℕ, ◌*◌, ◌<◌, Bool, false, ◌↔◌, List, [], length, Option, Some, None, IsTrue, slice_index}
 use Rattle.std.specs.Bool.{MatchBool}
 use Rattle.std.specs.List.{slice_index_or}

@@ -15,7 +15,7 @@ use Rattle.skeleton_class_laws.specs.Laws.{HasClasses}
 use Rattle.skeleton_class_laws.proofs.Numbered.{classes_exist}
 
 module _ (s : Skeleton) (k : IsSkeleton s) (d : HasClasses Directions s.rows) (v : HasClasses VertexSigns s.rows) where
-  -- a member of class c isn't joined to itself with the other sign, or it is
+  -- a member of class c is not joined to itself with the other sign, or it is
   abbrev Apart : ℕ → ℕ → Type 0
   Apart c i = i < 4 * length s.rows → slice_index s.vertices.classes i ≡ c → slice_index v.classes (2 * i) ≢ slice_index v.classes (2 * i + 1)
 

@@ -35,7 +35,7 @@ vertex_spot n i l = record { v = i % 4; is = refl; below = omega arith; low = om
 pub vertex_number_again : (i : ℕ) → vertex_at (vertex i) ≡ i
 vertex_number_again i = omega arith
 
--- two vertices are of one class exactly where they are joined
+-- two vertices are of one class if and only if they are joined
 pub one_class : (rows : List Row) (classes : List ℕ) (count : ℕ) → IsNumbering (4 * length rows) (SameVertex rows) classes count → (p q : Place) → IsSpot (length rows) p → IsSpot (length rows) q
     → (class_of classes p ≡ class_of classes q) ↔ IsJoined rows p q
 one_class rows classes count numbered p q s t =

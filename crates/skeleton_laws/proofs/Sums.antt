@@ -44,7 +44,7 @@ and_if true false = refl
 and_if false true = refl
 and_if false false = refl
 
--- none of a list passes a test exactly where none is counted
+-- none of a list passes a test if and only if none is counted
 pub none_pass : {A : Type 0} (p : A → Bool) (xs : List A) → list_all (λ x. not (p x)) xs ≡ (count_by p xs == 0)
 none_pass p [] = refl
 none_pass {A} p (x ∷ xs) = by_test (p x) refl (none_pass p xs)

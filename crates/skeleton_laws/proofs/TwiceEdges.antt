@@ -41,7 +41,7 @@ module _ (rows : List Row) (table : IsTable rows) (classes : List ℕ) (count : 
   no_glue : (k : ℕ) (g : Gluing) → glue rows (side_face k) ≡ Some g → glue rows (side_face k) ≡ None → ⊥
   no_glue k g a b = let z : Some g ≡ None = sym a ∙ b in cc
 
-  -- a first side isn't the other side of a first side
+  -- a first side is not the other side of a first side
   not_other : (k l : ℕ) → IsFirst rows table classes count numbered c k → IsFirst rows table classes count numbered c l → (g : Gluing) → glue rows (side_face l) ≡ Some g → other l g ≡ k → ⊥
   not_other k l f f' g e q =
       let x = crosses rows table classes count numbered c l g f'.below f'.side e in

@@ -20,7 +20,7 @@ InvalidOrNot = (rows : List Row) (i : ℕ) → IsTable rows → i < 6 * length r
 abbrev pub SomeFirstInvalid : Type 0
 SomeFirstInvalid = (s : Skeleton) → IsSkeleton s → (first : Option ℕ) × IsFirstInvalid s first
 
--- there are signs that are true at the least tetrahedron of each component, or a table isn't orientable
+-- there are signs that are true at the least tetrahedron of each component, or a table is not orientable
 abbrev pub SomeOrientation : Type 0
 SomeOrientation = (rows : List Row) → IsTable rows → (signs : Option (List Bool)) × IsOrientation rows signs
 

@@ -72,7 +72,7 @@ module _ (coords : Coords) (rows : List Row) (equations : List EquationRow) (of_
       let rays = surfaces_are_rays_lem (columns coords (length rows)) equations (clash_list coords (length rows)) list x only.listed.surfaces a.solves a.admissible in
       subst (λ (n : ℕ). HasRays n equations list x) (sym wide) rays
 
-  -- the first vector that doesn't pass is the answer
+  -- the first vector that does not pass is the answer
   pub unfit_told : (vectors : List (List ℕ)) (v : ℕ) (fault : VectorFault) (o : Outcome) → IsFirstRefused (IsVerdict coords rows equations) vectors v fault → o ≡ sum_refusal_outcome v (Unfit fault)
       → IsDecomposeAnswer coords most (rows, vectors) o
   unfit_told vectors v fault o first e = record { equations = equations; of_table = of_table; checked = Err (v, fault); verdicts = first; told = e }

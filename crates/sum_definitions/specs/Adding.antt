@@ -16,7 +16,7 @@ pub record AddsUp (limit : ℕ) (x : List ℕ) (times : ℕ) (terms : List Term)
   pub within : IsWithinTimes limit x times
   pub equal : (column : ℕ) → times * slice_index x column ≡ sum_at terms column
 
--- what is wrong at a column: the entry passes the limit, or else it isn't the sum
+-- what is wrong at a column: the entry exceeds the limit, or else it is not the sum
 abbrev pub column_fault : ℕ → List ℕ → ℕ → List Term → ℕ → Option AddFault
 column_fault limit x times terms column =
     if nat_lt limit (times * slice_index x column) then Some (Large column)

@@ -16,7 +16,7 @@ pub struct LargeTurn {
     pub column: u32,
 }
 
-/// Why given terms don't add up to a vector.
+/// Why given terms do not add up to a vector.
 #[derive(Clone, Copy)]
 pub enum AddFault {
     /// The factor of the vector is 0.

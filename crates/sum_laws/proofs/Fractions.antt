@@ -59,7 +59,7 @@ some_least list r v ascending c inside = elim (all_or_first (λ i. IsInside (sli
 
 -- ---- the least fraction
 
--- q isn't 0
+-- q is not 0
 pub some_q : (r v : List ℕ) (p q : ℕ) → IsLeastFraction r v p q → 1 ≤ q
 some_q r v p q h = elim (cases_eq q 0) [
   | inr some ↦ omega arith

@@ -66,7 +66,7 @@ module _ (limit : ℕ) (list : List (List ℕ)) (x : List ℕ) where
       same = let one : a.turns ≤ b.turns = nothing_after b.turns a.turns last' last b.led b.nothing_left a.led in
           let two : b.turns ≤ a.turns = nothing_after a.turns b.turns last last' a.led a.nothing_left b.led in omega arith
 
-  -- a turn at which an entry passes the limit is no turn of a run
+  -- a turn at which an entry exceeds the limit is no turn of a run
   large_is_last : (turn column turns : ℕ) (s : State) → IsLargeStep limit list x turn column → ReachesState limit list x turns s → turns ≤ turn
   large_is_last turn column turns s l t = elim (cases_lt turn turns) [
     | inr le ↦ le

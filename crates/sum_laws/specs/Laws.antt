@@ -7,7 +7,7 @@ use Rattle.cone_definitions.specs.Surfaces.{Clash, IsAdmissible, IsSurfaceList}
 use Rattle.sum_definitions.specs.Sums.{Term, State, IsLeastInside, IsSumStep, ReachesState, IsSum, IsLargeStep, HasRays}
 use Rattle.sum_definitions.specs.Adding.{AddsUp, add_fault}
 
--- while something is left, a listed ray lies inside it, and so there is a turn
+-- while the remainder is not 0, the support of a listed ray lies inside its support, and so there is a step
 abbrev pub RayInsideRest : Type 0
 RayInsideRest = (columns : ℕ) (rows : List Row) (list : List (List ℕ)) (x : List ℕ) → HasRays columns rows list x →
     (limit turns : ℕ) (s : State) → ReachesState limit list x turns s → IsNonzero s.rest → (v : List ℕ) × IsLeastInside list s.rest v
@@ -16,12 +16,12 @@ abbrev pub StepsExist : Type 0
 StepsExist = (columns : ℕ) (rows : List Row) (list : List (List ℕ)) (x : List ℕ) → HasRays columns rows list x →
     (limit turns : ℕ) (s : State) → ReachesState limit list x turns s → IsNonzero s.rest → (next : State) × IsSumStep list s next
 
--- each turn lessens the support of what is left
+-- each step reduces the support of the remainder
 abbrev pub StepsLessen : Type 0
 StepsLessen = (columns : ℕ) (rows : List Row) (list : List (List ℕ)) (x : List ℕ) → HasRays columns rows list x →
     (limit turns : ℕ) (s next : State) → ReachesState limit list x turns s → IsSumStep list s next → IsSmaller next.rest s.rest
 
--- so there are at most as many turns as columns
+-- so there are at most as many steps as columns
 abbrev pub StepsAtMostColumns : Type 0
 StepsAtMostColumns = (columns : ℕ) (rows : List Row) (list : List (List ℕ)) (x : List ℕ) → HasRays columns rows list x →
     (limit turns : ℕ) (s : State) → ReachesState limit list x turns s → turns ≤ columns
@@ -43,8 +43,8 @@ abbrev pub SumsExist : Type 0
 SumsExist = (columns : ℕ) (rows : List Row) (list : List (List ℕ)) (x : List ℕ) → HasRays columns rows list x →
     (limit times : ℕ) × (terms : List Term) × IsSumOfRays list limit x times terms
 
--- what is answered of a solution: how many times it is taken, and the terms of the sum; or the turn and the column at
--- which it gets too large
+-- the answer for a solution: by how much it is multiplied, and the terms of the sum; or the step and the column at
+-- which a number is too large
 pub data Answer : Type 0 where
   sum : ℕ → List Term → Answer
   large : ℕ → ℕ → Answer
@@ -69,12 +69,12 @@ pub record IsMultipleOfRay (list : List (List ℕ)) (x : List ℕ) : Type 0 wher
   pub some : 1 ≤ count
   pub is_multiple : x ≡ multiple count ray
 
--- there is one term exactly where x is such a multiple
+-- there is one term if and only if x is such a multiple
 abbrev pub OneTermIsMultiple : Type 0
 OneTermIsMultiple = (columns : ℕ) (rows : List Row) (list : List (List ℕ)) (x : List ℕ) → HasRays columns rows list x →
     (limit times : ℕ) (terms : List Term) → IsSum limit list x times terms → (length terms ≡ 1) ↔ IsMultipleOfRay list x
 
--- terms of the width of x are found without fault exactly where they add up to it
+-- terms of the width of x are found without fault if and only if they add up to it
 abbrev pub NoFaultAddsUp : Type 0
 NoFaultAddsUp = (limit : ℕ) (x : List ℕ) (times : ℕ) (terms : List Term) → All (λ (term : Term). length term.vector ≡ length x) terms →
     (add_fault limit x times terms ≡ None) ↔ AddsUp limit x times terms

@@ -31,7 +31,7 @@ pub record WorkedSums : Type 0 where
   pub whole : IsAnswer 3 sphere_surfaces both (sum 1 (term 2 torus ∷ term 1 link ∷ []))
   pub nothing : IsAnswer 1 [] [] (sum 1 [])
 
--- the terms add up to 3 3 1 1 2 0 0, but not to twice it, nor to none of it; and its first entry passes a limit of 2
+-- the terms add up to 3 3 1 1 2 0 0, but not to twice it, nor to none of it; and its first entry exceeds a limit of 2
 pub record WorkedFaults : Type 0 where
   pub right : add_fault 3 both 1 (term 2 torus ∷ term 1 link ∷ []) ≡ None
   pub twice : add_fault 6 both 2 (term 2 torus ∷ term 1 link ∷ []) ≡ Some (NotEqual 0)

@@ -101,7 +101,7 @@ set_within width start first blocks words column h is_set =
     sym (ap (λ n. bit_at n (column % 64)) (word_of_part width start (column / 64) blocks less)) ∙ is_one _ _ is_set in
     eq-eqb _ 1 (ap (λ n. bit_at n (column % 64)) (word_of_part width first (column / 64) words less) ∙ h (column / 64) less (column % 64) one)
 
--- if the columns that some supports have in common aren't all in the union, none of the supports lies inside it
+-- if the columns that some supports have in common are not all in the union, none of the supports lies inside it
 pub passes : (columns width count closed : ℕ) (words blocks : List ℕ) (table : Table) (a b : List Bool) (aw bw : List ℕ) (place : ℕ) →
     IsTable columns width count closed words blocks → table_of columns (listed columns width count words) ≡ table → AreWordsOf a aw → AreWordsOf b bw →
     place % block_size ≡ 0 → place / block_size < closed → ¬ AreCovered (take width (drop (place / block_size * width) blocks)) aw bw → CanPass table.supports a b place

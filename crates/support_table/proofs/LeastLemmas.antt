@@ -35,7 +35,7 @@ module _ (supports : List (List Bool)) (outer : List Bool) (order : List Candida
     stood : (i : ℕ) → i < length old.rivals.items → (k : ℕ) × (k < n) × (rival_at order k ≡ rival_at old.rivals.items i)
     stood i i_in = h.from i i_in
 
-    -- it isn't larger than the rival at n
+    -- it is not larger than the rival at n
     not_larger : (i : ℕ) → i < length old.rivals.items → (rival_at old.rivals.items i).size ≤ (rival_at order n).size
     not_larger i i_in = let s = stood i i_in in
         subst (λ (r : Candidate). r.size ≤ (rival_at order n).size) s.2 (o.ascending s.0 n (record { place = 0; size = 0 }) s.1 within)

@@ -91,7 +91,7 @@ module _ (supports : List (List Bool)) (marks : List ℕ) (single : ℕ) (rivals
   abbrev IsFree : Candidate → Type 0
   IsFree r = ¬ IsHit supports marks single r
 
-  -- those of the first n rivals that aren't hit
+  -- those of the first n rivals that are not hit
   pub record AreUnhitBelow (n : ℕ) (left : List Candidate) : Type 0 where
     pub each : All (λ r. ((k : ℕ) × (k < n) × (k < length rivals) × (get_or rivals k r ≡ r)) × IsFree r) left
     pub ascending : AllPairs (λ (r s : Candidate). r.place < s.place) rivals → AllPairs (λ (r s : Candidate). r.place < s.place) left

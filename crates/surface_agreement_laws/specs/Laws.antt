@@ -45,7 +45,7 @@ QuadVertexSurfacesLift =
     (s : Skeleton) (links : List Link) (quad_rows : List EquationRow) (xs : List ℕ) → IsSkeleton s → HasSphereAndDiscLinks s links → AreEquations Quad s.rows quad_rows
     → IsVertexSurfaceBy s Quad quad_rows xs → (ys : List ℕ) × IsOneVertexSurfaceOver s xs ys
 
--- a standard vector is a vertex surface exactly where it is one in octagon coordinates, with no octagon
+-- a standard vector is a vertex surface if and only if it is one in octagon coordinates, with no octagon
 abbrev pub StandardAreInOctagons : Type 0
 StandardAreInOctagons =
     (s : Skeleton) (ys : List ℕ) → IsSkeleton s → length ys ≡ columns Standard (length s.rows) → IsVertexSurfaceOf s Standard ys ↔ IsVertexSurfaceOf s Octagon (in_octagons (length s.rows) ys)

@@ -26,7 +26,7 @@ each_of_three p h =
     let third = or_parts (p 2) (list_any p []) second.1 in
     below_suc (λ k. p k ≡ false) 2 (below_suc (λ k. p k ≡ false) 1 (below_suc (λ k. p k ≡ false) 0 (λ j l. absurd (omega arith)) first.0) second.0) third.0
 
--- all numbers pass exactly where as many pass
+-- all numbers pass if and only if as many pass
 all_rank : (p : ℕ → Bool) (n : ℕ) → rank p n ≡ n → (t : ℕ) → t < n → p t ≡ true
 all_rank p zero e t l = absurd (omega arith)
 all_rank p (suc n) e t l = by_last (true_or_false (p n)) (all_rank p n) t l

@@ -1,4 +1,4 @@
--- A row is 0 at a vector exactly where the two sides of its equation add up to the same.
+-- A row is 0 at a vector if and only if the two sides of its equation add up to the same.
 use Rattle.std.proofs.Common.{◌≡◌, ℕ, zero, suc, ◌+◌, ◌-◌, ◌*◌, ◌<◌, ◌≤◌, min, Bool, true, false, cond, ℤ, pos, negsuc, ◌-ℤ◌, List, [], ◌∷◌, Some, None, refl, sym, ap, ◌∙◌, arith, ⊎_elim}
 use Rattle.std.specs.List.{cons_option, AllByRecursion, range_with_len}
 use Rattle.std.specs.Prelude.{◌==◌, if◌then◌else◌, sum_by, slice_index, filter_map}
@@ -135,7 +135,7 @@ by_column (l ∷ ls) xs n a =
     sym (sum_by-of_sums (one_or_none l xs) (times_entry ls xs) (times_entry (l ∷ ls) xs) (times_more l ls xs) (below n))
     ∙ ap (λ k. k + sum_by (times_entry ls xs) (below n)) (one_within l xs n 0 low high) ∙ ap (λ k. slice_index xs l + k) (by_column ls xs n a.1) ∙ sym (sum_by-cons (slice_index xs) l ls)
 
--- a row is 0 exactly where the sides of its equation add up to the same
+-- a row is 0 if and only if the sides of its equation add up to the same
 pub row_is_zero : (e : Equation) (xs : List ℕ) (n : ℕ) → AllByRecursion (λ c. c < n) e.left → AllByRecursion (λ c. c < n) e.right → IsZeroAt (row_of n e) xs → Holds e xs
 row_is_zero e xs n l r z =
     let plus : sum_by (surplus e xs) (below n) + sum_by (shared e xs) (below n) ≡ sum_by (times_entry e.left xs) (below n) =

@@ -9,7 +9,7 @@ use Rattle.surface_definitions.specs.declared.VectorFault.{VectorFault}
 use Rattle.surface_definitions.specs.declared.VectorFault.TheVariants.{Length, Large, NotSolution}
 use Rattle.surface_definitions.specs.Laws.{IsAcceptedVector}
 
--- nothing is wrong at a row exactly where it is 0 and no part is large
+-- nothing is wrong at a row if and only if it is 0 and no part is large
 fault_test : (max i : ℕ) (row : EquationRow) (xs : List ℕ) (l e : Bool) → (if l then Some (Large i) else (if e then None else Some (NotSolution i))) ≡ None → (l ≡ false) × (e ≡ true)
 fault_test max i row xs true e h = absurd cc
 fault_test max i row xs false true h = (refl, refl)
@@ -37,7 +37,7 @@ no_solution max i row xs true e v h = absurd cc
 no_solution max i row xs false true v h = (refl, h)
 no_solution max i row xs false false v h = absurd cc
 
--- the verdict over the rows is a solution exactly where nothing is wrong at any and the rest is
+-- the verdict over the rows is a solution if and only if nothing is wrong at any and the rest is
 rows_solve : (max i : ℕ) (rows : List EquationRow) (xs : List ℕ) (v : Verdict) → rows_verdict max i rows xs v ≡ solution
     → All (λ (row : EquationRow). IsZeroAt row xs) rows × All (λ (row : EquationRow). HasPartsWithin max row xs) rows × (v ≡ solution)
 rows_solve max i [] xs v h = ((λ k d l. absurd (omega arith)), (λ k d l. absurd (omega arith)), h)
@@ -59,7 +59,7 @@ solve_rows max i (row ∷ rows) xs v z p =
     ap (λ (o : Option VectorFault). or_else o (rows_verdict max (i + 1) rows xs v)) (none-row_fault max i row xs (z 0 row first) (p 0 row first))
     ∙ solve_rows max (i + 1) rows xs v (λ k d l. z (suc k) d (omega arith)) (λ k d l. p (suc k) d (omega arith))
 
--- no pair is found exactly where one column of each is 0
+-- no pair is found if and only if one column of each is 0
 abbrev one_zero : List ℕ → ℕ × ℕ → Type 0
 one_zero xs p = (slice_index xs p.0 ≡ 0) ⊎ (slice_index xs p.1 ≡ 0)
 

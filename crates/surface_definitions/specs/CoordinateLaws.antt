@@ -20,7 +20,7 @@ FirstLargeIsAnswered =
     (max n : ℕ) (equations : List EquationRow) (pairs : List (ℕ × ℕ)) (x : List ℕ) (i : ℕ) → length x ≡ n → i < length equations → HoldWithinBefore max equations x i
     → HasLargePart max (slice_index_or equations i []) x → verdict max n equations pairs x ≡ Err (Large i)
 
--- and where it has none, and isn't 0
+-- and where it has none, and is not 0
 abbrev pub FirstFailureIsAnswered : Type 0
 FirstFailureIsAnswered =
     (max n : ℕ) (equations : List EquationRow) (pairs : List (ℕ × ℕ)) (x : List ℕ) (i : ℕ) → length x ≡ n → i < length equations → HoldWithinBefore max equations x i

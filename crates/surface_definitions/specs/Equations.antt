@@ -1,4 +1,4 @@
--- The matching equations. A row is the list of the columns whose coefficient isn't 0, ascending, each with its
+-- The matching equations. A row is the list of the columns whose coefficient is not 0, ascending, each with its
 -- coefficient.
 use Rattle.std.specs.Prelude.{ℕ, ◌==◌, ℤ, pos, ◌-ℤ◌, List, length, map, Option, Some, None, if◌then◌else◌, ◌≡◌, sum_by, slice_index}
 use Rattle.std.specs.List.{filter_map, flat_map}

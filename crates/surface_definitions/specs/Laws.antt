@@ -21,7 +21,7 @@ pub record ReadsVector (c : Reading) (xs : List ℕ) : Type 0 where
 abbrev pub VectorLinesAreRead : Type 0
 VectorLinesAreRead = (c : Reading) (xs : List ℕ) → ReadsVector c xs ↔ IsVectorLine c.current xs
 
--- the verdict is `solution` exactly at the admissible solutions of which no part passes max
+-- the verdict is `solution` exactly at the admissible solutions of which no part exceeds max
 pub record IsAcceptedVector (max n : ℕ) (rows : List EquationRow) (pairs : List (ℕ × ℕ)) (xs : List ℕ) : Type 0 where
   pub solves : IsSolution n rows xs
   pub admissible : IsAdmissible pairs xs

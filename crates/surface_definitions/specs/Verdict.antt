@@ -25,7 +25,7 @@ abbrev pub or_else : Option VectorFault → Verdict → Verdict
 or_else None v = v
 or_else (Some fault) v = Err fault
 
--- what is wrong at the first of the rows, numbered from i, at which a part passes max or the row isn't 0; else v
+-- what is wrong at the first of the rows, numbered from i, at which a part exceeds max or the row is not 0; else v
 abbrev pub rows_verdict : ℕ → ℕ → List EquationRow → List ℕ → Verdict → Verdict
 rows_verdict max i [] xs v = v
 rows_verdict max i (row ∷ rows) xs v = or_else (row_fault max i row xs) (rows_verdict max (i + 1) rows xs v)
@@ -35,7 +35,7 @@ abbrev pub clash_verdict : Option (ℕ × ℕ) → Verdict
 clash_verdict None = solution
 clash_verdict (Some p) = Err (Clash p.0 p.1)
 
--- the verdict on a vector under rows of n columns, none of whose parts may pass max, and clashing pairs
+-- the verdict on a vector under rows of n columns, none of whose parts may exceed max, and clashing pairs
 unfoldable pub verdict : ℕ → ℕ → List EquationRow → List (ℕ × ℕ) → List ℕ → Verdict
 verdict max n rows pairs xs =
     if length xs == n then rows_verdict max 0 rows xs (clash_verdict (find (both_nonzero xs) pairs)) else Err (Length (length xs))

@@ -71,7 +71,7 @@ module _ (columns : ℕ) (rows : List Row) (f g h : List ℕ → ℕ) (f_linear 
   abbrev pub NoneWithout : List ℕ → Type 0
   NoneWithout x = (v : List ℕ) → IsPrimitiveExtreme columns rows v → IsInside v x → h v ≡ 0 → f v ≤ g v
 
-  -- a ray inside x at which h isn't 0 and f is at least g
+  -- a ray inside x at which h is not 0 and f is at least g
   pub record HasSomeInside (x : List ℕ) : Type 0 where
     pub v : List ℕ
     pub ray : IsPrimitiveExtreme columns rows v

@@ -46,7 +46,7 @@ module _ (s : Skeleton) (surfaces : List (List ℕ)) (list : IsSurfaceListOf s O
     listed : (v : List ℕ) → IsPrimitiveExtreme n rows v → IsInside v x → Contains surfaces v
     listed v ray inside = ray_listed n rows (clash_list Octagon (length s.rows)) surfaces x v list surface.admissible ray inside
 
-    -- a ray inside x without octagons isn't positive
+    -- a ray inside x without octagons is not positive
     none_without : (v : List ℕ) → IsPrimitiveExtreme n rows v → IsInside v x → octagons s v ≡ 0 → points_and_pieces s Octagon n v ≤ lower v
     none_without v ray inside z = elim (cases_lt (lower v) (points_and_pieces s Octagon n v)) [
       | inr few ↦ few

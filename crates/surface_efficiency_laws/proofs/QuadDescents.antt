@@ -121,7 +121,7 @@ module _ (s : Skeleton) (k : IsSkeleton s) (links : List Link) (spheres : HasSph
           omega arith)
     ]
 
-    -- so that of r has positive Euler characteristic where that of q has and that of v hasn't
+    -- so that of r has positive Euler characteristic where that of q has and that of v has not
     number_is : (f : List ℕ → ℕ) → IsLinear f → f (sum_of (multiple c y) z) ≡ m * f x + sum_by (λ d. whole.times d * f (link_of s Standard d)) (below s.vertices.count)
     number_is f linear = number_with_links s f linear whole.times (below s.vertices.count) (multiple m x) both (length-multiple m x ∙ lq.width) adds
         ∙ ap (λ a. a + sum_by (λ d. whole.times d * f (link_of s Standard d)) (below s.vertices.count)) (times_is f linear m x)

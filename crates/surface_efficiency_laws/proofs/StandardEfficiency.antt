@@ -1,4 +1,5 @@
--- No listed octagon surface without octagons but links has positive Euler characteristic exactly where the table is 0-efficient: these are the standard ones.
+-- No listed octagon surface without octagons but links has positive Euler characteristic if and only if the table is
+-- 0-efficient: these are the standard ones.
 use Rattle.std.proofs.Common.{◌≡◌, ℕ, ◌+◌, ◌*◌, ◌%◌, ◌<◌, ◌↔◌, pos, ◌<ℤ◌, inl, inr, List, [], ◌∷◌, length, filter, slice_index, sum_by, sym, ap, ◌∙◌, subst, arith, ext_get_or}
 use Rattle.std.proofs.lemmas.Bool.{cases_lt, leb-true, le-leb}
 use Rattle.std.proofs.lemmas.List.Elements.{All-contains}

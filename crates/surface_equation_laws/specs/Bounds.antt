@@ -45,7 +45,7 @@ abbrev pub TablesAreBounded : Type 0
 TablesAreBounded = (coords : Coords) (rows : List Row) (e : Enumeration) → IsOfTable coords rows e → number_bound coords (length rows) ≤ e.limit
     → IsBounded e (is_free coords) (group_of coords (length rows)) (cap_of coords (length rows)) (groups_of coords (length rows)) (size_of coords (length rows))
 
--- in each order of the rows no number passes a limit that is at least the bound
+-- in each order of the rows no number exceeds a limit that is at least the bound
 abbrev pub TablesAreWithin : Type 0
 TablesAreWithin = (coords : Coords) (rows : List Row) (e : Enumeration) → IsOfTable coords rows e → number_bound coords (length rows) ≤ e.limit
     → (taken : List ℕ) → IsPermutation (range_with_len 0 (length e.system.rows)) taken → AreWithin e.limit e.system e.pairs taken
@@ -61,7 +61,7 @@ TablesAreListed = (coords : Coords) (rows : List Row) (e : Enumeration) → IsOf
     → (taken : List ℕ) (list : List (List ℕ)) → IsPermutation (range_with_len 0 (length e.system.rows)) taken → AreNamed e.order e.system taken
     → IsSurfaceList e.system.columns e.system.rows e.pairs list → IsListed e taken list
 
--- and nothing passes the limit
+-- and nothing exceeds the limit
 abbrev pub TablesAreNotPast : Type 0
 TablesAreNotPast = (coords : Coords) (rows : List Row) (e : Enumeration) → IsOfTable coords rows e → number_bound coords (length rows) ≤ e.limit
     → (taken : List ℕ) (kind : Named) → ¬ IsPastLimit e taken kind

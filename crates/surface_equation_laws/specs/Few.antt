@@ -1,4 +1,4 @@
--- With few tetrahedra nothing passes the greatest number that a document may name.
+-- Up to a number of tetrahedra no number of an enumeration exceeds the greatest limit that can be requested.
 use Rattle.std.specs.Prelude.{ℕ, ◌-◌, ◌^◌, ◌≤◌, ◌↔◌, List, length}
 use Rattle.std.specs.List.{range_with_len}
 use Rattle.std.specs.List.Sorted.{IsPermutation}

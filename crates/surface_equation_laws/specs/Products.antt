@@ -19,7 +19,7 @@ ProductsAreSmall =
     (coords : Coords) (n : ℕ) (cs : List ℕ) → All (λ c. c < columns coords n) cs → IsOnce cs → HaveNoClash coords n cs
     → weight_product coords cs ≤ product_bound coords n
 
--- columns at which an admissible vector is nonzero don't clash
+-- columns at which an admissible vector is nonzero do not clash
 abbrev pub SupportsHaveNoClash : Type 0
 SupportsHaveNoClash =
     (coords : Coords) (n : ℕ) (x cs : List ℕ) → IsAdmissible (clash_list coords n) x → ((c : ℕ) → Contains cs c → slice_index x c ≢ 0) → HaveNoClash coords n cs

@@ -46,7 +46,7 @@ from_either f e j false l one =
     ∙ sum_back (λ a. f (suc (e - 1 - j) + a)) j in
     omega arith
 
--- where the entry there isn't 0, the first nonzero column is the same in a vector inside
+-- where the entry there is not 0, the first nonzero column is the same in a vector inside
 pub first_same : (xs ys : List ℕ) → ((c : ℕ) → slice_index xs c ≡ 0 → slice_index ys c ≡ 0) → (os : List ℕ) (q : ℕ) → 0 < slice_index ys (first_nonzero xs os q) → first_nonzero ys os q ≡ first_nonzero xs os q
 first_same xs ys inside [] q l = refl
 first_same xs ys inside (o ∷ os) q l = elim (cases_lt 0 (slice_index xs o)) [

@@ -27,7 +27,7 @@ abbrev pub behind_type : (coords : Coords) (xs : List ℕ) (t k : ℕ) → ℕ
 behind_type coords xs t k = first_nonzero xs (octagons_with coords t k) (quad_column coords t k)
 
 module _ (xs : List ℕ) where
-  -- the first of these columns that isn't 0
+  -- the first of these columns that is not 0
   pub first_test : (o : ℕ) (os : List ℕ) (q : ℕ) → (b : Bool) → nat_lt 0 (slice_index xs o) ≡ b → first_nonzero xs (o ∷ os) q ≡ cond b o (first_nonzero xs os q)
   first_test o os q true e = ap (λ b. slice_index_or (o ∷ os) (cond (not b) (1 + position_or_len (λ c. nat_lt 0 (slice_index xs c)) os) 0) q) e
   first_test o os q false e =

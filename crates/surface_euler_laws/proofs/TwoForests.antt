@@ -1,4 +1,4 @@
--- A forest of polygons and one of points, by arcs that the other doesn't use: so there are enough arcs.
+-- A forest of polygons and one of points, by arcs that the other does not use: so there are enough arcs.
 use Rattle.std.proofs.Common.{◌≡◌, ◌≢◌, ℕ, ◌+◌, ◌*◌, ◌<◌, ◌≤◌, Bool, true, false, not, List, [], ◌∷◌, ◌++◌, length, Option, Some, None, inl, inr, refl, sym, ap, ◌∙◌, subst, arith}
 use Rattle.std.proofs.lemmas.Bool.{cases_Bool, cases_eq}
 use Rattle.std.proofs.lemmas.List.{length-append}
@@ -51,7 +51,7 @@ module _ (polygons arcs points parts : ℕ) (one other left right : ℕ → ℕ)
   forest : HasForest polygons arcs one other p.part_of all parts (p.polygons_joined).few all_joined
   forest = forest_there polygons arcs one other p.part_of all parts (p.polygons_joined).few all_joined
 
-  -- the arcs that aren't in the forest
+  -- the arcs that are not in the forest
   abbrev free : ℕ → Bool
   free a = not (has (items forest.steps) a)
 

@@ -1,4 +1,5 @@
--- Pieces with signs are joined by arcs: signs of a component exist exactly where no piece is joined to itself with the other sign.
+-- Pieces with signs are joined by arcs: signs of a component exist if and only if no piece is joined to itself with the
+-- other sign.
 use Rattle.std.proofs.Common.{◌≡◌, ℕ, zero, suc, ◌+◌, ◌*◌, ◌/◌, ◌%◌, ◌<◌, Bool, true, false, not, List, [], ◌∷◌, length, Contains, ◌⊎◌, inl, inr, refl, sym, ap, ◌∙◌, arith}
 use Rattle.std.specs.Prelude.{◌==◌, if◌then◌else◌, slice_index}
 use Rattle.std.specs.List.{slice_index_or}

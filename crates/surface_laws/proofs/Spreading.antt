@@ -1,4 +1,5 @@
--- Heights are spread from one vertex of a class along chains; where any heights exist these are heights too, so that a lift exists or doesn't.
+-- Heights are spread from one vertex of a class along chains; where any heights exist these are heights too, so that a
+-- lift exists or does not.
 use Rattle.std.proofs.Common.{◌≡◌, ℕ, zero, suc, ◌+◌, ◌*◌, ◌/◌, ◌%◌, ◌-◌, ◌<◌, ◌≤◌, List, [], ◌∷◌, length, get_or, Option, Some, None, ◌⊎◌, inl, inr, Result, Ok, Err, refl, sym, ap, ◌∙◌, subst, arith}
 use Rattle.std.specs.Prelude.{slice_index, sum_by, sum, option_and_then}
 use Rattle.std.proofs.lemmas.Bool.{cases_lt, cases_eq}

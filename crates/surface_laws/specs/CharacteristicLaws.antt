@@ -36,7 +36,7 @@ abbrev pub ComponentSumsAddUp : Type 0
 ComponentSumsAddUp =
     (s : Skeleton) (coords : Coords) (xs components : List ℕ) (count : ℕ) → AreComponents s.rows coords xs components count → ComponentSumsAre s coords xs components count
 
--- a vector is linking exactly where each quad and each octagon is 0
+-- a vector is linking if and only if each quad and each octagon is 0
 abbrev pub LinkingHasNoQuads : Type 0
 LinkingHasNoQuads =
     (coords : Coords) (xs : List ℕ) → (is_linking coords xs ≡ true) ↔ ((c : ℕ) → c < length xs → is_quad_or_octagon coords c ≡ true → slice_index xs c ≡ 0)

@@ -45,7 +45,7 @@ AreHeights s xs c h =
     → h (vertex_number x.tet v) + slice_index xs (quad_column Quad x.tet (keeping v x.face))
     ≡ h (vertex_number g.tet (image g.perm v)) + slice_index xs (quad_column Quad g.tet (keeping (image g.perm v) (image g.perm x.face)))
 
--- a class has a lift exactly where it has heights
+-- a class has a lift if and only if it has heights
 abbrev pub LiftsAreHeights : Type 0
 LiftsAreHeights =
     (s : Skeleton) (xs : List ℕ) (c : ℕ) → IsSkeleton s → length xs ≡ columns Quad (length s.rows) → c < s.vertices.count

@@ -33,7 +33,7 @@ pub record MeetsBack (rows : List Row) (coords : Coords) (xs : List ℕ) (a : Ar
 abbrev pub ArcsMeetBack : Type 0
 ArcsMeetBack = (rows : List Row) (coords : Coords) (xs : List ℕ) (a : Arc) (g : Gluing) → IsSurface rows coords xs → Meets rows coords xs a g → MeetsBack rows coords xs a g
 
--- a piece of component i has two classes with either sign, so it isn't joined to itself with the other sign
+-- a piece of component i has two classes with either sign, so it is not joined to itself with the other sign
 abbrev pub IsFreePiece : List ℕ → List ℕ → ℕ → ℕ → Type 0
 IsFreePiece classes components i p = slice_index components p ≡ i → slice_index classes (2 * p) ≢ slice_index classes (2 * p + 1)
 
@@ -115,6 +115,6 @@ ComponentsExist = (rows : List Row) (coords : Coords) (xs : List ℕ) → IsSurf
 abbrev pub PiecesAnswersExist : Type 0
 PiecesAnswersExist = (rows : List Row) (coords : Coords) (xs : List ℕ) → IsSurface rows coords xs → (a : Result (List Component) ManyPieces) × IsPiecesAnswer rows coords xs a
 
--- the first of these columns that isn't 0, or else q
+-- the first of these columns that is not 0, or else q
 abbrev pub first_nonzero : List ℕ → List ℕ → ℕ → ℕ
 first_nonzero xs os q = slice_index_or os (position_or_len (λ c. nat_lt 0 (slice_index xs c)) os) q

@@ -1,4 +1,4 @@
--- A vertex link has an arc in a boundary face exactly where a side of its triangles lies in one.
+-- A vertex link has an arc in a boundary face if and only if a side of its triangles lies in one.
 use Rattle.std.proofs.Common.{◌≡◌, ℕ, ◌*◌, ◌/◌, ◌%◌, ◌<◌, Bool, true, false, not, List, [], ◌∷◌, length, map, Option, Some, None, inl, inr, refl, sym, ap, ◌∙◌, subst, arith}
 use Rattle.std.specs.Prelude.{◌==◌, if◌then◌else◌, is_none, sum_by, slice_index}
 use Rattle.std.proofs.lemmas.Bool.{eqb-true, eq-eqb, cases_lt, false_from_ne_true}

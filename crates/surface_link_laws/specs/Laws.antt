@@ -18,7 +18,7 @@ use Rattle.surface_quad_lift_laws.specs.Laws.{HasLink}
 abbrev pub first_end : ℕ → ℕ
 first_end i = vertex_number (i / 6) (slice_index (ends (i % 6)) 0)
 
--- as many arcs as the link has edges, and as many pieces as it has triangles; arcs in the boundary where it isn't
+-- as many arcs as the link has edges, and as many pieces as it has triangles; arcs in the boundary where it is not
 -- closed
 pub record HasEdgesAndTriangles (link : Link) (p : Properties) : Type 0 where
   pub arcs : p.arcs ≡ link.edges
@@ -61,7 +61,7 @@ LinkCharacteristicsAgree =
     (s : Skeleton) (coords : Coords) (c : ℕ) (link : Link) (p : Properties) → IsSkeleton s → HasTriangles coords → IsFirstInvalid s None → HasLink s c link
     → AreProperties s coords (link_of s coords c) p → (p.points ≡ link.vertices) × (p.euler ≡ link.euler)
 
--- the surface is one component, two-sided, and orientable exactly where the link is
+-- the surface is one component, two-sided, and orientable if and only if the link is
 pub record IsOneComponentOfLink (s : Skeleton) (coords : Coords) (c : ℕ) (link : Link) (listed : List Component) : Type 0 where
   pub component : Component
   pub alone : listed ≡ component ∷ []

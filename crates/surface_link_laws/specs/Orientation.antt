@@ -12,7 +12,7 @@ use Rattle.surface_vector_definitions.specs.Answers.{Description, IsDescription}
 use Rattle.surface_vector_definitions.specs.Components.{Component, IsComponent}
 use Rattle.surface_laws.specs.PieceLaws.{IsSurface}
 
--- there a component of a surface is two-sided exactly where it is orientable
+-- there a component of a surface is two-sided if and only if it is orientable
 abbrev pub SidesTellOrientation : Type 0
 SidesTellOrientation =
     (rows : List Row) (coords : Coords) (xs components : List ℕ) (component : ℕ) → IsSurface rows coords xs → IsOrientable rows

@@ -18,7 +18,7 @@ use Rattle.surface_octagon_laws.specs.QuadOctagons.{quads_and_octagons, quads_fo
 abbrev pub IsOctagonSolution : Skeleton → List ℕ → Type 0
 IsOctagonSolution s ys = IsSolution (columns Octagon (length s.rows)) (matching_rows Octagon s.rows) ys
 
--- a vector solves the octagon equations exactly where it solves the standard ones, with two quads in place of each
+-- a vector solves the octagon equations if and only if it solves the standard ones, with two quads in place of each
 -- octagon
 abbrev pub OctagonsMatchAsQuads : Type 0
 OctagonsMatchAsQuads =
@@ -31,7 +31,7 @@ QuadsAndOctagonsSolve =
     (s : Skeleton) (quad_rows : List EquationRow) (ys : List ℕ) → IsSkeleton s → AreEquations Quad s.rows quad_rows → IsOctagonSolution s ys
     → SolvesQuadEquations (length s.rows) quad_rows (quads_and_octagons (length s.rows) ys)
 
--- they are admissible exactly where the vector is
+-- they are admissible if and only if the vector is
 abbrev pub QuadsAndOctagonsDecideAdmissibility : Type 0
 QuadsAndOctagonsDecideAdmissibility =
     (n : ℕ) (ys : List ℕ) → IsAdmissible (clash_list Octagon n) ys ↔ IsAdmissibleQuadOctagon n (quads_and_octagons n ys)
@@ -42,7 +42,7 @@ pub record IsCanonicalWithLinks (s : Skeleton) (ys canonical : List ℕ) (times 
   pub is_canonical : IsCanonical s Octagon canonical
   pub adds : (column : ℕ) → column < columns Octagon (length s.rows) → slice_index ys column ≡ slice_index canonical column + links_sum s Octagon times column
 
--- each octagon solution is so in one way
+-- each octagon solution has exactly one such form
 pub record HasOneCanonicalPart (s : Skeleton) (ys : List ℕ) : Type 0 where
   pub canonical : List ℕ
   pub times : ℕ → ℕ

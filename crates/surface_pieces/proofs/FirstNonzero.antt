@@ -1,4 +1,4 @@
--- The first of some columns that isn't 0, one column at a time.
+-- The first of some columns that is not 0, one column at a time.
 use Rattle.std.proofs.Common.{◌≡◌, ℕ, suc, ◌+◌, ◌<◌, ◌≤◌, Bool, not, cond, List, ◌∷◌, length, drop, get_or, ap, ◌∙◌, arith}
 use Rattle.std.specs.Prelude.{nat_lt, slice_index}
 use Rattle.std.specs.List.{position_or_len, slice_index_or}

@@ -1,4 +1,5 @@
--- Signs of a component exist exactly where no piece is joined to itself with the other sign, by the classes of what rows of neighbours list.
+-- Signs of a component exist if and only if no piece is joined to itself with the other sign, by the classes of what
+-- rows of neighbours list.
 use Rattle.std.proofs.Common.{◌≡◌, ℕ, ◌*◌, ◌/◌, ◌<◌, ◌≤◌, ◌↔◌, Bool, List, [], ◌∷◌, length, Option, Contains, inl, inr, sym, ap, ◌∙◌, subst, arith}
 use Rattle.std.specs.List.{slice_index_or}
 use Rattle.std.proofs.lemmas.Bool.{cases_lt}

@@ -1,4 +1,4 @@
--- Canonical solutions are the lifts of their quads, lifts are canonical, and vertex links aren't.
+-- Canonical solutions are the lifts of their quads, lifts are canonical, and vertex links are not.
 use Rattle.std.proofs.Common.{◌≡◌, ◌≢◌, ℕ, ◌*◌, ◌/◌, ◌%◌, ◌<◌, ◌⊎◌, inl, inr, List, length, slice_index, refl, sym, ap, ◌∙◌, arith}
 use Rattle.std.proofs.lemmas.Bool.{cases_eq}
 use Rattle.cone_definitions.specs.Vectors.{IsInside}
@@ -50,7 +50,7 @@ no_link_is_canonical s coords xs h link canonical =
     let none : slice_index (link_of s coords c) (tri_column coords (m.0 / 4) (m.0 % 4)) ≡ 0 = ap (λ (ys : List ℕ). slice_index ys (tri_column coords (m.0 / 4) (m.0 % 4))) (sym link.2) ∙ m.3 in
     omega arith
 
--- where a vector isn't canonical, it has a triangle at each member of some class
+-- where a vector is not canonical, it has a triangle at each member of some class
 module _ (s : Skeleton) (coords : Coords) (xs : List ℕ) where
   abbrev triangle : ℕ → ℕ
   triangle i = slice_index xs (tri_column coords (i / 4) (i % 4))

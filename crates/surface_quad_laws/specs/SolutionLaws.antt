@@ -32,7 +32,7 @@ pub record IsLiftWithLinks (s : Skeleton) (ys lift : List ℕ) (times : ℕ → 
   pub is_lift : IsLiftOf s (quads_of s ys) lift
   pub adds : (column : ℕ) → column < columns Standard (length s.rows) → slice_index ys column ≡ with_links s times lift column
 
--- a standard solution is so in one way
+-- a standard solution has exactly one such form
 pub record HasOneLiftWithLinks (s : Skeleton) (ys : List ℕ) : Type 0 where
   pub lift : List ℕ
   pub times : ℕ → ℕ

@@ -56,7 +56,7 @@ sphere_is false (pos (suc zero)) o e = absurd cc
 sphere_is false (pos (suc (suc m))) o e = absurd cc
 sphere_is false (negsuc m) o e = absurd cc
 
--- a disc isn't closed, and it is of Euler characteristic 1
+-- a disc is not closed, and it is of Euler characteristic 1
 disc_is : (closed : Bool) (euler : ℤ) (orientable : Bool) → kind_of closed euler orientable ≡ Disc → (closed ≡ false) × (euler ≡ pos 1)
 disc_is true (pos zero) true e = absurd cc
 disc_is true (pos zero) false e = absurd cc

@@ -1,5 +1,5 @@
--- Where the link of a vertex class is a sphere or a disc, each solution of the quad equations has a lift there
--- (Tollefson).
+-- If the link of a vertex class is a sphere or a disc, each solution of the quad equations has a lift there (Tollefson
+-- 1998).
 use Rattle.surface_vector_definitions.specs.declared.LiftFault.TheVariants.{NoLift}
 use Rattle.std.specs.Prelude.{◌≡◌, ℕ, ◌*◌, ◌<◌, ◌↔◌, ◌⊎◌, List, length, All, Err}
 use Rattle.cone_definitions.specs.Rows.{Row as EquationRow, IsSolution}

@@ -33,7 +33,7 @@ module _ (n : ℕ) (Same : ℕ → ℕ → Type 0) where
   numberings_same one other k m a b =
       ext_get_or 0 one other (a.one_each ∙ sym b.one_each) (λ i l. let h : i < n = omega (arith, a.one_each) in numberings_agree n Same one other k m a b i h)
 
--- a truth value that is true exactly where P holds is determined
+-- a truth value that is true if and only if P holds is determined
 one_truth : (a b : Bool) (P : Type 0) → IsTrue a ↔ P → IsTrue b ↔ P → a ≡ b
 one_truth true true P f g = refl
 one_truth true false P f g = absurd (false≢true (g.1 (f.0 refl)))

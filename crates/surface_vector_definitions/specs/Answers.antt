@@ -1,4 +1,4 @@
--- What is answered of the vectors of a document, or why one is refused, by checks in their order.
+-- The results for the vectors of a document, or why one is refused, by the checks in their order.
 use Rattle.std.specs.Prelude.{◌≡◌, ℕ, ◌<◌, List, [], length, None, Result, Ok, Err}
 use Rattle.std.specs.List.{AllZip, slice_index_or}
 use Rattle.text_definitions.specs.Written.{limit}
@@ -74,7 +74,7 @@ pub record IsFirstRefused {A : Type 0} (IsTold : List ℕ → Result A Refusal �
   pub refused : IsTold (slice_index_or vectors v []) (Err fault)
   pub before : (u : ℕ) → u < v → (a : A) × IsTold (slice_index_or vectors u []) (Ok a)
 
--- what is answered of all vectors: the answer to each, or the number of the first that is refused, and why
+-- the answer for all vectors: the result of each, or the index of the first that is refused, with the reason
 abbrev pub AreAnswered : {A : Type 0} → (List ℕ → Result A Refusal → Type 0) → List (List ℕ) → Result (List A) (ℕ × Refusal) → Type 0
 AreAnswered IsTold vectors (Ok answers) = AllZip (λ xs a. IsTold xs (Ok a)) vectors answers
 AreAnswered IsTold vectors (Err refusal) = IsFirstRefused IsTold vectors refusal.0 refusal.1

@@ -17,7 +17,7 @@ pub record Component : Type 0 where
   pub two_sided : Bool
   pub orientable : Bool
 
--- what is answered of component i, by the component of each piece
+-- the result for component i, by the component of each disc
 pub record IsComponent (rows : List Row) (coords : Coords) (xs classes : List ℕ) (i : ℕ) (c : Component) : Type 0 where
   pub vector : c.vector ≡ component_vector xs classes i
   pub two_sided : IsTrue c.two_sided ↔ IsTwoSided rows coords xs classes i
@@ -30,7 +30,7 @@ pub record AreListedComponents (rows : List Row) (coords : Coords) (xs : List �
   pub numbered : AreComponents rows coords xs classes count
   pub each : AllZip (IsComponent rows coords xs classes) (below count) listed
 
--- what is answered of a vector: its components, and of more pieces than are looked at their number
+-- the result for a vector: its components, or the number of discs if there are too many
 abbrev pub IsPiecesAnswer : List Row → Coords → List ℕ → Result (List Component) ManyPieces → Type 0
 IsPiecesAnswer rows coords xs (Ok listed) = (sum xs ≤ most_pieces) × AreListedComponents rows coords xs listed
 IsPiecesAnswer rows coords xs (Err many) = (most_pieces < sum xs) × (many.count ≡ sum xs)

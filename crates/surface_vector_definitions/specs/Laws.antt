@@ -1,4 +1,4 @@
--- What is answered of a vector is determined.
+-- The result for a vector is unique.
 use Rattle.std.specs.Prelude.{◌≡◌, ℕ, List, Result}
 use Rattle.table_definitions.specs.Table.{Row}
 use Rattle.surface_definitions.specs.declared.Coords.{Coords}
@@ -22,7 +22,7 @@ OnePiecesAnswer =
     (rows : List Row) (coords : Coords) (xs : List ℕ) (a b : Result (List Component) ManyPieces)
     → IsPiecesAnswer rows coords xs a → IsPiecesAnswer rows coords xs b → a ≡ b
 
--- so is what is answered of all vectors of a document
+-- so is the result for all vectors of a document
 abbrev pub OneDescriptionEach : Type 0
 OneDescriptionEach =
     (s : Skeleton) (coords : Coords) (equations : List EquationRow) (vectors : List (List ℕ)) (a b : Result (List Description) (ℕ × Refusal))

@@ -22,12 +22,12 @@ pub record AreProperties (s : Skeleton) (coords : Coords) (xs : List ℕ) (p : P
   pub linking : p.linking ≡ is_linking coords xs
   pub boundary : p.boundary ≡ meets_boundary s.rows coords xs
 
--- the first of the sums that passes max
+-- the first of the sums that exceeds max
 abbrev pub large_sum : ℕ → ℕ → ℕ → ℕ → Option SurfaceSum
 large_sum max points arcs pieces =
     if nat_lt max points then Some Points else (if nat_lt max arcs then Some Arcs else (if nat_lt max (points + pieces) then Some PointsAndPieces else None))
 
--- the first of the vector's sums that passes max
+-- the first of the vector's sums that exceeds max
 abbrev pub first_large : ℕ → Skeleton → Coords → List ℕ → Option SurfaceSum
 first_large max s coords xs = large_sum max (points_of coords xs s.edges.classes s.edges.count) (arcs_of s.rows coords xs) (sum xs)
 

@@ -69,7 +69,7 @@ module _ (tables : List (List Row)) (a : List Row) where
       so_far : AreClassed tables before.classes.items before.census
       so_far = classed_where tables before.classes.items before.census before.found none g.grouped
 
-  -- the first that isn't connected
+  -- the first that is not connected
   pub found_first : (before : Groups) (census : List (List ℕ)) (table tet : ℕ) → before.found ≡ None → census ≡ before.census → table ≡ vec_len before.classes
       → IsLeastUnreached a tet → IsTable a → AreGrouped tables before
       → AreGrouped more (record { census = census; classes = before.classes; found = Some (record { table = table; tet = tet }) })

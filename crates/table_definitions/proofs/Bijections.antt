@@ -19,7 +19,7 @@ range-push a (suc n) = ap (λ ks. a ∷ ks) (ap (λ k. range_with_len (a + 1) n 
 pub below-push : (n : ℕ) → below n ++ n ∷ [] ≡ below (suc n)
 below-push n = ap (λ k. below n ++ k ∷ []) (omega arith) ∙ range-push 0 n
 
--- an element that isn't n
+-- an element that is not n
 pub not_there : (xs : List ℕ) (n k : ℕ) → has xs n ≡ false → k < length xs → get_or xs k 0 ≢ n
 not_there xs n k h l e = let t = list_any_at (λ m. m == n) xs k 0 l (eq-eqb _ _ e) in cc
 
@@ -84,7 +84,7 @@ onto (suc n) (x ∷ rest) l small d = by_has (λ ys m s e. onto n ys m s e) (has
         removed fewer (remove (x ∷ rest) found.0) (IsPermutation-remove (x ∷ rest) found.0 n found.1 found.2)
     by_has fewer false h = absurd (repeated fewer h)
 
--- the default doesn't matter in range
+-- the default does not matter in range
 pub get_or-any : (xs : List ℕ) (i d e : ℕ) → i < length xs → get_or xs i d ≡ get_or xs i e
 get_or-any [] i d e l = absurd (omega arith)
 get_or-any (x ∷ xs) zero d e l = refl

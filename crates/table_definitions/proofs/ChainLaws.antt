@@ -194,7 +194,7 @@ gluing_joins rows x g e = (x.face ∷ [], rw e refl)
 pub joins_back : (rows : List Row) (t u : ℕ) → IsTable rows → SameComponent rows t u → SameComponent rows u t
 joins_back rows t u table j = joined_sym rows (whole t) (whole u) table tt j
 
--- one tetrahedron is the least that isn't reached; in a connected table none is
+-- one tetrahedron is the least that is not reached; in a connected table none is
 pub one_unreached : (rows : List Row) (t u : ℕ) → IsLeastUnreached rows t → IsLeastUnreached rows u → t ≡ u
 one_unreached rows t u a b = elim (cases_order t u) [
   | inl e ↦ e

@@ -13,7 +13,7 @@ pub record IsLeastOf (n : ℕ) (Same : ℕ → ℕ → Type 0) (classes : List �
   pub same : Same i m
 
 module _ (n : ℕ) (Same : ℕ → ℕ → Type 0) where
-  -- a lesser class of i in the one numbering than in the other can't be, where the numberings agree below i
+  -- a lesser class of i in the one numbering than in the other cannot be, where the numberings agree below i
   no_lesser : (one other : List ℕ) (k m : ℕ) → IsNumbering n Same one k → IsNumbering n Same other m → (i : ℕ) → i < n → ((j : ℕ) → j < i → slice_index one j ≡ slice_index other j)
       → slice_index one i < slice_index other i → ⊥
   no_lesser one other k m a b i hi below h =
@@ -89,7 +89,7 @@ module _ (n : ℕ) (Same : ℕ → ℕ → Type 0) where
     | inr (inr more) ↦ absurd (no_more_classes classes m k b a more)
   ]
 
-  -- what is the same exactly where other things are has the same numbering
+  -- what is the same if and only if other things are has the same numbering
   pub numbering_same : (Other : ℕ → ℕ → Type 0) (classes : List ℕ) (k : ℕ) → IsNumbering n Same classes k → ((i j : ℕ) → i < n → j < n → Same i j ↔ Other i j) → IsNumbering n Other classes k
   numbering_same Other classes k a tie = record {
     one_each = a.one_each;

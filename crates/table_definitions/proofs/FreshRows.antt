@@ -29,7 +29,7 @@ position_within (x ∷ xs) u h = by_test (x.0 == u) refl (position_within xs u)
     by_test true e later = rw e (omega arith)
     by_test false e later = let t : has (map (λ (x : Numbered). x.0) xs) u ≡ true = rw e at h in rw e (omega (arith, later t))
 
--- and one that doesn't has none
+-- and one that does not has none
 no_row : (xs : List Numbered) (u : ℕ) → has (map (λ (x : Numbered). x.0) xs) u ≡ false → slice_index_or (map (λ (x : Numbered). x.1) xs) (position_or_len (number_is u) xs) [] ≡ []
 no_row [] u h = refl
 no_row (x ∷ xs) u h = by_test (x.0 == u) refl (no_row xs u)

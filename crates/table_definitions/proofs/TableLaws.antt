@@ -1,4 +1,4 @@
--- Rows are a table exactly where nothing is wrong with them.
+-- Rows are a table if and only if nothing is wrong with them.
 use Rattle.std.proofs.Common.{◌≡◌, ℕ, zero, suc, ◌+◌, ◌<◌, ◌≤◌, Bool, true, false, eqb, List, [], ◌∷◌, ◌++◌, length, map, Option, Some, None, ◌⊎◌, inl, inr, refl, sym, ap, ◌∙◌, subst, arith, ⊎_elim}
 use Rattle.std.specs.Prelude.{nat_lt, not, All, if◌then◌else◌}
 use Rattle.std.specs.Option.{option_or}

@@ -34,7 +34,7 @@ module _ (neighbours : ℕ → List ℕ) where
     }
 
     module _ (marked : List Bool) (members : List ℕ) (after : List ℕ) (turn : IsSymmetric neighbours) (c : IsComponent neighbours i before marked members) (num : AreNumbered members count classes after) where
-      -- what was marked isn't a member, and keeps its class
+      -- what was marked is not a member, and keeps its class
       not_both : (x : ℕ) → IsMarked before x → Contains members x → ⊥
       not_both x m k = false≢true (sym (c.new x k) ∙ m)
 

@@ -78,7 +78,7 @@ module _ (n : ℕ) (neighbours : ℕ → List ℕ) (symmetric : IsSymmetric neig
       let less : work_left d.marked d.pending ≤ fuel = let w = d.same_work in omega arith in
       search_done before first fuel d.marked d.pending d.members less (turn_ends neighbours first x (neighbours x) d.marked d.pending d.turn refl) d.are d.size
 
-  -- the component of a number that isn't marked
+  -- the component of a number that is not marked
   record IsNextComponent (start : ℕ) (before : List Bool) : Type 0 where
     marked : List Bool
     members : List ℕ
@@ -155,7 +155,7 @@ module _ (n : ℕ) (neighbours : ℕ → List ℕ) (symmetric : IsSymmetric neig
     pub count : ℕ
     pub numbered : IsNumbering n Same classes count
 
-  -- what is joined exactly where it is the same is numbered
+  -- what is joined if and only if it is the same is numbered
   pub numbering_exists : (Same : ℕ → ℕ → Type 0) → ((i j : ℕ) → i < n → j < n → IsJoined neighbours i j ↔ Same i j) → HasNumbering Same
   numbering_exists Same joined =
       let c : IsClassedUpTo n = classed n (omega arith) in

@@ -45,7 +45,7 @@ module _ (step : ℕ → Option ℕ) (start : ℕ) where
     pub walk_size : (places : List ℕ) → IsWalk step start places → length places ≤ n
     walk_size places w = distinct_below n places (walk_below places w) w.distinct
 
-    -- a number to which the last one leads is new, if it isn't the start
+    -- a number to which the last one leads is new, if it is not the start
     fresh : (places : List ℕ) → IsWalk step start places → (y : ℕ) → step (last_of places) ≡ Some y → y ≢ start → (k d : ℕ) → k < length places → slice_index_or places k d ≢ y
     fresh places w y s new zero d l e = new (sym e ∙ get_or_default places 0 d 0 l ∙ w.first)
     fresh places w y s new (suc k) d l e = let p : k < length places = omega arith in let q : length places - 1 < length places = omega arith in

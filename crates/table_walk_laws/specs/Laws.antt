@@ -171,7 +171,7 @@ pub record MarksJoined (neighbours : ℕ → List ℕ) (first marked : List Bool
 abbrev pub SearchEnds : Type 0
 SearchEnds = (neighbours : ℕ → List ℕ) (first marked : List Bool) → IsSearch neighbours first marked [] → MarksJoined neighbours first marked
 
--- with symmetric neighbours a start that wasn't marked is joined to nothing that was
+-- with symmetric neighbours a start that was not marked is joined to nothing that was
 abbrev pub NewStartIsApart : Type 0
 NewStartIsApart = (neighbours : ℕ → List ℕ) (marked : List Bool) → IsSymmetric neighbours → IsClosed neighbours marked →
     (start x : ℕ) → slice_index_or marked start false ≡ false → IsJoined neighbours start x → slice_index_or marked x false ≡ false

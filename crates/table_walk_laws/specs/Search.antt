@@ -16,7 +16,7 @@ abbrev pub IsJoinedToSome : (ℕ → List ℕ) → List Bool → ℕ → Type 0
 IsJoinedToSome neighbours first x = (start : ℕ) × IsMarked first start × IsJoined neighbours start x
 
 -- a search that is under way: what was marked first is marked, and only what that is joined to; of a marked number that
--- isn't pending each neighbour is marked
+-- is not pending each neighbour is marked
 pub record IsSearch (neighbours : ℕ → List ℕ) (first marked : List Bool) (pending : List ℕ) : Type 0 where
   pub kept : (x : ℕ) → IsMarked first x → IsMarked marked x
   pub joined : (x : ℕ) → IsMarked marked x → IsJoinedToSome neighbours first x

@@ -1,4 +1,4 @@
--- A block of a sum is read exactly where it is in the grammar.
+-- A block of a sum is read if and only if it is in the grammar.
 use Rattle.std.proofs.Common.{◌≡◌, ℕ, zero, suc, List, [], ◌∷◌, ◌++◌, length, Ok, refl, sym, ap, ◌∙◌, subst}
 use Rattle.std.specs.Prelude.{codes}
 use Rattle.std.specs.List.{AllZip}

@@ -1,4 +1,4 @@
--- A cone is read exactly where it is in the grammar.
+-- A cone is read if and only if it is in the grammar.
 use Rattle.std.proofs.Common.{◌≡◌, ℕ, zero, suc, ℤ, List, [], ◌∷◌, ◌++◌, length, Ok, refl, sym, ap, ◌∙◌, subst, append-nil}
 use Rattle.std.specs.Prelude.{codes, replicate}
 use Rattle.std.specs.List.{AllZip}

@@ -1,4 +1,4 @@
--- Cones are read exactly where they are in the grammar.
+-- Cones are read if and only if they are in the grammar.
 use Rattle.std.proofs.Common.{◌≡◌, ℕ, List, ◌∷◌, ◌++◌, Result, Ok, Err, refl, sym, ap, ◌∙◌, subst}
 use Rattle.std.specs.Prelude.{◌↔◌}
 use Rattle.text_definitions.specs.Text.{Line, lines_of}

@@ -1,4 +1,4 @@
--- Documents with tables in either form are read exactly where their lines are in the grammar.
+-- Documents with tables in either form are read if and only if their lines are in the grammar.
 use Rattle.std.proofs.Common.{◌≡◌, ℕ, List, [], ◌∷◌, ◌++◌, Result, Ok, Err, refl, sym, ap, ◌∙◌, subst}
 use Rattle.std.specs.Prelude.{◌↔◌}
 use Rattle.std.specs.List.{AllZip}

@@ -38,7 +38,7 @@ module _ (read : Reading → Read) (Aim : ⊤ → List Symbol → Type 0) (InGra
     abbrev First : Place → Type 0
     First p = FirstLeavesAt InGrammar c.input_end c.later p
 
-    -- the end of the line that isn't begun is no fault
+    -- the end of the line that is not begun is no fault
     not_begun : (p : Place) (symbol : Symbol) (after : List Placed) → left_symbols c ≡ (p, symbol) ∷ after → Same c [] symbol → (w : Way read [] Aim) → opening (shows w.other) ≡ opening (shows c) → ⊥
     not_begun p symbol after split same w opens =
         let first : opening (shows w.other) ≡ Some symbol = opens ∙ ap (λ (ss : List Placed). opening (plain ss)) split in

@@ -57,7 +57,7 @@ module _ {X E : Type 0} (stop go : Reading → Result X E) where
         h.same (begun f.line f.rest other) more f.there x (sym (ap (λ (ks : List Line). by_lines stop go ks other) f.lines) ∙ q));
   }
 
--- what can't be read isn't in the grammar
+-- what cannot be read is not in the grammar
 abbrev pub start_with : List ℕ → List Line → Reading
 start_with bytes lines = record (start_of bytes) { later = lines }
 

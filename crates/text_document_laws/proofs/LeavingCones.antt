@@ -22,7 +22,7 @@ use Rattle.text_document_laws.proofs.Ways.{Way, graft}
 use Rattle.text_document_laws.proofs.WordWays.{opens_rest}
 use Rattle.text_document_laws.proofs.ConeWays.{last_symbols, IsLast, ends_cone, sat_cone, well_cone}
 
--- what is shown doesn't depend on the place where the input ends
+-- what is shown does not depend on the place where the input ends
 pub same_line : (n : ℕ) (ts : List Token) (end : ℕ) (xs ys : List Placed) → plain xs ≡ plain ys → plain (line_symbols n ts end xs) ≡ plain (line_symbols n ts end ys)
 unfolding line_symbols
 same_line n [] end xs ys e = ap (λ (ss : List Symbol). line_end ∷ ss) e

@@ -1,4 +1,5 @@
--- Readers that are written out as a chain of calls are read exactly where words and lines say so. There is a law for each call of a chain.
+-- Readers that are written out as a chain of calls are read if and only if words and lines say so. There is a law for
+-- each call of a chain.
 use Rattle.std.proofs.Common.{◌≡◌, ℕ, suc, List, [], ◌∷◌, ◌++◌, length, Result, Ok, refl, sym, ap, ◌∙◌, subst}
 use Rattle.std.specs.List.{AllZip}
 use Rattle.text_definitions.specs.Text.{Token, word, Line}

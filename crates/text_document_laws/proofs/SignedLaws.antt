@@ -1,4 +1,4 @@
--- Signed decimals are read exactly where they are in the grammar.
+-- Signed decimals are read if and only if they are in the grammar.
 use Rattle.std.proofs.Common.{◌≡◌, ℕ, ℤ, Bool, true, false, List, [], ◌∷◌, Some, None, Result, Ok, inl, inr, refl, sym, ap, ◌∙◌, subst}
 use Rattle.std.specs.Prelude.{◌==◌, nat_lt, length, if◌then◌else◌}
 use Rattle.std.specs.Char.{is_ascii_digit}

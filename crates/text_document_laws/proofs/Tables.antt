@@ -1,4 +1,4 @@
--- A table in either form is read exactly where the next lines are one.
+-- A table in either form is read if and only if the next lines are one.
 use Rattle.std.proofs.Common.{◌≡◌, ℕ, Bool, true, false, List, [], ◌∷◌, ◌++◌, Result, Ok, Err, inl, inr, refl, sym, ap, ◌∙◌, subst}
 use Rattle.std.specs.Prelude.{codes, if◌then◌else◌}
 use Rattle.text_definitions.specs.Text.{Token, word, Line}

@@ -1,4 +1,4 @@
--- The text of a table is read exactly where the next lines have its form.
+-- The text of a table is read if and only if the next lines have its form.
 use Rattle.std.proofs.Common.{◌≡◌, ℕ, zero, suc, Bool, true, false, List, [], ◌∷◌, ◌++◌, length, Result, Ok, inl, inr, refl, sym, ap, ◌∙◌, subst}
 use Rattle.std.specs.Prelude.{⊤, codes}
 use Rattle.std.specs.List.{AllZip, AllByRecursion}

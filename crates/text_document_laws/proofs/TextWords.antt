@@ -1,4 +1,4 @@
--- Words that pass a test are read exactly where they stand to the end of a line; and the tests of entries and names.
+-- Words that pass a test are read if and only if they stand to the end of a line; and the tests of entries and names.
 use Rattle.std.proofs.Common.{◌≡◌, ℕ, zero, suc, ◌^◌, ◌<◌, Bool, true, false, List, [], ◌∷◌, length, Option, Some, None, Result, Ok, Err, refl, sym, ap, ◌∙◌, subst}
 use Rattle.std.specs.Prelude.{⊤, nat_lt, if◌then◌else◌, codes}
 use Rattle.std.specs.List.{AllZip, AllByRecursion}

@@ -42,7 +42,7 @@ Well lexical read Aim c = (f : LexFault) → read c ≡ Err (lexical f) → (h :
 abbrev pub WellOpen : {A E : Type 0} → (LexFault → E) → (Reading → Result (A × Reading) E) → (A → List Symbol → Type 0) → Reading → Type 0
 WellOpen lexical read Aim c = (f : LexFault) → read c ≡ Err (lexical f) → (h : StopsAt read c f.place) × (w : Way read h.front Aim) × (opening (shows w.other) ≡ opening (shows c))
 
--- a reader that doesn't look at the next symbol
+-- a reader that does not look at the next symbol
 pub record FreeOn {A E : Type 0} (read : Reading → Result (A × Reading) E) (c : Reading) (x : A) (d : Reading) : Type 0 where
   pub goes : GoesOn read c x d
   pub same : (o : Reading) (k : Reading) → shows o ≡ plain goes.front ++ shows k → (next : Reading) × (read o ≡ Ok (x, next)) × (shows next ≡ shows k)
@@ -219,7 +219,7 @@ module _ {A B E : Type 0} (lexical : LexFault → E) (first : Reading → Result
           (stops_early first second c f.place u.0, way.0, ap (λ (r : Reading). opening (shows r)) way.1 ∙ u.2)
       by_case (inr (y, p, q)) = late_open c y.0 y.1 f.place (g y.0 y.1 p) (w2 y.0 y.1 p f q)
 
-  -- the first reader takes a symbol, and doesn't look at the next one
+  -- the first reader takes a symbol, and does not look at the next one
   pub well_behind : (c : Reading) → WhereRead first c (λ x d. (fr : FreeOn first c x d) × ((ss : List Symbol) → opening (plain fr.goes.front ++ ss) ≡ opening (shows c))) → WellOpen lexical first (Then second Aim) c
       → WhereRead first c (λ x d. Well lexical (second x) Aim d) → WellOpen lexical both Aim c
   well_behind c g w1 w2 f e = by_case (case_of c f e)

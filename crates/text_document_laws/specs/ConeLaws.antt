@@ -13,10 +13,10 @@ pub record ReadsCone (c : Reading) (cone : Cone) (rest : List Line) : Type 0 whe
   pub later : left.later ≡ rest
   pub at_end : left.current.tokens ≡ []
 
--- lines are read as a cone exactly where they are one
+-- lines are read as a cone if and only if they are one
 abbrev pub ConesAreRead : Type 0
 ConesAreRead = (c : Reading) (cone : Cone) (rest : List Line) → ReadsCone c cone rest ↔ ((lines : List Line) × (c.later ≡ lines ++ rest) × AreConeLines lines cone)
 
--- bytes are read as a cone exactly where their lines are one
+-- bytes are read as a cone if and only if their lines are one
 abbrev pub ConeDocumentsAreRead : Type 0
 ConeDocumentsAreRead = (bytes : List ℕ) (cone : Cone) → (cone_document bytes ≡ Ok cone) ↔ AreConeLines (lines_of bytes) cone

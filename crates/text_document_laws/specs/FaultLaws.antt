@@ -1,6 +1,6 @@
--- The laws of faults beside those that all inputs with tables have, over whole grammars and not only the form of their
--- text: a cone leaves its grammar at the fault's place first, and so does what stands behind a table that was read.
--- Where that is itself a table, it leaves the form of a table's text there first.
+-- Theorems on errors that concern whole grammars, not only the form of the text: an input that is no cone first leaves
+-- the grammar of cones at the error's place, and so does the input after a table that was read. If that is itself a
+-- table, it first leaves the form of a table's text there.
 use Rattle.std.specs.Prelude.{◌≡◌, ℕ, zero, suc, List, [], ◌∷◌, ◌++◌, length, Result, Ok, Err}
 use Rattle.text_definitions.specs.Text.{Line, lines_of, end_of}
 use Rattle.text_definitions.specs.Reading.{Reading, start_of}

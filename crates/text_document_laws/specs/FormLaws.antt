@@ -22,7 +22,7 @@ use Rattle.text_document_definitions.specs.TextForms.{AreTableText, AreTableAndV
 abbrev pub Some : {A : Type 0} → (List Line → A → Type 0) → List Line → Type 0
 Some {A} grammar lines = (value : A) × grammar lines value
 
--- bytes are read as a value exactly where their lines are this value
+-- bytes are read as a value if and only if their lines are this value
 abbrev pub AreRead : {A : Type 0} → (List ℕ → Result A InputFault) → (List Line → A → Type 0) → Type 0
 AreRead {A} read grammar = (bytes : List ℕ) (value : A) → (read bytes ≡ Ok value) ↔ grammar (lines_of bytes) value
 

@@ -1,4 +1,4 @@
--- The laws of a table in either form at the head of the lines that are left, with what is left behind it.
+-- Theorems on reading a table in either form from the remaining lines, and on the lines that remain after it.
 use Rattle.std.specs.Prelude.{◌≡◌, ◌↔◌, List, [], ◌++◌, Ok, Err}
 use Rattle.text_definitions.specs.Text.{Line}
 use Rattle.text_definitions.specs.Reading.{Reading}
@@ -18,7 +18,7 @@ pub record ReadsTable (c : Reading) (rows : List Row) (rest : List Line) : Type 
   pub later : left.later ≡ rest
   pub at_end : left.current.tokens ≡ []
 
--- lines are read as a table exactly where they are one
+-- lines are read as a table if and only if they are one
 abbrev pub AnyTablesAreRead : Type 0
 AnyTablesAreRead = (c : Reading) (rows : List Row) (rest : List Line) → ReadsTable c rows rest ↔ ((lines : List Line) × (c.later ≡ lines ++ rest) × AreTableLines lines rows)
 

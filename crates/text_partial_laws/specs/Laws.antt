@@ -17,7 +17,7 @@ use Rattle.text_document_laws.specs.FaultLaws.{SomeTable, SomeTableAndLines, Som
 use Rattle.text_partial_laws.specs.Partial.{IsPartialTable, Completes}
 use Rattle.text_partial_laws.specs.Sound.{IsSound, IsSoundOfTwo, IsSoundOfMany}
 
--- first entries of rows glue soundly so far exactly where they are those of a table
+-- first entries of rows glue soundly so far if and only if they are those of a table
 abbrev pub PartialTablesAreCompleted : Type 0
 PartialTablesAreCompleted = (n : ℕ) (rows : List Row) → IsPartialTable n rows ↔ ((table : List Row) × Completes n rows table)
 

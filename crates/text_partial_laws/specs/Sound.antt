@@ -1,4 +1,4 @@
--- What is shown of a table's text so far, where it glues or spells soundly.
+-- Properties of a prefix of a table's text that glues or spells soundly.
 use Rattle.std.specs.Prelude.{◌≡◌, ℕ, List, [], ◌∷◌, ◌++◌, length, map, ◌⊎◌, codes}
 use Rattle.std.specs.List.{AllZip}
 use Rattle.table_definitions.specs.Table.{max_tets, Row}

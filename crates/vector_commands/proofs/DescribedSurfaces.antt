@@ -25,7 +25,7 @@ use Rattle.surface_properties.proofs.LargeSums.{none_large}
 use Rattle.surface_pieces.specs.ComponentLists.{no_component}
 use Rattle.vector_commands.specs.SmallComponents.{AreSmall}
 
--- no sum passes the limit
+-- no sum exceeds the limit
 record AreWithin (p a q : ℕ) : Type 0 where
   points : p ≤ limit
   arcs : a ≤ limit

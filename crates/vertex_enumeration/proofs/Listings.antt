@@ -49,7 +49,7 @@ only_listing e taken list h = record {
   only = λ others also. one_surface_list_lem e.system.columns e.system.rows e.system.rows e.pairs others list (IsPermutation-refl e.system.rows) also h.surfaces;
 }
 
--- where no number passes the limit in any order, however it was found
+-- where no number exceeds the limit in any order, however it was found
 pub found_listing : (e : Enumeration) (list : List (List ℕ)) → AreAlwaysWithin e.limit e.system e.pairs → IsSurfaceList e.system.columns e.system.rows e.pairs list → IsOnlyListing e list
 found_listing e list within surfaces =
     let t = some_rows_taken e.order e.system in

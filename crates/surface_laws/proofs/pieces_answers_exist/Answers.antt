@@ -1,4 +1,4 @@
--- The components exist, and their signs exist or don't.
+-- The components exist, and their signs exist or do not.
 use Rattle.surface_laws.proofs.PiecesAnswered.{pieces_answer}
 use Rattle.surface_laws.proofs.pieces_answers_exist.Goals as goal
 

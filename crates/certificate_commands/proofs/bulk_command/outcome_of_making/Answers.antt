@@ -1,4 +1,4 @@
--- What passes the limit is told.
+-- What exceeds the limit is told.
 use Rattle.std.proofs.Common.{◌≡◌, ℕ, List, ap, ◌∙◌, subst}
 use Rattle.double_description.specs.declared.engine.LargeStep.{LargeStep}
 use Rattle.outcome_definitions.specs.Enumerations.{large_outcome}

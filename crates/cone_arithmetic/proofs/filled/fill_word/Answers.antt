@@ -1,4 +1,4 @@
--- The column of the next bit is one of the vector, and the columns before it aren't named.
+-- The column of the next bit is one of the vector, and the columns before it are not named.
 use Rattle.std.proofs.Common.{◌+◌, ◌<◌, refl, arith, sym, ◌∙◌, w64}
 use Rattle.std.proofs.Math.Facts.{Fits-lt-pow}
 use Rattle.std.specs.Int.{trailing_zeros}

@@ -1,4 +1,4 @@
--- Off the tree a class is a generator exactly where its least face is glued.
+-- Off the tree a class is a generator if and only if its least face is glued.
 use Rattle.std.proofs.Common.{ap, ap₂, sym, ◌∙◌}
 use Rattle.std.proofs.lemmas.Bool.{false≢true}
 use Rattle.table_definitions.specs.Table.{glue}

@@ -1,4 +1,4 @@
--- A row whose coefficient isn't 0 gets a multiple of the pivot row.
+-- A row whose coefficient is not 0 gets a multiple of the pivot row.
 use Rattle.std.proofs.Common.{rules, ◌<◌, ◌≤◌, length, ◌∙◌, refl, w32, FitsSigned}
 use Rattle.std.proofs.lemmas.Int.{to_z-of_z}
 use Rattle.std.proofs.lemmas.Result.{err_from_is_err_and}
