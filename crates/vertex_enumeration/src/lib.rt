@@ -3,7 +3,6 @@
 //!
 //! - `vertex_list`: the list, or the first step of the named order at which a number exceeds the limit
 //! - `rays`: the same for a cone without clashing columns, so all its primitive extreme rays
-//! - `rays`: the same for a cone without clashing columns, so all its primitive extreme rays
 //!
 //! If all numbers are bounded the list does not depend on the method, so the rows are solved first. Otherwise they are
 //! eliminated in the named order.
