@@ -15,4 +15,4 @@ pub returns-clause-rows : goal.returns-clause-rows
 returns-clause-rows c =
     row_appended c.args.skeleton.now c.args.class c.args.system.now.columns c.around.result.now _ _ (sym c.if-is_boundary_edge.ensures)
     (round_of c.args.skeleton.now c.args.class c.around.result.now c.requires.skeleton c.requires.class (sym c.if-is_boundary_edge.ensures) c.around.ensures)
-    c.requires.columns c.in_ok-push_round.ensures.rows
+    c.requires.columns c.in_ok-push_around.ensures.rows

@@ -13,6 +13,6 @@ loop-place-preserved c =
       within = omega (arith, c.len.ensures, c.loop-place-test.true);
       earlier = λ k low less. ⊎_elim
           (λ old. so_far.earlier k low old)
-          (λ last. let e : place ≡ k = omega arith in subst (λ n. IsRuledOut c.args.a.now c.args.joined.now c.args.most (get_or supports n [])) e (c.is_excluded.ensures.0 c.if-not-is_far.false))
+          (λ last. let e : place ≡ k = omega arith in subst (λ n. IsRuledOut c.args.a.now c.args.joined.now c.args.most (get_or supports n [])) e (c.is_excluded.ensures.0 c.if-not-is_excluded.false))
           (cases_lt k place);
     }

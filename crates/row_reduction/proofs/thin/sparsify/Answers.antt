@@ -4,25 +4,25 @@ use Rattle.row_reduction.specs.Eliminating.{as_they_are}
 use Rattle.row_reduction.proofs.EliminatingLemmas.{thinned_again, passes_again}
 use Rattle.row_reduction.proofs.RowLemmas.{zeros_follow}
 use Rattle.row_reduction.proofs.thin.sparsify.Goals as goal
-use Rattle.row_reduction.proofs.thin.sparsify.Goals.{else-loop-round-test, then-loop-round-test+in_ok-thin_once+then-not-branch}
+use Rattle.row_reduction.proofs.thin.sparsify.Goals.{else-loop-round-test, then-loop-round-test+in_ok-sparsify_pass+then-not-branch}
 
 pub loop-round-preserved : goal.loop-round-preserved
 loop-round-preserved c = record {
-  same = zeros_follow _ _ _ c.loop-round.invariant.same c.in_ok-thin_once.ensures.same;
-  in_range = c.in_ok-thin_once.ensures.in_range;
-  thinned = thinned_again _ _ _ c.loop-round.invariant.thinned c.in_ok-thin_once.ensures.thinned;
+  same = zeros_follow _ _ _ c.loop-round.invariant.same c.in_ok-sparsify_pass.ensures.same;
+  in_range = c.in_ok-sparsify_pass.ensures.in_range;
+  thinned = thinned_again _ _ _ c.loop-round.invariant.thinned c.in_ok-sparsify_pass.ensures.thinned;
 }
 
 pub returns-clause-same : goal.returns-clause-same
 returns-clause-same c = elim c.loop-round-test.branch [
   | else-loop-round-test w ↦ rw w.rows-is c.loop-round.invariant.same
-  | then-loop-round-test+in_ok-thin_once+then-not-branch w ↦ rw w.rows-is (zeros_follow _ _ _ c.loop-round.invariant.same w.in_ok-thin_once.ensures.same)
+  | then-loop-round-test+in_ok-sparsify_pass+then-not-branch w ↦ rw w.rows-is (zeros_follow _ _ _ c.loop-round.invariant.same w.in_ok-sparsify_pass.ensures.same)
 ]
 
 pub returns-clause-in_range : goal.returns-clause-in_range
 returns-clause-in_range c = elim c.loop-round-test.branch [
   | else-loop-round-test w ↦ rw w.rows-is c.loop-round.invariant.in_range
-  | then-loop-round-test+in_ok-thin_once+then-not-branch w ↦ rw w.rows-is w.in_ok-thin_once.ensures.in_range
+  | then-loop-round-test+in_ok-sparsify_pass+then-not-branch w ↦ rw w.rows-is w.in_ok-sparsify_pass.ensures.in_range
 ]
 
 pub loop-round-init : goal.loop-round-init
@@ -35,10 +35,10 @@ loop-round-init c = record {
 pub returns-clause-thinned : goal.returns-clause-thinned
 returns-clause-thinned c = elim c.loop-round-test.branch [
   | else-loop-round-test w ↦ rw w.rows-is c.loop-round.invariant.thinned
-  | then-loop-round-test+in_ok-thin_once+then-not-branch w ↦ rw w.rows-is (thinned_again _ _ _ c.loop-round.invariant.thinned w.in_ok-thin_once.ensures.thinned)
+  | then-loop-round-test+in_ok-sparsify_pass+then-not-branch w ↦ rw w.rows-is (thinned_again _ _ _ c.loop-round.invariant.thinned w.in_ok-sparsify_pass.ensures.thinned)
 ]
 
-pub returns-in_err-thin_once-clause-passed : goal.returns-in_err-thin_once-clause-passed
-returns-in_err-thin_once-clause-passed c =
-    let p = err_from_is_err_and c.from_residual-in_err-thin_once.result c.from_residual-in_err-thin_once.ensures.1 in
-    rw (p.1, p.2) (passes_again _ _ c.loop-round.invariant.thinned _ c.in_err-thin_once.ensures.passed)
+pub returns-in_err-sparsify_pass-clause-passed : goal.returns-in_err-sparsify_pass-clause-passed
+returns-in_err-sparsify_pass-clause-passed c =
+    let p = err_from_is_err_and c.from_residual-in_err-sparsify_pass.result c.from_residual-in_err-sparsify_pass.ensures.1 in
+    rw (p.1, p.2) (passes_again _ _ c.loop-round.invariant.thinned _ c.in_err-sparsify_pass.ensures.passed)

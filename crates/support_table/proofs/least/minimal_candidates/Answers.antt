@@ -6,4 +6,4 @@ record_minimal-requires-clause-places c = least_found c.args.table.now.supports 
 
 pub loop-rival-preserved : goal.loop-rival-preserved
 loop-rival-preserved c =
-    noted c.args.table.now.supports c.args.outer.now c.args.order.now c.requires.order c.loop-rival.rival-index c.loop-rival-test.true c.loop-rival.least _ c.loop-rival.invariant c.in_ok-note.ensures
+    noted c.args.table.now.supports c.args.outer.now c.args.order.now c.requires.order c.loop-rival.rival-index c.loop-rival-test.true c.loop-rival.least _ c.loop-rival.invariant c.in_ok-record_minimal.ensures

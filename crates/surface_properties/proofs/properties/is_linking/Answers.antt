@@ -9,14 +9,14 @@ use Rattle.surface_properties.proofs.properties.is_linking.Goals as goal
 
 pub loop-column-preserved : goal.loop-column-preserved
 loop-column-preserved c =
-    below_more (λ k. is_quad_or_octagon c.args.coords k ≡ true → slice_index c.args.x.now k ≡ 0) c.loop-column.column c.loop-column.invariant (c.if-has_others.ensures.none refl)
+    below_more (λ k. is_quad_or_octagon c.args.coords k ≡ true → slice_index c.args.x.now k ≡ 0) c.loop-column.column c.loop-column.invariant (c.if-is_quad_or_octagon_entry.ensures.none refl)
 
 pub returns : goal.returns
 returns c = sym ((linking c.args.coords c.args.x.now).1 (λ k l q. c.loop-column.invariant k (omega (arith, c.loop-column-test.false)) q))
 
-pub returns-then-has_others : goal.returns-then-has_others
-returns-then-has_others c = sym (false_from_ne_true (is_linking c.args.coords c.args.x.now) (λ e.
-    let some : (is_quad_or_octagon c.args.coords c.loop-column.column ≡ true) × (0 < slice_index c.args.x.now c.loop-column.column) = c.if-has_others.ensures.some refl in
+pub returns-then-is_quad_or_octagon_entry : goal.returns-then-is_quad_or_octagon_entry
+returns-then-is_quad_or_octagon_entry c = sym (false_from_ne_true (is_linking c.args.coords c.args.x.now) (λ e.
+    let some : (is_quad_or_octagon c.args.coords c.loop-column.column ≡ true) × (0 < slice_index c.args.x.now c.loop-column.column) = c.if-is_quad_or_octagon_entry.ensures.some refl in
     let none : slice_index c.args.x.now c.loop-column.column ≡ 0 = (linking c.args.coords c.args.x.now).0 e c.loop-column.column c.loop-column-test.true some.0 in
     let more : 0 < slice_index c.args.x.now c.loop-column.column = some.1 in
     omega arith))

@@ -3,10 +3,10 @@ use Rattle.std.proofs.Common.{refl}
 use Rattle.workbench.proofs.Endings.{all_within, spent_run, usage_delivered, idle_of, refused_by, response_delivered}
 use Rattle.workbench.proofs.dispatch.run_request.Goals as goal
 
-pub returns-in-Ok-respond : goal.returns-in-Ok-respond
-returns-in-Ok-respond g c =
+pub returns-in-Ok-outcome_of_source : goal.returns-in-Ok-outcome_of_source
+returns-in-Ok-outcome_of_source g c =
     response_delivered c.args.words.now _ _ (g.S.Source.left c.args.source.now) _ _ _ _ _ _ _ _ _ c.in-Ok.request c.in-Ok.ensures.answers c.outcome_of_source.ensures.untouched
-    _ c.in-Ok-respond.ensures.response c.write_outcome.result c.write_outcome.ensures
+    _ c.in-Ok-outcome_of_source.ensures.response c.write_outcome.result c.write_outcome.ensures
 
 pub returns-in-Err : goal.returns-in-Err
 returns-in-Err g c =

@@ -16,13 +16,13 @@ overflow_add-result c =
     let b : IsBehind c.args.self.now.skeleton.now.rows _ = behind c.args.self.now.skeleton.now.rows c.table-table.result.now (record { tet = c.args.vertex / 4; face = c.args.face }) c.in_ok-glue.glue c.table-table.ensures.skeleton.table c.table-table.ensures.rows c.in_ok-glue.ensures.value in
     omega (arith, b.in_range, b.few, ap (λ (g : Gluing). g.tet) c.glue-2.view_is, c.image-w.ensures.in_range)
 
-pub quads_round-requires-2-clause-in_range : goal.quads_round-requires-2-clause-in_range
-quads_round-requires-2-clause-in_range c =
+pub quads_around-requires-2-clause-in_range : goal.quads_around-requires-2-clause-in_range
+quads_around-requires-2-clause-in_range c =
     let b : IsBehind c.args.self.now.skeleton.now.rows _ = behind c.args.self.now.skeleton.now.rows c.table-table.result.now (record { tet = c.args.vertex / 4; face = c.args.face }) c.in_ok-glue.glue c.table-table.ensures.skeleton.table c.table-table.ensures.rows c.in_ok-glue.ensures.value in
     omega (arith, b.in_range, ap (λ (g : Gluing). g.tet) c.glue-2.view_is, ap (λ (y : Face). y.tet) c.other_side.ensures.value, c.args.self.now.width)
 
-pub quads_round-requires-2-clause-off : goal.quads_round-requires-2-clause-off
-quads_round-requires-2-clause-off c = λ e.
+pub quads_around-requires-2-clause-off : goal.quads_around-requires-2-clause-off
+quads_around-requires-2-clause-off c = λ e.
     let b : IsBehind c.args.self.now.skeleton.now.rows _ = behind c.args.self.now.skeleton.now.rows c.table-table.result.now (record { tet = c.args.vertex / 4; face = c.args.face }) c.in_ok-glue.glue c.table-table.ensures.skeleton.table c.table-table.ensures.rows c.in_ok-glue.ensures.value in
     images_apart c.in_ok-glue.glue.perm (c.args.vertex % 4) c.args.face b.permutes (omega arith) c.requires.a_face c.if-v-face.false
     (ap (λ (g : Gluing). image g.perm (c.args.vertex % 4)) (sym c.glue-2.view_is) ∙ sym c.image-w.ensures.value ∙ e ∙ ap (λ (y : Face). y.face) c.other_side.ensures.value)

@@ -47,8 +47,8 @@ returns-then-near-len g c =
     let before = subst (λ (d : StepData). AreMadeTo d i 0 made) (sym c.self.view_is) c.requires.made in
     record {
       ok = subst (λ (d : StepData). AreMadeTo d (i + 1) 0 made) c.self.view_is (record {
-        so_far = none_near s.limit.number s.clashes.now.pairs ray_list s.signs.items i s.clashes.now.columns s.most c.first_near-near.result c.in_ok-joined.joined c.args.negatives.now u (rays_of made)
-            (subst (λ t. AreClashingColumns s.clashes.now.pairs t c.in_ok-joined.joined) (support_read u (ray_at (rays_of ray_list) i) read) c.in_ok-joined.ensures) facts.rays.small (negatives_read _ _ c.self.view_is _ c.requires.negatives) facts.count i_in facts.rays.widths read c.first_near-near.ensures
+        so_far = none_near s.limit.number s.clashes.now.pairs ray_list s.signs.items i s.clashes.now.columns s.most c.first_not_excluded-near.result c.in_ok-joined.joined c.args.negatives.now u (rays_of made)
+            (subst (λ t. AreClashingColumns s.clashes.now.pairs t c.in_ok-joined.joined) (support_read u (ray_at (rays_of ray_list) i) read) c.in_ok-joined.ensures) facts.rays.small (negatives_read _ _ c.self.view_is _ c.requires.negatives) facts.count i_in facts.rays.widths read c.first_not_excluded-near.ensures
             (omega (arith, c.if-near-len.true, c.len.ensures)) before.so_far;
         widths = before.widths;
       });

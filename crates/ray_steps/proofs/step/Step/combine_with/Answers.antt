@@ -55,8 +55,8 @@ loop-m-init g c =
     let i_in = place_of_rays ray_list c.args.self.now.rays i (ap (λ (d : StepData). d.rays) c.self.view_is) c.requires.in_range in
     let so_far = subst (λ (d : StepData). AreMadeBelow d i made) (sym c.self.view_is) c.requires.made in
     let search = subst (λ (d : StepData). IsSearchAt d i c.in_ok-search.search) (sym c.self.view_is) c.in_ok-search.ensures in
-    let near = near_taken s.limit.number pairs ray_list signs i s.clashes.now.columns s.most 0 c.first_near-m.result c.in_ok-search.search.joined c.args.negatives.now c.index-u.result.now (rays_of made.ray_list.items)
-    search.joined facts.rays.small (negatives_read _ _ c.self.view_is _ c.requires.negatives) facts.count i_in facts.rays.widths (ray_read ray_list i c.index-u.result.now i_in c.index-u.ensures) c.first_near-m.ensures
+    let near = near_taken s.limit.number pairs ray_list signs i s.clashes.now.columns s.most 0 c.first_not_excluded-m.result c.in_ok-search.search.joined c.args.negatives.now c.index-u.result.now (rays_of made.ray_list.items)
+    search.joined facts.rays.small (negatives_read _ _ c.self.view_is _ c.requires.negatives) facts.count i_in facts.rays.widths (ray_read ray_list i c.index-u.result.now i_in c.index-u.ensures) c.first_not_excluded-m.ensures
     (taken_none s.limit.number pairs (rays_of ray_list) signs c.args.negatives.now.places.items i (rays_of made.ray_list.items) so_far.so_far) in
     record { within = near.0; taken = near.1; widths = so_far.widths; search = c.in_ok-search.ensures }
 
@@ -109,15 +109,15 @@ returns-in_err-kept-clause-err g c =
     (sym (c.index-in-loop-m.ensures ∙ get_or_default signs j c.index-in-loop-m.result.now Zero j_in) ∙ c.in-Negative.is) face)
     c.index-u.result.now.ray c.index-then-branch.result.now.ray u w c.in_err-kept.field-0.0 c.in_err-kept.ensures.err))
 
-pub first_near-m-requires-in-loop-m-clause-first : goal.first_near-m-requires-in-loop-m-clause-first
-first_near-m-requires-in-loop-m-clause-first g c =
+pub first_not_excluded-m-requires-in-loop-m-clause-first : goal.first_not_excluded-m-requires-in-loop-m-clause-first
+first_not_excluded-m-requires-in-loop-m-clause-first g c =
     let ray_list = c.self.inside.ray_list.items in
     let i_in = place_of_rays ray_list c.args.self.now.rays c.args.i (ap (λ (d : StepData). d.rays) c.self.view_is) c.requires.in_range in
     width_read c.index-u.result.now _ c.self.inside.clashes.now.columns _ (ray_read ray_list c.args.i c.index-u.result.now i_in c.index-u.ensures)
     (ray_width ray_list c.args.i c.self.inside.clashes.now.columns i_in c.self.invariant.rays.widths) (negatives_read _ _ c.self.view_is _ c.requires.negatives).table.width
 
-pub first_near-m-requires-in-loop-m-clause-second : goal.first_near-m-requires-in-loop-m-clause-second
-first_near-m-requires-in-loop-m-clause-second g c =
+pub first_not_excluded-m-requires-in-loop-m-clause-second : goal.first_not_excluded-m-requires-in-loop-m-clause-second
+first_not_excluded-m-requires-in-loop-m-clause-second g c =
     let s = c.self.inside in
     let ray_list = s.ray_list.items in
     let i = c.args.i in
@@ -158,8 +158,8 @@ loop-m-preserved g c =
     let u = ray_read ray_list i c.index-u.result.now i_in c.index-u.ensures in
     let after = c.match-index-2.search in
     let near = λ (xs : List (List ℕ)) (search : IsSearchAt d i after) (h : IsMadeUpTo s.limit.number pairs rays signs i (j + 1) xs).
-    near_taken s.limit.number pairs ray_list signs i columns s.most (m + 1) c.first_near-m-in-loop-m.result after.joined c.args.negatives.now c.index-u.result.now xs
-    (subst (λ (d : StepData). IsSearchAt d i after) (sym c.self.view_is) search).joined facts.rays.small (negatives_read _ _ c.self.view_is _ c.requires.negatives) facts.count i_in facts.rays.widths u c.first_near-m-in-loop-m.ensures
+    near_taken s.limit.number pairs ray_list signs i columns s.most (m + 1) c.first_not_excluded-m-in-loop-m.result after.joined c.args.negatives.now c.index-u.result.now xs
+    (subst (λ (d : StepData). IsSearchAt d i after) (sym c.self.view_is) search).joined facts.rays.small (negatives_read _ _ c.self.view_is _ c.requires.negatives) facts.count i_in facts.rays.widths u c.first_not_excluded-m-in-loop-m.ensures
     (taken_more s.limit.number pairs rays signs places i m xs (negatives_read _ _ c.self.view_is _ c.requires.negatives).places less (subst (λ n. IsMadeUpTo s.limit.number pairs rays signs i (n + 1) xs) is h)) in
     elim c.match-index-2.branch [
       | in-Negative+in_ok-is_face+then-branch+in_ok-kept+in_ok-push w' ↦
