@@ -50,8 +50,8 @@ def is_right(info: trinorm.Info, t: Any) -> bool:
     edges = tuple(trinorm.Edge(e.degree(), "boundary" if e.isBoundary() else "inner", e.isValid()) for e in t.edges())
     vertices = [(v.degree(), v.linkEulerChar()) for v in t.vertices()]
     whole = (t.isConnected(), t.isOrientable(), not t.hasBoundaryTriangles(), t.countTriangles(), t.eulerCharTri())
-    told = (info.connected, info.orientable, info.closed, info.faces, info.euler)
-    return told == whole and info.edges == edges and [(it.degree, it.euler) for it in info.vertices] == vertices
+    printed = (info.connected, info.orientable, info.closed, info.faces, info.euler)
+    return printed == whole and info.edges == edges and [(it.degree, it.euler) for it in info.vertices] == vertices
 
 
 def lifted(t: Any, surface: Any) -> Optional[trinorm.answers.Vector]:

@@ -180,12 +180,12 @@ def described(program: str, words: Words, text: bytes, answer: bytes) -> None:
     component = rb"component euler (-?\d+) sides (?:one|two) orientable (?:yes|no) vec((?: \d+)*)\n"
     if not re.fullmatch(rb"(?:%s(?:%s)*)*" % (vector, component), answer):
         raise Wrong(f"no description: {answer[:200]!r}")
-    for told in re.finditer(rb"%s((?:%s)*)" % (vector, component), answer):
-        parts = re.findall(component, told[4])
+    for found in re.finditer(rb"%s((?:%s)*)" % (vector, component), answer):
+        parts = re.findall(component, found[4])
         sums = [sum(column) for column in zip(*(map(int, entries.split()) for _, entries in parts))]
-        entries = list(map(int, told[1].split()))
-        if len(parts) != int(told[3]) or (sums or [0] * len(entries)) != entries or sum(int(euler) for euler, _ in parts) != int(told[2]):
-            raise Wrong(f"components that don't add up: {told[0][:200]!r}")
+        entries = list(map(int, found[1].split()))
+        if len(parts) != int(found[3]) or (sums or [0] * len(entries)) != entries or sum(int(euler) for euler, _ in parts) != int(found[2]):
+            raise Wrong(f"components that don't add up: {found[0][:200]!r}")
 
 
 def presented(program: str, words: Words, text: bytes, answer: bytes) -> None:
@@ -306,8 +306,8 @@ def main() -> int:
                 print(wrong)
                 pool.terminate()
                 return 1
-    told = ", ".join(f"status {status}: {count}" for status, count in sorted(statuses.items()))
-    print(f"{sum(statuses.values())} inputs, seed {given.seed}: {told}; {time.time() - begun:.0f} s")
+    counts = ", ".join(f"status {status}: {count}" for status, count in sorted(statuses.items()))
+    print(f"{sum(statuses.values())} inputs, seed {given.seed}: {counts}; {time.time() - begun:.0f} s")
     return 0
 
 

@@ -94,8 +94,8 @@ class FromC:
                         f"-Wl,-rpath,{os.path.dirname(library)}"], check=True)
 
     def times(self, name: str) -> List[int]:
-        told = subprocess.run([self.program, SIGNATURES, "3", *COMMANDS[name]], stdout=subprocess.PIPE, text=True, check=True)
-        return list(map(int, told.stdout.split()))
+        finished = subprocess.run([self.program, SIGNATURES, "3", *COMMANDS[name]], stdout=subprocess.PIPE, text=True, check=True)
+        return list(map(int, finished.stdout.split()))
 
     def end(self) -> None:
         """Nothing goes on."""

@@ -82,8 +82,8 @@ def main() -> int:
             kept = took.status == 0 and in_time and (megabytes is None or took.megabytes <= megabytes)
             missed += not kept
             aim = "" if seconds is None else f"at most {seconds} s" + ("" if megabytes is None else f" and {megabytes} MB")
-            told = f"{name:38} status {took.status} {took.seconds:7.3f} s {took.megabytes:6.0f} MB  {aim}"
-            print(told if kept else f"{told}  MISSED", flush=True)
+            report = f"{name:38} status {took.status} {took.seconds:7.3f} s {took.megabytes:6.0f} MB  {aim}"
+            print(report if kept else f"{report}  MISSED", flush=True)
     return 1 if missed else 0
 
 

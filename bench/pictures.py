@@ -28,10 +28,10 @@ def figures() -> Series:
             if cells[0] == "Tetrahedra":
                 families = cells
             for family, cell in zip(families, cells):
-                told = re.fullmatch(r"[\d,]+: ([\d.]+), ([\d.]+)", cell)
-                if told and family in ("closed", "ideal"):
+                matched = re.fullmatch(r"[\d,]+: ([\d.]+), ([\d.]+)", cell)
+                if matched and family in ("closed", "ideal"):
                     at = int(cells[0]) + (0.25 if family == "ideal" else 0)
-                    for name, seconds in zip(COLOURS, told.groups()):
+                    for name, seconds in zip(COLOURS, matched.groups()):
                         series[name].append((at, float(seconds)))
     return {name: points for name, points in series.items() if points}
 

@@ -149,7 +149,7 @@ def peers() -> Iterator[Tuple[str, str, Callable[[str, int, Rows, str], Measured
             yield name, found[0], ask
 
 
-def told(name: str, words: str, seconds: Optional[float], rays: int, own: Optional[float] = None) -> None:
+def report(name: str, words: str, seconds: Optional[float], rays: int, own: Optional[float] = None) -> None:
     answer = f"no answer in {LIMIT} s" if seconds is None else f"{rays} rays, {seconds:.2f} s"
     ratio = f", trinorm takes {own / seconds:.2f} of that" if own and seconds else ""
     print(f"{name}, {words}: {answer}{ratio}", flush=True)
@@ -160,11 +160,11 @@ def measure(program: str, name: str, columns: int, rows: Rows) -> None:
     own = None
     for order in ("zeros", "given"):
         own, answer = run([program, "rays", "--order", order], text)
-        told(name, f"trinorm --order {order}", own, answer.count("vec"))
+        report(name, f"trinorm --order {order}", own, answer.count("vec"))
     for peer, path, ask in peers():
         with tempfile.TemporaryDirectory() as folder:
             seconds, rays = ask(path, columns, rows, folder)
-        told(name, peer, seconds, rays, own)
+        report(name, peer, seconds, rays, own)
 
 
 def main() -> None:

@@ -35,8 +35,8 @@ def main() -> int:
         return done.returncode, done.stdout
 
     with ThreadPoolExecutor(4) as pool, Server(program) as server:
-        wanted, told = pool.map(by_program, jobs), pool.map(lambda job: here.answer(*job)[:2], jobs)
-        for job, one, other in zip(jobs, wanted, told):
+        expected, found = pool.map(by_program, jobs), pool.map(lambda job: here.answer(*job)[:2], jobs)
+        for job, one, other in zip(jobs, expected, found):
             statuses[one[0]] += 1
             if one != other or one != server.ask(*job):
                 differ += 1

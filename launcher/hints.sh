@@ -5,7 +5,7 @@
 #   program   the program
 #   here      the folder of this file
 #   commands  the table of commands; hints.txt is in its folder
-#   told      the file with version, commit and sum of the program
+#   version_file  the file with version, commit and sum of the program
 #   examples  the folder of the examples
 #   pages     where to read more
 
@@ -108,7 +108,7 @@ say_version() {
       program) sum=$value ;;
       proved) proved=$value ;;
     esac
-  done <"$told"
+  done <"$version_file"
   say "version $version, commit $commit, program sha256 $sum, proved $proved by $kit"
 }
 

@@ -8,6 +8,6 @@ program=$here/trinorm
 [ -t 2 ] || exec "$program" "$@"
 
 # from here on standard error is a terminal
-commands=$here/commands.txt told=$here/version
+commands=$here/commands.txt version_file=$here/version
 examples=$(readlink -f "$here/../../share/doc/trinorm/examples") pages='the manual page trinorm(1) has a line on each'
 . "$here/hints.sh"

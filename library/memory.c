@@ -107,7 +107,7 @@ static void *larger(struct call *call, void *old, size_t had, size_t n) {
     return at + HEAD;
 }
 
-static struct tried told(void *p) {
+static struct tried outcome_of(void *p) {
     return p ? (struct tried){true, p} : (struct tried){false, &nothing};
 }
 
@@ -115,8 +115,8 @@ HIDDEN struct tried rattle_alloc(size_t n, size_t alignment) {
     struct call *call = current_call;
     n = n ? n : alignment;
     if (alignment > STEP || (call && call_is_stopped(call, n)))
-        return told(NULL);
-    return told(call && n <= SMALL ? small_block(call, n) : large_block(call, n));
+        return outcome_of(NULL);
+    return outcome_of(call && n <= SMALL ? small_block(call, n) : large_block(call, n));
 }
 
 HIDDEN void rattle_dealloc(void *p) {
@@ -139,17 +139,17 @@ HIDDEN struct tried rattle_realloc(void *old, size_t kept, size_t n, size_t alig
     (void)kept;
     n = n ? n : alignment;
     if (n <= had && had <= SMALL)
-        return told(old);
+        return outcome_of(old);
     if (alignment > STEP || (call && n > had && call_is_stopped(call, n - had)))
-        return told(NULL);
+        return outcome_of(NULL);
     if (n > SMALL && had > SMALL)
-        return told(larger(call, old, had, n));
+        return outcome_of(larger(call, old, had, n));
     void *p = call && n <= SMALL ? small_block(call, n) : large_block(call, n);
     if (p) {
         memcpy(p, old, least(had, n));
         rattle_dealloc(old);
     }
-    return told(p);
+    return outcome_of(p);
 }
 
 void call_frees_chunks(struct call *call) {

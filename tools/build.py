@@ -97,8 +97,8 @@ class Progress:
         self.done.append(name)
         self.took[name] = used
         left = self.plan.left(self.done, time.monotonic() - self.began)
-        told = "less than a minute" if left < 45 else f"about {max(1, round(left / 60))} min"
-        line = f"proving and building, {self.kept + len(self.done)} of {self.count} crates done: {name} ({told} left)"
+        remaining = "less than a minute" if left < 45 else f"about {max(1, round(left / 60))} min"
+        line = f"proving and building, {self.kept + len(self.done)} of {self.count} crates done: {name} ({remaining} left)"
         if self.over:
             print(f"\r\033[K{PROGRAM}: {line[:100]}", end="", file=sys.stderr, flush=True)
         else:
@@ -152,17 +152,17 @@ class Build:
         if place is None:
             return False
         try:
-            files, told = self.programs.read(place)
+            files, manifest = self.programs.read(place)
         except (OSError, NoManifest):
             # another build dropped it just now
             return False
-        if told.sources.linked != self.sources.linked:
+        if manifest.sources.linked != self.sources.linked:
             files = self.linked(kit, files)
-            told = told._replace(sources=self.sources_of(files), files=sums_of(files))
-            self.keep(place, files, told)
-        told = told._replace(version=version(TOP), commit=commit(TOP))
-        self.installed.install(files, told, self.begun, "here")
-        say(f"took the program that was built from the same sources: sha256 {told.files['program']}")
+            manifest = manifest._replace(sources=self.sources_of(files), files=sums_of(files))
+            self.keep(place, files, manifest)
+        manifest = manifest._replace(version=version(TOP), commit=commit(TOP))
+        self.installed.install(files, manifest, self.begun, "here")
+        say(f"took the program that was built from the same sources: sha256 {manifest.files['program']}")
         return True
 
     def linked(self, kit: Optional[Kit], files: Dict[str, bytes]) -> Dict[str, bytes]:
@@ -183,9 +183,9 @@ class Build:
             linked = {name: Path(folder, "made", FILES[name]).read_bytes() for name in ("library", "server")}
             return {**proved, **linked, **wasm.made(kit.at, proved.get("module"), say)}
 
-    def keep(self, place: Path, files: Dict[str, bytes], told: Manifest) -> None:
+    def keep(self, place: Path, files: Dict[str, bytes], manifest: Manifest) -> None:
         try:
-            self.programs.keep(place, files, told)
+            self.programs.keep(place, files, manifest)
         except OSError as fault:
             say(f"the program stands, but can't be kept for other clones: {fault}")
 
@@ -232,12 +232,12 @@ class Build:
         return self.linked(kit, files)
 
     def finish(self, kit: Kit, files: Dict[str, bytes], workspace: Workspace) -> None:
-        told = Manifest(version(TOP), commit(TOP), kit.line, self.sources_of(files), sums_of(files), workspace.anew,
-                        workspace.verdicts, others=self.others)
-        self.installed.install(files, told, self.begun, "here")
-        self.keep(self.programs.place(self.sources.sum(), kit.name), files, told)
-        say(f"built in {round(time.time() - self.begun)} s: version {told.version}, commit {told.commit}, {told.kit}, "
-            f"program sha256 {told.files['program']}")
+        manifest = Manifest(version(TOP), commit(TOP), kit.line, self.sources_of(files), sums_of(files), workspace.anew,
+                            workspace.verdicts, others=self.others)
+        self.installed.install(files, manifest, self.begun, "here")
+        self.keep(self.programs.place(self.sources.sum(), kit.name), files, manifest)
+        say(f"built in {round(time.time() - self.begun)} s: version {manifest.version}, commit {manifest.commit}, {manifest.kit}, "
+            f"program sha256 {manifest.files['program']}")
 
 
 def sums_of(files: Dict[str, bytes]) -> Dict[str, str]:
@@ -286,22 +286,22 @@ def take(path: str) -> None:
     """Installs the program of a release, where it was made from these sources."""
     build = Build(argparse.Namespace(anew=False))
     try:
-        told, files = read_release(Path(path))
+        manifest, files = read_release(Path(path))
     except (OSError, NoRelease, NoManifest) as fault:
         sys.exit(f"{PROGRAM}: {path}: {fault}")
-    refuse_other_sources(told.sources, build.sources, path)
-    if told.sources.linked != build.sources.linked:
+    refuse_other_sources(manifest.sources, build.sources, path)
+    if manifest.sources.linked != build.sources.linked:
         files = build.linked(None, files)
-    told = told._replace(sources=build.sources_of(files), files=sums_of(files))
-    build.installed.install(files, told, build.begun, "elsewhere")
-    say(f"took the program of {path}: version {told.version}, commit {told.commit}, program sha256 "
-        f"{told.files['program']}; it was proved elsewhere, by {told.kit}, and `tools/build.py --anew` proves it here")
+    manifest = manifest._replace(sources=build.sources_of(files), files=sums_of(files))
+    build.installed.install(files, manifest, build.begun, "elsewhere")
+    say(f"took the program of {path}: version {manifest.version}, commit {manifest.commit}, program sha256 "
+        f"{manifest.files['program']}; it was proved elsewhere, by {manifest.kit}, and `tools/build.py --anew` proves it here")
 
 
-def refuse_other_sources(told: Sources, mine: Sources, path: str) -> None:
-    if told.sum() == mine.sum():
+def refuse_other_sources(theirs: Sources, mine: Sources, path: str) -> None:
+    if theirs.sum() == mine.sum():
         return
-    differ = [name for name in {**told.files, **mine.files} if told.files.get(name) != mine.files.get(name)]
+    differ = [name for name in {**theirs.files, **mine.files} if theirs.files.get(name) != mine.files.get(name)]
     named = f"first {min(differ)}" if differ else "in crates.txt"
     sys.exit(f"{PROGRAM}: {path} was made from other sources than those of this clone: {len(differ)} differ, {named}")
 
@@ -309,23 +309,23 @@ def refuse_other_sources(told: Sources, mine: Sources, path: str) -> None:
 def compare(given: argparse.Namespace, kit: Kit) -> None:
     """Proves anew, and ends with status 1 where the program isn't that of the manifest."""
     try:
-        told = read_manifest(Path(given.compare).read_text("utf8"))
+        manifest = read_manifest(Path(given.compare).read_text("utf8"))
     except (OSError, UnicodeDecodeError, NoManifest) as fault:
         sys.exit(f"{PROGRAM}: {given.compare}: {fault}")
     build = Build(given)
-    refuse_other_sources(told.sources, build.sources, given.compare)
-    if told.others.files:
-        refuse_other_sources(told.others, build.others, given.compare)
-    if told.kit != kit.line:
-        say(f"that program was proved by {told.kit}, and here is {kit.line}")
+    refuse_other_sources(manifest.sources, build.sources, given.compare)
+    if manifest.others.files:
+        refuse_other_sources(manifest.others, build.others, given.compare)
+    if manifest.kit != kit.line:
+        say(f"that program was proved by {manifest.kit}, and here is {kit.line}")
     build_with(given, kit)
-    for name in (name for name in COMPARED if name in told.files):
+    for name in (name for name in COMPARED if name in manifest.files):
         if not (build.installed.out / FILES[name]).is_file():
             say(f"{FILES[name]} can't be compared, since it wasn't made here: {wasm.NAME} needs {' and '.join(wasm.PACKAGES)}")
             continue
         mine = sum_of_file(build.installed.out / FILES[name])
-        if mine != told.files[name]:
-            sys.exit(f"{PROGRAM}: another {name}: proved here it has sha256 {mine}, there {told.files[name]}")
+        if mine != manifest.files[name]:
+            sys.exit(f"{PROGRAM}: another {name}: proved here it has sha256 {mine}, there {manifest.files[name]}")
         print(f"{PROGRAM}: the same {name}, bit for bit: sha256 {mine}")
     print(f"{PROGRAM}: all {len(build.crates)} crates were proved here")
 

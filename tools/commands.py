@@ -42,8 +42,8 @@ class Option(NamedTuple):
     wanted: bool
 
     def spelled(self) -> str:
-        told = "|".join(self.values) or f"{self.numbers[0]}..{self.numbers[1]}"
-        return f"{self.name}{'!' if self.wanted else '='}{told}"
+        choices = "|".join(self.values) or f"{self.numbers[0]}..{self.numbers[1]}"
+        return f"{self.name}{'!' if self.wanted else '='}{choices}"
 
 
 class Command(NamedTuple):
@@ -86,10 +86,10 @@ def option_of_kind(kind: str) -> Option:
     kind, _, most = kind.partition(" ")
     name = codes(body(definition, rf"option_name \(?{kind}"))[0]
     if kind in ("Coordinates", "PieceCoordinates"):
-        told = codes(body(values, "coordinates_named"))
+        choices = codes(body(values, "coordinates_named"))
         coordinates = definitions("surface_definitions", "Coordinates")
-        with_pieces = [word for word in told if f"has_triangles {word.capitalize()} = true" in coordinates]
-        return Option(name, tuple(with_pieces if kind == "PieceCoordinates" else told), (0, 0), False)
+        with_pieces = [word for word in choices if f"has_triangles {word.capitalize()} = true" in coordinates]
+        return Option(name, tuple(with_pieces if kind == "PieceCoordinates" else choices), (0, 0), False)
     if kind == "RowOrder":
         return Option(name, tuple(codes(body(values, "order_named"))), (0, 0), False)
     if kind == "Limit":
@@ -143,11 +143,11 @@ def option_of(spelled: str) -> Option:
     parted = re.fullmatch(r"([\w-]+)([=!])(.*)", spelled)
     if parted is None:
         raise NotFound(f"an option spelled {spelled}")
-    name, sign, told = parted.groups()
-    numbers = re.fullmatch(r"(\d+)\.\.(\d+)", told)
+    name, sign, choices = parted.groups()
+    numbers = re.fullmatch(r"(\d+)\.\.(\d+)", choices)
     if numbers:
         return Option(name, (), (int(numbers[1]), int(numbers[2])), sign == "!")
-    return Option(name, tuple(told.split("|")), (0, 0), sign == "!")
+    return Option(name, tuple(choices.split("|")), (0, 0), sign == "!")
 
 
 def read_table(path: Path = TABLE) -> List[Command]:

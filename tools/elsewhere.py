@@ -33,7 +33,7 @@ def page(made: packages.Made) -> List[Named]:
 
 def version_lines(made: packages.Made, name: str, files: Dict[str, bytes]) -> str:
     """The lines of the file `version` in a wheel for another system: those of the build but for its files."""
-    lines = [line for line in made.told.splitlines() if line.split(" ")[0] not in made.files]
+    lines = [line for line in made.version_lines.splitlines() if line.split(" ")[0] not in made.files]
     lines += [f"system {name}", *(f"file {file} {sum_of(data)}" for file, data in files.items())]
     return "".join(f"{line}\n" for line in lines)
 

@@ -178,11 +178,11 @@ def chain_text() -> str:
     times = read_times(TOP / "build_times.txt")
     plan = Plan(below, times, 1)
     names = plan.longest_chain()
-    told = ", ".join(f"`{name}` {round(plan.seconds[name])}" for name in names[:-1])
+    listed = ", ".join(f"`{name}` {round(plan.seconds[name])}" for name in names[:-1])
     total = round(sum(plan.seconds[name] for name in names))
     unmeasured = [f"`{name}`" for name in below if name not in times.crates]
     left_out = f" Not measured yet: {', '.join(unmeasured)}." if unmeasured else ""
-    return f"It takes {total:,} s: {told} and `{names[-1]}` {round(plan.seconds[names[-1]])}.{left_out}"
+    return f"It takes {total:,} s: {listed} and `{names[-1]}` {round(plan.seconds[names[-1]])}.{left_out}"
 
 
 def with_part(page: str, part: str, text: str, gap: str = "\n") -> str:

@@ -72,9 +72,9 @@ class Gate:
             files = self.files(Kit(command), program.read_bytes())
         except (NotProved, OSError) as fault:
             return self.build(str(fault))
-        told = Manifest(version(TOP), commit(TOP), Kit(command).line, self.sources, sums_of(files), False, {})
-        Installed(TOP).install(files, told, self.begun, "here")
-        return "; ".join([f"the program of rt ci, and its library: sha256 {told.files['program']}", *self.lacks])
+        manifest = Manifest(version(TOP), commit(TOP), Kit(command).line, self.sources, sums_of(files), False, {})
+        Installed(TOP).install(files, manifest, self.begun, "here")
+        return "; ".join([f"the program of rt ci, and its library: sha256 {manifest.files['program']}", *self.lacks])
 
     def build(self, why: str) -> str:
         """Has tools/build.py make program and library. Returns a line that says so, and why."""

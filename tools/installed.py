@@ -33,7 +33,7 @@ class Installed:
         self.out = top / "crates" / PROGRAM / "out"
         self.program = self.out / PROGRAM
 
-    def told(self) -> Dict[str, str]:
+    def fields(self) -> Dict[str, str]:
         try:
             return dict(parts((self.out / ".version").read_text("utf8")))
         except OSError:
@@ -41,10 +41,10 @@ class Installed:
 
     def is_of(self, sources: Sources) -> bool:
         """Whether program and library were made from these sources, and are those that were installed."""
-        told = self.told()
+        fields = self.fields()
         try:
-            return (told.get("sources") == sources.sum() and told.get("links") == sum_of_lines(sources.lines_of_linked())
-                    and "program" in told and all(sum_of_file(self.out / FILES[name]) == told[name] for name in FILES if name in told))
+            return (fields.get("sources") == sources.sum() and fields.get("links") == sum_of_lines(sources.lines_of_linked())
+                    and "program" in fields and all(sum_of_file(self.out / FILES[name]) == fields[name] for name in FILES if name in fields))
         except OSError:
             return False
 

@@ -62,14 +62,14 @@ class Programs:
     def holds(self, place: Path, sources: str) -> bool:
         """Whether a program stands there, made from these sources, and all files are those that were kept."""
         try:
-            told = read_manifest((place / "MANIFEST").read_text("utf8"))
-            return told.sources.sum() == sources and all(sum_of_file(place / FILES[name]) == told.files[name] for name in told.files)
+            manifest = read_manifest((place / "MANIFEST").read_text("utf8"))
+            return manifest.sources.sum() == sources and all(sum_of_file(place / FILES[name]) == manifest.files[name] for name in manifest.files)
         except (OSError, NoManifest):
             return False
 
     def read(self, place: Path) -> Tuple[Dict[str, bytes], Manifest]:
-        told = read_manifest((place / "MANIFEST").read_text("utf8"))
-        return {name: (place / FILES[name]).read_bytes() for name in told.files}, told
+        manifest = read_manifest((place / "MANIFEST").read_text("utf8"))
+        return {name: (place / FILES[name]).read_bytes() for name in manifest.files}, manifest
 
     def keep(self, place: Path, files: Dict[str, bytes], manifest: Manifest) -> None:
         """Keeps what a build made, and of all that is kept the last ones."""
@@ -106,7 +106,7 @@ class Libraries:
     def note(self, stamp: str) -> Path:
         return self.folder / f"{stamp}.told"
 
-    def told(self, stamp: str) -> Tuple[str, str]:
+    def verdict(self, stamp: str) -> Tuple[str, str]:
         """The sum of a kept library, by which those above it name it, and the prover's verdict of its crate."""
         sum_of_library, _, verdict = self.note(stamp).read_text("utf8").partition("\n")
         return sum_of_library, verdict

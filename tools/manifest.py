@@ -38,9 +38,9 @@ class Manifest(NamedTuple):
 
     def head(self) -> List[str]:
         """The lines on the whole, which are what a launcher tells of its program."""
-        told = [f"version {self.version}", f"commit {self.commit}", f"kit {self.kit}", f"sources {self.sources.sum()}"]
-        told += [f"links {sum_of_lines(self.sources.lines_of_linked())}"]
-        return told + [f"{name} {sum_of_file}" for name, sum_of_file in self.files.items()]
+        head = [f"version {self.version}", f"commit {self.commit}", f"kit {self.kit}", f"sources {self.sources.sum()}"]
+        head += [f"links {sum_of_lines(self.sources.lines_of_linked())}"]
+        return head + [f"{name} {sum_of_file}" for name, sum_of_file in self.files.items()]
 
     def text(self) -> str:
         lines = [*self.head(), f"anew {'yes' if self.anew else 'no'}"]
@@ -69,7 +69,7 @@ def add_source(sources: Sources, name: str, rest: str) -> None:
 
 def read_manifest(text: str) -> Manifest:
     """Reads what `Manifest.text` wrote. The sum of the sources has to be that of its own lines."""
-    told: Dict[str, str] = {}
+    fields: Dict[str, str] = {}
     verdicts: Dict[str, str] = {}
     sources, others = Sources([], {}, {}), Sources([], {}, {})
     for name, rest in parts(text):
@@ -81,12 +81,12 @@ def read_manifest(text: str) -> Manifest:
         elif name == "verdict":
             verdicts[first] = second
         else:
-            told[name] = rest
-    missing = [name for name in ("version", "commit", "kit", "sources", "program", "anew") if name not in told]
+            fields[name] = rest
+    missing = [name for name in ("version", "commit", "kit", "sources", "program", "anew") if name not in fields]
     if missing:
         raise NoManifest(f"it has no line `{missing[0]}`")
-    if told["sources"] != sources.sum():
+    if fields["sources"] != sources.sum():
         raise NoManifest("its lines `crate` and `source` haven't the sum that it tells")
-    files = {name: told[name] for name in FILES if name in told}
-    return Manifest(told["version"], told["commit"], told["kit"], sources, files, told["anew"] == "yes", verdicts,
-                    told.get("gate", ""), others)
+    files = {name: fields[name] for name in FILES if name in fields}
+    return Manifest(fields["version"], fields["commit"], fields["kit"], sources, files, fields["anew"] == "yes", verdicts,
+                    fields.get("gate", ""), others)

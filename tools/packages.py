@@ -29,14 +29,14 @@ LICENCES = ("LICENSE-MIT", "LICENSE-APACHE", "NOTICES")
 
 @dataclass
 class Made:
-    """What is packed: the files that a build made, by their names in FILES, and what is told of them.
+    """What is packed: the files that a build made, by their names in FILES, and what describes them.
 
-    told: the lines of the file `version`, which the launcher answers `--version` from
+    version_lines: the lines of the file `version`, which the launcher answers `--version` from
     """
 
     version: str
     files: Dict[str, bytes]
-    told: str
+    version_lines: str
     manifest: Optional[Manifest] = None
 
     def glibc(self) -> int:
@@ -47,8 +47,8 @@ class Made:
 
 def epoch() -> int:
     """The time that all files have: that of the commit, unless the environment says another one."""
-    told = os.environ.get("SOURCE_DATE_EPOCH") or git(TOP, "log", "-1", "--format=%ct")
-    return max(EARLIEST, int(told)) if told else EARLIEST
+    seconds = os.environ.get("SOURCE_DATE_EPOCH") or git(TOP, "log", "-1", "--format=%ct")
+    return max(EARLIEST, int(seconds)) if seconds else EARLIEST
 
 
 def day() -> str:
@@ -66,7 +66,7 @@ def shared(made: Made) -> Files:
     libexec, doc = f"libexec/{PROGRAM}", f"share/doc/{PROGRAM}"
     files: Files = {
         f"bin/{PROGRAM}": ((TOP / "launcher" / "installed.sh").read_bytes(), 0o755),
-        f"{libexec}/version": (made.told.encode(), 0o644),
+        f"{libexec}/version": (made.version_lines.encode(), 0o644),
         f"{libexec}/commands.txt": plain(TOP / "python" / PROGRAM / "commands.txt"),
         f"{libexec}/hints.txt": plain(TOP / "python" / PROGRAM / "hints.txt"),
         f"share/man/man1/{PROGRAM}.1": (pages.manual(commands, made.version, day()).encode(), 0o644),
@@ -264,14 +264,15 @@ def extra_lines(extras: str) -> Iterator[str]:
 
 
 def metadata() -> str:
-    told = fields()
+    described = fields()
     head = [
-        "Metadata-Version: 2.1", f"Name: {told['name']}", f"Version: {told['version']}", f"Summary: {told['description']}",
-        "Author: the trinorm authors", "License: MIT OR Apache-2.0", f"Keywords: {told['keywords']}", *(f"License-File: {name}" for name in LICENCES),
-        *(f"Classifier: {line}" for line in told["classifiers"].splitlines()),
-        f"Requires-Python: {told['requires-python']}", "Description-Content-Type: text/markdown", *extra_lines(told["extras"]),
+        "Metadata-Version: 2.1", f"Name: {described['name']}", f"Version: {described['version']}", f"Summary: {described['description']}",
+        "Author: the trinorm authors", "License: MIT OR Apache-2.0", f"Keywords: {described['keywords']}",
+        *(f"License-File: {name}" for name in LICENCES),
+        *(f"Classifier: {line}" for line in described["classifiers"].splitlines()),
+        f"Requires-Python: {described['requires-python']}", "Description-Content-Type: text/markdown", *extra_lines(described["extras"]),
     ]
-    return "\n".join(head) + "\n\n" + (TOP / "python" / told["readme"]).read_text("utf8")
+    return "\n".join(head) + "\n\n" + (TOP / "python" / described["readme"]).read_text("utf8")
 
 
 def zipped(files: Files) -> bytes:

@@ -83,7 +83,7 @@ def bash(commands: Sequence[Command]) -> str:
     names = " ".join(command.name for command in commands)
     options = "\n".join(f"      {command.name}) words='{' '.join(f'--{option.name}' for option in command.options)}' ;;"
                         for command in commands if command.options)
-    told = "\n".join(f"      '{key.replace(' ', ' --')}') words='{' '.join(words)}' ;;" for key, words in option_values(commands).items())
+    branches = "\n".join(f"      '{key.replace(' ', ' --')}') words='{' '.join(words)}' ;;" for key, words in option_values(commands).items())
     return f"""# Completion of trinorm's words for bash.
 _trinorm() {{
   local words='' word=${{COMP_WORDS[COMP_CWORD]}} before=${{COMP_WORDS[COMP_CWORD-1]}}
@@ -99,7 +99,7 @@ _trinorm() {{
 {options}
     esac
     case "${{COMP_WORDS[1]}} $before" in
-{told}
+{branches}
       *' --'*) words='' ;;
     esac
   fi

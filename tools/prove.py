@@ -35,9 +35,9 @@ class Kit:
 
     def __init__(self, command: str) -> None:
         self.at = Path(command).resolve().parents[1]
-        told = (self.at / "KIT-ID").read_text("utf8")
-        self.line = told.split("\n", maxsplit=1)[0]
-        self.name = f"{told}{(self.at / 'bin' / 'rattle').stat().st_mtime_ns}"
+        identity = (self.at / "KIT-ID").read_text("utf8")
+        self.line = identity.split("\n", maxsplit=1)[0]
+        self.name = f"{identity}{(self.at / 'bin' / 'rattle').stat().st_mtime_ns}"
 
     def library(self, name: str) -> Path:
         return self.at / "rlibs" / f"{name}.rlib"
@@ -108,12 +108,12 @@ class Workspace:
     def stamp(self, name: str) -> str:
         """A sum of all that a crate is proved from, once the libraries below it are known."""
         crate, folder = self.crates[name], self.folder(name)
-        told = [self.kit.name, repr(tuple(crate)), *(self.sums[below] for below in crate.below)]
+        parts = [self.kit.name, repr(tuple(crate)), *(self.sums[below] for below in crate.below)]
         # a static library from before its module was kept is made again
-        told += [modules.MODULE] if crate.is_static else []
+        parts += [modules.MODULE] if crate.is_static else []
         for path in files_of_crate(folder):
-            told += [path.relative_to(folder).as_posix(), sum_of_file(path)]
-        return sum_of("\0".join(told).encode())
+            parts += [path.relative_to(folder).as_posix(), sum_of_file(path)]
+        return sum_of("\0".join(parts).encode())
 
     def find(self, name: str) -> bool:
         """Whether what is made of a crate is known, as proved from these sources over these libraries."""
@@ -123,7 +123,7 @@ class Workspace:
         if self.is_stamped(name, stamp):
             self.note(name)
         elif self.kept is not None and self.kept.has(stamp):
-            self.sums[name], self.verdicts[name] = self.kept.told(stamp)
+            self.sums[name], self.verdicts[name] = self.kept.verdict(stamp)
         else:
             return False
         self.anew = False

@@ -131,9 +131,9 @@ def of_another_kind(name: str, folder: Path) -> List[str]:
     functions = functions_in(folder)
     with_body = [function.name for function in functions if function.body]
     if kind(name) == "laws":
-        told = [f"refused: {name}, of the laws, has the function {law} with a body" for law in with_body]
-        told += [f"refused: {name} states {law}, and no contract cites it" for law in uncited(folder)]
-        return told + ([f"refused: {name}, of the laws, has no law"] if not functions and name != GROUND else [])
+        faults = [f"refused: {name}, of the laws, has the function {law} with a body" for law in with_body]
+        faults += [f"refused: {name} states {law}, and no contract cites it" for law in uncited(folder)]
+        return faults + ([f"refused: {name}, of the laws, has no law"] if not functions and name != GROUND else [])
     if kind(name) == "definitions":
         return [f"refused: {name}, of the definitions, has the function {function.name} with a body" for function in functions
                 if function.body and not function.converts]
@@ -143,14 +143,14 @@ def of_another_kind(name: str, folder: Path) -> List[str]:
 def refusals(top: Path, crates: Dict[str, List[str]], with_subject: Iterable[str]) -> List[str]:
     """A line for each thing that is refused, of crates with the names that their lines list."""
     subjects = set(with_subject)
-    told = [f"refused: {name} has no subject in tools/floors.py" for name in crates if name not in subjects]
-    told += [f"refused: {name} has a subject in tools/floors.py, and no line in crates.txt" for name in sorted(subjects - set(crates))]
+    faults = [f"refused: {name} has no subject in tools/floors.py" for name in crates if name not in subjects]
+    faults += [f"refused: {name} has a subject in tools/floors.py, and no line in crates.txt" for name in sorted(subjects - set(crates))]
     for name, below in crates.items():
         folder = top / "crates" / name
         mine = named(folder)
-        told += [f"refused: {name}, of the {kind(name)}, names {other}" for other in below if other in crates and not may_name(name, other)]
-        told += [f"refused: {name} lists {other}, and no file of it names that" for other in below if other not in mine]
-        told += [f"refused: {name} doesn't list {other}, which a file of it names"
-                 for other in sorted(mine) if other in crates and other not in [*below, name]]
-        told += of_another_kind(name, folder)
-    return told
+        faults += [f"refused: {name}, of the {kind(name)}, names {other}" for other in below if other in crates and not may_name(name, other)]
+        faults += [f"refused: {name} lists {other}, and no file of it names that" for other in below if other not in mine]
+        faults += [f"refused: {name} doesn't list {other}, which a file of it names"
+                   for other in sorted(mine) if other in crates and other not in [*below, name]]
+        faults += of_another_kind(name, folder)
+    return faults

@@ -34,22 +34,22 @@ def proved() -> Tuple[Dict[str, bytes], Manifest]:
     place = programs.find(sources.sum(), Kit(command).name if command else None)
     if place is None:
         refuse("no program of these sources is kept here: tools/build.py --anew proves and builds it")
-    files, told = programs.read(place)
-    if not told.anew:
+    files, manifest = programs.read(place)
+    if not manifest.anew:
         refuse("the program was built over libraries that were proved before: tools/build.py --anew proves all at once")
-    refuse_without_verdict(told)
-    if told.sources.linked != sources.linked:
+    refuse_without_verdict(manifest)
+    if manifest.sources.linked != sources.linked:
         refuse("the library was linked from other sources: tools/build.py links it again")
-    return files, told
+    return files, manifest
 
 
-def refuse_without_verdict(told: Manifest) -> None:
+def refuse_without_verdict(manifest: Manifest) -> None:
     """Ends unless the build proved each crate of this commit, also those on which no program stands."""
     crates = every_crate(TOP)
-    missing = [name for name in crates if not told.verdicts.get(name, "").startswith("logic=proved ")]
+    missing = [name for name in crates if not manifest.verdicts.get(name, "").startswith("logic=proved ")]
     if missing:
         refuse(f"the build has no verdict of {missing[0]}, and of {len(missing)} crates in all: tools/build.py --anew proves all crates")
-    if told.others.sum() != read_other_sources(TOP, crates).sum():
+    if manifest.others.sum() != read_other_sources(TOP, crates).sum():
         refuse("crates on which no program stands have changed since the build: tools/build.py --anew proves all crates")
 
 
@@ -62,8 +62,8 @@ def release(gate: str) -> List[Tuple[str, bytes]]:
     """The files of the release."""
     made_files, manifest = proved()
     manifest = manifest._replace(version=version(TOP), commit=commit(TOP), gate=gate)
-    told = "".join(f"{line}\n" for line in ["proved elsewhere", *manifest.head()])
-    made = packages.Made(manifest.version, made_files, told, manifest)
+    version_lines = "".join(f"{line}\n" for line in ["proved elsewhere", *manifest.head()])
+    made = packages.Made(manifest.version, made_files, version_lines, manifest)
     command = shutil.which("rt")
     files = [packages.wheel(made), packages.debian(made), packages.tarball(made), *(elsewhere.files(made, Kit(command).at) if command else []),
              ("MANIFEST", manifest.text().encode())]

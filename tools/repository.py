@@ -36,10 +36,10 @@ class Sources(NamedTuple):
 
     def lines(self) -> List[str]:
         """What the program is proved from."""
-        return [*(f"crate {line}" for line in self.crates), *(f"source {told} {path}" for path, told in sorted(self.files.items()))]
+        return [*(f"crate {line}" for line in self.crates), *(f"source {checksum} {path}" for path, checksum in sorted(self.files.items()))]
 
     def lines_of_linked(self) -> List[str]:
-        return [f"linked {told} {path}" for path, told in sorted(self.linked.items())]
+        return [f"linked {checksum} {path}" for path, checksum in sorted(self.linked.items())]
 
     def sum(self) -> str:
         """One sum of all that is proved: that of the lines, each with its end."""
@@ -158,9 +158,9 @@ def git(top: Path, *words: str) -> Optional[str]:
 def tracked(top: Path, *folders: str) -> List[Path]:
     """The files of some folders that the commit has or is about to have, in order. Outside a checkout, where git can't say, all
     files but those that tools leave behind."""
-    told = git(top, "ls-files", "-z", "--", *folders)
-    if told is not None:
-        return sorted(top / name for name in told.split("\0") if name and (top / name).is_file())
+    listed = git(top, "ls-files", "-z", "--", *folders)
+    if listed is not None:
+        return sorted(top / name for name in listed.split("\0") if name and (top / name).is_file())
     left_behind = ("__pycache__", "target", "out", "build")
     paths = (path for folder in folders for path in (top / folder).rglob("*") if path.is_file())
     return sorted(path for path in paths if not any(part.startswith(".") or part in left_behind or part.endswith(".egg-info")
@@ -174,10 +174,10 @@ def changed(top: Path, paths: Iterable[str] = ()) -> bool:
 
 def commit(top: Path) -> str:
     """The commit, and whether the sources differ from it; `none` outside a checkout."""
-    told = git(top, "rev-parse", "HEAD")
-    if told is None:
+    head = git(top, "rev-parse", "HEAD")
+    if head is None:
         return "none"
-    return f"{told} with changes" if changed(top, ["crates", "crates.txt"]) else told
+    return f"{head} with changes" if changed(top, ["crates", "crates.txt"]) else head
 
 
 def cache_folder() -> Path:

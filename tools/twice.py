@@ -136,8 +136,8 @@ def groups_of(items: Sequence[Item]) -> List[List[Item]]:
     while True:
         groups: Dict[Tuple[str, ...], List[Item]] = defaultdict(list)
         for item in items:
-            told = [item.origins.get(word, word) for word in item.words]
-            groups[(item.kind, *(copies.get(word, word) for word in told))].append(item)
+            known = [item.origins.get(word, word) for word in item.words]
+            groups[(item.kind, *(copies.get(word, word) for word in known))].append(item)
         if len(groups) == count:
             return sorted((group for group in groups.values() if len(group) > 1), key=lambda group: (-len(group), group[0].place()))
         count = len(groups)

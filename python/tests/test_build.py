@@ -235,9 +235,9 @@ class Build(unittest.TestCase):
     def test_what_is_told_of_the_program(self):
         said = self.clone.build().stderr
         out = self.clone.top / "crates" / "trinorm" / "out"
-        told = dict(line.split(" ", 1) for line in (out / ".version").read_text().splitlines())
-        self.assertEqual((told["proved"], told["kit"]), ("here", "made-up-kit-1"))
-        self.assertIn(f"program sha256 {told['program']}\n", said)
+        described = dict(line.split(" ", 1) for line in (out / ".version").read_text().splitlines())
+        self.assertEqual((described["proved"], described["kit"]), ("here", "made-up-kit-1"))
+        self.assertIn(f"program sha256 {described['program']}\n", said)
         paths = (out / ".sources").read_text().split("\0")
         self.assertIn("crates/left/src/lib.rt", paths)
         self.assertFalse(any(os.path.isabs(it) for it in paths))
@@ -305,8 +305,8 @@ class Build(unittest.TestCase):
         self.assertIn("all 5 crates were proved here", done.stdout)
         self.assertEqual((done.returncode, self.clone.proved()), (0, EVERY))
         text = manifest.read_text()
-        told = next(line for line in text.splitlines() if line.startswith("program "))
-        manifest.write_text(text.replace(told, "program " + "0" * 64))
+        described = next(line for line in text.splitlines() if line.startswith("program "))
+        manifest.write_text(text.replace(described, "program " + "0" * 64))
         done = self.clone.build("--compare", str(manifest))
         self.assertEqual(done.returncode, 1)
         self.assertIn("another program", done.stderr)

@@ -55,15 +55,15 @@ class Folder(unittest.TestCase):
 class Lines(unittest.TestCase):
     def entries(self, *lines):
         """The triangulations of lines, which are the same however many are read at a time."""
-        told = [[entry_of(found) for block in blocks_of(Source("file", None, blocks)) for found in block if found is not None]
-                for blocks in ([list(lines)], [[line] for line in lines])]
-        self.assertEqual(*told)
-        return told[0]
+        listed = [[entry_of(found) for block in blocks_of(Source("file", None, blocks)) for found in block if found is not None]
+                  for blocks in ([list(lines)], [[line] for line in lines])]
+        self.assertEqual(*listed)
+        return listed[0]
 
     def test_entries(self):
-        told = self.entries(*SIGNATURES.encode().splitlines(keepends=True))
-        self.assertEqual(told, [("bkaagj", "sphere"), ("bkaagb", "bkaagb"), ("bkaajj", "a name with spaces"),
-                                ("cPcbbbiht", "figure-eight"), ("bkaagjx", "not one"), ("bkaagj", "sphere")])
+        listed = self.entries(*SIGNATURES.encode().splitlines(keepends=True))
+        self.assertEqual(listed, [("bkaagj", "sphere"), ("bkaagb", "bkaagb"), ("bkaajj", "a name with spaces"),
+                                  ("cPcbbbiht", "figure-eight"), ("bkaagjx", "not one"), ("bkaagj", "sphere")])
 
     def test_lines_within_a_line(self):
         """A text that was given as one line stays one."""
@@ -90,12 +90,12 @@ class Census(Folder):
         return self.answers()
 
     def test_answers_and_refusals(self):
-        told = self.run_it()
+        listed = self.run_it()
         self.assertEqual(self.ran, Ran(0, 5, 0))
-        self.assertEqual(set(told), {"sphere", "bkaagb", "a name with spaces", "figure-eight", "not one"})
-        self.assertEqual(told["figure-eight"]["answer"], [[1, 1, 1, 1, 0, 0, 0] * 2])
-        self.assertEqual(told["not one"]["refused"], {"status": 3, "line": "refused: signature trailing 6", "kind": "signature trailing", "places": [6]})
-        self.assertGreaterEqual(told["sphere"]["seconds"], 0)
+        self.assertEqual(set(listed), {"sphere", "bkaagb", "a name with spaces", "figure-eight", "not one"})
+        self.assertEqual(listed["figure-eight"]["answer"], [[1, 1, 1, 1, 0, 0, 0] * 2])
+        self.assertEqual(listed["not one"]["refused"], {"status": 3, "line": "refused: signature trailing 6", "kind": "signature trailing", "places": [6]})
+        self.assertGreaterEqual(listed["sphere"]["seconds"], 0)
         self.assertIn("4 answered, 1 refused, 0 failed", self.said)
 
     def test_goes_on_where_it_stopped(self):
@@ -112,29 +112,29 @@ class Census(Folder):
     def test_a_killed_run_loses_no_other(self):
         kills = "[ $signature != bkaajj ] || kill -9 $$"
         path = script(self.folder, f'read kind signature\n{kills}\necho "$kind $signature" | {trinorm.find()} "$@"\n')
-        told = self.run_it(task=Task("surfaces", "standard", program=path))
-        self.assertEqual((self.ran, len(told)), (Ran(0, 5, 1), 5))
-        self.assertIn("signal 9", told["a name with spaces"]["failed"])
+        listed = self.run_it(task=Task("surfaces", "standard", program=path))
+        self.assertEqual((self.ran, len(listed)), (Ran(0, 5, 1), 5))
+        self.assertIn("signal 9", listed["a name with spaces"]["failed"])
         self.run_it()
         self.assertEqual(self.ran, Ran(5, 0, 0))
-        told = self.run_it(retry=True)
+        listed = self.run_it(retry=True)
         self.assertEqual(self.ran, Ran(4, 1, 0))
-        self.assertIn("answer", told["a name with spaces"])
+        self.assertIn("answer", listed["a name with spaces"])
 
     def test_a_killed_worker_loses_no_other(self):
         kills = "[ $signature != bkaajj ] || kill -9 $PPID"
         path = script(self.folder, f'read kind signature\n{kills}\necho "$kind $signature" | {trinorm.find()} "$@"\n')
-        told = self.run_it(task=Task("surfaces", "standard", program=path))
-        self.assertEqual((self.ran, len(told)), (Ran(0, 5, 1), 5))
-        self.assertEqual(told["a name with spaces"]["failed"], "a worker process: killed by signal 9")
+        listed = self.run_it(task=Task("surfaces", "standard", program=path))
+        self.assertEqual((self.ran, len(listed)), (Ran(0, 5, 1), 5))
+        self.assertEqual(listed["a name with spaces"]["failed"], "a worker process: killed by signal 9")
 
     def test_a_run_past_its_limit_loses_no_other(self):
         self.put(self.given, "bkaagj one\nuLMzMzMzMzMzMPcbcdefghijklmnopqrsttthhhhhhhhhhhhhhhhhhhah slow\nbkaajj two\n")
-        told = self.run_it(task=Task("surfaces", "standard", timeout=0.02))
-        self.assertIn("no answer in 0.02 s", told["slow"]["failed"])
-        self.assertEqual(len(told), 3)
-        told = self.run_it(task=Task("surfaces", "standard", timeout=60), retry=True)
-        self.assertEqual({name: len(it["answer"]) for name, it in told.items()}, {"one": 2, "slow": 15129, "two": 2})
+        listed = self.run_it(task=Task("surfaces", "standard", timeout=0.02))
+        self.assertIn("no answer in 0.02 s", listed["slow"]["failed"])
+        self.assertEqual(len(listed), 3)
+        listed = self.run_it(task=Task("surfaces", "standard", timeout=60), retry=True)
+        self.assertEqual({name: len(it["answer"]) for name, it in listed.items()}, {"one": 2, "slow": 15129, "two": 2})
 
     def test_many(self):
         self.put(self.given, "".join(f"bkaagj {number}\n" for number in range(300)))
@@ -169,13 +169,13 @@ class Census(Folder):
                 self.assertEqual(main(["census", self.given, "--command", command, "--jobs", "2"]), 0)
         self.assertEqual(self.answers(f"{self.given}.descend.jsonl")["sphere"]["answer"],
                          {"reached": True, "moves": [], "table": "tri 1\n0:1023 0:1023 0:1230 0:3012\n"})
-        told = self.answers(f"{self.given}.certify.jsonl")
-        self.assertTrue(trinorm.check(told["bkaagb"]["answer"]["table"], told["bkaagb"]["answer"]["moves"]))
-        self.assertIsNone(told["figure-eight"]["answer"])
-        told = self.answers(f"{self.given}.describe.jsonl")
-        self.assertEqual([it["euler"] for it in told["sphere"]["answer"]], [0, 2])
-        told = self.answers(f"{self.given}.count.jsonl")
-        self.assertEqual(told["sphere"]["answer"], {"surfaces": 2, "euler": {"2": 1, "0": 1}, "linking": 1, "greatest": 1})
+        listed = self.answers(f"{self.given}.certify.jsonl")
+        self.assertTrue(trinorm.check(listed["bkaagb"]["answer"]["table"], listed["bkaagb"]["answer"]["moves"]))
+        self.assertIsNone(listed["figure-eight"]["answer"])
+        listed = self.answers(f"{self.given}.describe.jsonl")
+        self.assertEqual([it["euler"] for it in listed["sphere"]["answer"]], [0, 2])
+        listed = self.answers(f"{self.given}.count.jsonl")
+        self.assertEqual(listed["sphere"]["answer"], {"surfaces": 2, "euler": {"2": 1, "0": 1}, "linking": 1, "greatest": 1})
 
 
 class Ends(Folder):

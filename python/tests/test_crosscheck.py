@@ -8,7 +8,7 @@ import unittest
 
 from trinorm.__main__ import main
 from trinorm.comparisons import Comparison, compare
-from trinorm.crosscheck import told
+from trinorm.crosscheck import verdict_of
 
 try:
     import regina
@@ -19,11 +19,11 @@ except ImportError:
 class Lines(unittest.TestCase):
     def test_what_differs(self):
         same, other = {"trinorm": 1, "regina": 1, "trinorm_alone": [], "regina_alone": []}, {"trinorm": 1, "regina": 2, "trinorm_alone": [[1]], "regina_alone": [[2], [3]]}
-        self.assertEqual(told({"signature": "a", "answer": {"quad": same}}), (True, ["a quad: the same 1"]))
+        self.assertEqual(verdict_of({"signature": "a", "answer": {"quad": same}}), (True, ["a quad: the same 1"]))
         lines = ["a quad: trinorm 1, Regina 2", "  trinorm alone: vec 1", "  Regina alone: vec 2", "  Regina alone: vec 3"]
-        self.assertEqual(told({"signature": "a", "answer": {"standard": same, "quad": other}}), (False, ["a standard: the same 1", *lines]))
-        self.assertEqual(told({"signature": "a", "refused": {"line": "refused: x"}}), (False, ["a: refused: x"]))
-        self.assertEqual(told({"signature": "a", "failed": "no memory"}), (False, ["a: no memory"]))
+        self.assertEqual(verdict_of({"signature": "a", "answer": {"standard": same, "quad": other}}), (False, ["a standard: the same 1", *lines]))
+        self.assertEqual(verdict_of({"signature": "a", "refused": {"line": "refused: x"}}), (False, ["a: refused: x"]))
+        self.assertEqual(verdict_of({"signature": "a", "failed": "no memory"}), (False, ["a: no memory"]))
         self.assertFalse(Comparison(2, 1, [], []).is_same)
 
 

@@ -35,26 +35,26 @@ class Refusals(unittest.TestCase):
         (self.top / "crates" / name / "specs" / "Laws.antt").write_text(specs)
         self.crates[name] = below
 
-    def told(self, subjects=None):
+    def faults(self, subjects=None):
         return refusals(self.top, self.crates, self.crates if subjects is None else subjects)
 
     def test_nothing_is_refused(self):
-        self.assertEqual(self.told(), [])
+        self.assertEqual(self.faults(), [])
 
     def test_laws_on_code(self):
         self.add("reader_laws", ["reader"], "use reader::Reader;\n" + LAW)
         self.add("more_definitions", ["word_laws"], "use word_laws::Law;")
-        self.assertEqual(self.told(), ["refused: reader_laws, of the laws, names reader", "refused: more_definitions, of the definitions, names word_laws"])
+        self.assertEqual(self.faults(), ["refused: reader_laws, of the laws, names reader", "refused: more_definitions, of the definitions, names word_laws"])
 
     def test_too_much_and_too_little(self):
         self.add("writer", ["word_definitions"], "// use word_definitions::Word;\nuse reader::Reader;\n" + CODE, "-- Rattle.word_laws.specs.Laws\n")
-        self.assertEqual(self.told(), [
+        self.assertEqual(self.faults(), [
             "refused: writer lists word_definitions, and no file of it names that",
             "refused: writer doesn't list reader, which a file of it names",
         ])
 
     def test_subjects(self):
-        self.assertEqual(self.told(["word_laws", "reader", "gone"]), [
+        self.assertEqual(self.faults(["word_laws", "reader", "gone"]), [
             "refused: word_definitions has no subject in tools/floors.py", "refused: gone has a subject in tools/floors.py, and no line in crates.txt",
         ])
 
@@ -63,7 +63,7 @@ class Refusals(unittest.TestCase):
         self.add("sum_laws", [], LAW.replace("{}", "{\n    add(1)\n}"))
         self.add("no_laws", [], "//! Laws.")
         self.add("adder", [], LAW)
-        self.assertEqual(self.told(), [
+        self.assertEqual(self.faults(), [
             "refused: sum_definitions, of the definitions, has the function sign with a body",
             "refused: sum_laws, of the laws, has the function law with a body",
             "refused: no_laws, of the laws, has no law",
@@ -92,11 +92,11 @@ pub IsSmall : ℕ → Type 0
 IsSmall n = n < 2
 """
         self.add("sum_laws", [], LAW, specs)
-        self.assertEqual(self.told(), ["refused: sum_laws states IsAlone, and no contract cites it"])
+        self.assertEqual(self.faults(), ["refused: sum_laws states IsAlone, and no contract cites it"])
 
     def test_what_stands_below_all_names_none(self):
         self.add("basic_lemmas", ["word_definitions"], "ghost use Rattle.word_definitions.specs.Words;")
-        self.assertEqual(self.told(), ["refused: basic_lemmas, of the laws, names word_definitions"])
+        self.assertEqual(self.faults(), ["refused: basic_lemmas, of the laws, names word_definitions"])
 
     def test_functions(self):
         """Contracts with several lines and braces, results that hold a `;`, and methods without a body are read."""

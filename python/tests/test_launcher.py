@@ -285,7 +285,7 @@ class Launcher(unittest.TestCase):
                 with open(path, "w", encoding="utf8") as file:
                     file.write(f"#!/bin/sh\n{text}\n")
                 os.chmod(path, 0o755)
-            start = f"PATH={folder}:$PATH commands={self.folder.name}/python/trinorm/commands.txt here={self.folder.name}/launcher told=x"
+            start = f"PATH={folder}:$PATH commands={self.folder.name}/python/trinorm/commands.txt here={self.folder.name}/launcher version_file=x"
             for shell in ("dash", "bash"):
                 if not shutil.which(shell):
                     continue

@@ -116,15 +116,15 @@ class Library(unittest.TestCase):
         self.assertIn(done.stdout, [f"(0, b'bkaagj\\n', 0) {it} 0\n" for it in (0, 8)])
 
     def test_a_small_stack(self):
-        told = []
+        statuses = []
         before = threading.stack_size(256 << 10)
         try:
-            thread = threading.Thread(target=lambda: told.append(self.answer(["surfaces", "--coords", "quad"], LONG)[0]))
+            thread = threading.Thread(target=lambda: statuses.append(self.answer(["surfaces", "--coords", "quad"], LONG)[0]))
             thread.start()
             thread.join()
         finally:
             threading.stack_size(before)
-        self.assertEqual(told, [0])
+        self.assertEqual(statuses, [0])
 
     def test_a_limit_of_time(self):
         begun = time.monotonic()

@@ -93,8 +93,8 @@ class Release(unittest.TestCase):
         head = subprocess.run(["git", "rev-parse", "HEAD"], cwd=self.clone.top, capture_output=True, text=True, check=True).stdout.strip()
         for line in (f"commit {head}", "kit made-up-kit-1", "anew yes", "gate all passed", "verdict left logic=proved functions=1 of=left", "verdict beside logic=proved functions=1 of=beside"):
             self.assertIn(line, lines)
-        told = "\n".join(it for it in lines if it.startswith(("crate ", "source "))) + "\n"
-        done = subprocess.run(["sha256sum"], input=told, capture_output=True, text=True, check=True)
+        written = "\n".join(it for it in lines if it.startswith(("crate ", "source "))) + "\n"
+        done = subprocess.run(["sha256sum"], input=written, capture_output=True, text=True, check=True)
         self.assertIn(f"sources {done.stdout.split()[0]}", lines)
 
     def test_tarball(self):
@@ -115,8 +115,8 @@ class Release(unittest.TestCase):
         to = self.folder / "deb"
         subprocess.run(["dpkg-deb", "-x", str(self.file(".deb")), str(to)], check=True)
         self.assertEqual(self.run_alone([str(to / "usr/bin/trinorm")]), (0, ANSWER, ""))
-        told = subprocess.run(["dpkg-deb", "-f", str(self.file(".deb")), "Depends", "Version"], capture_output=True, text=True, check=True).stdout
-        self.assertIn("Depends: libc6 (>= 2.", told)
+        written = subprocess.run(["dpkg-deb", "-f", str(self.file(".deb")), "Depends", "Version"], capture_output=True, text=True, check=True).stdout
+        self.assertIn("Depends: libc6 (>= 2.", written)
         script = f"import sys; sys.path.insert(0, '{to}/usr/lib/python3/dist-packages'); import trinorm; print(trinorm.find())"
         self.assertEqual(self.run_alone([sys.executable, "-c", script])[1], f"{to}/usr/libexec/trinorm/trinorm\n")
 
@@ -210,10 +210,10 @@ class Table(unittest.TestCase):
         notices = (REPOSITORY / "NOTICES").read_text("utf8")
         for name in {name for crate in crates_of_build(REPOSITORY).values() for name in crate.of_kit}:
             self.assertIn(f"\n{name}\n", notices)
-        told = version(REPOSITORY)
-        self.assertRegex(told, r"^\d+\.\d+\.\d+$")
-        self.assertIn(f"\nversion: {told}\n", (REPOSITORY / "CITATION.cff").read_text("utf8"))
-        self.assertEqual(set(re.findall(r"trinorm[-_](\d[\d.]*)[-_]", (REPOSITORY / "README.md").read_text("utf8"))), {told})
+        written = version(REPOSITORY)
+        self.assertRegex(written, r"^\d+\.\d+\.\d+$")
+        self.assertIn(f"\nversion: {written}\n", (REPOSITORY / "CITATION.cff").read_text("utf8"))
+        self.assertEqual(set(re.findall(r"trinorm[-_](\d[\d.]*)[-_]", (REPOSITORY / "README.md").read_text("utf8"))), {written})
 
 
 if __name__ == "__main__":

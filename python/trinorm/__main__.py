@@ -34,8 +34,8 @@ def draw_growth(given: argparse.Namespace) -> int:
 def reader_of_words() -> argparse.ArgumentParser:
     reader = argparse.ArgumentParser(prog="python3 -m trinorm", description=__doc__,
                                      formatter_class=argparse.RawDescriptionHelpFormatter)
-    told = f"trinorm {versions.version()}\n{versions.build()}"
-    reader.add_argument("--version", action="version", version=told.rstrip())
+    version_text = f"trinorm {versions.version()}\n{versions.build()}"
+    reader.add_argument("--version", action="version", version=version_text.rstrip())
     kinds = reader.add_subparsers(dest="what", required=True)
 
     one = kinds.add_parser("census", help="run a command on each signature of a file, and write a JSON line for each",

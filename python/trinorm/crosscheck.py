@@ -15,7 +15,7 @@ from .tables import import_regina
 from .tasks import Entry, Task
 
 
-def told(line: Dict[str, Any]) -> Tuple[bool, List[str]]:
+def verdict_of(line: Dict[str, Any]) -> Tuple[bool, List[str]]:
     """Whether the lists of a line of the census are all the same, and what is printed of it."""
     if "answer" not in line:
         return False, [f"{line['signature']}: {line['refused']['line'] if 'refused' in line else line['failed']}"]
@@ -30,7 +30,7 @@ def print_all(entries: Iterable[Entry], task: Task, jobs: int) -> bool:
     with by_processes(jobs) as engine:
         for done in executors.answers(entries, task, *engine):
             for answer in done.lines.splitlines():
-                is_same, lines = told(json.loads(answer))
+                is_same, lines = verdict_of(json.loads(answer))
                 are_same = are_same and is_same
                 print("\n".join(lines), flush=True)
     return are_same
@@ -39,7 +39,7 @@ def print_all(entries: Iterable[Entry], task: Task, jobs: int) -> bool:
 def all_are_same(path: str) -> bool:
     """Whether the lists are the same in each line of an output."""
     with faults_of_files(path), open(path, "rb") as file:
-        return all(told(json.loads(line))[0] for line in file)
+        return all(verdict_of(json.loads(line))[0] for line in file)
 
 
 def add_arguments(reader: argparse.ArgumentParser) -> None:

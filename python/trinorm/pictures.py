@@ -111,10 +111,10 @@ def growth_points(lines: Iterable[str]) -> Iterator[Tuple[int, int]]:
     """For each answered line of a census of `surfaces`, `describe` or `count`: the tetrahedra, and the length of the list."""
     for number, answered in enumerate(lines, 1):
         try:
-            told = json.loads(answered)
-            length = _list_length(told.get("answer"))
+            entry = json.loads(answered)
+            length = _list_length(entry.get("answer"))
             if length >= 0:
-                yield size_of_signature(told["signature"]), length
+                yield size_of_signature(entry["signature"]), length
         except (ValueError, KeyError, AttributeError, IndexError) as fault:
             raise ValueError(f"line {number} is none of a census: {fault}") from None
 

@@ -20,7 +20,7 @@ fn layout(size: usize) -> Option<Layout> {
 
 /// # Safety
 /// `head` is null, or the place of a block of `size` bytes behind its head.
-unsafe fn told(head: *mut u8, size: usize) -> Tried {
+unsafe fn tried_at(head: *mut u8, size: usize) -> Tried {
     if head.is_null() {
         return Tried {
             ok: false,
@@ -45,7 +45,7 @@ extern "C" fn rattle_alloc(size: usize, align: usize) -> Tried {
         None => std::ptr::null_mut(),
     };
     // SAFETY: that is the block
-    unsafe { told(head, size) }
+    unsafe { tried_at(head, size) }
 }
 
 /// # Safety
@@ -64,7 +64,7 @@ unsafe extern "C" fn rattle_realloc(
             (Some(was), Some(is)) if align <= HEAD => realloc(head, was, is.size()),
             _ => std::ptr::null_mut(),
         };
-        told(made, size)
+        tried_at(made, size)
     }
 }
 

@@ -1,6 +1,6 @@
 use trinorm::{run, Answer, Fault, Status};
 
-fn told(status: Status, text: &str) -> Result<Answer, Fault> {
+fn expected(status: Status, text: &str) -> Result<Answer, Fault> {
     Ok(Answer {
         status,
         text: text.as_bytes().to_vec(),
@@ -10,14 +10,14 @@ fn told(status: Status, text: &str) -> Result<Answer, Fault> {
 #[test]
 fn commands_are_answered() {
     let table = b"tri 1\n0:1023 0:1023 0:1230 0:3012\n";
-    assert_eq!(run(&["sig"], table), told(Status::Done, "bkaagj\n"));
+    assert_eq!(run(&["sig"], table), expected(Status::Done, "bkaagj\n"));
     assert_eq!(
         run(&["sig"], b"sig bkaagjx\n"),
-        told(Status::Input, "refused: signature trailing 6\n")
+        expected(Status::Input, "refused: signature trailing 6\n")
     );
     assert_eq!(
         run(&["signature"], table),
-        told(Status::Usage, "refused: usage\n")
+        expected(Status::Usage, "refused: usage\n")
     );
     assert_eq!(run(&["sig\0"], table), Err(Fault::ZeroByte));
 }
