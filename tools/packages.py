@@ -183,6 +183,8 @@ fi
 OVERRIDES = f"""\
 # The program is the one that MANIFEST names, bit for bit, so that whoever proves it again can compare it.
 {PROGRAM}: unstripped-binary-or-object [usr/libexec/{PROGRAM}/{PROGRAM}]
+# The package is for one architecture, and its library is in usr/lib, as in the tarball.
+{PROGRAM}: pkg-config-unavailable-for-cross-compilation [usr/lib/pkgconfig/{PROGRAM}.pc]
 """
 
 
