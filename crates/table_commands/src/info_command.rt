@@ -53,10 +53,10 @@ fn run_info_on_skeleton(alloc: Global, skeleton: &Skeleton) -> Result<Outcome, N
 }
 
 /// The outcome for `table`.
-fn run_info(alloc: Global, table: &Table) -> Result<Outcome, NoMemory>
-    ensures { IfOk result (IsInformationAnswer table.now) }
+fn run_info(alloc: Global, table: Table) -> Result<Outcome, NoMemory>
+    ensures { IfOk result (IsInformationAnswer table) }
 {
-    let skeleton = Skeleton::of(alloc, table)?;
+    let skeleton = Skeleton::of_owned(alloc, table)?;
     run_info_on_skeleton(alloc, &skeleton)
 }
 
@@ -69,6 +69,6 @@ pub fn info(alloc: Global, bytes: &[u8]) -> Result<Outcome, NoMemory>
     answer_read(
         alloc,
         read_table_document(alloc, bytes),
-        |table| run_info(alloc, &table),
+        |table| run_info(alloc, table),
     )
 }

@@ -47,10 +47,10 @@ fn run_cover_on_skeleton(alloc: Global, skeleton: &Skeleton) -> Result<Outcome, 
 }
 
 /// The outcome for `table`.
-fn run_cover(alloc: Global, table: &Table) -> Result<Outcome, NoMemory>
-    ensures { IfOk result (IsCoverAnswer table.now) }
+fn run_cover(alloc: Global, table: Table) -> Result<Outcome, NoMemory>
+    ensures { IfOk result (IsCoverAnswer table) }
 {
-    let skeleton = Skeleton::of(alloc, table)?;
+    let skeleton = Skeleton::of_owned(alloc, table)?;
     run_cover_on_skeleton(alloc, &skeleton)
 }
 
@@ -62,6 +62,6 @@ pub fn cover(alloc: Global, bytes: &[u8]) -> Result<Outcome, NoMemory>
     answer_read(
         alloc,
         read_table_document(alloc, bytes),
-        |table| run_cover(alloc, &table),
+        |table| run_cover(alloc, table),
     )
 }

@@ -50,7 +50,7 @@ pub fn pi1(alloc: Global, bytes: &[u8]) -> Result<Outcome, NoMemory>
     ensures { IfOk result (IsReadOutcome (table_document bytes.now) IsPresentationAnswer) }
 {
     answer_read(alloc, read_table_document(alloc, bytes), |table| {
-        let skeleton = Skeleton::of(alloc, &table)?;
+        let skeleton = Skeleton::of_owned(alloc, table)?;
         run_pi1(alloc, &skeleton)
     })
 }

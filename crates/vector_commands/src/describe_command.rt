@@ -157,13 +157,13 @@ fn describe_where_valid(
 /// The outcome for `table` and `vectors`.
 fn run_describe(
     alloc: Global,
-    table: &Table,
+    table: Table,
     coords: DiscCoords,
     vectors: &[Vec<u128>],
 ) -> Result<Outcome, NoMemory>
-    ensures { IfOk result (IsDescribeAnswer coords.system (table.now, all_entries vectors.now)) }
+    ensures { IfOk result (IsDescribeAnswer coords.system (table, all_entries vectors.now)) }
 {
-    let skeleton = Skeleton::of(alloc, table)?;
+    let skeleton = Skeleton::of_owned(alloc, table)?;
     match skeleton.first_invalid() {
         Some(class) => invalid_edge_outcome(alloc, class),
         None => describe_where_valid(alloc, &skeleton, coords, vectors),
@@ -180,6 +180,6 @@ pub fn describe(alloc: Global, coords: Coords, bytes: &[u8]) -> Result<Outcome, 
 {
     let coords = DiscCoords { system: coords };
     answer_read(alloc, read_table_and_vectors(alloc, bytes), |document| {
-        run_describe(alloc, &document.table, coords, &document.vectors)
+        run_describe(alloc, document.table, coords, &document.vectors)
     })
 }

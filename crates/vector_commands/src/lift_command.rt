@@ -93,10 +93,10 @@ impl<'a> QuadMatching<'a> {
 }
 
 /// The outcome for `table` and quad vectors `vectors`.
-fn run_lift(alloc: Global, table: &Table, vectors: &[Vec<u128>]) -> Result<Outcome, NoMemory>
-    ensures { IfOk result (IsLiftsAnswer (table.now, all_entries vectors.now)) }
+fn run_lift(alloc: Global, table: Table, vectors: &[Vec<u128>]) -> Result<Outcome, NoMemory>
+    ensures { IfOk result (IsLiftsAnswer (table, all_entries vectors.now)) }
 {
-    let skeleton = Skeleton::of(alloc, table)?;
+    let skeleton = Skeleton::of_owned(alloc, table)?;
     let system = quad_equations(alloc, &skeleton)?;
     let matching = QuadMatching {
         skeleton: &skeleton,
@@ -116,6 +116,6 @@ pub fn lift(alloc: Global, bytes: &[u8]) -> Result<Outcome, NoMemory>
     ensures { IfOk result (IsReadOutcome (vectors_document bytes.now) IsLiftsAnswer) }
 {
     answer_read(alloc, read_table_and_vectors(alloc, bytes), |document| {
-        run_lift(alloc, &document.table, &document.vectors)
+        run_lift(alloc, document.table, &document.vectors)
     })
 }

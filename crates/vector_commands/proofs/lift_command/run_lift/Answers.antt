@@ -12,11 +12,11 @@ use Rattle.vector_commands.proofs.lift_command.run_lift.Goals as goal
 
 pub returns-in-Ok : goal.returns-in-Ok
 returns-in-Ok c =
-    lifts_told c.in_ok-skeleton.skeleton c.args.table.now c.in_ok-system.system.rows (all_entries c.args.vectors.now) c.with_text.result
+    lifts_told c.in_ok-skeleton.skeleton c.args.table c.in_ok-system.system.rows (all_entries c.args.vectors.now) c.with_text.result
     c.in_ok-skeleton.ensures.rows c.in_ok-skeleton.ensures.skeleton c.in_ok-system.ensures.equations c.in-Ok.text.items c.in-Ok.ensures c.with_text.ensures
 
 pub returns-in-Err-Fault : goal.returns-in-Err-Fault
 returns-in-Err-Fault c = IfOk-weaker c.refusal_outcome.result _ _
-    (λ o h. lift_refused c.in_ok-skeleton.skeleton c.args.table.now c.in_ok-system.system.rows (all_entries c.args.vectors.now) o
+    (λ o h. lift_refused c.in_ok-skeleton.skeleton c.args.table c.in_ok-system.system.rows (all_entries c.args.vectors.now) o
     c.in_ok-skeleton.ensures.rows c.in_ok-skeleton.ensures.skeleton c.in_ok-system.ensures.equations c.in-Err-Fault.first.vector c.in-Err-Fault.first.refusal (subst (λ (e : Failure FirstRefusal). WritesAnswers (IsLifted c.in_ok-skeleton.skeleton c.in_ok-system.system.rows) vector_text (all_entries c.args.vectors.now) (Err e)) c.in-Err-Fault.field-0-is c.in-Err-Fault.ensures) h)
     c.refusal_outcome.ensures
