@@ -1,7 +1,7 @@
 -- What is described has small components.
 use Rattle.vector_commands.proofs.DescribedSurfaces.{small_components}
 use Rattle.vector_commands.proofs.DiscEquations.{surface_of}
-use Rattle.vector_commands.proofs.describe_command.Matching.append_vector.Goals as goal
+use Rattle.vector_commands.proofs.describe_command.Matching.append_vector_with_description.Goals as goal
 
 pub invariant_of-described : goal.invariant_of-described
 invariant_of-described c = record {
