@@ -147,7 +147,7 @@ class MadeUp:
         for name in ("README.md", "CHANGELOG.md", "CITATION.cff", "LICENSE-MIT", "LICENSE-APACHE", "NOTICES", ".gitignore",
                      "python/README.md", "python/wheels.py"):
             shutil.copy(REPOSITORY / name, self.top / name)
-        for name in ("command_definitions", "text_definitions", "outcome_definitions"):
+        for name in ("command_definitions", "text_definitions", "outcome_definitions", "surface_definitions"):
             shutil.copytree(REPOSITORY / "crates" / name / "specs", self.top / "crates" / name / "specs")
         for words in (["init", "-q"], ["add", "-A"], ["-c", "user.name=N", "-c", "user.email=E", "commit", "-qm", "Begin"]):
             subprocess.run(["git", *words], cwd=self.top, check=True)
