@@ -79,6 +79,7 @@ def quick_parts() -> List[Part]:
         Part("links of pages", python("tools/links.py")),
         Part("sentences of pages", python("tools/prose.py", "--check")),
         Part("comments", python("tools/language.py", "--check")),
+        Part("nothing written twice", python("tools/twice.py", "--check")),
     ]
 
 

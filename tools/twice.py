@@ -1,25 +1,28 @@
 #!/usr/bin/env python3
 """Lists lemmas, definitions and functions that are written more than once.
 
-    tools/twice.py [--changed BASE]
+    tools/twice.py [--changed BASE | --check]
 
 Lemmas are compared by their whole statement, definitions by statement and clauses, functions by parameters, result and body.
 Names that an item binds itself do not count. A word that is imported, or defined in the file, counts by where it comes from, so
 two items are in one group only if their words mean the same; words that are copies of each other count as equal. --changed
-prints only the groups with a file that differs from the commit BASE. A group is a place to look at: two statements may be the
-same today for reasons of their own.
+prints only the groups with a file that differs from the commit BASE. Two statements may be the same today for reasons of their
+own: tools/twice_kept.txt has such groups, each with its reason. --check prints the other groups, and the reasons of groups that
+are gone, and ends with 1 if there are any.
 """
 from __future__ import annotations
 
 import argparse
 import re
+import sys
 from collections import defaultdict
 from pathlib import Path
-from typing import Dict, Iterator, List, NamedTuple, Sequence, Set, Tuple
+from typing import Dict, FrozenSet, Iterator, List, NamedTuple, Sequence, Set, Tuple
 
 from refusals import code_of, end_of_block, functions_of
 from repository import TOP, git
 
+KEPT = TOP / "tools" / "twice_kept.txt"
 WORD = re.compile(r"[A-Za-z_][A-Za-z_0-9'\-]*(?<!-)|\d+|\S")
 HEAD = re.compile(r"(?:(?:abbrev|unfoldable|opaque|pub|record|data) )*([^\s:(){}]+)")
 # answers to goals have the names and the statements that the prover asks for
@@ -77,9 +80,9 @@ def module_of(path: str) -> str:
     return "Rattle." + path[len("crates/"):-len(".antt")].replace("/", ".") if path.endswith(".antt") else path
 
 
-def is_definition(statement: str, path: str) -> bool:
-    """Whether an item is compared by its clauses too: it is one of specs/, or its result is no proposition."""
-    return "/specs/" in path or not PROPOSITION.search(statement.rpartition("→")[2].strip())
+def is_definition(statement: str, path: str, kind: str) -> bool:
+    """Whether an item is compared by its clauses too: it is an abbreviation, one of specs/, or its result is no proposition."""
+    return "abbrev" in kind or "/specs/" in path or not PROPOSITION.search(statement.rpartition("→")[2].strip())
 
 
 def items_of_theory(text: str, path: str) -> Iterator[Item]:
@@ -90,7 +93,7 @@ def items_of_theory(text: str, path: str) -> Iterator[Item]:
         if head is None or head[1] == "use" or not re.match(r"[^=]*?\s:\s", block):
             continue
         name, statement = head[1], block[head.end():]
-        for clause in blocks[at + 1:] if is_definition(statement, path) else []:
+        for clause in blocks[at + 1:] if is_definition(statement, path, block[:head.start(1)]) else []:
             if not clause.startswith(f"{name} "):
                 break
             statement += f" ; {clause}"
@@ -145,17 +148,49 @@ def groups_of(items: Sequence[Item]) -> List[List[Item]]:
         copies = {f"{module_of(item.path)}.{item.name}": f"&{number}" for number, group in enumerate(repeated) for item in group}
 
 
-def main() -> None:
+def kept_groups(text: str) -> Dict[FrozenSet[str], str]:
+    """The groups that are kept: paragraphs of a line `PATH: NAME` for each item, and then the reason."""
+    found: Dict[FrozenSet[str], str] = {}
+    for paragraph in re.split(r"\n{2,}", text.strip()):
+        lines = [line for line in paragraph.split("\n") if not line.startswith("#")]
+        items = [line for line in lines if re.fullmatch(r"crates/\S+: \S+", line)]
+        if items:
+            found[frozenset(items)] = " ".join(lines[len(items):])
+    return found
+
+
+def items_in(group: Sequence[Item]) -> List[str]:
+    """The items of a group, as tools/twice_kept.txt has them."""
+    return [f"{item.path}: {item.name}" for item in group]
+
+
+def unexplained(groups: Sequence[Sequence[Item]], kept: Dict[FrozenSet[str], str]) -> List[str]:
+    """What is wrong: groups without a reason, and reasons of groups that are gone."""
+    names = [items_in(group) for group in groups]
+    found = {frozenset(items) for items in names}
+    gone = [sorted(items) for items in kept if items not in found]
+    new = [f"{len(items)} times the same: {', '.join(items)}" for items in names if not kept.get(frozenset(items))]
+    return new + [f"no longer the same: {', '.join(items)}" for items in gone]
+
+
+def main() -> int:
     parser = argparse.ArgumentParser(description="Lists what is written more than once.")
     parser.add_argument("--changed", metavar="BASE", help="only groups with a file that differs from this commit")
-    base = parser.parse_args().changed
+    parser.add_argument("--check", action="store_true", help="only groups without a reason in tools/twice_kept.txt; 1 if there are any")
+    given = parser.parse_args()
     paths = (git(TOP, "ls-files", "crates") or "").split("\n")
-    touched = set((git(TOP, "diff", "--name-only", base) or "").split("\n")) if base else set(paths)
-    groups = [group for group in groups_of(items_of(TOP, paths)) if any(item.path in touched for item in group)]
+    groups = groups_of(items_of(TOP, paths))
+    if given.check:
+        wrong = unexplained(groups, kept_groups(KEPT.read_text("utf8")))
+        print("\n".join(wrong), end="\n" if wrong else "")
+        return 1 if wrong else 0
+    touched = set((git(TOP, "diff", "--name-only", given.changed) or "").split("\n")) if given.changed else set(paths)
+    groups = [group for group in groups if any(item.path in touched for item in group)]
     for group in groups:
-        print(f"{len(group)} times the same: {', '.join(f'{item.path}: {item.name}' for item in group)}")
+        print(f"{len(group)} times the same: {', '.join(items_in(group))}")
     print(f"{len(groups)} groups, {sum(len(group) - 1 for group in groups)} copies")
+    return 0
 
 
 if __name__ == "__main__":
-    main()
+    sys.exit(main())

@@ -8,7 +8,7 @@ from trinorm.program import REPOSITORY
 
 sys.path.insert(0, str(REPOSITORY / "tools"))
 
-from twice import groups_of, items_of  # noqa: E402
+from twice import groups_of, items_of, kept_groups, unexplained  # noqa: E402
 
 LEMMA = "use Rattle.numbers.specs.Sizes.{small, ◌≤◌}\n%s : (x y : ℕ) → small x →\n    small y → (x + y) ≤ z\n%s x y s t = done\n"
 FUNCTION = "use numbers::add;\nfn %s(first: u8, second: u8) -> u8\n    ensures { %s }\n{\n    let sum = add(first, second) + 12;\n    add(sum, sum)\n}\n"
@@ -63,6 +63,27 @@ class Groups(unittest.TestCase):
         body = "fn %s(&self) -> usize\n    ensures { ⊤ }\n{\n    self.%s.len().max(1).min(1_000)\n}\n"
         self.write("a/src/lib.rt", body % ("rows", "rows") + body % ("columns", "columns"))
         self.assertEqual(self.groups(), [])
+
+    def test_abbreviations_count_with_their_clauses(self):
+        """Also if the type of their values has a sign of a proposition."""
+        text = "abbrev %s : List (ℕ × ℕ) → ℕ → List (ℕ × ℕ)\n%s xs n = (n, n) ∷ (n, n + %s) ∷ xs\n"
+        self.write("a/proofs/One.antt", text % ("one", "one", "1") + text % ("two", "two", "2"))
+        self.assertEqual(self.groups(), [])
+
+    def test_kept_groups(self):
+        """A group without a reason is named, and so is a reason whose group is gone."""
+        one = LEMMA % ("one", "one")
+        self.write("a/proofs/One.antt", one)
+        self.write("b/proofs/Same.antt", one.replace("one", "same"))
+        groups = groups_of(items_of(self.top, self.paths))
+        kept = "# a comment\n\ncrates/a/proofs/One.antt: one\ncrates/b/proofs/Same.antt: same\nTwo examples.\n"
+        self.assertEqual(unexplained(groups, kept_groups(kept)), [])
+        for text in ("", kept.replace("Two examples.\n", "")):
+            self.assertEqual(unexplained(groups, kept_groups(text)),
+                             ["2 times the same: crates/a/proofs/One.antt: one, crates/b/proofs/Same.antt: same"])
+        gone = kept + "\ncrates/c/proofs/C.antt: gone\ncrates/a/proofs/One.antt: one\nOnce the same.\n"
+        self.assertEqual(unexplained(groups, kept_groups(gone)),
+                         ["no longer the same: crates/a/proofs/One.antt: one, crates/c/proofs/C.antt: gone"])
 
 
 if __name__ == "__main__":

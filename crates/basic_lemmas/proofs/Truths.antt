@@ -1,10 +1,15 @@
 -- Facts of truth values.
-use Rattle.std.proofs.Common.{◌≡◌, ℕ, Bool, true, false, cond, ◌⊎◌, inl, inr, refl, sym}
+use Rattle.std.proofs.Common.{◌≡◌, ◌≤◌, ℕ, Bool, true, false, cond, ◌⊎◌, inl, inr, refl, sym, arith}
 use Rattle.std.specs.Prelude.{not, if◌then◌else◌, IsTrue}
 
 -- 1 where a truth value is true
 abbrev pub one_if : Bool → ℕ
 one_if b = cond b 1 0
+
+-- a number or 0 is at most the number
+pub chosen_at_most : (b : Bool) (n : ℕ) → (if b then n else 0) ≤ n
+chosen_at_most true n = omega arith
+chosen_at_most false n = omega arith
 
 pub true_or_false : (b : Bool) → (b ≡ true) ⊎ (b ≡ false)
 true_or_false true = inl refl

@@ -14,7 +14,8 @@ use Rattle.move_link_laws.specs.Links.{IsTakenAway, IsLeft, AreAlike, MovesKeepL
 use Rattle.move_link_laws.proofs.Ties.{Ties}
 use Rattle.move_link_laws.proofs.TieShapes.{kept_tie}
 use Rattle.move_link_laws.proofs.Buried.{Buried, tied_or_buried, new_tied_or_buried}
-use Rattle.skeleton_laws.proofs.Spots.{spot, class_of, IsSpot, vertex_spot, vertex_number_again, spot_below}
+use Rattle.skeleton_laws.proofs.Spots.{class_of, IsSpot, vertex_spot, vertex_number_again, spot_below}
+use Rattle.surface_laws.proofs.Vertices.{one_vertex}
 use Rattle.move_link_laws.proofs.TiedSpots.{tie_spot, spot_of_tie, Match, class_over, class_under}
 use Rattle.move_link_laws.proofs.Spheres.{free_of_one}
 use Rattle.move_link_laws.proofs.Euler.{same_link}
@@ -104,16 +105,16 @@ module _ (s : Skeleton) (m : Move) (s' : Skeleton) (k : IsSkeleton s) (k' : IsSk
           (class_of s.vertices.classes p, l, sym (over (class_of s.vertices.classes p) (to_of (class_of s.vertices.classes p)) (match_of (class_of s.vertices.classes p) l) p (vertex j.0) sp t refl) ∙ at)
 
   -- a vertex of a tetrahedron that stays
-  stays_of : (t v : ℕ) → t < length s.rows → has (old_tets s.rows m) t ≡ false → v < 4 → to_of (class_of s.vertices.classes (spot t v)) ≡ class_of s'.vertices.classes (spot (rank_without (old_tets s.rows m) t) v)
+  stays_of : (t v : ℕ) → t < length s.rows → has (old_tets s.rows m) t ≡ false → v < 4 → to_of (class_of s.vertices.classes (one_vertex t v)) ≡ class_of s'.vertices.classes (one_vertex (rank_without (old_tets s.rows m) t) v)
   stays_of t v lt there low =
-      let q : Place = spot (rank_without (old_tets s.rows m) t) v in
-      let sp : IsSpot (length s.rows) (spot t v) = record { v = v; is = refl; below = lt; low = low } in
+      let q : Place = one_vertex (rank_without (old_tets s.rows m) t) v in
+      let sp : IsSpot (length s.rows) (one_vertex t v) = record { v = v; is = refl; below = lt; low = low } in
       let f = free_of_one v in
-      let z : Tie (spot t v) q = kept_tie s.rows m s'.rows k.table h (spot t v) there lt (low, tt) f.0 f.1 f.2 in
-      let c = class_of s.vertices.classes (spot t v) in
-      let match : Matching c (class_of s'.vertices.classes q) = record { p = spot t v; q = q; spot_is = sp; tie = z; here = refl; there = refl } in
-      let l : IsLeft s m c = (k.vertices.in_range _ (spot_below (length s.rows) (spot t v) sp), not_taken s m s' k k' h c (class_of s'.vertices.classes q) match) in
-      sym (over c (to_of c) (match_of c l) (spot t v) q sp z refl)
+      let z : Tie (one_vertex t v) q = kept_tie s.rows m s'.rows k.table h (one_vertex t v) there lt (low, tt) f.0 f.1 f.2 in
+      let c = class_of s.vertices.classes (one_vertex t v) in
+      let match : Matching c (class_of s'.vertices.classes q) = record { p = one_vertex t v; q = q; spot_is = sp; tie = z; here = refl; there = refl } in
+      let l : IsLeft s m c = (k.vertices.in_range _ (spot_below (length s.rows) (one_vertex t v) sp), not_taken s m s' k k' h c (class_of s'.vertices.classes q) match) in
+      sym (over c (to_of c) (match_of c l) (one_vertex t v) q sp z refl)
 
   alike_of : (c : ℕ) (one other : Link) → IsLeft s m c → HasLink s c one → HasLink s' (to_of c) other → AreAlike one other
   alike_of c one other l a b =

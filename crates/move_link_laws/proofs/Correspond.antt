@@ -13,7 +13,8 @@ use Rattle.move_link_laws.specs.Links.{IsTakenAway}
 use Rattle.move_link_laws.proofs.Ties.{few, some, new_at, Ties}
 use Rattle.move_link_laws.proofs.Buried.{Buried, NewBuried}
 use Rattle.move_link_laws.proofs.BuriedChains.{buried_joined, new_buried_joined}
-use Rattle.skeleton_laws.proofs.Spots.{spot, class_of, IsSpot, one_class}
+use Rattle.skeleton_laws.proofs.Spots.{class_of, IsSpot, one_class}
+use Rattle.surface_laws.proofs.Vertices.{one_vertex}
 use Rattle.move_link_laws.proofs.TiedSpots.{tie_not_buried, tie_not_new_buried, Match, all_tied, all_tied_new}
 use Rattle.move_link_laws.proofs.Lone.{lone_core, one_has}
 use Rattle.move_link_laws.proofs.TakenAway.{core_buried, core_is_spot}
@@ -64,18 +65,18 @@ module _ (s : Skeleton) (m : Move) (s' : Skeleton) (k : IsSkeleton s) (k' : IsSk
       let l = lone_core s.rows m s'.rows k.table h (length s.rows) p ls sp b in
       let b0 : In (0 ∷ []) p = subst (λ (ks : List ℕ). In ks p) l.1 b in (
         l.0,
-        (one_class s.rows s.vertices.classes s.vertices.count k.vertices (spot m.tet (slice_index m.core 0)) p (core_is_spot s.rows m s'.rows k.table h l.0) sp).1
-            (buried_joined s.rows m s'.rows k.table h (0 ∷ []) (spot m.tet (slice_index m.core 0)) p (core_buried s.rows m s'.rows k.table h l.0) b0),
+        (one_class s.rows s.vertices.classes s.vertices.count k.vertices (one_vertex m.tet (slice_index m.core 0)) p (core_is_spot s.rows m s'.rows k.table h l.0) sp).1
+            (buried_joined s.rows m s'.rows k.table h (0 ∷ []) (one_vertex m.tet (slice_index m.core 0)) p (core_buried s.rows m s'.rows k.table h l.0) b0),
       )
 
   -- and such a class has no vertex that stands for one
   pub not_taken : (c c' : ℕ) → Matching c c' → IsTakenAway s m c → ⊥
   not_taken c c' t (one, at) =
-      let z = all_tied s.rows m s'.rows k.table h s.vertices.classes s.vertices.count k.vertices s'.vertices.classes s'.vertices.count k'.vertices c c' t (spot m.tet (slice_index m.core 0)) (core_is_spot s.rows m s'.rows k.table h one) at in
-      tie_not_buried s.rows m s'.rows k.table h (0 ∷ []) (spot m.tet (slice_index m.core 0)) z.0 z.1 (core_buried s.rows m s'.rows k.table h one)
+      let z = all_tied s.rows m s'.rows k.table h s.vertices.classes s.vertices.count k.vertices s'.vertices.classes s'.vertices.count k'.vertices c c' t (one_vertex m.tet (slice_index m.core 0)) (core_is_spot s.rows m s'.rows k.table h one) at in
+      tie_not_buried s.rows m s'.rows k.table h (0 ∷ []) (one_vertex m.tet (slice_index m.core 0)) z.0 z.1 (core_buried s.rows m s'.rows k.table h one)
 
   -- the vertex that is put in
-  added_buried : length m.core ≡ 4 → New (4 ∷ []) (spot (kept s.rows m) 3)
+  added_buried : length m.core ≡ 4 → New (4 ∷ []) (one_vertex (kept s.rows m) 3)
   unfolding preimage
   added_buried e = record {
     j = 0;
@@ -83,22 +84,22 @@ module _ (s : Skeleton) (m : Move) (s' : Skeleton) (k : IsSkeleton s) (k' : IsSk
     small = (omega arith, tt);
     off = refl;
     all = λ i low high. (let q : 4 ≡ i = omega arith in (λ z. eq-eqb 4 i q z || false));
-    to = λ i. spot (tets i) 3;
+    to = λ i. one_vertex (tets i) 3;
   }
     where
       tets : kept s.rows m ≡ kept s.rows m + 0
       tets = omega arith
 
-  added_spot : length m.core ≡ 4 → IsSpot (length s'.rows) (spot (kept s.rows m) 3)
+  added_spot : length m.core ≡ 4 → IsSpot (length s'.rows) (one_vertex (kept s.rows m) 3)
   added_spot e = record { v = 3; is = refl; below = (let l = h.length_is in omega arith); low = omega arith }
 
-  back_taken : (c : ℕ) → IsTakenAway s' (inverse_move (length s.rows) m) c → (length m.core ≡ 4) × (class_of s'.vertices.classes (spot (kept s.rows m) 3) ≡ c)
+  back_taken : (c : ℕ) → IsTakenAway s' (inverse_move (length s.rows) m) c → (length m.core ≡ 4) × (class_of s'.vertices.classes (one_vertex (kept s.rows m) 3) ≡ c)
   back_taken c (one, at) =
       let e : length m.core ≡ 4 = core_of_back (length m.core) one (few s.rows m s'.rows k.table h) (some s.rows m s'.rows k.table h) in
       let core : slice_index (drop (length m.core - 1) four) 0 ≡ 3 = ap (λ z. slice_index (drop (z - 1) four) 0) e in
       (e, (λ i. slice_index s'.vertices.classes (vertex_number (kept s.rows m) (sym core i))) ∙ at)
 
-  taken_back : (c : ℕ) → length m.core ≡ 4 → class_of s'.vertices.classes (spot (kept s.rows m) 3) ≡ c → IsTakenAway s' (inverse_move (length s.rows) m) c
+  taken_back : (c : ℕ) → length m.core ≡ 4 → class_of s'.vertices.classes (one_vertex (kept s.rows m) 3) ≡ c → IsTakenAway s' (inverse_move (length s.rows) m) c
   taken_back c e at =
       let core : slice_index (drop (length m.core - 1) four) 0 ≡ 3 = ap (λ z. slice_index (drop (z - 1) four) 0) e in
       (ap (λ z. length (drop (z - 1) four)) e, (λ i. slice_index s'.vertices.classes (vertex_number (kept s.rows m) (core i))) ∙ at)
@@ -125,11 +126,11 @@ module _ (s : Skeleton) (m : Move) (s' : Skeleton) (k : IsSkeleton s) (k' : IsSk
   put_from q ls sq b =
       let l = lone_added (length s'.rows) q ls sq b in
       let b0 : New (4 ∷ []) q = subst (λ (ks : List ℕ). New ks q) l.1 b in
-      taken_back (class_of s'.vertices.classes q) l.0 ((one_class s'.rows s'.vertices.classes s'.vertices.count k'.vertices (spot (kept s.rows m) 3) q (added_spot l.0) sq).1
-      (new_buried_joined s.rows m s'.rows k.table h (4 ∷ []) (spot (kept s.rows m) 3) q (added_buried l.0) b0))
+      taken_back (class_of s'.vertices.classes q) l.0 ((one_class s'.rows s'.vertices.classes s'.vertices.count k'.vertices (one_vertex (kept s.rows m) 3) q (added_spot l.0) sq).1
+      (new_buried_joined s.rows m s'.rows k.table h (4 ∷ []) (one_vertex (kept s.rows m) 3) q (added_buried l.0) b0))
 
   pub not_put : (c c' : ℕ) → Matching c c' → IsTakenAway s' (inverse_move (length s.rows) m) c' → ⊥
   not_put c c' t taken =
       let e = back_taken c' taken in
-      let z = all_tied_new s.rows m s'.rows k.table h s.vertices.classes s.vertices.count k.vertices s'.vertices.classes s'.vertices.count k'.vertices c c' t (spot (kept s.rows m) 3) (added_spot e.0) e.1 in
-      tie_not_new_buried s.rows m s'.rows k.table h (4 ∷ []) z.0 (spot (kept s.rows m) 3) z.1 (added_buried e.0)
+      let z = all_tied_new s.rows m s'.rows k.table h s.vertices.classes s.vertices.count k.vertices s'.vertices.classes s'.vertices.count k'.vertices c c' t (one_vertex (kept s.rows m) 3) (added_spot e.0) e.1 in
+      tie_not_new_buried s.rows m s'.rows k.table h (4 ∷ []) z.0 (one_vertex (kept s.rows m) 3) z.1 (added_buried e.0)

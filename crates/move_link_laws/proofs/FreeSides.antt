@@ -23,7 +23,8 @@ use Rattle.skeleton_laws.proofs.Sides.{side_face, is_side}
 use Rattle.skeleton_laws.proofs.SideParts.{IsSideAt, side_is, is_side_from, HasParts, has_parts, side_number}
 use Rattle.skeleton_laws.proofs.Halves.{frees, free_is, is_free}
 use Rattle.move_link_laws.proofs.Ties.{fine, Ties}
-use Rattle.skeleton_laws.proofs.Spots.{spot, IsSpot}
+use Rattle.skeleton_laws.proofs.Spots.{IsSpot}
+use Rattle.surface_laws.proofs.Vertices.{one_vertex}
 use Rattle.move_link_laws.proofs.TiedSpots.{Match, class_over}
 use Rattle.move_link_laws.proofs.StarLabels.{off_one}
 
@@ -83,10 +84,10 @@ module _ (old : List Row) (m : Move) (new : List Row) (table : IsTable old) (h :
     permutes x s lt lf e = stand_permutes old m table (fine old m new table h) h.core x s lt lf e
 
     -- the vertex of a side stands over its face
-    pub tie_at : (x : Face) (v : ℕ) (s : Gluing) → x.tet < length old → x.face < 4 → v < 4 → v ≢ x.face → place_after old m x ≡ Some s → Tie (spot x.tet v) (spot s.tet (image s.perm v))
+    pub tie_at : (x : Face) (v : ℕ) (s : Gluing) → x.tet < length old → x.face < 4 → v < 4 → v ≢ x.face → place_after old m x ≡ Some s → Tie (one_vertex x.tet v) (one_vertex s.tet (image s.perm v))
     tie_at x v s lt lf lv ne e = record { face = x.face; by = s; tet = lt; place = (lv, tt); low = lf; off = off_one v x.face ne; stands = e; is = refl }
 
-    pub spot_at : (t v : ℕ) → t < length old → v < 4 → IsSpot (length old) (spot t v)
+    pub spot_at : (t v : ℕ) → t < length old → v < 4 → IsSpot (length old) (one_vertex t v)
     spot_at t v lt lv = record { v = v; is = refl; below = lt; low = lv }
 
     pub low_v : (k : ℕ) → k / 4 % 4 < 4
@@ -144,7 +145,7 @@ module _ (old : List Row) (m : Move) (new : List Row) (table : IsTable old) (h :
         off e = images_apart s.perm (k / 4 % 4) (k % 4) hs (low_v k) (low_f k) side.off (sym parts.vertex ∙ e ∙ parts.face)
 
         at : slice_index vs' (under s k / 4) ≡ c'
-        at = ap (slice_index vs') parts.place ∙ class_over old m new table h vs n numbered vs' n' numbered' c c' match (spot (k / 4 / 4) (k / 4 % 4)) (spot s.tet (image s.perm (k / 4 % 4))) (spot_at (k / 4 / 4) (k / 4 % 4) lt (low_v k))
+        at = ap (slice_index vs') parts.place ∙ class_over old m new table h vs n numbered vs' n' numbered' c c' match (one_vertex (k / 4 / 4) (k / 4 % 4)) (one_vertex s.tet (image s.perm (k / 4 % 4))) (spot_at (k / 4 / 4) (k / 4 % 4) lt (low_v k))
             (tie_at (side_face k) (k / 4 % 4) s lt (low_f k) (low_v k) side.off stands) (ap (slice_index vs) (place_of k) ∙ side.at)
 
         none : glue new (side_face (under s k)) ≡ None

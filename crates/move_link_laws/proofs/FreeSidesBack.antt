@@ -20,7 +20,8 @@ use Rattle.skeleton_laws.proofs.SideParts.{IsSideAt, side_is, is_side_from, HasP
 use Rattle.skeleton_laws.proofs.Halves.{frees, free_is, is_free}
 use Rattle.skeleton_laws.proofs.TwiceEdges.{free_count}
 use Rattle.move_link_laws.proofs.Ties.{fine, Ties}
-use Rattle.skeleton_laws.proofs.Spots.{spot, class_of}
+use Rattle.skeleton_laws.proofs.Spots.{class_of}
+use Rattle.surface_laws.proofs.Vertices.{one_vertex}
 use Rattle.move_link_laws.proofs.TiedSpots.{Match, class_under}
 use Rattle.move_link_laws.proofs.FreeSides.{StandsSide, permutes, tie_at, spot_at, low_v, low_f, place_of, forth}
 
@@ -107,14 +108,14 @@ module _ (old : List Row) (m : Move) (new : List Row) (table : IsTable old) (h :
             stands : place_after old m (side_face k) ≡ Some s
             stands = ap (place_after old m) face ∙ o.stands
 
-            tie : Tie (spot x.tet v) (spot s.tet (image s.perm v))
+            tie : Tie (one_vertex x.tet v) (one_vertex s.tet (image s.perm v))
             tie = tie_at old m new table h table' vs n numbered vs' n' numbered' c c' match x v s o.tet o.face lv ne o.stands
 
-            spots : spot s.tet (image s.perm v) ≡ spot (k' / 4 / 4) v'
-            spots = λ i. spot ((o.is i).tet) (there i)
+            spots : one_vertex s.tet (image s.perm v) ≡ one_vertex (k' / 4 / 4) v'
+            spots = λ i. one_vertex ((o.is i).tet) (there i)
 
             at : slice_index vs (k / 4) ≡ c
-            at = ap (slice_index vs) parts.place ∙ class_under old m new table h vs n numbered vs' n' numbered' c c' match (spot x.tet v) (spot s.tet (image s.perm v)) (spot_at old m new table h table' vs n numbered vs' n' numbered' c c' match x.tet v o.tet lv) tie
+            at = ap (slice_index vs) parts.place ∙ class_under old m new table h vs n numbered vs' n' numbered' c c' match (one_vertex x.tet v) (one_vertex s.tet (image s.perm v)) (spot_at old m new table h table' vs n numbered vs' n' numbered' c c' match x.tet v o.tet lv) tie
                 (ap (class_of vs') spots ∙ ap (slice_index vs') (place_of old m new table h table' vs n numbered vs' n' numbered' c c' match k') ∙ side.at)
 
             none_from : (q : Option Gluing) → glue old x ≡ q → glue old x ≡ None

@@ -14,7 +14,8 @@ use Rattle.skeleton_definitions.specs.Links.{vertex_number, AreLinkSigns, IsOrie
 use Rattle.skeleton_class_laws.specs.Crossings.{vertex_at}
 use Rattle.move_laws.proofs.Parities.{behind}
 use Rattle.move_link_laws.proofs.Labelled.{head_off}
-use Rattle.skeleton_laws.proofs.Spots.{spot, class_of, IsSpot, spot_below, vertex_spot, spot_again, vertex_number_again}
+use Rattle.skeleton_laws.proofs.Spots.{class_of, IsSpot, spot_below, vertex_spot, spot_again, vertex_number_again}
+use Rattle.surface_laws.proofs.Vertices.{one_vertex}
 
 abbrev pub S : List Bool → Place → Bool
 S signs p = sign_of signs (vertex_at p)
@@ -54,6 +55,6 @@ module _ (rows : List Row) (vs : List ℕ) (c : ℕ) (long : length vs ≡ 4 * l
       at (inl l) (inl f) = unfold chosen in one (vertex (vertex_at p)) p (vertex_spot (length rows) (vertex_at p) l) s (ap (slice_index vs) (vertex_number_again (vertex_at p)) ∙ f) e (spot_again (length rows) p s)
 
   pub signs_from : ((t v f : ℕ) (g : Gluing) → v < 4 → f < 4 → (v ≡ f → ⊥) → slice_index vs (vertex_number t v) ≡ c → glue rows (record { tet = t; face = f }) ≡ Some g
-      → S listed (spot g.tet (image g.perm v)) ≡ behind (is_odd g.perm) (S listed (spot t v))) → IsOrientableLink rows vs c
+      → S listed (one_vertex g.tet (image g.perm v)) ≡ behind (is_odd g.perm) (S listed (one_vertex t v))) → IsOrientableLink rows vs c
   unfolding listed
   signs_from agree = (listed, length-map (below (length vs)) sign ∙ length-range_with_len 0 (length vs), agree)

@@ -16,7 +16,8 @@ use Rattle.skeleton_class_laws.specs.Crossings.{pair, vertex_at}
 use Rattle.skeleton_laws.proofs.Matchings.{related_same, passing_apart}
 use Rattle.skeleton_laws.proofs.EdgeEnds.{EdgeAt, edge_ends_at, edge_below, reverses_edge}
 use Rattle.move_link_laws.proofs.Valid.{two_of}
-use Rattle.skeleton_laws.proofs.Spots.{spot, class_of, IsSpot, one_class, vertex_spot, spot_again, vertex_number_again}
+use Rattle.skeleton_laws.proofs.Spots.{class_of, IsSpot, one_class, vertex_spot, spot_again, vertex_number_again}
+use Rattle.surface_laws.proofs.Vertices.{one_vertex}
 use Rattle.skeleton_laws.proofs.Arrows.{IsArrow, arrow_place, directed_arrow, tail_of}
 use Rattle.skeleton_laws.proofs.LinkCorners.{tail_spot, is_of_class, member_is, is_member, length-members, is_corner_number, corner_is, same_corner, length-corners, members, corners, found}
 use Rattle.move_link_laws.proofs.Relabelled.{under, IsWithin, permutes, within_new, came_from, one_under, joined_both}
@@ -148,7 +149,7 @@ module _ (old : List Row) (new : List Row) (table : IsTable old) (table' : IsTab
       arrow_there j a = directed_arrow (length new) j (corner_is new vs' n' numbered' c' ds' d' arrows' j a).below
 
       tails_under : (p : Place) → IsArrow (length old) p → tail_of (under by p) ≡ under by (tail_of p)
-      tails_under p a = (λ i. spot (relabelled_place by p.tet).tet (slice_index (map (image (relabelled_place by p.tet).perm) (a.is i).vertices) 0)) ∙ (λ i. spot (relabelled_place by p.tet).tet (image (relabelled_place by p.tet).perm (slice_index (sym a.is i).vertices 0)))
+      tails_under p a = (λ i. one_vertex (relabelled_place by p.tet).tet (slice_index (map (image (relabelled_place by p.tet).perm) (a.is i).vertices) 0)) ∙ (λ i. one_vertex (relabelled_place by p.tet).tet (image (relabelled_place by p.tet).perm (slice_index (sym a.is i).vertices 0)))
 
       abbrev Corner : ℕ → ℕ → Type 0
       Corner i j = (i < 12 * length old) × IsJoined new (under by (directed i)) (directed j)

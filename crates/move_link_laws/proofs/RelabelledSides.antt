@@ -18,7 +18,8 @@ use Rattle.skeleton_laws.proofs.Sides.{side_face, is_side, free_side}
 use Rattle.skeleton_laws.proofs.SideParts.{IsSideAt, side_is, is_side_from, HasParts, has_parts, number_again, side_number}
 use Rattle.skeleton_laws.proofs.Halves.{frees, free_is, is_free}
 use Rattle.skeleton_laws.proofs.TwiceEdges.{free_count, closed_told, twice_edges}
-use Rattle.skeleton_laws.proofs.Spots.{spot, class_of, IsSpot}
+use Rattle.skeleton_laws.proofs.Spots.{class_of, IsSpot}
+use Rattle.surface_laws.proofs.Vertices.{one_vertex}
 use Rattle.move_link_laws.proofs.Relabelled.{under, one_under}
 use Rattle.move_link_laws.proofs.RelabelledLinks.{perm_at, spot_under, class_over, class_back, triangles_same, vertices_same}
 
@@ -64,8 +65,8 @@ module _ (old : List Row) (new : List Row) (table : IsTable old) (table' : IsTab
               let s : Gluing = relabelled_place by (k / 4 / 4) in
               let hs : IsPermutationOfFour (relabelled_place by (k / 4 / 4)).perm = perm_at old new table table' by is carries (k / 4 / 4) lt in
               let parts = side_parts k lt in
-              let p : Place = spot (k / 4 / 4) (k / 4 % 4) in
-              let ps : IsSpot (length old) (spot (k / 4 / 4) (k / 4 % 4)) = record { v = k / 4 % 4; is = refl; below = lt; low = low_v k } in
+              let p : Place = one_vertex (k / 4 / 4) (k / 4 % 4) in
+              let ps : IsSpot (length old) (one_vertex (k / 4 / 4) (k / 4 % 4)) = record { v = k / 4 % 4; is = refl; below = lt; low = low_v k } in
               let place : 4 * (k / 4 / 4) + k / 4 % 4 ≡ k / 4 = omega arith in
               let at : slice_index vs' (across_side k / 4) ≡ c' = ap (slice_index vs') parts.place ∙ class_over old new table table' by is carries vs n numbered vs' n' numbered' p0 s0 p ps (ap (slice_index vs) place ∙ side.at) in
               let off : across_side k / 4 % 4 ≢ across_side k % 4 = (λ e. images_apart s.perm (k / 4 % 4) (k % 4) hs (low_v k) (low_f k) side.off (sym parts.vertex ∙ e ∙ parts.face)) in
@@ -125,17 +126,17 @@ module _ (old : List Row) (new : List Row) (table : IsTable old) (table' : IsTab
               off : k / 4 % 4 ≢ k % 4
               off e = ne (sym parts.vertex ∙ e ∙ parts.face)
 
-              ps : IsSpot (length old) (spot x.tet v)
+              ps : IsSpot (length old) (one_vertex x.tet v)
               ps = record { v = v; is = refl; below = came.1.tet; low = lv }
 
-              spots : under by (spot x.tet v) ≡ spot (j / 4 / 4) (j / 4 % 4)
-              spots = λ i. spot ((came.1.is i).tet) (there i)
+              spots : under by (one_vertex x.tet v) ≡ one_vertex (j / 4 / 4) (j / 4 % 4)
+              spots = λ i. one_vertex ((came.1.is i).tet) (there i)
 
               place : 4 * (j / 4 / 4) + j / 4 % 4 ≡ j / 4
               place = omega arith
 
               at : slice_index vs (k / 4) ≡ c
-              at = ap (slice_index vs) parts.place ∙ class_back old new table table' by is carries vs n numbered vs' n' numbered' p0 s0 (spot x.tet v) ps (ap (class_of vs') spots ∙ ap (slice_index vs') place ∙ side.at)
+              at = ap (slice_index vs) parts.place ∙ class_back old new table table' by is carries vs n numbered vs' n' numbered' p0 s0 (one_vertex x.tet v) ps (ap (class_of vs') spots ∙ ap (slice_index vs') place ∙ side.at)
 
               none_from : (o : Option Gluing) → glue old x ≡ o → glue old x ≡ None
               none_from None e = e
@@ -156,10 +157,10 @@ module _ (old : List Row) (new : List Row) (table : IsTable old) (table' : IsTab
               let p = side_parts k r.0 in
               let q = side_parts l s.0 in
               let same : across_side k ≡ across_side l = r.1 ∙ sym s.1 in
-              let vertices = one_under old new table by is carries (spot (k / 4 / 4) (k / 4 % 4)) (spot (l / 4 / 4) (l / 4 % 4)) (record { below = r.0; place = (low_v k, tt) }) (record { below = s.0; place = (low_v l, tt) })
-              ((λ i. spot (sym p.tet i) (sym p.vertex i)) ∙ (λ i. spot (same i / 4 / 4) (same i / 4 % 4)) ∙ (λ i. spot (q.tet i) (q.vertex i))) in
-              let faces = one_under old new table by is carries (spot (k / 4 / 4) (k % 4)) (spot (l / 4 / 4) (l % 4)) (record { below = r.0; place = (low_f k, tt) }) (record { below = s.0; place = (low_f l, tt) })
-              ((λ i. spot (sym p.tet i) (sym p.face i)) ∙ (λ i. spot (same i / 4 / 4) (same i % 4)) ∙ (λ i. spot (q.tet i) (q.face i))) in
+              let vertices = one_under old new table by is carries (one_vertex (k / 4 / 4) (k / 4 % 4)) (one_vertex (l / 4 / 4) (l / 4 % 4)) (record { below = r.0; place = (low_v k, tt) }) (record { below = s.0; place = (low_v l, tt) })
+              ((λ i. one_vertex (sym p.tet i) (sym p.vertex i)) ∙ (λ i. one_vertex (same i / 4 / 4) (same i / 4 % 4)) ∙ (λ i. one_vertex (q.tet i) (q.vertex i))) in
+              let faces = one_under old new table by is carries (one_vertex (k / 4 / 4) (k % 4)) (one_vertex (l / 4 / 4) (l % 4)) (record { below = r.0; place = (low_f k, tt) }) (record { below = s.0; place = (low_f l, tt) })
+              ((λ i. one_vertex (sym p.tet i) (sym p.face i)) ∙ (λ i. one_vertex (same i / 4 / 4) (same i % 4)) ∙ (λ i. one_vertex (q.tet i) (q.face i))) in
               let a : k / 4 / 4 ≡ l / 4 / 4 = ap (λ (x : Place). x.tet) vertices in
               let b : k / 4 % 4 ≡ l / 4 % 4 = ap (λ (x : Place). slice_index x.vertices 0) vertices in
               let e : k % 4 ≡ l % 4 = ap (λ (x : Place). slice_index x.vertices 0) faces in

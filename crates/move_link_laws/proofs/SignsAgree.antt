@@ -26,7 +26,8 @@ use Rattle.move_link_laws.proofs.Ties.{fine, new_at, small_label, new_step, Ties
 use Rattle.move_link_laws.proofs.TieShapes.{tie_shape_by, facet_tie, facet_tie_by}
 use Rattle.move_link_laws.proofs.JoinedBack.{there_again}
 use Rattle.move_link_laws.proofs.Joined.{through as through_them}
-use Rattle.skeleton_laws.proofs.Spots.{spot, class_of, IsSpot, one_class}
+use Rattle.skeleton_laws.proofs.Spots.{class_of, IsSpot, one_class}
+use Rattle.surface_laws.proofs.Vertices.{one_vertex}
 use Rattle.move_link_laws.proofs.TiedSpots.{Match}
 use Rattle.move_link_laws.proofs.StarLabels.{off_one}
 use Rattle.move_link_laws.proofs.Parity.{new_parity}
@@ -46,16 +47,16 @@ module _ (old : List Row) (m : Move) (new : List Row) (table : IsTable old) (tab
     -- a vertex of the new table, a face of it and the gluing there
     module _ (t v f : ℕ) (g' : Gluing) (lv : v < 4) (lf : f < 4) (ne : v ≡ f → ⊥) (own : slice_index vs' (vertex_number t v) ≡ c') (glued' : glue new (record { tet = t; face = f }) ≡ Some g') where
       abbrev q : Place
-      q = spot t v
+      q = one_vertex t v
 
       abbrev q' : Place
-      q' = spot g'.tet (image g'.perm v)
+      q' = one_vertex g'.tet (image g'.perm v)
 
-      spot_q : IsSpot (length new) (spot t v)
+      spot_q : IsSpot (length new) (one_vertex t v)
       spot_q = record { v = v; is = refl; below = glued_tet new (record { tet = t; face = f }) g' glued'; low = lv }
 
       abbrev Agrees : Type 0
-      Agrees = (spot' : IsSpot (length new) (spot g'.tet (image g'.perm v))) × (own' : class_of vs' (spot g'.tet (image g'.perm v)) ≡ c') × (value old m new table table' h vs n numbered vs' n' numbered' c c' match signs are (spot g'.tet (image g'.perm v)) spot' own' ≡ behind (is_odd g'.perm) (value old m new table table' h vs n numbered vs' n' numbered' c c' match signs are (spot t v) spot_q own))
+      Agrees = (spot' : IsSpot (length new) (one_vertex g'.tet (image g'.perm v))) × (own' : class_of vs' (one_vertex g'.tet (image g'.perm v)) ≡ c') × (value old m new table table' h vs n numbered vs' n' numbered' c c' match signs are (one_vertex g'.tet (image g'.perm v)) spot' own' ≡ behind (is_odd g'.perm) (value old m new table table' h vs n numbered vs' n' numbered' c c' match signs are (one_vertex t v) spot_q own))
 
       outside : StandsForOld old m (face_at t f) → Agrees
       outside o = by_gluing (glue old x) refl
@@ -85,7 +86,7 @@ module _ (old : List Row) (m : Move) (new : List Row) (table : IsTable old) (tab
           face_is = sym (image-of_inverse s.perm x.face hs o.face) ∙ ap (image (inverse s.perm)) f_is
 
           p : Place
-          p = spot x.tet w
+          p = one_vertex x.tet w
 
           spot_p : IsSpot (length old) p
           spot_p = record { v = w; is = refl; below = o.tet; low = lw }
@@ -93,7 +94,7 @@ module _ (old : List Row) (m : Move) (new : List Row) (table : IsTable old) (tab
           off : has (w ∷ []) x.face ≡ false
           off = ap (has (w ∷ [])) face_is ∙ has-images (inverse s.perm) (v ∷ []) f hi (lv, tt) lf ∙ off_one v f ne
 
-          tie : Tie p (spot t v)
+          tie : Tie p (one_vertex t v)
           tie = record { face = x.face; by = s; tet = o.tet; place = (lw, tt); low = o.face; off = off; stands = o.stands; is = λ i. record { tet = (sym o.is i).tet; vertices = sym (there_again s.perm (v ∷ []) hs (lv, tt)) i } }
 
           moved : option_and_then (moved_gluing old m x s) (glue old x) ≡ Some g'
@@ -113,10 +114,10 @@ module _ (old : List Row) (m : Move) (new : List Row) (table : IsTable old) (tab
               let is : gluing_under s other.0 g ≡ g' = cc in
               let p' : Place = carried g p in
               let spot_p' : IsSpot (length old) (carried g p) = record { v = image g.perm w; is = refl; below = lt'; low = lw' } in
-              let through : carried other.0 (carried g p) ≡ spot g'.tet (image g'.perm v) =
+              let through : carried other.0 (carried g p) ≡ one_vertex g'.tet (image g'.perm v) =
               (λ i. record { tet = other.0.tet; vertices = sym (through_them other.0.perm g.perm s.perm (w ∷ []) hr hg hs (lw, tt)) i })
-              ∙ (λ i. record { tet = other.0.tet; vertices = map (image (gluing_under s other.0 g).perm) (there_again s.perm (v ∷ []) hs (lv, tt) i) }) ∙ (λ i. spot (is i).tet (image (is i).perm v)) in
-              let tie' : Tie (carried g p) (spot g'.tet (image g'.perm v)) = record {
+              ∙ (λ i. record { tet = other.0.tet; vertices = map (image (gluing_under s other.0 g).perm) (there_again s.perm (v ∷ []) hs (lv, tt) i) }) ∙ (λ i. one_vertex (is i).tet (image (is i).perm v)) in
+              let tie' : Tie (carried g p) (one_vertex g'.tet (image g'.perm v)) = record {
                 face = image g.perm x.face;
                 by = other.0;
                 tet = lt';
@@ -126,14 +127,14 @@ module _ (old : List Row) (m : Move) (new : List Row) (table : IsTable old) (tab
                 stands = other.1;
                 is = sym through;
               } in
-              let e0 : class_of vs p ≡ c = under old m new table table' h vs n numbered vs' n' numbered' c c' match p (spot t v) spot_p tie own in
+              let e0 : class_of vs p ≡ c = under old m new table table' h vs n numbered vs' n' numbered' c c' match p (one_vertex t v) spot_p tie own in
               let sign : S signs (carried g p) ≡ behind (is_odd g.perm) (S signs p) = agree_at old vs c signs are (length old) p spot_p x.face g o.face off e0 e in
-              let spot' : IsSpot (length new) (spot g'.tet (image g'.perm v)) = new_spot old m new table table' h vs n numbered vs' n' numbered' c c' match (carried g p) (spot g'.tet (image g'.perm v)) spot_p' tie' in
-              let own' : class_of vs' (spot g'.tet (image g'.perm v)) ≡ c' = over old m new table table' h vs n numbered vs' n' numbered' c c' match (carried g p) (spot g'.tet (image g'.perm v)) spot_p' tie' (next_class g e e0) in (
+              let spot' : IsSpot (length new) (one_vertex g'.tet (image g'.perm v)) = new_spot old m new table table' h vs n numbered vs' n' numbered' c c' match (carried g p) (one_vertex g'.tet (image g'.perm v)) spot_p' tie' in
+              let own' : class_of vs' (one_vertex g'.tet (image g'.perm v)) ≡ c' = over old m new table table' h vs n numbered vs' n' numbered' c c' match (carried g p) (one_vertex g'.tet (image g'.perm v)) spot_p' tie' (next_class g e e0) in (
                 spot',
                 own',
-                value_is old m new table table' h vs n numbered vs' n' numbered' c c' match signs are (carried g p) (spot g'.tet (image g'.perm v)) spot' own' tie' ∙ ap (flip (is_odd other.0.perm)) sign ∙ across_sign other.0.perm g.perm s.perm hr hg hs (S signs p)
-                    ∙ (λ i. behind (is_odd (is i).perm) (flip (is_odd s.perm) (S signs p))) ∙ ap (behind (is_odd g'.perm)) (sym (value_is old m new table table' h vs n numbered vs' n' numbered' c c' match signs are p (spot t v) spot_q own tie)),
+                value_is old m new table table' h vs n numbered vs' n' numbered' c c' match signs are (carried g p) (one_vertex g'.tet (image g'.perm v)) spot' own' tie' ∙ ap (flip (is_odd other.0.perm)) sign ∙ across_sign other.0.perm g.perm s.perm hr hg hs (S signs p)
+                    ∙ (λ i. behind (is_odd (is i).perm) (flip (is_odd s.perm) (S signs p))) ∙ ap (behind (is_odd g'.perm)) (sym (value_is old m new table table' h vs n numbered vs' n' numbered' c c' match signs are p (one_vertex t v) spot_q own tie)),
               )
             where
               next_class : (g : Gluing) → glue old x ≡ Some g → class_of vs p ≡ c → class_of vs (carried g p) ≡ c
@@ -142,15 +143,15 @@ module _ (old : List Row) (m : Move) (new : List Row) (table : IsTable old) (tab
                   sym ((one_class old vs n numbered p (carried g p) spot_p (record { v = image g.perm w; is = refl; below = table.in_range x g e; low = image_below g.perm (table.permutes x g e) w lw })).1 step) ∙ e0
 
       inside : IsInner old m (face_at t f) → Agrees
-      inside i = go (tie_shape_by old m new table h u.0 (spot t v) u.1)
+      inside i = go (tie_shape_by old m new table h u.0 (one_vertex t v) u.1)
         where
-          u : (p : Place) × Tie p (spot t v)
-          u = tied old m new table table' h vs n numbered vs' n' numbered' c c' match signs are (spot t v) spot_q own
+          u : (p : Place) × Tie p (one_vertex t v)
+          u = tied old m new table table' h vs n numbered vs' n' numbered' c c' match signs are (one_vertex t v) spot_q own
 
           spot_u : IsSpot (length old) u.0
-          spot_u = old_spot old m new table table' h vs n numbered vs' n' numbered' c c' match signs are u.0 (spot t v) spot_q u.1
+          spot_u = old_spot old m new table table' h vs n numbered vs' n' numbered' c c' match signs are u.0 (one_vertex t v) spot_q u.1
 
-          go : (KeptTie old m new table h u.0 (spot t v) × (u.1.by.perm ≡ identity)) ⊎ ((a : FacetTie old m new table h u.0 (spot t v)) × (u.1.by.perm ≡ crossing a.i a.j a.f.labels)) → Agrees
+          go : (KeptTie old m new table h u.0 (one_vertex t v) × (u.1.by.perm ≡ identity)) ⊎ ((a : FacetTie old m new table h u.0 (one_vertex t v)) × (u.1.by.perm ≡ crossing a.i a.j a.f.labels)) → Agrees
           go (inl k) = absurd (let low : rank_without (old_tets old m) u.0.tet < kept old m = closed_up_small old m u.0.tet table (fine old m new table h) h.core k.0.tet k.0.stays in
               let tets : kept old m + i.j ≡ rank_without (old_tets old m) u.0.tet = (λ z. (i.is z).tet) ∙ ap (λ (r : Place). r.tet) k.0.is in omega arith)
           go (inr (a, ea)) =
@@ -165,14 +166,14 @@ module _ (old : List Row) (m : Move) (new : List Row) (table : IsTable old) (tab
               let st : Steps new (in_facet (at a.j) a.ls) (vertex_of (at a.j) i.l) (in_facet (at i.l) a.ls) = steps_across new (in_facet (at a.j) a.ls) (vertex_of (at a.j) i.l) (in_facet (at i.l) a.ls) (new_step old m new table h a.j i.l a.ls a.less i.l_small apart a.small a.off_j off_l) in
               let there : Some st.gluing ≡ Some g' = sym st.glued ∙ (λ z. glue new (face_at ((sym a.to z).tet) (face z))) ∙ glued' in
               let same : st.gluing ≡ g' = cc in
-              let lands : in_facet (at i.l) a.ls ≡ spot g'.tet (image g'.perm v) = st.lands ∙ (λ z. carried (same z) (sym a.to z)) in
+              let lands : in_facet (at i.l) a.ls ≡ one_vertex g'.tet (image g'.perm v) = st.lands ∙ (λ z. carried (same z) (sym a.to z)) in
               let tie0 : Tie (in_facet a.f a.ls) (in_facet (at i.l) a.ls) = facet_tie old m new table h a.i i.l a.f a.ls a.old_is i.l_small a.small a.off_i off_l in
               let by0 : tie0.by.perm ≡ crossing a.i i.l a.f.labels = facet_tie_by old m new table h a.i i.l a.f a.ls a.old_is i.l_small a.small a.off_i off_l in
-              let tie' : Tie (in_facet a.f a.ls) (spot g'.tet (image g'.perm v)) = record { face = tie0.face; by = tie0.by; tet = tie0.tet; place = tie0.place; low = tie0.low; off = tie0.off; stands = tie0.stands; is = sym lands ∙ tie0.is } in
+              let tie' : Tie (in_facet a.f a.ls) (one_vertex g'.tet (image g'.perm v)) = record { face = tie0.face; by = tie0.by; tet = tie0.tet; place = tie0.place; low = tie0.low; off = tie0.off; stands = tie0.stands; is = sym lands ∙ tie0.is } in
               let spot_p : IsSpot (length old) (in_facet a.f a.ls) = subst (IsSpot (length old)) a.from spot_u in
-              let e0 : class_of vs u.0 ≡ c = under old m new table table' h vs n numbered vs' n' numbered' c c' match u.0 (spot t v) spot_u u.1 own in
-              let own' : class_of vs' (spot g'.tet (image g'.perm v)) ≡ c' = over old m new table table' h vs n numbered vs' n' numbered' c c' match (in_facet a.f a.ls) (spot g'.tet (image g'.perm v)) spot_p tie' (ap (class_of vs) (sym a.from) ∙ e0) in
-              let spot' : IsSpot (length new) (spot g'.tet (image g'.perm v)) = new_spot old m new table table' h vs n numbered vs' n' numbered' c c' match (in_facet a.f a.ls) (spot g'.tet (image g'.perm v)) spot_p tie' in
+              let e0 : class_of vs u.0 ≡ c = under old m new table table' h vs n numbered vs' n' numbered' c c' match u.0 (one_vertex t v) spot_u u.1 own in
+              let own' : class_of vs' (one_vertex g'.tet (image g'.perm v)) ≡ c' = over old m new table table' h vs n numbered vs' n' numbered' c c' match (in_facet a.f a.ls) (one_vertex g'.tet (image g'.perm v)) spot_p tie' (ap (class_of vs) (sym a.from) ∙ e0) in
+              let spot' : IsSpot (length new) (one_vertex g'.tet (image g'.perm v)) = new_spot old m new table table' h vs n numbered vs' n' numbered' c c' match (in_facet a.f a.ls) (one_vertex g'.tet (image g'.perm v)) spot_p tie' in
               let inner : Some (record { tet = kept old m + i.l; perm = over_new i.j i.l }) ≡ Some g' = sym (h.inner i.j i.l i.j_small i.l_small i.apart) ∙ ap (glue new) i.is ∙ glued' in
               let perm : over_new i.j i.l ≡ g'.perm = (let z : record { tet = kept old m + i.l; perm = over_new i.j i.l } ≡ g' = cc in ap (λ (r : Gluing). r.perm) z) in
               let parity : is_odd (crossing a.i i.l a.f.labels) ≡ behind (is_odd g'.perm) (is_odd (crossing a.i a.j a.f.labels)) =
@@ -180,9 +181,9 @@ module _ (old : List Row) (m : Move) (new : List Row) (table : IsTable old) (tab
               ∙ (λ z. behind (is_odd (over_new (sym ij z) i.l)) (is_odd (crossing a.i a.j a.f.labels))) ∙ (λ z. behind (is_odd (perm z)) (is_odd (crossing a.i a.j a.f.labels))) in (
                 spot',
                 own',
-                value_is old m new table table' h vs n numbered vs' n' numbered' c c' match signs are (in_facet a.f a.ls) (spot g'.tet (image g'.perm v)) spot' own' tie' ∙ ap (λ (b : List ℕ). flip (is_odd b) (S signs (in_facet a.f a.ls))) by0 ∙ ap (λ b. flip b (S signs (in_facet a.f a.ls))) parity
+                value_is old m new table table' h vs n numbered vs' n' numbered' c c' match signs are (in_facet a.f a.ls) (one_vertex g'.tet (image g'.perm v)) spot' own' tie' ∙ ap (λ (b : List ℕ). flip (is_odd b) (S signs (in_facet a.f a.ls))) by0 ∙ ap (λ b. flip b (S signs (in_facet a.f a.ls))) parity
                     ∙ flip_behind (is_odd g'.perm) (is_odd (crossing a.i a.j a.f.labels)) (S signs (in_facet a.f a.ls))
-                    ∙ ap (behind (is_odd g'.perm)) ((λ z. flip (is_odd (sym ea z)) (S signs (sym a.from z))) ∙ sym (value_is old m new table table' h vs n numbered vs' n' numbered' c c' match signs are u.0 (spot t v) spot_q own u.1)),
+                    ∙ ap (behind (is_odd g'.perm)) ((λ z. flip (is_odd (sym ea z)) (S signs (sym a.from z))) ∙ sym (value_is old m new table table' h vs n numbered vs' n' numbered' c c' match signs are u.0 (one_vertex t v) spot_q own u.1)),
               )
 
       agrees : Agrees
@@ -194,5 +195,5 @@ module _ (old : List Row) (m : Move) (new : List Row) (table : IsTable old) (tab
     pub signs_forth : IsOrientableLink new vs' c'
     signs_forth = signs_from new vs' c' numbered'.one_each (value old m new table table' h vs n numbered vs' n' numbered' c c' match signs are) (one_value old m new table table' h vs n numbered vs' n' numbered' c c' match signs are) (λ t v f g lv lf ne own e.
         let a = agrees t v f g lv lf ne own e in
-        listed_at new vs' c' numbered'.one_each (value old m new table table' h vs n numbered vs' n' numbered' c c' match signs are) (one_value old m new table table' h vs n numbered vs' n' numbered' c c' match signs are) (spot g.tet (image g.perm v)) a.0 a.1 ∙ a.2
-        ∙ ap (behind (is_odd g.perm)) (sym (listed_at new vs' c' numbered'.one_each (value old m new table table' h vs n numbered vs' n' numbered' c c' match signs are) (one_value old m new table table' h vs n numbered vs' n' numbered' c c' match signs are) (spot t v) (spot_q t v f g lv lf ne own e) own)))
+        listed_at new vs' c' numbered'.one_each (value old m new table table' h vs n numbered vs' n' numbered' c c' match signs are) (one_value old m new table table' h vs n numbered vs' n' numbered' c c' match signs are) (one_vertex g.tet (image g.perm v)) a.0 a.1 ∙ a.2
+        ∙ ap (behind (is_odd g.perm)) (sym (listed_at new vs' c' numbered'.one_each (value old m new table table' h vs n numbered vs' n' numbered' c c' match signs are) (one_value old m new table table' h vs n numbered vs' n' numbered' c c' match signs are) (one_vertex t v) (spot_q t v f g lv lf ne own e) own)))

@@ -25,7 +25,8 @@ use Rattle.move_link_laws.specs.Links.{TakenAwayAreSpheres, PutInAreSpheres}
 use Rattle.move_link_laws.proofs.Labelled.{in_facet}
 use Rattle.move_link_laws.proofs.Ties.{IsOld, is_old, one_facet}
 use Rattle.move_link_laws.proofs.Buried.{Buried}
-use Rattle.skeleton_laws.proofs.Spots.{spot, class_of, IsSpot, one_class}
+use Rattle.skeleton_laws.proofs.Spots.{class_of, IsSpot, one_class}
+use Rattle.surface_laws.proofs.Vertices.{one_vertex}
 use Rattle.move_link_laws.proofs.StarLabels.{off_one}
 use Rattle.move_link_laws.proofs.FacetSteps.{FacetStep, facet_step}
 use Rattle.move_link_laws.proofs.ListedSigns.{listed_at, signs_from}
@@ -55,7 +56,7 @@ module _ (old : List Row) (m : Move) (new : List Row) (table : IsTable old) (h :
   own_old one = is_old old m new table h 4 (own_facet m) (omega arith) (omega arith) (facet-four old m)
 
   -- the core
-  pub core_buried : length m.core ≡ 1 → In (0 ∷ []) (spot m.tet (slice_index m.core 0))
+  pub core_buried : length m.core ≡ 1 → In (0 ∷ []) (one_vertex m.tet (slice_index m.core 0))
   core_buried one =
       let a = own_old one in record {
         i = 4;
@@ -64,10 +65,10 @@ module _ (old : List Row) (m : Move) (new : List Row) (table : IsTable old) (h :
         small = (omega arith, tt);
         off = refl;
         all = λ j l. (let e : 0 ≡ j = omega arith in (λ i. eq-eqb 0 j e i || false));
-        from = λ i. spot m.tet (sym (core_first m.core h.core) i);
+        from = λ i. one_vertex m.tet (sym (core_first m.core h.core) i);
       }
 
-  pub core_is_spot : length m.core ≡ 1 → IsSpot (length old) (spot m.tet (slice_index m.core 0))
+  pub core_is_spot : length m.core ≡ 1 → IsSpot (length old) (one_vertex m.tet (slice_index m.core 0))
   core_is_spot one =
       let a = own_old one in record {
         v = slice_index m.core 0;
@@ -97,17 +98,17 @@ module _ (old : List Row) (m : Move) (new : List Row) (table : IsTable old) (h :
     one_value p q s t e f d = value_is p s e q d (buried q t f) ∙ sym (value_is q t f q refl (buried q t f))
 
     module _ (t v f : ℕ) (g : Gluing) (lv : v < 4) (lf : f < 4) (ne : v ≡ f → ⊥) (own : slice_index vs (vertex_number t v) ≡ class_of vs p0) (glued : glue old (record { tet = t; face = f }) ≡ Some g) where
-      spot_p : IsSpot (length old) (spot t v)
+      spot_p : IsSpot (length old) (one_vertex t v)
       spot_p = record { v = v; is = refl; below = glued_tet old (record { tet = t; face = f }) g glued; low = lv }
 
-      spot_p' : IsSpot (length old) (spot g.tet (image g.perm v))
+      spot_p' : IsSpot (length old) (one_vertex g.tet (image g.perm v))
       spot_p' = record { v = image g.perm v; is = refl; below = table.in_range (face_at t f) g glued; low = image_below g.perm (table.permutes (face_at t f) g glued) v lv }
 
-      own' : class_of vs (spot g.tet (image g.perm v)) ≡ class_of vs p0
-      own' = sym ((one_class old vs n numbered (spot t v) (spot g.tet (image g.perm v)) spot_p spot_p').1 (joined_step old (spot t v) f (spot g.tet (image g.perm v)) (across_by old (spot t v) f g glued (off_one v f ne)))) ∙ own
+      own' : class_of vs (one_vertex g.tet (image g.perm v)) ≡ class_of vs p0
+      own' = sym ((one_class old vs n numbered (one_vertex t v) (one_vertex g.tet (image g.perm v)) spot_p spot_p').1 (joined_step old (one_vertex t v) f (one_vertex g.tet (image g.perm v)) (across_by old (one_vertex t v) f g glued (off_one v f ne)))) ∙ own
 
-      b : In (0 ∷ []) (spot t v)
-      b = buried (spot t v) spot_p own
+      b : In (0 ∷ []) (one_vertex t v)
+      b = buried (one_vertex t v) spot_p own
 
       label : HasLabel b.i b.f.labels f
       label = label_at b.i b.f.labels b.old_is.is.labels f lf
@@ -130,26 +131,26 @@ module _ (old : List Row) (m : Move) (new : List Row) (table : IsTable old) (h :
       same : st.by ≡ g
       same = let here : Some st.by ≡ Some g = sym st.glued ∙ (λ z. glue old (face_at (sym b.from z).tet (label.vertex z))) ∙ glued in cc
 
-      lands : spot g.tet (image g.perm v) ≡ in_facet at_k.0 (0 ∷ [])
+      lands : one_vertex g.tet (image g.perm v) ≡ in_facet at_k.0 (0 ∷ [])
       lands = sym (sym st.lands ∙ (λ z. carried (same z) (sym b.from z)))
 
       b' : In (0 ∷ []) (in_facet at_k.0 (0 ∷ []))
       b' = record { i = image b.f.labels f; f = at_k.0; old_is = at_k.1; small = b.small; off = off_one 0 (image b.f.labels f) (let l = low in omega arith); all = b.all; from = refl }
 
-      agrees : value (spot g.tet (image g.perm v)) spot_p' own' ≡ behind (is_odd g.perm) (value (spot t v) spot_p own)
+      agrees : value (one_vertex g.tet (image g.perm v)) spot_p' own' ≡ behind (is_odd g.perm) (value (one_vertex t v) spot_p own)
       unfolding b'
       agrees =
-          value_is (spot g.tet (image g.perm v)) spot_p' own' (in_facet at_k.0 (0 ∷ [])) lands b'
-          ∙ st.parity 0 (omega arith) ∙ (λ z. behind (is_odd (same z).perm) (is_odd (crossing b.i 0 b.f.labels))) ∙ ap (behind (is_odd g.perm)) (sym (value_is (spot t v) spot_p own (spot t v) refl b))
+          value_is (one_vertex g.tet (image g.perm v)) spot_p' own' (in_facet at_k.0 (0 ∷ [])) lands b'
+          ∙ st.parity 0 (omega arith) ∙ (λ z. behind (is_odd (same z).perm) (is_odd (crossing b.i 0 b.f.labels))) ∙ ap (behind (is_odd g.perm)) (sym (value_is (one_vertex t v) spot_p own (one_vertex t v) refl b))
 
     pub lone_oriented : IsOrientableLink old vs (class_of vs p0)
     lone_oriented = signs_from old vs (class_of vs p0) numbered.one_each value one_value (λ t v f g lv lf ne own e.
-        listed_at old vs (class_of vs p0) numbered.one_each value one_value (spot g.tet (image g.perm v)) (spot_p' t v f g lv lf ne own e) (own' t v f g lv lf ne own e) ∙ agrees t v f g lv lf ne own e
-        ∙ ap (behind (is_odd g.perm)) (sym (listed_at old vs (class_of vs p0) numbered.one_each value one_value (spot t v) (spot_p t v f g lv lf ne own e) own)))
+        listed_at old vs (class_of vs p0) numbered.one_each value one_value (one_vertex g.tet (image g.perm v)) (spot_p' t v f g lv lf ne own e) (own' t v f g lv lf ne own e) ∙ agrees t v f g lv lf ne own e
+        ∙ ap (behind (is_odd g.perm)) (sym (listed_at old vs (class_of vs p0) numbered.one_each value one_value (one_vertex t v) (spot_p t v f g lv lf ne own e) own)))
 
 pub taken_away_are_spheres : TakenAwayAreSpheres
 taken_away_are_spheres s m new c link k h (one, at) has =
-    let p0 : Place = spot m.tet (slice_index m.core 0) in
+    let p0 : Place = one_vertex m.tet (slice_index m.core 0) in
     let b0 = core_buried s.rows m new k.table h one in
     let s0 = core_is_spot s.rows m new k.table h one in
     sphere_from s c link has

@@ -10,7 +10,8 @@ use Rattle.table_definitions.specs.Places.{Place, IsPlace, carried, SameVertex}
 use Rattle.table_definitions.proofs.Permutations.{image_below}
 use Rattle.move_definitions.specs.Moves.{Move, Facet, IsMoved, kept, old_tets}
 use Rattle.move_laws.proofs.Placed.{closed_up_small}
-use Rattle.skeleton_laws.proofs.Spots.{spot, IsSpot, class_of, one_class}
+use Rattle.skeleton_laws.proofs.Spots.{IsSpot, class_of, one_class}
+use Rattle.surface_laws.proofs.Vertices.{one_vertex}
 use Rattle.move_link_laws.proofs.Ties.{fine, new_at, IsOld, old_has, Ties, tie_permutes}
 use Rattle.move_link_laws.proofs.TieShapes.{tie_shape}
 use Rattle.move_link_laws.proofs.TiesOnce.{same_old_place, same_new_place}
@@ -47,7 +48,7 @@ module _ (old : List Row) (m : Move) (new : List Row) (table : IsTable old) (h :
   pub tie_spot : (p q : Place) → IsSpot (length old) p → Tie p q → IsSpot (length new) q
   tie_spot p q s t = record {
     v = image t.by.perm s.v;
-    is = t.is ∙ ap (carried t.by) s.is ∙ (λ i. spot ((sym t.is i).tet) (image t.by.perm s.v));
+    is = t.is ∙ ap (carried t.by) s.is ∙ (λ i. one_vertex ((sym t.is i).tet) (image t.by.perm s.v));
     below = subst (λ (r : Place). r.tet < length new) (sym t.is) (tie_range old m new table h p q t);
     low = image_below t.by.perm (tie_permutes old m new table h p q t) s.v s.low;
   }

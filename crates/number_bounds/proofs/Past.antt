@@ -8,6 +8,7 @@ use Rattle.std.proofs.lemmas.List.{get_or_default}
 use Rattle.std.proofs.lemmas.List.Sums.{sum_by_more_le, sum_by-le-sum_by, sum_by-cons}
 use Rattle.std.proofs.lemmas.List.Elements.{All-head, All-tail}
 use Rattle.std.proofs.lemmas.Nat.{mul-le}
+use Rattle.basic_lemmas.proofs.Truths.{chosen_at_most}
 use Rattle.cone_definitions.specs.Rows.{Row}
 use Rattle.cone_definitions.specs.Systems.{System}
 use Rattle.cone_bound_laws.specs.Caps.{magnitude, row_weight, row_size, caps_product}
@@ -117,12 +118,8 @@ unfolding caps_product
 ones cap zero one = refl
 ones cap (suc n) one = ap₂ (λ a b. a * b) (one n) (ones cap n one)
 
-part : (b : Bool) (n : ℕ) → (if b then n else 0) ≤ n
-part true n = omega arith
-part false n = omega arith
-
 weight_within : (row : Row) (j : ℕ) → row_weight j row ≤ row_size row
-weight_within row j = sum_by-le-sum_by (λ (term : ℕ × ℤ). if term.0 == j then magnitude term.1 else 0) (λ (term : ℕ × ℤ). magnitude term.1) row (λ term. part (term.0 == j) (magnitude term.1))
+weight_within row j = sum_by-le-sum_by (λ (term : ℕ × ℤ). if term.0 == j then magnitude term.1 else 0) (λ (term : ℕ × ℤ). magnitude term.1) row (λ term. chosen_at_most (term.0 == j) (magnitude term.1))
 
 pub no_square : (rows : List Row) (j : ℕ) → All (λ row. row_size row ≤ 0) rows → sum_of_squares rows j ≡ 0
 no_square [] j none = refl

@@ -5,7 +5,8 @@ use Rattle.text_definitions.specs.Written.{limit}
 use Rattle.cone_definitions.specs.Rows.{Row as EquationRow}
 use Rattle.table_definitions.specs.Table.{Row, IsTable}
 use Rattle.skeleton_definitions.specs.Skeleton.{Skeleton, IsSkeleton, IsFirstInvalid}
-use Rattle.surface_definitions.specs.Characteristic.{points, arcs, euler, is_linking, meets_boundary}
+use Rattle.surface_definitions.specs.Characteristic.{points, arcs, is_linking, meets_boundary}
+use Rattle.skeleton_definitions.specs.Links.{euler_of as euler}
 use Rattle.surface_definitions.specs.declared.Coords.{Coords}
 use Rattle.surface_definitions.specs.declared.Coords.TheVariants.{Standard, Quad}
 use Rattle.surface_definitions.specs.QuadEquations.{AreEquations}

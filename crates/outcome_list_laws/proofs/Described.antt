@@ -8,7 +8,7 @@ use Rattle.table_definitions.specs.Table.{Row}
 use Rattle.table_definitions.specs.TableText.{table_text}
 use Rattle.table_definitions.proofs.Listed.{among_contains, contains_among}
 use Rattle.skeleton_definitions.specs.Skeleton.{Skeleton, IsSkeleton}
-use Rattle.surface_definitions.specs.Characteristic.{euler}
+use Rattle.skeleton_definitions.specs.Links.{euler_of as euler}
 use Rattle.surface_definitions.specs.declared.Coords.{Coords}
 use Rattle.surface_vector_definitions.specs.Answers.{Description, IsDescription, AreAnswered}
 use Rattle.surface_vector_definitions.specs.Properties.{characteristic, AreProperties}

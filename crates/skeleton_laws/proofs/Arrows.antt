@@ -11,7 +11,7 @@ use Rattle.skeleton_definitions.specs.Links.{directed}
 use Rattle.skeleton_class_laws.specs.Crossings.{pair, pair_number, direction_at}
 use Rattle.skeleton_class_laws.proofs.Cases.{head, head_below, apart_head, pair_number-parts}
 use Rattle.skeleton_class_laws.proofs.DirectionTies.{pair_is, directed_pair}
-use Rattle.skeleton_laws.proofs.Spots.{spot}
+use Rattle.surface_laws.proofs.Vertices.{one_vertex}
 
 -- two different vertices
 pub record IsArrow (n : ℕ) (p : Place) : Type 0 where
@@ -42,7 +42,7 @@ directed_arrow n i l =
 
 -- the vertex at which a place begins
 abbrev pub tail_of : Place → Place
-tail_of p = spot p.tet (slice_index p.vertices 0)
+tail_of p = one_vertex p.tet (slice_index p.vertices 0)
 
 record FromPair (rows : List Row) (p q : Place) : Type 0 where
   v : ℕ
@@ -55,16 +55,16 @@ tail_step rows p q f r a e =
     let s : Steps rows q f r = steps_across rows q f r e in
     let both : ((a.v == f) || ((a.w == f) || false)) ≡ false = ap (λ (x : Place). has x.vertices f) (sym a.is) ∙ s.off in
     let off : has (a.v ∷ []) f ≡ false = or_from (a.v == f) false (or_parts (a.v == f) ((a.w == f) || false) both).0 refl in
-    let step : across rows (spot q.tet a.v) f ≡ Some (carried s.gluing (spot q.tet a.v)) = across_by rows (spot q.tet a.v) f s.gluing s.glued off in
+    let step : across rows (one_vertex q.tet a.v) f ≡ Some (carried s.gluing (one_vertex q.tet a.v)) = across_by rows (one_vertex q.tet a.v) f s.gluing s.glued off in
     let lands : r ≡ pair s.gluing.tet (image s.gluing.perm a.v) (image s.gluing.perm a.w) = s.lands ∙ ap (carried s.gluing) a.is in
-    let here : tail_of q ≡ spot q.tet a.v = ap tail_of a.is in
-    let there : tail_of r ≡ carried s.gluing (spot q.tet a.v) = ap tail_of lands in
+    let here : tail_of q ≡ one_vertex q.tet a.v = ap tail_of a.is in
+    let there : tail_of r ≡ carried s.gluing (one_vertex q.tet a.v) = ap tail_of lands in
     record {
       v = image s.gluing.perm a.v;
       w = image s.gluing.perm a.w;
       is = lands ∙ (λ i. pair ((sym lands i).tet) (image s.gluing.perm a.v) (image s.gluing.perm a.w));
       joined = joined_trans rows (tail_of p) (tail_of q) (tail_of r) a.joined
-          (subst₂ (IsJoined rows) (sym here) (sym there) (joined_step rows (spot q.tet a.v) f (carried s.gluing (spot q.tet a.v)) step));
+          (subst₂ (IsJoined rows) (sym here) (sym there) (joined_step rows (one_vertex q.tet a.v) f (carried s.gluing (one_vertex q.tet a.v)) step));
     }
 
 -- joined arrows begin at joined vertices

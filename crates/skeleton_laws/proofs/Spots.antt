@@ -6,14 +6,11 @@ use Rattle.table_definitions.specs.Classes.{IsNumbering}
 use Rattle.table_definitions.specs.Places.{Place, vertex, IsJoined, SameVertex}
 use Rattle.skeleton_class_laws.specs.Crossings.{vertex_at}
 use Rattle.skeleton_class_laws.proofs.VertexTies.{vertex_is}
-
--- one vertex
-abbrev pub spot : ℕ → ℕ → Place
-spot t v = record { tet = t; vertices = v ∷ [] }
+use Rattle.surface_laws.proofs.Vertices.{one_vertex}
 
 pub record IsSpot (n : ℕ) (p : Place) : Type 0 where
   pub v : ℕ
-  pub is : p ≡ spot p.tet v
+  pub is : p ≡ one_vertex p.tet v
   pub below : p.tet < n
   pub low : v < 4
 

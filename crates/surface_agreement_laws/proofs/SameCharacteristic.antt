@@ -7,9 +7,9 @@ use Rattle.table_definitions.specs.Lists.{below}
 use Rattle.table_definitions.specs.Permutation.{others}
 use Rattle.table_definitions.specs.Table.{Row, Face, glue, faces}
 use Rattle.table_definitions.proofs.Listed.{below-among, filter-among, map-among, faces-among}
-use Rattle.skeleton_definitions.specs.Links.{is_first_side}
+use Rattle.skeleton_definitions.specs.Links.{is_first_side, euler_of as euler}
 use Rattle.skeleton_definitions.specs.Skeleton.{Skeleton, IsSkeleton}
-use Rattle.surface_definitions.specs.Characteristic.{weight, points, arcs_in, arcs, euler}
+use Rattle.surface_definitions.specs.Characteristic.{weight, points, arcs_in, arcs}
 use Rattle.surface_definitions.specs.Coordinates.{tri_column, quad_column, oct_column, keeping, three, octagon_arcs}
 use Rattle.surface_definitions.specs.declared.Coords.TheVariants.{Standard, Octagon}
 use Rattle.surface_definitions.specs.Pieces.{arcs_around}

@@ -4,12 +4,9 @@ use Rattle.std.specs.Prelude.{if◌then◌else◌}
 use Rattle.std.proofs.Math.Nat.{mul_comm, mod-lt, mod-eq_of_lt, div-lt_iff_lt-mul, mul-add-mod_self_left}
 use Rattle.std.proofs.lemmas.Bool.{leb-true}
 use Rattle.std.proofs.lemmas.Nat.{div-mul-add, mul-add-lt}
+use Rattle.basic_lemmas.proofs.Truths.{chosen_at_most}
 use Rattle.surface_definitions.specs.Coordinates.{has_triangles, has_octagons, triangles_each, before_octagons, octagons_each, columns_each, columns, is_octagon}
 use Rattle.surface_definitions.specs.declared.Coords.{Coords}
-
-chosen_at_most : (b : Bool) (n : ℕ) → (if b then n else 0) ≤ n
-chosen_at_most true n = omega arith
-chosen_at_most false n = omega arith
 
 pub few_triangles : (coords : Coords) → triangles_each coords ≤ 4
 few_triangles coords = chosen_at_most (has_triangles coords) 4

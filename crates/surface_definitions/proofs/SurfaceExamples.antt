@@ -6,7 +6,8 @@ use Rattle.table_definitions.specs.Table.{Row}
 use Rattle.surface_definitions.specs.declared.Coords.{Coords}
 use Rattle.surface_definitions.specs.declared.Coords.TheVariants.{Standard, Octagon}
 use Rattle.surface_definitions.specs.Pieces.{component_vector}
-use Rattle.surface_definitions.specs.Characteristic.{points, arcs, euler, is_linking, meets_boundary}
+use Rattle.surface_definitions.specs.Characteristic.{points, arcs, is_linking, meets_boundary}
+use Rattle.skeleton_definitions.specs.Links.{euler_of as euler}
 use Rattle.surface_definitions.specs.Lift.{projected}
 use Rattle.skeleton_definitions.proofs.Evaluators.{edge_classes, count_of}
 use Rattle.surface_definitions.proofs.SurfaceEvaluators.{component_classes, is_two_sided, is_orientable_component, crushed}

@@ -1,5 +1,5 @@
 -- The Euler characteristic of a surface: points less arcs plus pieces. Coordinates are standard or octagons.
-use Rattle.std.specs.Prelude.{ℕ, ◌+◌, ◌/◌, ◌%◌, Bool, ◌&&◌, not, ℤ, pos, ◌-ℤ◌, List, [], ◌∷◌, length, map, filter, ◌==◌, nat_lt, sum_by, slice_index, if◌then◌else◌}
+use Rattle.std.specs.Prelude.{ℕ, ◌/◌, ◌%◌, Bool, ◌&&◌, not, List, [], ◌∷◌, length, map, filter, ◌==◌, nat_lt, sum_by, slice_index, if◌then◌else◌}
 use Rattle.std.specs.List.{list_all, list_any}
 use Rattle.table_definitions.specs.Lists.{below}
 use Rattle.table_definitions.specs.Table.{Row, Face, glue, faces}
@@ -38,9 +38,6 @@ arcs_in coords xs x = sum_by (arcs_around coords xs x.tet x.face) (others x.face
 -- the arcs in all faces, two glued ones counted once
 abbrev pub arcs : List Row → Coords → List ℕ → ℕ
 arcs rows coords xs = sum_by (arcs_in coords xs) (filter (λ x. is_first_side x (glue rows x)) (faces (length rows)))
-
-abbrev pub euler : ℕ → ℕ → ℕ → ℤ
-euler points arcs pieces = pos (points + pieces) -ℤ pos arcs
 
 -- whether each quad and each octagon is 0
 abbrev pub is_linking : Coords → List ℕ → Bool

@@ -7,12 +7,12 @@ use Rattle.table_definitions.specs.Permutation.{others}
 use Rattle.table_definitions.specs.Places.{ends}
 use Rattle.table_definitions.specs.Classes.{least}
 use Rattle.table_definitions.specs.Table.{Face, glue, faces}
-use Rattle.skeleton_definitions.specs.Links.{is_first_side}
+use Rattle.skeleton_definitions.specs.Links.{is_first_side, euler_of as euler}
 use Rattle.skeleton_definitions.specs.Skeleton.{Skeleton}
 use Rattle.surface_definitions.specs.Coordinates.{arc_columns}
 use Rattle.surface_definitions.specs.declared.Coords.{Coords}
 use Rattle.surface_definitions.specs.Pieces.{arcs_around}
-use Rattle.surface_definitions.specs.Characteristic.{crossings, weight, points, arcs_in, arcs, euler}
+use Rattle.surface_definitions.specs.Characteristic.{crossings, weight, points, arcs_in, arcs}
 use Rattle.surface_laws.proofs.Counting.{over_places}
 use Rattle.surface_efficiency_laws.specs.Laws.{IsPositive}
 use Rattle.surface_vector_definitions.specs.Properties.{characteristic}

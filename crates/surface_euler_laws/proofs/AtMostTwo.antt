@@ -4,7 +4,8 @@ use Rattle.std.specs.Prelude.{sum}
 use Rattle.std.proofs.lemmas.Bool.{cases_eq}
 use Rattle.std.proofs.lemmas.Int.{ints}
 use Rattle.skeleton_definitions.specs.Skeleton.{Skeleton, IsSkeleton, IsFirstInvalid}
-use Rattle.surface_definitions.specs.Characteristic.{points, arcs, euler}
+use Rattle.surface_definitions.specs.Characteristic.{points, arcs}
+use Rattle.skeleton_definitions.specs.Links.{euler_of as euler}
 use Rattle.surface_definitions.specs.declared.Coords.{Coords}
 use Rattle.surface_definitions.specs.declared.Coords.TheVariants.{Octagon}
 use Rattle.surface_definitions.specs.Pieces.{AreComponents, component_vector}

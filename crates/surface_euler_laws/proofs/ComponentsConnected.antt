@@ -23,7 +23,8 @@ use Rattle.surface_laws.proofs.MeetingArcs.{arc_at, meets_back}
 use Rattle.surface_laws.proofs.PieceNumbers.{piece_at, no_piece, IsFound, piece_found, listed_piece}
 use Rattle.surface_efficiency_laws.specs.Laws.{IsConnectedSurface}
 use Rattle.surface_efficiency_laws.proofs.Connected.{component_nonzero}
-use Rattle.surface_euler_laws.proofs.Ranks.{mark, first_part, select, from_either, first_same}
+use Rattle.basic_lemmas.proofs.Truths.{one_if}
+use Rattle.surface_euler_laws.proofs.Ranks.{first_part, select, from_either, first_same}
 
 module _ (s : Skeleton) (coords : Coords) (xs components : List ℕ) (count : ℕ) (numbered : AreComponents s.rows coords xs components count) (w : IsSurface s.rows coords xs) (i : ℕ) where
   abbrev ys : List ℕ
@@ -150,14 +151,14 @@ module _ (s : Skeleton) (coords : Coords) (xs components : List ℕ) (count : �
       let lc : p.column < length xs = let z = h.column in let e = component_width xs components numbered.one_each i in omega arith in
       record { from = piece_at p.column j.0; is_piece = record { column = lc; number = j.1 }; mine = j.2; is = ap (piece_at p.column) j.3 }
     where
-      zero_or_one : (b : Bool) → (mark b ≡ 0) ⊎ (mark b ≡ 1)
+      zero_or_one : (b : Bool) → (one_if b ≡ 0) ⊎ (one_if b ≡ 1)
       zero_or_one true = inr refl
       zero_or_one false = inl refl
 
   of_component : (p : NormalDisc) → bel p ≡ 1 → slice_index components (disc_number xs p) ≡ i
   of_component p one = eqb-true (slice_index components (disc_number xs p)) i (go (slice_index components (disc_number xs p) == i) one)
     where
-      go : (b : Bool) → mark b ≡ 1 → b ≡ true
+      go : (b : Bool) → one_if b ≡ 1 → b ≡ true
       go true e = refl
       go false e = absurd (omega arith)
 

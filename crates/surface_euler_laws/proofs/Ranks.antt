@@ -9,9 +9,6 @@ use Rattle.surface_laws.proofs.ArcPieces.{from_end}
 use Rattle.surface_laws.proofs.Counting.{sum_by_same, below_sum, sum_back, last_term}
 use Rattle.surface_euler_laws.proofs.Shapes.{first_test}
 
-abbrev pub mark : Bool → ℕ
-mark b = cond b 1 0
-
 pub first_part : (f : ℕ → ℕ) (j n : ℕ) → j < n → sum_by f (below j) + f j ≤ sum_by f (below n)
 first_part f j n l =
     let e : suc j + (n - suc j) ≡ n = omega arith in

@@ -4,7 +4,6 @@ use Rattle.std.proofs.lemmas.Int.{ints}
 use Rattle.skeleton_definitions.specs.Links.{euler_of}
 use Rattle.skeleton_definitions.specs.Skeleton.{Skeleton, IsSkeleton, IsFirstInvalid}
 use Rattle.skeleton_definitions.specs.declared.Link.{Link}
-use Rattle.surface_definitions.specs.Characteristic.{euler}
 use Rattle.surface_definitions.specs.declared.Coords.{Coords}
 use Rattle.surface_vector_definitions.specs.Properties.{AreProperties}
 use Rattle.surface_vector_definitions.specs.declared.Properties.{Properties}
@@ -17,7 +16,7 @@ use Rattle.surface_link_laws.proofs.Boundary.{boundary_is}
 use Rattle.surface_link_laws.proofs.Points.{extra, extra_are, points-link}
 use Rattle.surface_link_laws.proofs.Triangles.{pieces-link}
 
-as_much_more : (v e t m : ℕ) → euler (v + m) e t ≡ euler_of v e t +ℤ pos m
+as_much_more : (v e t m : ℕ) → euler_of (v + m) e t ≡ euler_of v e t +ℤ pos m
 as_much_more v e t m = omega (arith, ints)
 
 no_more : (z : ℤ) → z +ℤ pos 0 ≡ z
@@ -44,7 +43,7 @@ module _ (s : Skeleton) (coords : Coords) (c : ℕ) (link : Link) (p : Propertie
         edges = more;
         are = extra_are s k c l.directions l.count l.numbered;
         points = points;
-        euler = are.euler ∙ (λ i. euler (points i) (e.arcs i) (e.pieces i)) ∙ as_much_more link.vertices link.edges link.triangles (length more) ∙ ap (λ z. z +ℤ pos (length more)) (sym (l.is_link).euler);
+        euler = are.euler ∙ (λ i. euler_of (points i) (e.arcs i) (e.pieces i)) ∙ as_much_more link.vertices link.edges link.triangles (length more) ∙ ap (λ z. z +ℤ pos (length more)) (sym (l.is_link).euler);
       }
 
   pub vertices_and_euler : IsFirstInvalid s None → (p.points ≡ link.vertices) × (p.euler ≡ link.euler)

@@ -8,7 +8,7 @@ use Rattle.text_definitions.specs.Written.{limit}
 use Rattle.skeleton_definitions.specs.Skeleton.{Skeleton}
 use Rattle.surface_definitions.specs.declared.Coords.{Coords}
 use Rattle.surface_definitions.specs.Verdict.{Verdict, solution}
-use Rattle.surface_definitions.specs.Characteristic.{euler as euler_of}
+use Rattle.skeleton_definitions.specs.Links.{euler_of}
 use Rattle.surface_vector_definitions.specs.Properties.{AreProperties, IsPropertyAnswer}
 use Rattle.surface_vector_definitions.specs.declared.Properties.{Properties}
 use Rattle.surface_vector_definitions.specs.declared.PropertyFault.{PropertyFault}

@@ -3,7 +3,8 @@ use Rattle.std.proofs.Common.{ℕ, List, Option, Some, None, Result, Ok, Err}
 use Rattle.std.specs.Prelude.{sum}
 use Rattle.table_definitions.specs.Table.{Row}
 use Rattle.surface_definitions.specs.declared.Coords.{Coords}
-use Rattle.surface_definitions.specs.Characteristic.{points, arcs, euler, is_linking, meets_boundary}
+use Rattle.surface_definitions.specs.Characteristic.{points, arcs, is_linking, meets_boundary}
+use Rattle.skeleton_definitions.specs.Links.{euler_of as euler}
 use Rattle.skeleton_definitions.specs.Skeleton.{Skeleton}
 use Rattle.skeleton_definitions.proofs.Evaluators.{vertex_classes, edge_classes, face_classes, count_of}
 use Rattle.surface_vector_definitions.specs.Properties.{first_large}

@@ -1,7 +1,8 @@
 -- All properties of a vector at once, or the first sum that is large. Coordinates are standard or octagons.
 use Rattle.std.specs.Prelude.{◌≡◌, ℕ, ◌+◌, ℤ, List, Option, Some, None, Result, Ok, Err, sum, nat_lt, if◌then◌else◌}
 use Rattle.surface_definitions.specs.declared.Coords.{Coords}
-use Rattle.surface_definitions.specs.Characteristic.{points as points_of, arcs as arcs_of, euler as euler_of, is_linking, meets_boundary}
+use Rattle.surface_definitions.specs.Characteristic.{points as points_of, arcs as arcs_of, is_linking, meets_boundary}
+use Rattle.skeleton_definitions.specs.Links.{euler_of}
 use Rattle.skeleton_definitions.specs.Skeleton.{Skeleton}
 use Rattle.surface_vector_definitions.specs.declared.Properties.{Properties}
 use Rattle.surface_vector_definitions.specs.declared.SurfaceSum.{SurfaceSum}

@@ -6,7 +6,7 @@ use Rattle.cone_text_definitions.specs.VectorText.{vector_text}
 use Rattle.skeleton_definitions.specs.Skeleton.{Skeleton}
 use Rattle.surface_definitions.specs.declared.Coords.{Coords}
 use Rattle.surface_definitions.specs.Verdict.{verdict_text}
-use Rattle.surface_definitions.specs.Characteristic.{points, arcs, euler}
+use Rattle.surface_definitions.specs.Characteristic.{points, arcs}
 use Rattle.text_definitions.specs.Written.{line, yes_or_no}
 use Rattle.surface_vector_definitions.specs.declared.Properties.{Properties}
 use Rattle.surface_vector_definitions.specs.declared.SurfaceSum.{SurfaceSum}

@@ -11,7 +11,8 @@ use Rattle.skeleton_definitions.specs.Skeleton.{Skeleton}
 use Rattle.surface_definitions.specs.Coordinates.{columns}
 use Rattle.surface_definitions.specs.declared.Coords.{Coords}
 use Rattle.surface_definitions.specs.Pieces.{component_vector}
-use Rattle.surface_definitions.specs.Characteristic.{points, arcs, euler}
+use Rattle.surface_definitions.specs.Characteristic.{points, arcs}
+use Rattle.skeleton_definitions.specs.Links.{euler_of as euler}
 use Rattle.surface_vector_definitions.specs.Components.{Component, IsComponent, AreListedComponents}
 use Rattle.surface_vector_definitions.specs.Properties.{AreProperties, characteristic, first_large, large_sum}
 use Rattle.surface_vector_definitions.specs.declared.Properties.{Properties}

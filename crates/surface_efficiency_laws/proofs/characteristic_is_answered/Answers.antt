@@ -1,5 +1,5 @@
 -- Its terms are the vector's.
-use Rattle.surface_definitions.specs.Characteristic.{euler}
+use Rattle.skeleton_definitions.specs.Links.{euler_of as euler}
 use Rattle.std.proofs.Common.{◌∙◌}
 use Rattle.surface_efficiency_laws.proofs.characteristic_is_answered.Goals as goal
 
