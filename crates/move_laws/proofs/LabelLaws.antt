@@ -100,7 +100,7 @@ by_back f g F G apart =
     same_images (inverse (label_by_label f g)) (label_by_label g f) (inverse_permutes (label_by_label f g) p) (by_permutes g f G F (λ e. apart (sym e)))
     (λ w l. image-inverse (label_by_label f g) w l ∙ preimage_at (label_by_label f g) p w (from_vertex f g w) (from_below f g w F G apart l) (to_vertex f g w F G apart l) ∙ sym (image_by g f w G l))
 
--- a permutation that keeps labels is the one label by label
+-- a permutation that keeps labels is the map label by label
 pub by_is : (f g : Facet) (p : List ℕ) → IsFacet f → IsFacet g → f.missing ≢ g.missing → IsPermutationOfFour p → ((v : ℕ) → v < 4 → image p v < 4)
     → ((v : ℕ) → v < 4 → image g.labels (image p v) ≡ substitute g.missing f.missing (image f.labels v)) → p ≡ label_by_label f g
 by_is f g p F G apart permutes small labels =

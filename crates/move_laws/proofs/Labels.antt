@@ -83,7 +83,7 @@ own_labels q h = record {
   is = sym (same_list-true (labels_by 4 q) q (by_words (λ q. same_list (labels_by 4 q) q) refl q h));
 }
 
--- the labels of a facet that is put in
+-- the labels of a new facet, in ascending order
 abbrev pub ascending : ℕ → List ℕ
 ascending j = filter (λ l. not (l == j)) (below 5)
 

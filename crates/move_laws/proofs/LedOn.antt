@@ -61,7 +61,7 @@ inner_value rows m table h c y n (inr n') =
     let same : (n'.j ≡ n.j) × (n'.l ≡ n.l) = inner_once rows m c y n' n in
     ap (λ j. inner_gluing rows m j n'.l) same.0 ∙ ap (inner_gluing rows m n.j) same.1
 
--- the faces of the table that is defined so
+-- the faces of the table so defined
 
 made_face : (rows : List Row) (m : Move) (table : IsTable rows) (h : HasNoFault rows m) (c : IsCore m.core) (y : Face) → y.tet < new_length rows m → y.face < 4 → glue (made rows m table h c) y ≡ made_gluing rows m table h c y
 unfolding made made_row

@@ -67,7 +67,7 @@ module _ (s : Skeleton) (k : IsSkeleton s) (c : ℕ) (d : HasClasses Directions 
     apart = λ z. e.off_vertex (sym z);
   }
 
-  -- two directed places are of one class if and only if they are joined
+  -- two directed edges are of one class if and only if they are joined
   one_class : (p q : Place) → IsArrow (length s.rows) p → IsArrow (length s.rows) q → (slice_index d.classes (direction_at p) ≡ slice_index d.classes (direction_at q)) ↔ JoinedPlaces s.rows p q
   one_class p q a b =
       let z = d.numbered.together (direction_at p) (direction_at q) (arrow_below (length s.rows) p a) (arrow_below (length s.rows) q b) in (

@@ -67,7 +67,7 @@ module _ (s : ℕ) (x : ℕ → Bool) where
         | inr more ↦ or_right (nat_lt i s) (has (a ∷ b ∷ []) i) (all i more l)
       ]
 
--- two things under a function
+-- a list of two items is the image of a list of two items
 pub two_under : (g : ℕ → ℕ) (ls : List ℕ) (v w : ℕ) → v ∷ w ∷ [] ≡ map g ls → (a : ℕ) × (b : ℕ) × (ls ≡ a ∷ b ∷ []) × (g a ≡ v) × (g b ≡ w)
 two_under g [] v w e = absurd cc
 two_under g (a ∷ []) v w e = absurd (let z : w ∷ [] ≡ [] = cc in cc)

@@ -85,7 +85,7 @@ module _ (old : List Row) (new : List Row) (table : IsTable old) (by : Relabelli
         (λ i. record { tet = t.2 i; vertices = there_again s q.vertices hs w.place i }),
       )
 
-  -- and of one place alone
+  -- places with the same image are equal
   pub one_under : (p q : Place) → IsWithin old p → IsWithin old q → under by p ≡ under by q → p ≡ q
   one_under p q w v e =
       let tets : p.tet ≡ q.tet = images_apart (length old) by is p.tet q.tet w.below v.below (ap (λ (r : Place). r.tet) e) in

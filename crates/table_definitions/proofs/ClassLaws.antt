@@ -40,7 +40,7 @@ module _ (n : ℕ) (Same : ℕ → ℕ → Type 0) where
       (cases_order (slice_index one bound) (slice_index other bound))))
       (cases_lt i bound)
 
-  -- two numberings of the same classes agree at each thing
+  -- two numberings of the same classes give each item the same class
   pub numberings_agree : (one other : List ℕ) (k m : ℕ) → IsNumbering n Same one k → IsNumbering n Same other m → (i : ℕ) → i < n → slice_index one i ≡ slice_index other i
   numberings_agree one other k m a b i hi = agree_below one other k m a b n (omega arith) i hi
 
