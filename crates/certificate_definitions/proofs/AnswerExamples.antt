@@ -1,4 +1,4 @@
--- What is answered to the tables of the examples.
+-- The answers to the tables of the examples.
 use Rattle.std.proofs.Common.{◌≡◌, ℕ, zero, suc, ◌<◌, true, List, [], ◌∷◌, length, get_or, Some, Ok, Err, refl, arith, inl}
 use Rattle.std.specs.Prelude.{◌%◌}
 use Rattle.table_definitions.specs.Permutation.{four, IsPermutationOfFour, words}
@@ -46,7 +46,7 @@ pub sphere_standard : IsStandard sphere
 unfolding computed
 sphere_standard = (turn 0, one_relabels 0 refl, Carries-passed (turn 0) sphere sphere refl refl refl)
 
--- no moves on the sphere, and the certificate of the table that was made
+-- the certificate without moves of the sphere, and the certificate of the table that was made
 sphere_accepted : IsChecked sphere [] (Ok tt)
 sphere_accepted = (sphere, refl, sphere_standard)
 
@@ -54,7 +54,7 @@ made_accepted : IsChecked three_tets (at 1 (1 ∷ 2 ∷ 3 ∷ []) ∷ at 3 (2 �
 unfolding computed
 made_accepted = (sphere_again, (four_again, record { table = three_tets_table; moved = moved_by_23; accepted = refl }, (sphere_again, record { table = four_again_table; moved = moved_by_41; accepted = refl }, refl)), again_standard)
 
--- 14 0, 41 0 3 and 23 0 0 on the sphere: the third is refused
+-- `14 0`, `41 0 3` and `23 0 0` on the sphere: the third move is refused
 third_refused : IsChecked sphere (at 0 four ∷ at 0 (3 ∷ []) ∷ at 0 (1 ∷ 2 ∷ 3 ∷ []) ∷ []) (Err (Illegal 3 (Repeated 3)))
 unfolding computed
 third_refused = record {
@@ -68,7 +68,7 @@ third_refused = record {
   refuses = refl;
 }
 
--- a descent on the table of four
+-- a descent from the table of four
 descended : IsDescended four_tets (record { reached = true; moves = at 0 (3 ∷ []) ∷ []; table = one_tet })
 unfolding computed
 descended = record {
@@ -79,7 +79,7 @@ descended = record {
     never : IsStandard four_tets → ⊥
     never (r, h, c) = (let e : length sphere ≡ length four_tets = c.same_length in omega arith)
 
--- with one move the table of four is made, and its certificate is 41 0 3, for every seed
+-- with one move the table of four is made, and its certificate is `41 0 3`, for every seed
 labels_14 : Correspond sphere (at 0 four) four_tets (at 0 (3 ∷ [])) (staying 4) (4 ∷ 1 ∷ 2 ∷ 3 ∷ 0 ∷ [])
 unfolding computed
 labels_14 = Correspond-passed sphere (at 0 four) four_tets (at 0 (3 ∷ [])) (staying 4) (4 ∷ 1 ∷ 2 ∷ 3 ∷ 0 ∷ []) refl refl

@@ -29,7 +29,7 @@ made_4 = row (by 1 0) (by 2 6) (by 1 0) (by 2 1) ∷ row (by 0 0) (by 2 0) (by 0
 abbrev made_5 : List Row
 made_5 = row (by 1 0) (by 0 5) (by 1 4) (by 0 5) ∷ row (by 0 0) (by 0 3) (by 1 1) (by 1 1) ∷ []
 
--- those on the way back
+-- the tables that result from the inverse moves, and the relabellings
 abbrev now_4 : List Row
 now_4 = row (by 1 0) (by 2 6) (by 1 7) (by 2 6) ∷ row (by 0 0) (by 2 0) (by 2 0) (by 0 7) ∷ row (by 0 6) (by 1 0) (by 1 0) (by 0 6) ∷ []
 
@@ -54,7 +54,7 @@ now_1 = row (by 1 16) (by 1 16) (by 2 13) (by 3 12) ∷ row (by 2 0) (by 3 6) (b
 abbrev by_1 : Relabelling
 by_1 = record { images = 0 ∷ 1 ∷ 3 ∷ 2 ∷ []; perms = word 11 ∷ word 20 ∷ word 18 ∷ word 18 ∷ [] }
 
--- are tables
+-- these are tables
 made_table_2 : IsTable made_2
 unfolding computed
 made_table_2 = table_from made_2 refl refl refl
@@ -87,7 +87,7 @@ now_table_1 : IsTable now_1
 unfolding computed
 now_table_1 = table_from now_1 refl refl refl
 
--- to which the moves lead, there and back
+-- the moves and their inverses result in these tables
 made_by_1 : IsMoved four_tets (at 1 (0 ∷ 3 ∷ [])) made_2
 unfolding computed
 made_by_1 = IsMoved-passed four_tets (at 1 (0 ∷ 3 ∷ [])) made_2 (record { core = refl; legal = refl; length_is = refl; fours = refl; inner = refl; outer = refl })
@@ -124,7 +124,7 @@ led_back_0 : IsMoved now_1 (at 0 (0 ∷ [])) sphere_again
 unfolding computed
 led_back_0 = IsMoved-passed now_1 (at 0 (0 ∷ [])) sphere_again (record { core = refl; legal = refl; length_is = refl; fours = refl; inner = refl; outer = refl })
 
--- by relabellings
+-- the relabellings carry the one tables to the others
 relabels_4 : IsRelabelling 3 by_4
 unfolding computed
 relabels_4 = record {
@@ -177,7 +177,7 @@ carried_0 : IsCarriedBack sphere (at 0 four) now_1 (at 0 (0 ∷ [])) by_1 sphere
 unfolding computed
 carried_0 = IsCarriedBack-passed sphere (at 0 four) now_1 (at 0 (0 ∷ [])) by_1 sphere_by (4 ∷ 1 ∷ 3 ∷ 2 ∷ 0 ∷ []) (Correspond-passed sphere (at 0 four) now_1 (at 0 (0 ∷ [])) by_1 (4 ∷ 1 ∷ 3 ∷ 2 ∷ 0 ∷ []) refl refl) sphere_relabels refl refl
 
--- so it is a making
+-- this is a making with its certificate
 way_5 : AreCarriedBack made_5 [] made_5 [] made_5 (staying 2)
 way_5 = (refl, refl, refl, refl)
 

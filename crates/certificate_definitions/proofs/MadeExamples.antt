@@ -1,4 +1,4 @@
--- The making with the seed 0 and two moves, with its certificate 23 1 0 and 41 3 2.
+-- The making with the seed 0 and two moves, with its certificate `23 1 0` and `41 3 2`.
 use Rattle.std.proofs.Common.{◌≡◌, ℕ, zero, suc, ◌<◌, List, [], ◌∷◌, get_or, refl, arith, inl}
 use Rattle.std.specs.Prelude.{All}
 use Rattle.table_definitions.specs.Permutation.{four, IsPermutationOfFour, words}
@@ -16,7 +16,7 @@ use Rattle.certificate_definitions.specs.Makings.{IsMade}
 use Rattle.certificate_definitions.proofs.Computed.{computed}
 use Rattle.certificate_definitions.proofs.CarriedTests.{Correspond-passed, IsCarriedBack-passed}
 
--- 32 0 13 on the table of four
+-- `32 0 13` on the table of four
 abbrev pub three_tets : List Row
 three_tets =
     row (by 1 21) (by 1 21) (by 1 21) (by 2 7)
@@ -31,7 +31,7 @@ pub moved_by_32 : IsMoved four_tets (at 0 (1 ∷ 3 ∷ [])) three_tets
 unfolding computed
 moved_by_32 = IsMoved-passed four_tets (at 0 (1 ∷ 3 ∷ [])) three_tets (record { core = refl; legal = refl; length_is = refl; fours = refl; inner = refl; outer = refl })
 
--- the way back: 23 1 0 and then 41 3 2
+-- the tables that result from the inverse moves `23 1 0` and then `41 3 2`
 abbrev pub four_again : List Row
 four_again =
     row (by 3 18) (by 1 10) (by 2 7) (by 2 4)
@@ -54,7 +54,7 @@ pub moved_by_41 : IsMoved four_again (at 3 (2 ∷ [])) sphere_again
 unfolding computed
 moved_by_41 = IsMoved-passed four_again (at 3 (2 ∷ [])) sphere_again (record { core = refl; legal = refl; length_is = refl; fours = refl; inner = refl; outer = refl })
 
--- the tetrahedra 0 to 3 of the table of four stand as 3, 1, 0 and 2, and the one of the sphere as itself
+-- the images of the tetrahedra 0 to 3 of the table of four are 3, 1, 0 and 2, and that of the sphere's is itself
 abbrev pub word : ℕ → List ℕ
 word i = slice_index_or words i []
 
@@ -87,7 +87,7 @@ sphere_relabels = record { images = record { moves = []; below = tt; is = refl }
     one_each zero d l = refl
     one_each (suc k) d l = absurd (omega arith)
 
--- a relabelling carries the table of four to the one on the way back, and the sphere to the last one
+-- a relabelling carries the table of four to the result of the first inverse move, and the sphere to that of the second
 four_carried : Carries four_by four_tets four_again
 unfolding computed
 four_carried = Carries-passed four_by four_tets four_again refl refl refl
@@ -96,7 +96,7 @@ sphere_carried : Carries sphere_by sphere sphere_again
 unfolding computed
 sphere_carried = Carries-passed sphere_by sphere sphere_again refl refl refl
 
--- how the labels of the steps correspond, where the second step put in two facets and the first one four
+-- the corresponding labels of the steps; the second step adds two facets and the first one four
 labels_32 : Correspond four_tets (at 0 (1 ∷ 3 ∷ [])) three_tets (at 1 (1 ∷ 2 ∷ 3 ∷ [])) (staying 3) (4 ∷ 3 ∷ 0 ∷ 1 ∷ 2 ∷ [])
 unfolding computed
 labels_32 = Correspond-passed four_tets (at 0 (1 ∷ 3 ∷ [])) three_tets (at 1 (1 ∷ 2 ∷ 3 ∷ [])) (staying 3) (4 ∷ 3 ∷ 0 ∷ 1 ∷ 2 ∷ []) refl refl
@@ -113,12 +113,12 @@ back_14 : IsCarriedBack sphere (at 0 four) four_again (at 3 (2 ∷ [])) four_by 
 unfolding computed
 back_14 = IsCarriedBack-passed sphere (at 0 four) four_again (at 3 (2 ∷ [])) four_by sphere_by (4 ∷ 1 ∷ 3 ∷ 2 ∷ 0 ∷ []) labels_14 sphere_relabels refl refl
 
--- the moves back are the inverses, carried
+-- the inverse moves on the relabelled tables
 moves_back : (move_back four_tets (at 0 (1 ∷ 3 ∷ [])) (staying 3) ≡ at 1 (1 ∷ 2 ∷ 3 ∷ [])) × (move_back sphere (at 0 four) four_by ≡ at 3 (2 ∷ [])) × (inverse_move 1 (at 0 four) ≡ at 0 (3 ∷ []))
 unfolding computed
 moves_back = (refl, refl, refl)
 
--- so the certificate is 23 1 0 and 41 3 2
+-- the certificate is `23 1 0` and `41 3 2`
 made : IsMade 0 2 three_tets (at 1 (1 ∷ 2 ∷ 3 ∷ []) ∷ at 3 (2 ∷ []) ∷ [])
 unfolding computed
 made = (

@@ -25,7 +25,7 @@ other_3 = row (by 2 6) (by 3 0) (by 1 8) (by 2 6) ∷ row (by 0 12) (by 2 8) (by
 abbrev other_4 : List Row
 other_4 = row (by 1 0) (by 2 5) (by 2 5) (by 4 6) ∷ row (by 0 0) (by 3 5) (by 3 5) (by 4 7) ∷ row (by 3 0) (by 4 6) (by 0 5) (by 0 5) ∷ row (by 2 0) (by 4 0) (by 1 5) (by 1 5) ∷ row (by 2 6) (by 3 0) (by 1 7) (by 0 6) ∷ []
 
--- those on the way back
+-- the tables that result from the inverse moves, and the relabellings
 abbrev now_3 : List Row
 now_3 = row (by 1 0) (by 3 10) (by 2 7) (by 3 10) ∷ row (by 0 0) (by 3 20) (by 2 18) (by 2 10) ∷ row (by 3 0) (by 1 9) (by 1 13) (by 0 7) ∷ row (by 2 0) (by 1 15) (by 0 13) (by 0 13) ∷ []
 
@@ -102,7 +102,7 @@ led_back_0 : IsMoved now_1 (at 1 (2 ∷ [])) now_0
 unfolding computed
 led_back_0 = IsMoved-passed now_1 (at 1 (2 ∷ [])) now_0 (record { core = refl; legal = refl; length_is = refl; fours = refl; inner = refl; outer = refl })
 
--- by relabellings
+-- the relabellings carry the one tables to the others
 relabels_3 : IsRelabelling 4 by_3
 unfolding computed
 relabels_3 = record {
@@ -151,7 +151,7 @@ carried_0 : IsCarriedBack sphere (at 0 four) now_1 (at 1 (2 ∷ [])) by_1 by_0
 unfolding computed
 carried_0 = IsCarriedBack-passed sphere (at 0 four) now_1 (at 1 (2 ∷ [])) by_1 by_0 (4 ∷ 3 ∷ 2 ∷ 1 ∷ 0 ∷ []) (Correspond-passed sphere (at 0 four) now_1 (at 1 (2 ∷ [])) by_1 (4 ∷ 3 ∷ 2 ∷ 1 ∷ 0 ∷ []) refl refl) relabels_0 refl refl
 
--- so it is a making
+-- this is a making with its certificate
 way_4 : AreCarriedBack other_4 [] other_4 [] other_4 (staying 5)
 way_4 = (refl, refl, refl, refl)
 

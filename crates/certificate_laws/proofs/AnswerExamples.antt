@@ -1,4 +1,4 @@
--- What is answered to tables whose signature is known, and to one that is not connected.
+-- The answers to tables whose signature is known, and to one that is disconnected.
 use Rattle.std.proofs.Common.{◌≡◌, ℕ, zero, suc, ◌<◌, false, List, [], ◌∷◌, Some, None, Err, refl, ap, ◌∙◌, arith, inr}
 use Rattle.std.specs.Prelude.{codes}
 use Rattle.std.proofs.lemmas.Bool.{false≢true}
@@ -35,12 +35,12 @@ one_connected t (suc u) lt lu = absurd (omega arith)
 gb_refused : IsChecked table_gb [] (Err (NotStandard (codes "bkaagb")))
 gb_refused = (table_gb, refl, one_connected, gb_signature, other_text)
 
--- a descent that is stuck
+-- a descent that ends at a table other than the standard sphere
 gb_stuck : IsDescended table_gb (record { reached = false; moves = []; table = table_gb })
 unfolding computed
 gb_stuck = record { descent = (refl, inr refl); reached = (λ e. absurd (false≢true e), λ s. absurd (other_text (standard_text table_gb (codes "bkaagb") gb_table s gb_signature))) }
 
--- two free tetrahedra
+-- two tetrahedra without gluings
 abbrev two_free : List Row
 two_free = row free free free free ∷ row free free free free ∷ []
 

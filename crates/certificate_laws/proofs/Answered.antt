@@ -24,7 +24,7 @@ use Rattle.certificate_laws.proofs.Made.{accepted_leads, accepted_none}
 use Rattle.certificate_laws.proofs.Checked.{standard_connected, standard_text, text_standard}
 use Rattle.certificate_laws.proofs.Descents.{descents_lessen_lem, descent_leads}
 
--- moves lead on, or one is refused
+-- moves can all be played, or one is refused
 
 refused_later : (rows : List Row) (m : Move) (next : List Row) (ms : List Move) (step : ℕ) (fault : MoveFault) → Plays rows m next → IsRefusedAt next ms step fault → IsRefusedAt rows (m ∷ ms) (step + 1) fault
 refused_later rows m next ms step fault first r = record {
@@ -78,7 +78,7 @@ answers_exist_lem rows moves table cores = elim (led_or_refused rows moves table
           | inr u ↦ (Err (NotConnected u.0), (last, led, u.1))
         ]
 
--- a table is standard, or not
+-- a table is isomorphic to the standard sphere or not
 
 pub standard_or_not_lem : StandardOrNot
 standard_or_not_lem rows table = elim (connected_or_unreached_lem rows table) [
@@ -90,7 +90,7 @@ standard_or_not_lem rows table = elim (connected_or_unreached_lem rows table) [
     by_text text h (inl e) = inl (text_standard rows text table h e)
     by_text text h (inr n) = inr (λ s. n (standard_text rows text table s h))
 
--- so it has a descent
+-- a table has a descent
 
 pub descent_accepted : (rows : List Row) (m : Move) → descent_move rows ≡ Some m → play_fault rows m ≡ None
 unfolding descent_move

@@ -1,4 +1,4 @@
--- The tables to which a move and the one that stands for it lead: a relabelling carries the one to the other.
+-- The tables that result from a move and from the corresponding one: a relabelling carries the former to the latter.
 use Rattle.std.proofs.Common.{◌≡◌, ℕ, ◌<◌, List, length, sym, ap, ◌∙◌, subst, arith, inl, inr}
 use Rattle.std.specs.Prelude.{◌⊎◌, option_map}
 use Rattle.table_definitions.specs.Table.{Row, Face, glue, IsTable}
@@ -16,7 +16,7 @@ use Rattle.certificate_laws.proofs.CarriedPlaces.{IsKeptNumber, IsNewNumber, num
 use Rattle.certificate_laws.proofs.InnerOn.{inner_on}
 use Rattle.certificate_laws.proofs.OuterOn.{outer_on}
 
--- whatever the one leads to is carried to what the other leads to
+-- the relabelling carries any result of the move to any result of the corresponding one
 pub carried_on : (by : Relabelling) (old other : List Row) (m : Move) (new next : List Row) → IsCarried by old other m → IsMoved old m new → IsMoved other (move_under by m) next → Carries (on by old other m) new next
 carried_on by old other m new next h moved moved' = record {
   same_length = moved'.length_is ∙ long ∙ sym moved.length_is;
@@ -43,7 +43,7 @@ moves_go_on_lem by old other m new table r k moved =
     let led = legal_moves_lead_on_lem other (move_under by m) (other_table by old other m h) (other_core by old other m h) (carried_legal by old other m h) in
     (led.0, on by old other m, led.1, on_goes_on by old other m h, subst (λ n. IsRelabelling n (on by old other m)) (sym moved.length_is) (on_relabelling by old other m h), carried_on by old other m new led.0 h moved led.1)
 
--- what goes on so is one
+-- such a relabelling is the only one
 pub goes_on_once : (by : Relabelling) (old other : List Row) (m : Move) (r r' : Relabelling) → IsCarried by old other m → IsRelabelling (new_length old m) r → IsRelabelling (new_length old m) r' → CarriesAfterMove by old m other r → CarriesAfterMove by old m other r' → r ≡ r'
 goes_on_once by old other m r r' h k k' g g' = same_relabelling (new_length old m) r r' k k' (λ u l. at u (number_cases old m h.table h.fine h.core u l))
   where

@@ -1,4 +1,4 @@
--- Moves that are carried back one after another lead to a relabelling of the first table.
+-- The corresponding inverses of moves, one after another, result in a relabelling of the first table.
 use Rattle.std.proofs.Common.{◌≡◌, ℕ, ◌<◌, ◌≤◌, List, [], ◌∷◌, ◌++◌, length, map, get_or, Option, Some, None, refl, sym, ap, ◌∙◌, subst, arith}
 use Rattle.std.specs.Prelude.{option_map}
 use Rattle.std.proofs.lemmas.Fn.{FoldsTo-push}
@@ -26,7 +26,7 @@ use Rattle.certificate_definitions.specs.CarriedMoves.{move_under}
 use Rattle.move_laws.proofs.LedOn.{legal_moves_lead_on_lem}
 use Rattle.move_laws.proofs.Played.{played_table}
 
--- each tetrahedron stays
+-- the identity relabelling
 
 stays_there : (n t : ℕ) → t < n → relabelled_place (staying n) t ≡ gluing_to t identity
 stays_there n t l =
@@ -61,12 +61,12 @@ staying_carries rows table = record { same_length = refl; four_faces = table.fou
             ap (λ (k : Gluing). gluing_under k (s g.tet) g) (stays_there (length rows) x.tet lt) ∙ ap (λ (k : Gluing). gluing_under (gluing_to x.tet identity) k g) (stays_there (length rows) g.tet (table.in_range x g e)) ∙ ap (gluing_to g.tet) perms in
             e ∙ ap (λ (k : Gluing). Some k) (sym same) ∙ ap (option_map (λ g. gluing_under (s x.tet) (s g.tet) g)) (sym e)
 
--- tables to which moves lead
+-- the tables that result from moves
 
 pub stepped : (rows : List Row) (m : Move) (next now : List Row) (on : Relabelling) → Plays rows m next → IsRelabelling (length next) on → Carries on next now → IsSteppedOn rows m next now on
 stepped rows m next now on p r c = record { played = played rows m next p.table p.moved; new_table = played_table rows m next p; relabels = r; carries = c }
 
--- moves that lead on can be carried back
+-- moves that were played have inverses that can be played
 pub record IsWayBack (rows : List Row) (moves : List Move) (last : List Row) : Type 0 where
   pub back : List Move
   pub end : List Row
@@ -99,7 +99,7 @@ way_back_of rows (m ∷ ms) last table (next, first, rest) =
       carries = l.carries;
     }
 
--- a step that is played is played along
+-- if a move can be played, so can the corresponding one
 pub plays_go_on_lem : PlaysGoOn
 plays_go_on_lem by old other m new p relabels carries =
     let h : IsCarried by old other m = is_carried by old other m new p.table relabels carries p.moved in

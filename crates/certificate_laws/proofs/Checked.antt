@@ -1,4 +1,4 @@
--- A table and moves are answered in one way.
+-- A table and moves have at most one answer.
 use Rattle.std.proofs.Common.{◌≡◌, ℕ, zero, suc, ◌+◌, List, [], ◌∷◌, ◌++◌, length, Option, Some, None, Ok, Err, refl, sym, ap, ◌∙◌, subst, arith}
 use Rattle.table_definitions.specs.Table.{Row, IsTable}
 use Rattle.table_definitions.specs.Places.{whole, IsConnected, IsLeastUnreached}
@@ -16,7 +16,7 @@ use Rattle.certificate_laws.proofs.Sphere.{sphere_table, sphere_signature}
 use Rattle.move_laws.proofs.ListedFacets.{same_some}
 use Rattle.move_laws.proofs.Played.{all_led_table, played_same, all_played_same}
 
--- a move that is refused leads nowhere
+-- a move that is refused cannot be played
 refused_not_led : (rows : List Row) (m : Move) (next : List Row) (fault : MoveFault) → play_fault rows m ≡ Some fault → Plays rows m next → ⊥
 refused_not_led rows m next fault e p = from (play_fault rows m) e p.accepted
   where
@@ -60,7 +60,7 @@ refused_once rows (k ∷ ks) (k' ∷ ks') m m' after after' table table' fault f
     refused_once next ks ks' m m' after after' table table' fault fault' (rest_of k k' (ks ++ m ∷ after) (ks' ++ m' ∷ after') e) rest (subst (λ (t : List Row). PlaysAll t ks' table') same rest') r r' in
     (ap suc p.0, p.1)
 
--- the standard sphere is connected, and so is what it becomes
+-- the standard sphere is connected, and so are its relabellings
 pub sphere_connected : IsConnected standard_sphere
 sphere_connected zero zero lt lu = joined_refl standard_sphere (whole 0)
 sphere_connected (suc t) u lt lu = absurd (omega arith)
@@ -69,7 +69,7 @@ sphere_connected t (suc u) lt lu = absurd (omega arith)
 pub standard_connected : (rows : List Row) → IsTable rows → IsStandard rows → IsConnected rows
 standard_connected rows table s = relabels_connected standard_sphere rows sphere_table (relabels_back rows standard_sphere table s) sphere_connected
 
--- a standard table has the text of the standard sphere
+-- a table that is isomorphic to the standard sphere has its signature
 pub standard_text : (rows : List Row) (text : List ℕ) → IsTable rows → IsStandard rows → IsSignature rows text → text ≡ sphere_text
 standard_text rows text table s h = (tells_tables rows standard_sphere text sphere_text table sphere_table h sphere_signature).1 s
 
@@ -79,7 +79,7 @@ text_standard rows text table h e = (tells_tables rows standard_sphere text sphe
 pub texts_tell_standard_lem : TextsTellStandard
 texts_tell_standard_lem rows text table h = (text_standard rows text table h, λ s. standard_text rows text table s h)
 
--- each two answers
+-- any two answers are equal
 
 whole_not_refused : (rows : List Row) (moves : List Move) (last : List Row) (step : ℕ) (fault : MoveFault) → PlaysAll rows moves last → IsRefusedAt rows moves step fault → ⊥
 whole_not_refused rows moves last step fault led r =

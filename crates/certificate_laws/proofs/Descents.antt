@@ -1,4 +1,5 @@
--- Each move of a descent lessens the number of tetrahedra, and a descent that reaches the standard sphere certifies its table.
+-- Each move of a descent reduces the number of tetrahedra, and a descent that reaches the standard sphere certifies its
+-- table.
 use Rattle.std.proofs.Common.{◌≡◌, ℕ, ◌+◌, ◌-◌, ◌<◌, ◌≤◌, Bool, true, false, List, [], ◌∷◌, length, map, Some, refl, sym, ap, subst, arith, inl, inr}
 use Rattle.std.specs.Prelude.{◌↔◌, nat_lt, find}
 use Rattle.std.specs.List.{list_all}
@@ -18,7 +19,7 @@ use Rattle.move_laws.proofs.Covered.{kept-count}
 use Rattle.move_laws.proofs.Played.{descents_agree_lem, played_table}
 use Rattle.certificate_laws.specs.Laws.{DescentsLessen, DescentsEnd, DescentsCertify, OneDescent}
 
--- the cores of a descent are small
+-- the core of each move of a descent has at most 2 vertices
 
 small_among : (cores : List (List ℕ)) (n : ℕ) (m : Move) → list_all (λ vs. nat_lt (length vs) 3) cores ≡ true → Among m (moves_with cores n) → length m.core < 3
 small_among cores n m all h =
@@ -55,7 +56,7 @@ descent_leads rows (m ∷ ms) last table (go, first, (next, p, rest)) =
 pub descents_certify_lem : DescentsCertify
 descents_certify_lem rows moves last table d s = (last, descent_leads rows moves last table d, s)
 
--- a descent is told in one way
+-- a table has at most one descent
 same_truth : (a b : Bool) (P : Type 0) → (a ≡ true) ↔ P → (b ≡ true) ↔ P → a ≡ b
 same_truth true true P h k = refl
 same_truth true false P h k = sym (k.1 (h.0 refl))

@@ -1,4 +1,4 @@
--- Where a relabelling carries the table, a move is legal exactly if the one that stands for it is.
+-- On a relabelled table, a move is legal if and only if the corresponding one is.
 use Rattle.std.proofs.Common.{◌≡◌, ℕ, ◌<◌, Bool, true, List, length, None, refl, sym, ap, ◌∙◌, subst}
 use Rattle.std.specs.List.{list_all}
 use Rattle.table_definitions.specs.Lists.{same_list}
@@ -25,7 +25,7 @@ legal_goes_on : (by : Relabelling) (old other : List Row) (m : Move) → IsTable
 legal_goes_on by old other m table relabels carries core legal =
     carried_legal by old other m (record { table = table; core = core; fine = no_fault old m legal; relabels = relabels; carries = carries })
 
--- a core goes back to itself
+-- the inverse permutation maps the image of a core back to it
 back_test : List ℕ → List ℕ → Bool
 back_test q core = same_list (core_under (inverse q) (core_under q core)) core
 
@@ -36,7 +36,7 @@ core_back q core h c = same_list-true (core_under (inverse q) (core_under q core
     all : list_all (λ vs. list_all (λ q. back_test q vs) words) cores ≡ true
     all = unfold back_test inverse preimage in refl
 
--- and so does a move
+-- the move that corresponds, under the inverse relabelling, to the corresponding move is the move itself
 module _ (by : Relabelling) (old other : List Row) (m : Move) (table : IsTable old) (relabels : IsRelabelling (length old) by) (carries : Carries by old other) (low : m.tet < length old) (core : IsCore m.core) where
   abbrev back : Relabelling
   back = inverted (length old) by

@@ -1,4 +1,4 @@
--- How what is done so far goes on and ends.
+-- How the moves made so far are extended by one, and how they end.
 use Rattle.std.proofs.Common.{◌≡◌, ℕ, zero, suc, ◌+◌, ◌<◌, List, [], ◌∷◌, ◌++◌, length, take, drop, get_or, None, refl, sym, ap, ◌∙◌, subst, arith, inl, inr}
 use Rattle.std.specs.Prelude.{◌⊎◌}
 use Rattle.std.proofs.lemmas.Fn.{FoldsTo-push}
@@ -10,7 +10,7 @@ use Rattle.certificate_definitions.specs.SoFar.{Descends, Stage, Makes}
 use Rattle.certificate_laws.specs.LoopLaws.{ChecksGoOn, ChecksRefuse, DescentsGoOn, DescentsAreDone, MakingsGoOn, MakingsAreDone, WaysBackGoOn}
 use Rattle.basic_lemmas.proofs.Numbers.{one_on}
 
--- lists, cut at a place
+-- lists, before and after an index
 take_next : (ms : List Move) (k : ℕ) (m : Move) → k < length ms → m ≡ get_or ms k m → take (suc k) ms ≡ take k ms ++ m ∷ []
 take_next [] k m l e = absurd (omega arith)
 take_next (x ∷ ms) zero m l e = ap (λ (y : Move). y ∷ []) (sym e)

@@ -31,7 +31,7 @@ pub ways_back_agree_lem : WaysBackAgree
 ways_back_agree_lem rows moves last last' back back' end end' by by' table a b =
     let w : IsOneWay last last' back back' end end' by by' = carried_agree rows moves last last' back back' end end' by by' table a b in (w.back_is, w.end_is, w.by_is)
 
--- an accepted move leads on
+-- an accepted move can be played
 
 pub accepted_leads : (rows : List Row) (m : Move) → IsTable rows → IsCore m.core → play_fault rows m ≡ None → (next : List Row) × Plays rows m next
 accepted_leads rows m table c e =
@@ -59,7 +59,7 @@ drawn_accepted x rows m e = candidate_accepted rows m (drawn_among x (candidates
 pub drawn_leads : (x : ℕ) (rows : List Row) (m : Move) → IsTable rows → drawn x (candidates rows) ≡ Some m → (next : List Row) × Plays rows m next
 drawn_leads x rows m table e = accepted_leads rows m table (drawn_core x rows m e) (drawn_accepted x rows m e)
 
--- so a making goes on to its end
+-- the generator continues to the end of a making
 
 some_drawn : (x : ℕ) (ms : List Move) → (ms ≡ []) ⊎ ((m : Move) × (drawn x ms ≡ Some m))
 some_drawn x [] = inl refl
@@ -101,6 +101,6 @@ made_are_certified_lem seed most table certificate (moves, making, (end, by, are
     let r : AreIsomorphic standard_sphere end = (by, t.relabels, t.carries) in
     (end, t.leads, relabels_back standard_sphere end sphere_table r)
 
--- what is made is a table
+-- a table that is made is a table
 pub made_table : (seed most : ℕ) (table : List Row) (certificate : List Move) → IsMade seed most table certificate → IsTable table
 made_table seed most table certificate (moves, making, back) = all_led_table standard_sphere moves table sphere_table (making_leads most seed standard_sphere moves table sphere_table making)

@@ -1,4 +1,4 @@
--- The way back is one: each step determines the relabelling, and so the moves.
+-- The moves back are unique: each step determines the relabelling, and so the moves.
 use Rattle.std.proofs.Common.{◌≡◌, ℕ, zero, suc, ◌<◌, Bool, true, false, List, [], ◌∷◌, ◌++◌, length, refl, sym, ap, ◌∙◌, subst, arith, inl, inr}
 use Rattle.std.specs.Prelude.{◌⊎◌, ◌==◌, ◌||◌, slice_index}
 use Rattle.std.specs.List.{list_all}
@@ -23,7 +23,7 @@ use Rattle.move_laws.proofs.Played.{played_same, played_table}
 use Rattle.certificate_laws.proofs.StepBack.{IsLedBack, led_back_by}
 use Rattle.certificate_laws.proofs.CarriedWays.{staying_relabels, staying_carries, stepped}
 
--- five labels, each once, are determined by four of them
+-- four of five different labels determine the fifth
 
 four_hold_four : (b c d e : ℕ) → OneIs b c d e 0 → OneIs b c d e 1 → OneIs b c d e 2 → OneIs b c d e 3 → OneIs b c d e 4 → ⊥
 four_hold_four b c d e h0 h1 h2 h3 h4 = omega arith
@@ -73,7 +73,7 @@ same_renaming ls ls' h h' same = from (five_elements ls p.0) (five_elements ls' 
         let heads : slice_index ls 0 ≡ slice_index ls' 0 = same_head (slice_index ls 0) (slice_index ls' 0) (slice_index ls 1) (slice_index ls 2) (slice_index ls 3) (slice_index ls 4) a b in
         e ∙ (λ i. heads i ∷ tails i) ∙ sym e'
 
--- so the labels of a step correspond in one way
+-- the correspondence of the labels of a step is unique
 
 ascends : (l : ℕ) → 0 < l → l < 5 → (v : ℕ) × (v < 4) × (image (ascending 0) v ≡ l)
 ascends zero m l = absurd (omega arith)
@@ -117,7 +117,7 @@ carried_once old m now back on by by' c h h' = same_relabelling (length old) by 
     by_test t l false e = h.kept t l e ∙ sym (h'.kept t l e)
     by_test t l true e = by_facet t (old_tet_facet old m t c e)
 
--- what is carried back leads there
+-- the moves back can be played on the last table, and result in a relabelling of the first
 pub record IsThere (rows last : List Row) (back : List Move) (end : List Row) (by : Relabelling) : Type 0 where
   pub leads : PlaysAll last back end
   pub relabels : IsRelabelling (length rows) by
@@ -140,13 +140,13 @@ carried_leads rows (m ∷ ms) last back end by table (next, first, (later, now, 
       carries = subst (λ (r : Relabelling). Carries r rows end) same (subst (λ (t : List Row). Carries l.by rows t) ends l.carries);
     }
 
--- by as many moves
+-- there are as many moves back as moves
 pub carried_long : (rows : List Row) (moves : List Move) (last : List Row) (back : List Move) (end : List Row) (by : Relabelling) → AreCarriedBack rows moves last back end by → length back ≡ length moves
 carried_long rows [] last back end by a = ap (λ (ms : List Move). length ms) a.1
 carried_long rows (m ∷ ms) last back end by (next, first, (later, now, on, are, is, leads, carried)) =
     omega (arith, ap (λ (ms : List Move). length ms) is, length-append later (move_back rows m on ∷ []), carried_long next ms last later now on are)
 
--- and is determined
+-- all that belongs to the moves back is unique
 pub record IsOneWay (last last' : List Row) (back back' : List Move) (end end' : List Row) (by by' : Relabelling) : Type 0 where
   pub last_is : last ≡ last'
   pub back_is : back ≡ back'

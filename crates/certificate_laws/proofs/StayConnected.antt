@@ -29,7 +29,7 @@ use Rattle.certificate_laws.proofs.CarriedPlaces.{IsKeptNumber, IsNewNumber, num
 use Rattle.certificate_laws.proofs.Descents.{one_descent_lem}
 use Rattle.certificate_laws.proofs.Answered.{descents_exist_lem}
 
--- a table, a move on it, and the table to which it leads
+-- a table, a move on it, and the resulting table
 record IsStep (old : List Row) (m : Move) (new : List Row) : Type 0 where
   table : IsTable old
   core : IsCore m.core
@@ -37,7 +37,7 @@ record IsStep (old : List Row) (m : Move) (new : List Row) : Type 0 where
   moved : IsMoved old m new
   new_table : IsTable new
 
--- where a tetrahedron is then: all that are taken out are with the first that is put in
+-- a tetrahedron of the new table for each old one: for all removed ones the first new one
 unfoldable where_then : List Row → Move → ℕ → ℕ
 where_then old m t = if has (old_tets old m) t then kept old m else rank_without (old_tets old m) t
 
@@ -55,14 +55,14 @@ go_on rows t u v j k = joined_trans rows (whole t) (whole u) (whole v) j k
 same_place : (rows : List Row) (t u : ℕ) → t ≡ u → SameComponent rows t u
 same_place rows t u e = subst (λ v. SameComponent rows t v) e (joined_refl rows (whole t))
 
--- the facets that are put in are joined
+-- the new tetrahedra are joined
 new_joined : (old : List Row) (m : Move) (new : List Row) → IsStep old m new → (j : ℕ) → j < length m.core → SameComponent new (kept old m + j) (kept old m)
 new_joined old m new h zero l = same_place new (kept old m + 0) (kept old m) (omega arith)
 new_joined old m new h (suc j) l =
     let to : SameComponent new (kept old m + suc j) (kept old m + 0) = gluing_joins new (opposite (new_facet old m (suc j)) 0) _ (h.moved.inner (suc j) 0 l (omega arith) (λ e. absurd (omega arith))) in
     go_on new (kept old m + suc j) (kept old m + 0) (kept old m) to (same_place new (kept old m + 0) (kept old m) (omega arith))
 
--- what stands for a face is where its tetrahedron is then
+-- the replacement of a face is joined to the tetrahedron for the one of the face
 stands_then : (old : List Row) (m : Move) (new : List Row) → IsStep old m new → (x : Face) (s : Gluing) → x.tet < length old → x.face < 4 → place_after old m x ≡ Some s → SameComponent new s.tet (where_then old m x.tet)
 stands_then old m new h x s lt lf stands = elim (shape old m h.table h.fine h.core x s lt lf stands) [
   | inl k ↦ same_place new s.tet (where_then old m x.tet) (ap (λ (g : Gluing). g.tet) k.by ∙ sym (then_kept old m x.tet k.stays))
@@ -73,7 +73,7 @@ stands_then old m new h x s lt lf stands = elim (shape old m h.table h.fine h.co
       (go_on new (kept old m + f.j) (kept old m) (where_then old m x.tet) (new_joined old m new h f.j f.less) (same_place new (kept old m) (where_then old m x.tet) (sym (then_taken old m x.tet taken)))))
 ]
 
--- where nothing stands for a face, it lies between tetrahedra that are taken out
+-- a face that is not replaced lies between removed tetrahedra
 both_taken : (old : List Row) (m : Move) (new : List Row) → IsStep old m new → (x : Face) (g : Gluing) → x.tet < length old → x.face < 4 → glue old x ≡ Some g → place_after old m x ≡ None → (has (old_tets old m) x.tet ≡ true) × (has (old_tets old m) g.tet ≡ true)
 both_taken old m new h x g lt lf e none = by_test (has (old_tets old m) x.tet) refl
   where
@@ -104,7 +104,7 @@ both_taken old m new h x g lt lf e none = by_test (has (old_tets old m) x.tet) r
     by_test false s = absurd (never (place_after old m x) _ (stand_in-kept old m x s) none)
     by_test true s = by_facet (old_tet_facet old m x.tet h.core s) s
 
--- each step of a chain goes along
+-- the tetrahedra for the two sides of a gluing are joined
 step_then : (old : List Row) (m : Move) (new : List Row) → IsStep old m new → (x : Face) (g : Gluing) → glue old x ≡ Some g → SameComponent new (where_then old m x.tet) (where_then old m g.tet)
 step_then old m new h x g e = by_stand (place_after old m x) refl
   where
@@ -137,7 +137,7 @@ chain_then old m new h t u j = (kept_along old (Then old m new t) step j.0 (whol
         let c : Crossed old p f q = crossed old p f q k.0 e in
         (c.bare, go_on new (where_then old m t) (where_then old m p.tet) (where_then old m q.tet) k.1 (subst (λ v. SameComponent new (where_then old m p.tet) (where_then old m v)) c.to (step_then old m new h (record { tet = p.tet; face = f }) c.g c.glued)))
 
--- each tetrahedron then is joined to one that was
+-- each new tetrahedron is joined to one for an old tetrahedron
 from_old : (old : List Row) (m : Move) (new : List Row) → IsStep old m new → (u : ℕ) → IsKeptNumber old m u ⊎ IsNewNumber old m u → (t : ℕ) × (t < length old) × SameComponent new u (where_then old m t)
 from_old old m new h u (inl k) = (k.tet, k.in_range, same_place new u (where_then old m k.tet) (sym k.is ∙ sym (then_kept old m k.tet k.stays)))
 from_old old m new h u (inr n) =

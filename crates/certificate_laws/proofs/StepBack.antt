@@ -1,4 +1,4 @@
--- The inverse of a step, carried to a table to which a relabelling carries the one behind the step.
+-- The inverse of a step, on a relabelling of the table that results from the step.
 use Rattle.std.proofs.Common.{◌≡◌, ℕ, ◌+◌, ◌-◌, ◌<◌, ◌≤◌, Bool, false, List, length, map, Some, None, sym, ap, ◌∙◌, subst, arith}
 use Rattle.std.specs.Prelude.{nat_lt, slice_index, if◌then◌else◌}
 use Rattle.std.specs.Option.{option_or}
@@ -33,7 +33,7 @@ use Rattle.certificate_laws.proofs.CarriedOn.{carried_on}
 use Rattle.move_laws.proofs.SecondStand.{closed_up_low, stays_low}
 use Rattle.certificate_laws.proofs.BackLabels.{IsSteppedOn, at_label, back_label, back_labels, carried_inverse, each_once, held, inv}
 
--- the relabelling of the table before the step: up to the table to which the inverse leads, and then along
+-- the relabelling of the table before the step: by that to the result of the inverse, and then by that of results
 abbrev pub back_by : List Row → Move → List Row → List Row → Relabelling → Relabelling
 back_by old m new now on = after (length old) (carried_by on new now (inverse_of old m)) (relabelling old m)
 
@@ -69,7 +69,7 @@ kept_back old m new now on h t l e =
     goes : CarriesAfterMove on new (inv old m) now r
     goes = on_goes_on on new now (inv old m) k
 
--- the vertices of an old facet, along both
+-- the map of the vertices of an old facet under both
 moved_named : (p : List ℕ) → IsPermutationOfFour p → (s i : ℕ) (a : List ℕ) (f : ℕ → ℕ) → s < 5 → s ≤ i → AreLabels i a → ((l : ℕ) → l < 5 → f l ≡ named p (renamed s l))
     → compose (named_perm p (i - s)) (moved_perm s i a) ≡ map (λ l. preimage (ascending (f i)) (f l)) a
 moved_named p hp s i a f small low ha names' =
@@ -137,7 +137,7 @@ replaced_back old m new now on h i low high =
         ∙ ap (λ x. gluing_to (kept now (move_back old m on) + x) (compose (named_perm p (i - s)) (moved_perm s i f.labels))) tet
         ∙ ap (gluing_to (kept now (move_back old m on) + slice_index (back_labels old m on) i)) (moved_named p (naming_fine on new now (inv old m) k) s i f.labels (slice_index (back_labels old m on)) h.played.few low is.labels label)
 
--- so the step is carried back
+-- the step has an inverse on the relabelled table
 pub record IsLedBack (old : List Row) (m : Move) (new now : List Row) (on : Relabelling) : Type 0 where
   pub end : List Row
   pub by : Relabelling

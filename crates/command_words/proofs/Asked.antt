@@ -1,4 +1,4 @@
--- What a parse of the program's words answers is what the definitions ask.
+-- A parse of the program's words returns what the definitions request.
 use Rattle.std.proofs.Common.{◌≡◌, ◌∙◌, ℕ, inl, inr, Bool, true, false, refl, sym, ap, List, [], ◌∷◌, map, Option, Some, None, cond, subst, true≢false}
 use Rattle.std.proofs.lemmas.Bool.{and_parts}
 use Rattle.std.proofs.lemmas.Slice.Eq.{bytes_eq-Decides}
@@ -30,7 +30,7 @@ use Rattle.command_words.proofs.ProgramWalk.{app, asked, asked_passes, asks, com
 
 -- ---- the program with one of the commands
 
--- an option takes no place among arguments without a name
+-- an option has no place among arguments without a name
 filled_options : (i : ℕ) (names : List Text) → filled_from i (map option_argument names) ≡ rules_for names
 filled_options i [] = refl
 filled_options i (n ∷ ns) = ap (λ rs. option_rule n ∷ rs) (filled_options i ns)
@@ -41,7 +41,7 @@ program_built c = ap (λ (rs : List Rule). let a : App = record { top = top; sub
 all_free : list_all (λ c. is_simple_and_free (program_with c)) commands ≡ true
 all_free = refl
 
--- what is tested of each command holds of the one that is found
+-- a test that all commands pass is passed by the one that is found
 found_passes : (q : Command → Bool) (cs : List Command) (w : Text) (c : Command) → command_in cs w ≡ Some c → list_all q cs ≡ true → q c ≡ true
 found_passes q [] w c e h = absurd (some≢none c (sym e))
 found_passes q (d ∷ ds) w c e h = go (bytes_eq d.0 w) e (found_passes q ds w c)
@@ -67,7 +67,7 @@ program_enters : (c : Command) (words : List Text)
     → subcommand_of (program_with c) words ≡ entered (app (c ∷ [])) (stop_after (app (c ∷ [])).top.rules (names_of (app (c ∷ []))) words)
 program_enters c words = ap (λ (b : App). entered b (stop_after b.top.rules (names_of b) words)) (program_built c)
 
--- the command that the words begin with is asked as it is among all
+-- the request of the command that the words begin with is the same if it is the only command
 asked_alone : (words : List Text) (c : Command) → command_before words ≡ Some c → asked (c ∷ []) words ≡ asked commands words
 asked_alone [] c e = absurd (some≢none c (sym e))
 asked_alone (w ∷ ws) c e =
@@ -136,7 +136,7 @@ is_memory : ErrorKind → Bool
 is_memory OutOfMemory = true
 is_memory _ = false
 
--- a fault that is none of memory answers words that ask nothing
+-- an error other than out of memory is for words that request nothing
 pub fault_answers : (k : ErrorKind) (asks : Option Request) → ((k ≡ OutOfMemory → ⊥) → asks ≡ None) → FailsWords (parse_fault k) asks
 unfolding is_memory
 fault_answers OutOfMemory asks h = tt

@@ -1,4 +1,4 @@
--- How a word begins, as the definitions and as the parser look at it.
+-- The beginning of a word, in the definitions and in the parser.
 use Rattle.std.proofs.Common.{◌≡◌, ◌==◌, Bool, true, false, refl, sym, [], ◌∷◌, Option, Some, None, true≢false}
 use Rattle.std.specs.Str.{bytes_eq}
 use Rattle.clap.specs.Lexer.{long_of, short_of}

@@ -1,4 +1,4 @@
--- After the walk over a command's words nothing else fails: its options have no defaults, and none is required.
+-- After the words of a command are read, there is no further error: its options have no defaults, and none is required.
 use Rattle.std.proofs.Common.{◌≡◌, ◌∙◌, ◌&&◌, ◌||◌, not, Bool, true, false, refl, ap, List, [], ◌∷◌, None, cond}
 use Rattle.std.specs.Prelude.{fold}
 use Rattle.std.specs.List.{list_any}

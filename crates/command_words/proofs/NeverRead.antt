@@ -1,9 +1,9 @@
--- Words are not in the grammar where a reader gives nothing from some point on.
+-- Words are not in the grammar if a reader returns nothing from some word on.
 use Rattle.std.proofs.Common.{◌≡◌, Bool, true, false, refl, sym, ap, List, [], ◌∷◌, ◌++◌, Option, Some, None, cond}
 use Rattle.clap.specs.Walk.{Text}
 use Rattle.command_definitions.specs.Options.{Given, Next, is_hyphened, is_known, is_named, option_read, option_word, with_value, word_read}
 
--- A reader that gives nothing once P holds of the options seen, where P goes on to hold as more are seen.
+-- A reader that returns nothing if P holds of the options seen, where P is kept as more options are seen.
 module _ (names : List Text) (next : Next) (P : List Given → Type 0) (grows : (seen : List Given) (g : Given) → P seen → P (seen ++ g ∷ []))
     (never : (seen : List Given) (waiting : Option Text) → P seen → next seen waiting ≡ None) where
   value_never : (name v : Text) (seen : List Given) (b : Bool) → is_named seen name ≡ b → P seen → with_value name v seen next ≡ None

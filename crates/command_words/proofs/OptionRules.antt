@@ -1,4 +1,4 @@
--- The arguments that stand for the options of a command, and what a use of one does.
+-- The arguments for the options of a command, and the effect of a use of one.
 use Rattle.std.proofs.Common.{◌≡◌, ◌∙◌, ◌||◌, ℕ, Bool, true, false, refl, ap, List, [], ◌∷◌, ◌++◌, map, Option, Some, None, cond, true≢false}
 use Rattle.std.specs.Str.{bytes_eq}
 use Rattle.std.proofs.lemmas.Slice.Eq.{bytes_eq-Decides}
@@ -11,7 +11,7 @@ use Rattle.clap.specs.declared.error.kind.ErrorKind.TheVariants as kind
 use Rattle.clap.specs.declared.parser.matches.ValueSource.TheVariants.{CommandLine}
 use Rattle.command_definitions.specs.Options.{Given, is_known, is_named}
 
--- an option as it is built
+-- the argument of an option
 abbrev pub option_rule : Text → Rule
 option_rule name = record (new_rule name) {
   long = Some name;
@@ -23,7 +23,7 @@ option_rule name = record (new_rule name) {
 abbrev pub rules_for : List Text → List Rule
 rules_for names = map option_rule names
 
--- what is found for an option that is given
+-- the row that is found for an option that is given
 abbrev pub row : Given → Row
 row g = record { id = g.0; values = g.1 ∷ []; count = None; source = Some CommandLine; reading = reading_by (option_rule g.0) }
 
@@ -67,7 +67,7 @@ pub has_row-rows : (id : Text) (given : List Given) → has_row id (rows given) 
 has_row-rows id [] = refl
 has_row-rows id (g ∷ gs) = ap (λ b. bytes_eq g.0 id || b) (has_row-rows id gs)
 
--- an option that is not given yet comes at the end
+-- an option that is not given yet is appended
 at_row-new : (id : Text) (change : Row → List Row) (missing : List Row) (given : List Given) → is_named given id ≡ false
     → at_row id change missing (rows given) ≡ rows given ++ missing
 at_row-new id change missing [] e = refl

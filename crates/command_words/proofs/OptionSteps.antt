@@ -56,7 +56,7 @@ module _ (name : Text) (names : List Text) where
       → fault_at name names waiting x h ≡ UnknownArgument ∷ []
   long_unknown waiting x id v h l k = rw (l, by_long names id, k) refl
 
-  -- what fails before an option fails at it
+  -- an error in the option before is found at this one
   pub long_late : (waiting : Waiting) (x id : Text) (v : Option Text) (h : Held) (kind : ErrorKind) → long_of x ≡ Some (id, v) → is_known names id ≡ true
       → settle_fault (rules_for names) false h ≡ kind ∷ [] → fault_at name names waiting x h ≡ kind ∷ []
   long_late waiting x id (Some v) h kind l k e = rw (l, by_long names id, k, e) refl

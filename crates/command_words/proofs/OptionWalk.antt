@@ -1,4 +1,4 @@
--- A parse of the words after a command finds the options of the definitions, and fails where there are none.
+-- A parse of the words after a command finds the options of the definitions, and fails if there are none.
 use Rattle.std.proofs.Common.{◌≡◌, ◌∙◌, Bool, true, false, refl, sym, ap, List, [], ◌∷◌, ◌++◌, Option, Some, None, cond}
 use Rattle.std.specs.Option.{option_map}
 use Rattle.std.specs.Str.{bytes_eq}
@@ -49,7 +49,7 @@ module _ (name : Text) (names : List Text) where
   unfolding walk_fault options_from
   wait_end seen id k = rw (value_missing name names (rows seen) id k) refl
 
-  -- ---- a word where no option waits
+  -- ---- a word if no option waits for its value
 
   module _ (x : Text) (xs : List Text) (word : bytes_eq x dashes ≡ false) (spelled : IsSpelled x) where
     idle_reads : (seen : List Given) (l : Option (Text × Option Text)) → long_of x ≡ l
@@ -108,7 +108,7 @@ module _ (name : Text) (names : List Text) where
         go None l = no_long found p (short_of x) l refl ∙ sym (ap found_for (idle_reads seen None l))
         go (Some q) l = long_step next wait found p seen q.0 q.1 (is_known names q.0) settles l refl ∙ sym (ap found_for (idle_reads seen (Some q) l))
 
-    -- ---- a word where an option waits for its value
+    -- ---- a word if an option waits for its value
 
     wait_reads : (seen : List Given) (id : Text) (b : Bool) → is_hyphened x ≡ b
         → options_from names (x ∷ xs) seen (Some id) ≡ (cond b None (with_value id x seen (options_from names xs)))
@@ -122,7 +122,7 @@ module _ (name : Text) (names : List Text) where
     wait_long seen id other v true k l known = fails_option name names id x (hold (rows seen) (Some (id, []))) xs InvalidValue word
         (long_late name names (option id) x other v (hold (rows seen) (Some (id, []))) InvalidValue l known (value_missing name names (rows seen) id k))
 
-    -- the value was put down, and the option may have been named before
+    -- the word is the value of the option, which may have been named before
     put_down : IdleGives xs → StuckGives xs → (seen : List Given) (id : Text) (b : Bool) → is_known names id ≡ true → is_named seen id ≡ b
         → out name names (walk_of (hold (rows seen) (Some (id, x ∷ []))) idle) xs ≡ found_for (with_value id x seen (options_from names xs))
     put_down next stuck seen id true k named =

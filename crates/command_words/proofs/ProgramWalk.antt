@@ -50,7 +50,7 @@ nothing_after : (ks : Kinds) → or_else ks [] ≡ ks
 nothing_after [] = refl
 nothing_after (k ∷ ks) = refl
 
--- the name of the command that is found is the word
+-- the command that is found has the word as its name
 pub found_name : (cs : List Command) (w : Text) (c : Command) → command_in cs w ≡ Some c → c.0 ≡ w
 found_name [] w c e = absurd (some≢none c (sym e))
 found_name (d ∷ ds) w c e = go (bytes_eq d.0 w) refl e (found_name ds w c)
@@ -87,7 +87,7 @@ module _ (cs : List Command) where
       go true h = refl
       go false h = h
 
-  -- ---- after the command its words are only kept
+  -- ---- after the command its words are only stored
 
   abbrev stopped_at : Text → List Text → Walk
   stopped_at name before = record { held = nothing_held; waiting = idle; position = 1; is_trailing = false; stopped = Some (name, before) }
@@ -168,7 +168,7 @@ module _ (cs : List Command) where
         let f = unknown_word (name_met cs w ∙ ap (option_map (λ (d : Command). (d.0, []))) none) word spelled (long_of w) refl (short_of w) refl in
         fails_at_once f.0 f.1 f.2
 
-  -- the command that words name, and what is found for its options
+  -- the command that words name, and the rows of its options
   abbrev pub asked : List Text → Option (Text × List Row)
   asked [] = None
   asked (w ∷ ws) = option_and_then (λ (c : Command). option_map (λ os. (c.0, rows os)) (options_of (option_names c.1) ws)) (command_in cs w)
@@ -192,7 +192,7 @@ module _ (cs : List Command) where
   no_faults_asked name (k ∷ ks) found None p e some = absurd (some≢none p (sym some))
   no_faults_asked name (k ∷ ks) found (Some given) p e some = absurd (some≢none (rows given) (sym e))
 
-  -- where nothing fails, the parse enters what is asked
+  -- if there is no error, the parse enters the command that is named
   pub enters_asked : (words : List Text) → AreWords words → built_fault app nothing_held words ≡ [] → entered app (walk [] names nothing_held words).stopped ≡ asked words
   enters_asked [] a none = refl
   enters_asked (w ∷ ws) a none = go (command_in cs w) refl
@@ -203,7 +203,7 @@ module _ (cs : List Command) where
           ∙ rows_asked c.0 (fault_from c.0 (option_names c.1) (walk_of nothing_held idle) ws) _ (options_of (option_names c.1) ws) (leaf_gives c.0 (option_names c.1) ws a.2) (sym (command_faults w ws c is) ∙ none)
           ∙ sym (asks w ws c is)
 
-  -- where something is asked, nothing fails
+  -- if words name a command and options, there is no error
   pub asked_passes : (words : List Text) (p : Text × List Row) → AreWords words → asked words ≡ Some p → built_fault app nothing_held words ≡ []
   asked_passes [] p a some = absurd (some≢none p (sym some))
   asked_passes (w ∷ ws) p a some = go (command_in cs w) refl

@@ -1,4 +1,4 @@
--- Words of which two name one option are not in the grammar.
+-- If two of the words name the same option, the words are not in the grammar.
 use Rattle.std.proofs.Common.{◌≡◌, ◌∙◌, ◌+◌, ◌||◌, ◌<◌, ℕ, Bool, true, false, zero, suc, refl, sym, ap, subst, List, [], ◌∷◌, ◌++◌, Option, Some, None, cond, codes, true≢false, take, drop, length, arith}
 use Rattle.std.specs.Prelude.{count_by, ⊤, ◌==◌}
 use Rattle.std.proofs.lemmas.List.Sums.{sum_by-cons}
@@ -16,7 +16,7 @@ use Rattle.command_definitions.specs.Values.{◌>>=◌}
 use Rattle.command_words.proofs.NeverRead.{word_never}
 use Rattle.command_words.specs.Texts.{options, ends_option, is_naming, is_repeated, has_repeats}
 
--- a list of words so many of which name the option
+-- the number of words that name the option
 abbrev times : Text → List Text → ℕ
 times o ws = count_by (λ w. is_naming o w) ws
 
@@ -45,7 +45,7 @@ module _ (names : List Text) (o name : Text) (reads : (w : Text) → is_naming o
   abbrev Seen : List Given → Type 0
   Seen seen = is_named seen name ≡ true
 
-  -- the option that waits is seen already
+  -- the option that waits for its value was already given
   waits_no_more : (ws : List Text) (seen : List Given) → Seen seen → options_from names ws seen (Some name) ≡ None
   unfolding options_from
   waits_no_more [] seen p = refl
@@ -55,7 +55,7 @@ module _ (names : List Text) (o name : Text) (reads : (w : Text) → is_naming o
       go true = refl
       go false = rw p refl
 
-  -- a word that names it can follow no more
+  -- a word that names it again is refused
   met_again : (l : Option (Text × Option Text)) (v : Option Text) (seen : List Given) (ws : List Text) → l ≡ Some (name, v) → Seen seen → option_read names l seen (options_from names ws) ≡ None
   met_again l v seen ws e p = rw e (go (is_known names name) v)
     where
@@ -78,7 +78,7 @@ module _ (names : List Text) (o name : Text) (reads : (w : Text) → is_naming o
       go true t few h = word_again w ws seen waiting (reads w t) p
       go false t few h = word_never names (options_from names ws) Seen (λ s g q. named_again s g name q) (h (let f : 0 < times o ws = omega arith in f)) w seen waiting p
 
-  -- the option is named, and its value is to come
+  -- the option is named, and its value follows
   waits_once : (ws : List Text) → 0 < times o ws → (seen : List Given) → options_from names ws seen (Some name) ≡ None
   unfolding options_from
   waits_once [] few seen = refl
@@ -143,7 +143,7 @@ reads_of c cs l w e =
       hyphened = ap is_hyphened s.1;
     }
 
--- the words ask for nothing, where they name one option twice
+-- words that name one option twice request nothing
 after_command : (o name : Text) (w : Text) (ws : List Text) (b : Bool) → ((v : Text) → is_naming o v ≡ true → Names name v) → (is_naming o w ≡ true → command_named w ≡ None) → is_naming o w ≡ b → 1 < cond b 1 0 + times o ws
     → accepted_request (w ∷ ws) ≡ None
 after_command o name w ws true reads none t few = rw (none t) refl

@@ -1,4 +1,4 @@
--- Lists of words, one word longer.
+-- Lists of words, with one more word.
 use Rattle.std.proofs.Common.{◌≡◌, ◌∙◌, ◌+◌, ◌||◌, ℕ, Bool, true, false, zero, suc, refl, sym, ap, List, [], ◌∷◌, ◌++◌, take, Some, true≢false, arith}
 use Rattle.std.specs.Prelude.{slice_get}
 use Rattle.std.specs.Str.{IsUtf8, bytes_eq}

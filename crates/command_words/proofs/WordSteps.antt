@@ -1,4 +1,4 @@
--- What a parse makes of the words after a command, word by word.
+-- What a parse does with the words after a command, word by word.
 use Rattle.std.proofs.Common.{◌≡◌, ◌∙◌, ℕ, true, false, refl, ap, List, [], ◌∷◌, Option, Some, None}
 use Rattle.std.specs.Prelude.{slice_get, fold}
 use Rattle.std.specs.Str.{bytes_eq, chars}
@@ -11,7 +11,7 @@ use Rattle.clap.specs.declared.error.kind.ErrorKind.{ErrorKind}
 use Rattle.command_words.proofs.OptionRules.{rules_for}
 use Rattle.command_words.specs.Texts.{dashes}
 
--- a command with its options, as it is built
+-- the parser of a command with its options
 abbrev pub leaf : Text → List Text → Shape
 leaf name names = record (new_shape name) {
   rules = rules_for names;
@@ -22,7 +22,7 @@ leaf name names = record (new_shape name) {
   is_built = true;
 }
 
--- what is found, where nothing fails
+-- the rows that are found, if there is no error
 abbrev pub answer : Kinds → List Row → Option (List Row)
 answer [] found = Some found
 answer (k ∷ ks) found = None
@@ -30,7 +30,7 @@ answer (k ∷ ks) found = None
 abbrev pub walk_of : Held → Waiting → Walk
 walk_of h waiting = record { held = h; waiting = waiting; position = 1; is_trailing = false; stopped = None }
 
--- what stands behind a hyphen begins with a character
+-- what comes after a hyphen begins with a character
 abbrev pub IsSpelled : Text → Type 0
 IsSpelled w = (flags : Text) → short_of w ≡ Some flags → (x : ℕ) × (slice_get (chars flags) 0 ≡ Some x)
 
@@ -44,7 +44,7 @@ module _ (name : Text) (names : List Text) where
   abbrev pub fault_from : Walk → List Text → Kinds
   fault_from w words = or_else (walk_fault s [] w words) (settle_fault (rules_for names) false (end_of w words))
 
-  -- what is found at the end of the words
+  -- the result at the end of the words
   abbrev pub out : Walk → List Text → Option (List Row)
   out w words = answer (fault_from w words) (settled (rules_for names) (end_of w words)).rows
 
@@ -59,7 +59,7 @@ module _ (name : Text) (names : List Text) where
   out-next w v x ws e f = ap (λ t. answer (or_else (or_else t (walk_fault s [] (walked (rules_for names) [] w x) ws)) (settle_fault (rules_for names) false (end_of w (x ∷ ws)))) (settled (rules_for names) (end_of w (x ∷ ws))).rows) e
       ∙ ap (λ u. out u ws) f
 
-  -- what a word is that is not `--`
+  -- the step for a word other than `--`
   abbrev met : Waiting → Text → Held → Held × Step
   met waiting x h = long_or_other (rules_for names) waiting x (long_of x) h
 
@@ -83,7 +83,7 @@ module _ (name : Text) (names : List Text) where
   unfolding walked
   walked_option id x h e = rw e refl
 
-  -- a word that fails, or passes, where nothing or an option waits
+  -- a word that fails, or passes, if no option waits or if one does
   pub fails_idle : (x : Text) (h : Held) (ws : List Text) (k : ErrorKind) → bytes_eq x dashes ≡ false → fault_at idle x h ≡ k ∷ [] → out (walk_of h idle) (x ∷ ws) ≡ None
   fails_idle x h ws k e f = out-fails (walk_of h idle) x ws k (turn_idle x h e ∙ f)
 

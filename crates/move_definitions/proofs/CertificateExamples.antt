@@ -7,7 +7,8 @@ use Rattle.move_definitions.specs.Moves.{Move}
 use Rattle.move_definitions.specs.Certificates.{next_state, draw, candidates, drawn, descent_move}
 use Rattle.table_definitions.proofs.Tables.{sphere, table_gb, four_tets}
 
--- the generator from the seed 0: the first list has 14 0 alone, the second has sixteen moves 2-3 and twelve 3-2, of which 32 0 13 is drawn
+-- the generator from the seed 0: the first list has `14 0` alone, the second has sixteen moves 2-3 and twelve 3-2, of
+-- which `32 0 13` is drawn
 generator : (next_state 0 ≡ 1442695040888963407) × (next_state 1442695040888963407 ≡ 1876011003808476466) × (draw 1876011003808476466 ≡ 436792849)
 unfolding computed
 generator = (refl, refl, refl)

@@ -1,4 +1,4 @@
--- A test that the fifteen cores pass is passed by each core.
+-- If a test is passed by the fifteen cores, it is passed by each core.
 use Rattle.std.proofs.Common.{◌≡◌, ℕ, ◌<◌, Bool, true, false, List, [], ◌∷◌, length, refl, sym, subst, arith}
 use Rattle.std.specs.Prelude.{nat_lt, filter, if◌then◌else◌}
 use Rattle.std.specs.List.{list_all}
@@ -11,7 +11,7 @@ use Rattle.table_definitions.proofs.ListFacts.{list_all-at, same_list-true}
 abbrev pub with : Bool → ℕ → List ℕ → List ℕ
 with b v vs = if b then v ∷ vs else vs
 
--- the vertices for which these hold
+-- the vertices whose truth value is true
 abbrev pub subset : Bool → Bool → Bool → Bool → List ℕ
 subset a b c d = with a 0 (with b 1 (with c 2 (with d 3 [])))
 

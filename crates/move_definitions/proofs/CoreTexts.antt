@@ -16,7 +16,7 @@ kind_word two_three = codes "23"
 kind_word three_two = codes "32"
 kind_word four_one = codes "41"
 
--- a word that is named first, or one of the others
+-- a word is the first name, or one of the others
 first_named : {A : Type 0} (w v : List ℕ) (a : A) (rest : Option A) (k : A) → (if same_list w v then Some a else rest) ≡ Some k → ((w ≡ v) × (a ≡ k)) ⊎ (rest ≡ Some k)
 first_named {A} w v a rest k e = by_test (same_list w v) refl e
   where
@@ -33,7 +33,7 @@ kind_named w k e =
     named : (j : MoveKind) → (w ≡ kind_word j) × (j ≡ k) → w ≡ kind_word k
     named j p = subst (λ i. w ≡ kind_word i) p.1 p.0
 
--- the word of each step that is no move
+-- the word of each step other than a move
 abbrev pub names_step : Step → List ℕ → Type 0
 names_step undo w = w ≡ codes "undo"
 names_step redo w = w ≡ codes "redo"
@@ -45,7 +45,7 @@ step_named w s e =
     (λ e2. ⊎_elim (λ p. subst (λ t. names_step t w) p.1 p.0) (λ e3. absurd cc) (first_named w (codes "redo") redo None s e2))
     (first_named w (codes "undo") undo _ s e)
 
--- what is found passes the test, and what all items pass
+-- an item that is found passes the test, and each test that all items pass
 find_sound : {A : Type 0} (t q : A → Bool) (xs : List A) (x : A) → list_all q xs ≡ true → find t xs ≡ Some x → (t x ≡ true) × (q x ≡ true)
 find_sound t q [] x h e = absurd cc
 find_sound {A} t q (y ∷ ys) x h e = by_test (t y) refl (λ f. find_sound t q ys x parts.1 f) e

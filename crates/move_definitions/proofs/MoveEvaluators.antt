@@ -1,4 +1,4 @@
--- A slow way to make the table to which a move leads, for the examples.
+-- A slow way to compute the table that results from a move, for the examples.
 use Rattle.std.proofs.Common.{◌-◌, List, length, map, Option, Some, None}
 use Rattle.std.specs.Prelude.{if◌then◌else◌, option_and_then, Result, Ok, Err, slice_index}
 use Rattle.table_definitions.specs.Lists.{below, first_some}
@@ -8,7 +8,7 @@ use Rattle.table_definitions.specs.Relabelling.{face_under}
 use Rattle.move_definitions.specs.declared.MoveFault.{MoveFault}
 use Rattle.move_definitions.specs.Moves.{Move, Facet, kept, new_length, new_facet, label_by_label, place_after, moved_gluing, play_fault}
 
--- what a face y of the new table is glued by, if x stands for it
+-- the gluing of a face y of the new table, if y replaces x
 abbrev pub outer_gluing : List Row → Move → Face → Face → Option (Option Gluing)
 outer_gluing rows m y x =
     option_and_then (λ (s : Gluing). if same_face (face_under s x) y then Some (option_and_then (moved_gluing rows m x s) (glue rows x)) else None) (place_after rows m x)
@@ -30,7 +30,7 @@ new_gluing rows m y = or_inner (first_some (outer_gluing rows m y) (faces (lengt
 abbrev pub moved : List Row → Move → List Row
 moved rows m = map (λ t. map (λ f. new_gluing rows m (record { tet = t; face = f })) four) (below (new_length rows m))
 
--- what playing a move gives: the table, or the fault
+-- the result of playing a move: the table, or the error
 abbrev pub played_on : Option MoveFault → List Row → Result (List Row) MoveFault
 played_on None new = Ok new
 played_on (Some fault) new = Err fault

@@ -12,17 +12,17 @@ use Rattle.move_definitions.proofs.MoveEvaluators.{play_on}
 use Rattle.move_definitions.proofs.RelationExamples.{at}
 use Rattle.table_definitions.proofs.Tables.{sphere, four_tets, row, free, by}
 
--- 14 0
+-- `14 0` on the sphere
 four_tets_lem : play_on sphere (at 0 four) ≡ Ok four_tets
 unfolding computed
 four_tets_lem = refl
 
--- 41 0 3 on that table: 0:3120 0:1230 0:3012 0:3120
+-- `41 0 3` on that table: 0:3120 0:1230 0:3012 0:3120
 back : play_on four_tets (at 0 (3 ∷ [])) ≡ Ok (row (by 0 21) (by 0 9) (by 0 18) (by 0 21) ∷ [])
 unfolding computed
 back = refl
 
--- 32 0 13 on the table of four: three tetrahedra
+-- `32 0 13` on the table of four: three tetrahedra
 three_tets : play_on four_tets (at 0 (1 ∷ 3 ∷ [])) ≡ Ok (
     row (by 1 21) (by 1 21) (by 1 21) (by 2 7)
     ∷ row (by 2 0) (by 0 21) (by 0 21) (by 0 21)
@@ -30,7 +30,7 @@ three_tets : play_on four_tets (at 0 (1 ∷ 3 ∷ [])) ≡ Ok (
 unfolding computed
 three_tets = refl
 
--- 41 0 0 on the table of four, and 23 0 0 on the sphere and on a free tetrahedron
+-- `41 0 0` on the table of four, and `23 0 0` on the sphere and on a tetrahedron without gluings
 faults : (play_on four_tets (at 0 (0 ∷ [])) ≡ Err (NotMatched 1 3))
     × (play_on sphere (at 0 (1 ∷ 2 ∷ 3 ∷ [])) ≡ Err (Repeated 3))
     × (play_on (row free free free free ∷ []) (at 0 (1 ∷ 2 ∷ 3 ∷ [])) ≡ Err (Boundary 3))
@@ -46,7 +46,7 @@ texts : (move_text (at 0 four) ≡ codes "14 0" ++ 10 ∷ []) × (move_text (at 
 unfolding computed
 texts = (refl, refl, refl, refl)
 
--- the step that stands in the first line of a text
+-- the step in the first line of a text
 first_step : List ℕ → Option Step
 first_step bytes = of_read (need_line_at (start_of bytes) >>= step_at)
   where

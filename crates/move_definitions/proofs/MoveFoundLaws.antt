@@ -20,7 +20,7 @@ end_found : (c : Reading) → c.current.tokens ≡ [] → end_line_at c ≡ Ok c
 unfolding end_line_at
 end_found c e = ap (λ (ts : List Token). end_from ts c) e
 
--- the core that these words spell is read, and the line is used up
+-- the core that these words spell is read, up to the end of the line
 pub record FindsCore (k : MoveKind) (ts : List Token) (c : Reading) (core : List ℕ) : Type 0 where
   pub left : Reading
   pub read : core_at k (with_tokens ts c) ≡ Ok (core, left)
@@ -33,7 +33,8 @@ vertices_found : (lists : List (List ℕ)) (column : ℕ) (v w vs : List ℕ) (t
 unfolding vertices_at word_at
 vertices_found lists column v w vs ts c e s = ap (λ (o : Option (List ℕ)). spelled_at o (with_tokens ts (behind column c))) (ap (spelled lists) e ∙ s)
 
--- what words of a core name: its kind, no step, and the reading of the core
+-- the first word of a move line with this core: it names a kind of moves and no other step, and the core is read after
+-- it
 pub record CoreFound (word : List ℕ) (ws : List (List ℕ)) (core : List ℕ) : Type 0 where
   pub k : MoveKind
   pub kind : move_kind word ≡ Some k
@@ -44,7 +45,7 @@ no_words : (core : List ℕ) (k : MoveKind) (ts : List Token) (c : Reading) → 
 no_words core k [] c e a = record { left = with_tokens [] c; read = e; later = refl; at_end = refl }
 no_words core k (t ∷ ts) c e a = absurd a
 
--- one word, behind which the line ends
+-- one word, and then the end of the line
 one_word : (k : MoveKind) (w : List ℕ) (core : List ℕ) (ts : List Token) (c : Reading) → ((column : ℕ) (v : List ℕ) → v ≡ w → core_at k (with_tokens (word column v ∷ []) c) ≡ Ok (core, with_tokens [] (behind column c)))
     → AreWords ts (w ∷ []) → FindsCore k ts c core
 one_word k w core [] c e a = absurd a
@@ -103,7 +104,7 @@ kind_found k tet ws (word column v ∷ ts) c m a n f =
       at_end = core.at_end;
     }
 
--- a move line with its first word taken
+-- a move line after its first word
 pub record FindsNamed (ts : List Token) (c : Reading) (m : Move) : Type 0 where
   pub w : List ℕ
   pub behind_word : Reading

@@ -15,7 +15,7 @@ of_one : (cores : List (List ℕ)) (t : ℕ) → map move_of (map (λ (core : Li
 of_one [] t = refl
 of_one (core ∷ cores) t = ap (λ (ms : List Move). record { tet = t; core = core } ∷ ms) (of_one cores t)
 
--- those of one tetrahedron more
+-- the moves of one more tetrahedron
 pub moves_more : (cores : List (List ℕ)) (n : ℕ) → moves_with cores (suc n) ≡ moves_with cores n ++ moves_at n cores
 moves_more cores n =
     let pairs : ℕ → List (ℕ × List ℕ) = λ t. map (λ (core : List ℕ). (t, core)) cores in

@@ -42,7 +42,7 @@ vertices_read lists ts c vs d e =
       spells = spelt.0;
     }
 
--- a core that was read: its words, and what is left behind them
+-- a core that was read: its words, and what remains after them
 pub record TakesCore (k : MoveKind) (ts : List Token) (c : Reading) (core : List ℕ) (d : Reading) : Type 0 where
   pub ws : List (List ℕ)
   pub rest : List Token
@@ -183,7 +183,7 @@ pub record StepRead (c : Reading) (s : Step) (d : Reading) : Type 0 where
   pub later : d.later ≡ c.later
   pub at_end : d.current.tokens ≡ []
 
--- the word of a step that is no move
+-- the word of a step other than a move
 step_line : (c : Reading) (w : List ℕ) (s : Step) → AreWords c.current.tokens (w ∷ []) → names_step s w → IsStepLine c.current s
 step_line c w undo a n = subst (λ (u : List ℕ). AreWords c.current.tokens (u ∷ [])) n a
 step_line c w redo a n = subst (λ (u : List ℕ). AreWords c.current.tokens (u ∷ [])) n a

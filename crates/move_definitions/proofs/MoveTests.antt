@@ -1,4 +1,5 @@
--- Tests that decide whether a table is moved to another, and what passes them: so the relation is met by the tables of the examples.
+-- Tests that decide whether a table is the result of a move on another, so that this can be computed for the tables of
+-- the examples.
 use Rattle.std.proofs.Common.{◌≡◌, ℕ, Bool, true, List, length, Option, Some, None, ◌⊎◌, inl, inr, subst}
 use Rattle.std.specs.Prelude.{◌||◌, ◌==◌, ◌≢◌, option_and_then}
 use Rattle.std.specs.List.{list_all}
@@ -10,7 +11,7 @@ use Rattle.move_definitions.specs.Moves.{Move, IsCore, move_fault, new_length, n
 use Rattle.table_definitions.proofs.TableLaws.{Among-below, Among-pairs}
 use Rattle.table_definitions.proofs.Tests.{list_all-among, each_face, same_glue, same_glue-true, has_fours, fours_from}
 
--- whether an outer face of the old table is glued as it should be in the new one
+-- whether a face of the old table that is replaced is glued in the new one as it should be
 abbrev pub is_outer_moved : List Row → Move → List Row → Face → Option Gluing → Bool
 is_outer_moved old m new x None = true
 is_outer_moved old m new x (Some s) = same_glue (glue new (face_under s x)) (option_and_then (moved_gluing old m x s) (glue old x))

@@ -1,4 +1,4 @@
--- The relation of a move is met by tables of the examples.
+-- Examples of moves and the tables that result.
 use Rattle.std.proofs.Common.{ℕ, List, [], ◌∷◌, refl}
 use Rattle.table_definitions.specs.Permutation.{four}
 use Rattle.table_definitions.specs.Table.{Row}
@@ -7,7 +7,7 @@ use Rattle.move_definitions.proofs.Computed.{computed}
 use Rattle.move_definitions.proofs.MoveTests.{IsMoved-passed}
 use Rattle.table_definitions.proofs.Tables.{sphere, four_tets, row, by}
 
--- 14 0 leads from the sphere to the table of four, and 41 0 3 from there to one tetrahedron
+-- `14 0` on the sphere results in the table of four, and `41 0 3` on that in one tetrahedron
 abbrev pub at : ℕ → List ℕ → Move
 at t core = record { tet = t; core = core }
 

@@ -1,4 +1,4 @@
--- What stands for the face of a kept tetrahedron, and for that of an old facet, by its label.
+-- The replacement of a face of a retained tetrahedron, and of a face of an old facet, by its label.
 use Rattle.std.proofs.Common.{◌≡◌, ℕ, ◌<◌, ◌≤◌, Bool, true, false, cond, List, [], ◌∷◌, length, map, Option, Some, None, refl, ap}
 use Rattle.std.specs.Prelude.{◌==◌, ◌||◌, if◌then◌else◌, find}
 use Rattle.std.proofs.lemmas.Bool.{lt-ltb, le-ltb}
@@ -6,7 +6,7 @@ use Rattle.table_definitions.specs.Lists.{has}
 use Rattle.table_definitions.specs.Table.{Gluing, Row, Face}
 use Rattle.move_definitions.specs.Moves.{Move, Facet, new_facet, label_by_label, facet_place_after, kept_place_after, place_after_of, place_after, old_facets, old_tets}
 
--- where no facet of a list is of this tetrahedron
+-- if no facet of a list has this tetrahedron, none is found
 pub find-none : (fs : List Facet) (t : ℕ) → has (map (λ (f : Facet). f.tet) fs) t ≡ false → find (λ (f : Facet). f.tet == t) fs ≡ None
 find-none [] t h = refl
 find-none (f ∷ fs) t h = by_test (f.tet == t) h (λ later. find-none fs t later)

@@ -36,7 +36,7 @@ written _ _ _ (three_two a b l m) = record {
 }
 written _ _ _ (four_one v l) = record { text = record { bytes = refl; some = omega arith }; kept = refl; texts = (record { bytes = and_from (is_word_byte (48 + v)) true (vertex_byte v l) refl; some = omega arith }, tt) }
 
--- a core is told by the words that are written for it
+-- the words that are written for a core spell it
 abbrev IsSpelled : List ℕ → Type 0
 IsSpelled core = IsCoreText (core_words (length core) core).0 (core_words (length core) core).1 core
 

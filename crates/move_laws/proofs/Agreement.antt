@@ -1,4 +1,4 @@
--- A move leads to at most one table.
+-- A move, played on a table, results in at most one table.
 use Rattle.std.proofs.Common.{◌≡◌, ℕ, ◌<◌, List, [], length, get_or, None, sym, ap, ◌∙◌, arith, inl, inr}
 use Rattle.std.specs.Prelude.{◌⊎◌, All}
 use Rattle.std.proofs.lemmas.List.{ext_get_or}
@@ -16,7 +16,7 @@ same_at old m new new' h h' y (inl s) =
 same_at old m new new' h h' y (inr s) =
     ap (glue new) (sym s.is) ∙ h.inner s.j s.l s.j_small s.l_small s.apart ∙ sym (h'.inner s.j s.l s.j_small s.l_small s.apart) ∙ ap (glue new') s.is
 
--- tables that are glued alike are equal
+-- tables with the same gluings are equal
 pub same_tables : (rows rows' : List Row) → length rows ≡ length rows' → All (λ (row : Row). length row ≡ 4) rows → All (λ (row : Row). length row ≡ 4) rows'
     → ((t v : ℕ) → t < length rows → v < 4 → glue rows (face_at t v) ≡ glue rows' (face_at t v)) → rows ≡ rows'
 same_tables rows rows' e fours fours' same =

@@ -1,4 +1,4 @@
--- What takes a move back.
+-- Undoing a move restores the table.
 use Rattle.std.proofs.Common.{◌≡◌, ℕ, suc, ◌+◌, ◌<◌, Bool, true, false, cond, List, [], ◌∷◌, length, get_or, Option, Some, None, refl, sym, ap, ◌∙◌, subst, arith}
 use Rattle.std.specs.Prelude.{not, option_map, option_and_then, All}
 use Rattle.std.specs.List.{range_with_len}
@@ -30,7 +30,7 @@ use Rattle.move_laws.proofs.StandLaws.{under_kept, closes, stand_put, face_at, o
 use Rattle.move_laws.proofs.ExchangeLaws.{one_face}
 use Rattle.move_laws.proofs.MovedLaws.{kept_under, kept_place}
 
--- a legal move that led from the one table to the other
+-- a legal move, played on `old`, that results in `new`
 pub record HasMoved (old : List Row) (m : Move) (new : List Row) : Type 0 where
   pub legal : IsLegal old m
   pub moved : IsMoved old m new
@@ -54,7 +54,7 @@ back-length old m new h =
     let e = enough old m h.legal in
     omega arith
 
--- a saved face
+-- a face of a removed tetrahedron, saved to undo the move
 
 saved-has : (old : List Row) (m : Move) (t : ℕ) → t < length old → has (fresh_numbers (back old m)) t ≡ has (old_tets old m) t
 saved-has old m t l = ap (λ (ns : List ℕ). has ns t) (saved-numbers old m) ∙ taken-has old m t l
@@ -77,7 +77,7 @@ saved-face old m x g legal e =
     sym (ap (λ (row : Row). get_or row x.face None) (row-of (range_with_len (kept old m) (length m.core)) (saved old) (taken_numbers old m) x.tet h)) ∙ e in
     record { in_range = glued_tet old x g glued; taken = taken; glued = glued; face = glued_face old x g legal.table.four_faces glued }
 
--- the numbers
+-- the numbers of tetrahedra after the move is undone
 
 gone-not : (old : List Row) (m : Move) (u : ℕ) → u < kept old m → has (range_with_len (kept old m) (length m.core)) u ≡ false
 gone-not old m u l = not-has (range_with_len (kept old m) (length m.core)) u (λ h. (let r = range-has (kept old m) (length m.core) u h in let r0 = r.0 in absurd (omega arith)))
@@ -96,14 +96,14 @@ number-back old m new t h l free =
     ap (λ i. get_or (free_numbers new (back old m)) i 0) (place ∙ same)
     ∙ (at_rank (stays (fresh_numbers (back old m))) (replaced_length new (back old m)) t (omega arith) (ap not (saved-has old m t l ∙ free))).is
 
--- what the kept faces are glued by in the new table
+-- how the faces of retained tetrahedra are glued in the new table
 
 kept-glue : (old : List Row) (m : Move) (new : List Row) (x : Face) → HasMoved old m new → x.tet < length old → x.face < 4 → has (old_tets old m) x.tet ≡ false
     → glue new (kept_place old m x) ≡ option_and_then (moved_gluing old m x (kept_place_after old m x.tet)) (glue old x)
 kept-glue old m new x h lt l free =
     ap (glue new) (sym (kept_under old m x l)) ∙ h.moved.outer x (kept_place_after old m x.tet) lt l (stand_in-kept old m x free)
 
--- a kept face that led to an old facet
+-- a face of a retained tetrahedron that was glued to an old facet
 record LedTo (old : List Row) (m : Move) (x : Face) (g : Gluing) : Type 0 where
   f : Facet
   j : ℕ
@@ -171,7 +171,7 @@ can_take_back old m new h = record {
         let inside = table.in_range x g s.glued in
         saved-glue old m (other_side x g) inside (sym (saved-has old m g.tet inside) ∙ f) ∙ table.leads_back x g s.glued
 
--- row for row
+-- the restored table equals the old one, row for row
 
 kept_again : (old : List Row) (m : Move) (new : List Row) (x : Face) (o : Option Gluing) → HasMoved old m new → x.tet < length old → x.face < 4 → has (old_tets old m) x.tet ≡ false → glue old x ≡ o
     → kept_gluing new (back old m) x (option_and_then (moved_gluing old m x (kept_place_after old m x.tet)) o) ≡ o
@@ -260,7 +260,7 @@ has_moved old m new plays = record { legal = legal_from old m plays.table plays.
 pub takes_back : TakesBack
 takes_back old m new plays = taken_back old m new (has_moved old m new plays)
 
--- the same, by what the calls give
+-- what the functions that undo a move return is each table on which the move was played
 pub taken_back_by : (rows : List Row) (u : Undo) (removed : List ℕ) (fresh : List (ℕ × Row)) (now : List Row) → removed ≡ (back_exchange u).removed → fresh ≡ u.rows
     → now ≡ replaced rows (record { removed = removed; fresh = fresh }) → IsTakenBack rows u now
 taken_back_by rows u removed fresh now er ef e =

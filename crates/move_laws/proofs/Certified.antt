@@ -1,4 +1,4 @@
--- The standard sphere is closed and orientable, and so is what has a certificate.
+-- The standard sphere is closed and orientable, and so is each table with a certificate.
 use mathlib.Core.Bool.{beq}
 use Rattle.std.proofs.Common.{◌≡◌, ◌<◌, Bool, true, [], ◌∷◌, length, Option, Some, None, refl, sym, ap, ◌∙◌, arith}
 use Rattle.std.specs.Prelude.{option_map}

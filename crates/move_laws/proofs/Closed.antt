@@ -1,4 +1,4 @@
--- A move leads to a closed table exactly from closed tables.
+-- The table that results from a move is closed if and only if the old table is.
 use Rattle.std.proofs.Common.{◌≡◌, ℕ, ◌<◌, ◌≤◌, Bool, true, false, List, [], ◌∷◌, length, Option, Some, None, refl, sym, ap, ◌∙◌, subst, arith, inl, inr}
 use Rattle.std.specs.Prelude.{◌⊎◌, not, is_none, option_map, option_and_then}
 use Rattle.std.specs.List.{slice_index_or}
@@ -58,7 +58,7 @@ module _ (old : List Row) (m : Move) (new : List Row) (table : IsTable old) (h :
   ]
 
   module _ (all : AreGluedAll new) (x : Face) (lt : x.tet < length old) (lf : x.face < 4) where
-    -- where something stands for the face
+    -- a face that is replaced in the new table
     where_stands : (s : Gluing) → place_after old m x ≡ Some s → IsGlued old x
     where_stands s e = by_glue (glue old x) refl
       where

@@ -1,4 +1,4 @@
--- The moves of lines, of descents and of the generator have cores.
+-- The moves that lines, descents and the generator give have cores.
 use Rattle.std.proofs.Common.{◌≡◌, ℕ, zero, suc, Bool, true, List, [], ◌∷◌, ◌++◌, length, map, get_or, Some, refl, sym, ◌∙◌, subst, arith, inl, inr}
 use Rattle.std.specs.Prelude.{◌⊎◌, ◌&&◌, ◌||◌, nat_lt, not, filter, find}
 use Rattle.std.specs.List.{list_all}

@@ -1,4 +1,4 @@
--- Each face of the table to which a move leads stands for one of the old table, or lies between facets that are put in.
+-- Each face of the table that results from a move replaces a face of the old table, or lies between new facets.
 use Rattle.std.proofs.Common.{◌≡◌, ℕ, ◌+◌, ◌-◌, ◌<◌, ◌≤◌, false, List, length, Some, sym, ap, ◌∙◌, subst, arith, inl, inr, refl}
 use Rattle.std.specs.Prelude.{◌⊎◌, ◌≢◌}
 use Rattle.std.proofs.lemmas.Bool.{cases_lt}
@@ -16,18 +16,18 @@ use Rattle.move_laws.proofs.Labels.{ascending, new_labels, HasLabel, label_at, H
 use Rattle.move_laws.proofs.ListedFacets.{is_found, comes_from, stays-count}
 use Rattle.move_laws.proofs.Legal.{IsFacet, facet_is, HasNoFault, old_facet, old_label, facets_apart, old_tets_distinct, length-old_tets, old_tets_below}
 
--- what stands for an old facet
+-- the replacement of an old facet at a face
 pub stand_in-old : (rows : List Row) (m : Move) (i : ℕ) (f : Facet) (v : ℕ) → HasNoFault rows m → IsCore m.core → length m.core ≤ i → i < 5 → facet rows m i ≡ Some f
     → place_after rows m (face_at f.tet v) ≡ facet_place_after rows m f (image f.labels v)
 stand_in-old rows m i f v h c low high e =
     ap (place_after_of rows m (face_at f.tet v)) (is_found (facet rows m) (old_labels m) i f (facets_apart rows m h c) (old_label (length m.core) i (core_size m.core c).1 low high) e)
 
--- as many tetrahedra are kept as stay, and no fewer than those that are taken out were there
+-- at least as many tetrahedra remain as are retained, and the old table has all that are removed
 pub kept-count : (rows : List Row) (m : Move) → IsTable rows → HasNoFault rows m → IsCore m.core → 5 - length m.core ≤ length rows
 kept-count rows m table h c =
     omega (arith, length-old_tets rows m h c, stays-count (old_tets rows m) (length rows) (old_tets_distinct rows m h c) (old_tets_below rows m table h c))
 
--- a face of the new table that stands for the old face x
+-- the face y of the new table replaces the face `old` of the old table
 pub record StandsForOld (rows : List Row) (m : Move) (y : Face) : Type 0 where
   pub old : Face
   pub by : Gluing
@@ -36,7 +36,7 @@ pub record StandsForOld (rows : List Row) (m : Move) (y : Face) : Type 0 where
   pub stands : place_after rows m old ≡ Some by
   pub is : face_under by old ≡ y
 
--- a face between facets j and l that are put in
+-- the face y of the new table lies between the new facets j and l
 pub record IsInner (rows : List Row) (m : Move) (y : Face) : Type 0 where
   pub j : ℕ
   pub l : ℕ
@@ -45,7 +45,7 @@ pub record IsInner (rows : List Row) (m : Move) (y : Face) : Type 0 where
   pub apart : j ≢ l
   pub is : opposite (new_facet rows m j) l ≡ y
 
--- the vertex of facet i with label j goes to that of the new facet j with label i
+-- the vertex of old facet i with label j is mapped to the vertex of the new facet j with label i
 pub crossed : (rows : List Row) (m : Move) (i j : ℕ) (f : Facet) → IsFacet rows i f → j < 5 → j ≢ i → image (label_by_label f (new_facet rows m j)) (preimage f.labels j) ≡ preimage (ascending j) i
 crossed rows m i j f is l apart =
     let at : HasVertex f.labels j = vertex_at i f.labels is.labels j l apart in
@@ -72,7 +72,7 @@ facet_covered rows m i j table h c low high less =
       is = ap (face_at (kept rows m + j)) (crossed rows m i j f is small apart);
     }
 
--- a face of a kept tetrahedron
+-- a face of a retained tetrahedron
 pub kept_covered : (rows : List Row) (m : Move) (y : Face) → IsTable rows → HasNoFault rows m → IsCore m.core → y.tet < kept rows m → y.face < 4 → StandsForOld rows m y
 kept_covered rows m y table h c lt lf = from (comes_from (old_tets rows m) (length rows) y.tet (old_tets_distinct rows m h c) (old_tets_below rows m table h c) few)
   where
@@ -89,7 +89,7 @@ kept_covered rows m y table h c lt lf = from (comes_from (old_tets rows m) (leng
       is = ap (λ v. face_at (rank_without (old_tets rows m) t) v) (image-identity y.face lf) ∙ ap (λ u. face_at u y.face) is;
     }
 
--- each face is one or the other
+-- each face of the new table replaces an old face, or lies between new facets
 pub covered : (rows : List Row) (m : Move) (y : Face) → IsTable rows → HasNoFault rows m → IsCore m.core → y.tet < new_length rows m → y.face < 4 → StandsForOld rows m y ⊎ IsInner rows m y
 covered rows m y table h c lt lf = by_tet (cases_lt y.tet (kept rows m))
   where

@@ -1,4 +1,4 @@
--- A legal move can take out its facets and put in the others.
+-- The exchange of a legal move can be made: its old facets can be removed, and the new ones added.
 use Rattle.std.proofs.Common.{◌≡◌, ℕ, ◌+◌, ◌-◌, ◌<◌, ◌≤◌, true, false, List, length, get_or, Some, refl, sym, ap, ◌∙◌, subst, arith, inl, inr}
 use Rattle.std.specs.Prelude.{◌⊎◌, ◌≢◌, not, option_map, option_and_then, All}
 use Rattle.std.specs.List.{range_with_len}
@@ -29,7 +29,7 @@ use Rattle.move_laws.proofs.ListedLaws.{tet_of_old, taken-has}
 use Rattle.move_laws.proofs.StandLaws.{side_under, way_under, under_permutes, closes, closed-apart, StandsKept, StandsPut, stands, vertex_small, stand_put, put_permutes, put_face}
 use Rattle.move_laws.proofs.PutLaws.{put-numbers, put-length, is-put, put-is, not-put, glue-inner, glue-outer, LeadsIn, LeadsOut, leads, Leads}
 
--- the new number of a tetrahedron that is kept
+-- the new number of a tetrahedron that is retained
 pub number-kept : (rows : List Row) (m : Move) (t : ℕ) → IsLegal rows m → t < length rows → has (old_tets rows m) t ≡ false → number_of_kept rows (exchange rows m) t ≡ rank_without (old_tets rows m) t
 number-kept rows m t legal l free =
     let c = closes rows m t legal l free in
@@ -43,7 +43,7 @@ number-kept rows m t legal l free =
     ap (λ i. get_or (free_numbers rows (exchange rows m)) i 0) place
     ∙ (at_rank (stays (fresh_numbers (exchange rows m))) (replaced_length rows (exchange rows m)) u (omega arith) (ap not (not-put rows m u (omega arith)))).is
 
--- a face that a gluing of a new facet leads to
+-- glued faces of new facets that replace faces of old facets
 
 record Outer (rows : List Row) (m : Move) (x : Face) (g : Gluing) : Type 0 where
   i : ℕ
@@ -102,7 +102,7 @@ outer rows m x g legal o =
       back = ap (λ (y : Face). way_back y g) at ∙ ap (way_back (face_under s a)) o.is ∙ way_under s o.there o.before a hs hr h;
     }
 
--- whether it leads to a tetrahedron that is kept, or to a face that stands for one of an old facet
+-- such a face is glued to a retained tetrahedron, or to a face that replaces one of an old facet
 outer_stands : (rows : List Row) (m : Move) (x : Face) (g : Gluing) → IsLegal rows m → (o : Outer rows m x g) → StandsKept rows m (other_side (opposite o.f o.j) o.before) o.there ⊎ StandsPut rows m (other_side (opposite o.f o.j) o.before) o.there
 outer_stands rows m x g legal o = stands rows m (other_side (opposite o.f o.j) o.before) o.there legal o.there_small o.stands
 
@@ -119,11 +119,11 @@ kept_tet rows m x g legal o k = (tet_of g _ o.is ∙ tet_of o.there _ k.is, (clo
 put_tet : (rows : List Row) (m : Move) (x : Face) (g : Gluing) → (o : Outer rows m x g) → (p : StandsPut rows m (other_side (opposite o.f o.j) o.before) o.there) → g.tet ≡ kept rows m + p.j
 put_tet rows m x g o p = tet_of g _ o.is ∙ tet_of o.there _ p.is
 
--- the other side stands for the face of an old facet
+-- the face on the other side replaces one of an old facet
 put_side : (rows : List Row) (m : Move) (x : Face) (g : Gluing) → IsLegal rows m → (o : Outer rows m x g) → (p : StandsPut rows m (other_side (opposite o.f o.j) o.before) o.there) → other_side x g ≡ opposite (new_facet rows m p.j) p.i
 put_side rows m x g legal o p = o.side ∙ ap (face_under o.there) p.at ∙ ap (λ (s : Gluing). face_under s (opposite p.f p.j)) p.is ∙ put_face rows m p.i p.j p.f legal p.old p.new
 
--- the other side of an inner gluing
+-- the other side of a gluing between new facets
 in_side : (rows : List Row) (m : Move) (x : Face) (g : Gluing) → IsLegal rows m → (i : LeadsIn rows m x g) → other_side x g ≡ opposite (new_facet rows m i.l) i.j
 in_side rows m x g legal i =
     let few = core_few m.core legal.core in
@@ -139,7 +139,7 @@ in_permutes rows m j l legal own new other =
     let few = core_few m.core legal.core in
     by_permutes (new_facet rows m j) (new_facet rows m l) (new_is_facet rows m j (omega arith)) (new_is_facet rows m l (omega arith)) (λ e. other (sym e))
 
--- the clauses, one by one
+-- the conditions of an exchange, one by one
 
 put_gluing_permutes : (rows : List Row) (m : Move) (x : Face) (g : Gluing) → IsLegal rows m → Leads rows m x g → IsPermutationOfFour g.perm
 put_gluing_permutes rows m x g legal (inl i) = subst (λ (h : Gluing). IsPermutationOfFour h.perm) (sym i.is) (in_permutes rows m i.j i.l legal i.own i.new i.other)
@@ -164,7 +164,7 @@ face_tet x y e = ap (λ (z : Face). z.tet) e
 face_vertex : (x y : Face) → x ≡ y → x.face ≡ y.face
 face_vertex x y e = ap (λ (z : Face). z.face) e
 
--- faces of new facets are told apart by their labels
+-- faces of new facets are equal only if their labels are
 same_new : (rows : List Row) (m : Move) (i j k l : ℕ) → j < 5 → i < 5 → k < 5 → i ≢ j → k ≢ l → opposite (new_facet rows m j) i ≡ opposite (new_facet rows m l) k → (j ≡ l) × (i ≡ k)
 same_new rows m i j k l bj bi bk ij kl e =
     let t : kept rows m + j ≡ kept rows m + l = face_tet (opposite (new_facet rows m j) i) (opposite (new_facet rows m l) k) e in
@@ -214,7 +214,7 @@ put_apart rows m x g legal (inr l) e = by_stand (outer_stands rows m x g legal o
         same_refl : (a b : Face) → a ≡ b → same_face a b ≡ true
         same_refl a b q = same_to a.tet b.tet a.face b.face (face_tet a b q) (face_vertex a b q)
 
--- between new facets gluings lead back
+-- gluings between new facets have their inverses
 back_in : (rows : List Row) (m : Move) (x : Face) (g : Gluing) → IsLegal rows m → Leads rows m x g → has (fresh_numbers (exchange rows m)) g.tet ≡ true → fresh_glue (exchange rows m) (other_side x g) ≡ Some (way_back x g)
 back_in rows m x g legal (inl i) h =
     let few = core_few m.core legal.core in
@@ -249,7 +249,7 @@ back_in rows m x g legal (inr l) h = by_stand (outer_stands rows m x g legal o)
         ap (fresh_glue (exchange rows m)) (put_side rows m x g legal o p) ∙ glue-outer rows m p.i p.j p.f legal p.old p.new ∙ ap (option_and_then (moved_gluing rows m (opposite p.f p.j) r)) back ∙ carried
         ∙ ap (λ (k : Gluing). Some k) (sym way)
 
--- a gluing that leads to a kept tetrahedron
+-- a gluing of a new facet to a retained tetrahedron
 not_in : (rows : List Row) (m : Move) (x : Face) (g : Gluing) → IsLegal rows m → Leads rows m x g → has (fresh_numbers (exchange rows m)) g.tet ≡ false
     → (o : Outer rows m x g) × StandsKept rows m (other_side (opposite o.f o.j) o.before) o.there
 not_in rows m x g legal (inl i) h =
@@ -295,7 +295,7 @@ freed_by rows m x g legal kind h =
       led_to_removed = taken-has rows m o.f.tet inside ∙ tet_of_old rows m o.i o.f legal o.old;
     }
 
--- two old faces that lead to one face are the same
+-- two faces of a table that are glued to one face are equal
 pub one_face : (rows : List Row) → IsTable rows → (a b : Face) (g h : Gluing) → glue rows a ≡ Some g → glue rows b ≡ Some h → a.face < 4 → b.face < 4 → other_side a g ≡ other_side b h → a ≡ b
 one_face rows table a b g h ga gb la lb e =
     let back : Some (way_back a g) ≡ Some (way_back b h) = sym (table.leads_back a g ga) ∙ ap (glue rows) e ∙ table.leads_back b h gb in

@@ -1,4 +1,4 @@
--- The facets of a move have each label but one.
+-- Each vertex of a facet of a move has a label, and each label but the missing one a vertex.
 use Rattle.std.proofs.Common.{◌≡◌, ℕ, zero, suc, ◌<◌, Bool, true, List, length, refl, sym, ap, ◌∙◌, arith, inl, inr}
 use Rattle.std.specs.Prelude.{◌⊎◌, ◌==◌, ◌&&◌, ◌||◌, ◌≢◌, nat_lt, not, filter}
 use Rattle.std.specs.List.{list_all}
@@ -56,7 +56,7 @@ passed f few h =
         pick (inl e) = absurd (d (eqb-true l f.missing e))
         pick (inr e) = both_true (nat_lt (preimage f.labels l) 4) (image f.labels (preimage f.labels l) == l) e
 
--- a facet that is put in
+-- a new facet
 new_tests : (i : ℕ) → i < 5 → facet_test i (filter (λ l. not (l == i)) (below 5)) ≡ true
 unfolding facet_test vertex_test label_test preimage
 new_tests i b = list_all-below (λ k. facet_test k (filter (λ l. not (l == k)) (below 5))) 5 refl i b
@@ -64,7 +64,7 @@ new_tests i b = list_all-below (λ k. facet_test k (filter (λ l. not (l == k)) 
 pub new_is_facet : (rows : List Row) (m : Move) (j : ℕ) → j < 5 → IsFacet (new_facet rows m j)
 new_is_facet rows m j l = passed (new_facet rows m j) l (new_tests j l)
 
--- a permutation labels the facet without label 4
+-- a permutation labels a facet whose missing label is 4
 pub permuted : (t : ℕ) (p : List ℕ) → IsPermutationOfFour p → IsFacet (record { tet = t; missing = 4; labels = p })
 permuted t p h =
     facet_from (record { tet = t; missing = 4; labels = p }) (preimage p) (omega arith) (length-permutation p h) (λ v l. (let b = image_below p h v l in omega arith)) (λ v l e. absurd (let b = image_below p h v l in omega arith))
@@ -86,7 +86,7 @@ core_few core h = (core_size core h).1
 pub own_is_facet : (m : Move) → IsCore m.core → IsFacet (own_facet m)
 own_is_facet m h = permuted m.tet (inverse (vertices_by_label m.core)) (own_permutes m.core h)
 
--- the facet behind a face of the move's own
+-- the labels of the facet across a face of the move's tetrahedron
 behind_at : (own : Facet) (i : ℕ) (g : Gluing) (v : ℕ) → v < 4 → image (facet_across own i g).labels v ≡ substitute i 4 (image own.labels (preimage g.perm v))
 behind_at own i g zero l = refl
 behind_at own i g (suc zero) l = refl
@@ -121,7 +121,7 @@ behind_is_facet own i g O four_missing small h =
     inside : (l : ℕ) → l < 5 → l ≢ i → vertex_of own (substitute 4 i l) < 4
     inside l b d = O.vertex_below (substitute 4 i l) (goes_below i 4 l (omega arith) b) (not_four l d)
 
--- and it is glued to it label by label
+-- the move's tetrahedron is glued to the facet across its face label by label
 pub behind_glued : (own : Facet) (i : ℕ) (g : Gluing) → IsFacet own → own.missing ≡ 4 → i < 4 → IsPermutationOfFour g.perm → g.perm ≡ label_by_label own (facet_across own i g)
 behind_glued own i g O four_missing small h =
     by_is own (facet_across own i g) g.perm O (behind_is_facet own i g O four_missing small h) (λ e. absurd (let q : 4 ≡ i = sym four_missing ∙ e in omega arith)) h (λ v l. image_below g.perm h v l)

@@ -1,4 +1,4 @@
--- The facets behind faces, one label after the other.
+-- The facets across the faces of the move's tetrahedron, one label after another, and their first error.
 use Rattle.std.proofs.Common.{◌≡◌, ℕ, zero, suc, ◌+◌, ◌-◌, ◌<◌, ◌≤◌, Bool, true, false, cond, List, [], ◌∷◌, ◌++◌, length, map, drop, get_or, refl, sym, ap, ◌∙◌, subst, Option, Some, None, arith, inl, inr}
 use Rattle.std.specs.Prelude.{◌⊎◌, ◌==◌, nat_lt, filter, filter_map, option_map, if◌then◌else◌, All, Result, Ok, Err}
 use Rattle.std.specs.List.{range_with_len, list_all, cons_option}
@@ -80,7 +80,7 @@ no_fault rows m label small end none =
     let s : ℕ = length m.core in
     ap (first_some (fault_of rows m)) (from_four s small) ∙ first_some-none_from (fault_of rows m) s (4 - s) (λ k l. none (s + k) (omega arith) (omega arith))
 
--- one more label without a fault
+-- if the facet of `label` has no error either, the facets below label + 1 have none
 pub none_more : (rows : List Row) (m : Move) (label : ℕ) → fault_of rows m label ≡ None → ((k : ℕ) → length m.core ≤ k → k < label → fault_of rows m k ≡ None) → (k : ℕ) → length m.core ≤ k → k < label + 1 → fault_of rows m k ≡ None
 none_more rows m label here before k low high = by_size (cases_lt k label)
   where
@@ -99,7 +99,7 @@ length_below rows m label facets e = rw e (most (label - length m.core) (length 
         by_head None h = omega arith
         by_head (Some f) h = omega arith
 
--- a facet of the tetrahedron stands in the list
+-- the tetrahedron of an item of a list of facets is in the list of their tetrahedra
 pub any_at : (fs : List Facet) (i : ℕ) (f : Facet) (t : ℕ) → i < length fs → f ≡ get_or fs i f → f.tet ≡ t → true ≡ has (map (λ (f : Facet). f.tet) fs) t
 any_at fs i f t l is e = sym (list_any_at (λ m. m == t) (map (λ (f : Facet). f.tet) fs) i 0 (rw length-map l) (eq-eqb (get_or (map (λ (f : Facet). f.tet) fs) i 0) t at))
   where
@@ -166,7 +166,7 @@ pairs_err rows fs f g e l ef eg first =
 pub ok_then : (x : Unit {0}) (o p : Option MoveFault) (r : Result (Unit {0}) MoveFault) → Ok x ≡ verdict o → r ≡ verdict p → r ≡ verdict (option_or o p)
 ok_then x o p r first e = e ∙ ap (λ (q : Option MoveFault). verdict (option_or q p)) (sym (ok_none x o first))
 
--- the second pair fails
+-- the first pair of three facets is glued, and the second is not
 pub pairs_second : (rows : List Row) (fs : List Facet) (f g f' h : Facet) (x : Unit {0}) (e : MoveFault) → length fs ≡ 3 → f ≡ get_or fs 0 f → g ≡ get_or fs 1 g → f' ≡ get_or fs 0 f' → h ≡ get_or fs 2 h
     → Ok x ≡ verdict (pair_fault rows (Some f) (Some g)) → Err e ≡ verdict (pair_fault rows (Some f') (Some h)) → Err e ≡ verdict (pairs_fault rows fs)
 unfolding pairs_fault
@@ -176,7 +176,7 @@ pairs_second rows fs f g f' h x e l ef eg ef' eh first second =
     (err_first e (pair_fault rows (Some f) (Some h)) (pair_fault rows (Some g) (Some h)) second')
     ∙ ap (λ (xs : List Facet). verdict (pairs_fault rows xs)) (three fs f g h l ef eg eh)
 
--- the third decides
+-- the first two pairs are glued, and the third decides
 pub pairs_third : (rows : List Row) (fs : List Facet) (f g f' h g' h' : Facet) (x y : Unit {0}) (r : Result (Unit {0}) MoveFault) → length fs ≡ 3 → f ≡ get_or fs 0 f → g ≡ get_or fs 1 g → f' ≡ get_or fs 0 f' → h ≡ get_or fs 2 h → g' ≡ get_or fs 1 g' → h' ≡ get_or fs 2 h'
     → Ok x ≡ verdict (pair_fault rows (Some f) (Some g)) → Ok y ≡ verdict (pair_fault rows (Some f') (Some h)) → r ≡ verdict (pair_fault rows (Some g') (Some h')) → r ≡ verdict (pairs_fault rows fs)
 unfolding pairs_fault
@@ -314,7 +314,7 @@ is_legal rows m fs slice all own x l low high none is shown h mine e = (
   pairs_decide rows m fs slice l low high none is shown ∙ ok_none x (pairs_fault rows slice) h,
 )
 
--- the whole of a move
+-- the error of the whole move
 
 small_labels : (s : ℕ) → s < 5 → (k : ℕ) (d : ℕ) → k < length (drop s four) → get_or (drop s four) k d < 4
 small_labels s l k d q =

@@ -1,4 +1,4 @@
--- The inverse move is legal: the facets that were put in are those that it takes out.
+-- The inverse move is legal: it removes the facets that the move added.
 use Rattle.std.proofs.Common.{◌≡◌, ℕ, zero, suc, ◌+◌, ◌-◌, ◌<◌, ◌≤◌, Bool, true, false, List, length, map, drop, Option, Some, None, refl, sym, ap, ◌∙◌, subst, arith, inl, inr}
 use Rattle.std.specs.Prelude.{◌==◌, ◌≢◌, nat_lt, filter, option_map, if◌then◌else◌}
 use Rattle.std.proofs.lemmas.Bool.{eqb-true, eq-eqb, lt-ltb, ltb-true, and_from, or_cases}
@@ -17,7 +17,7 @@ use Rattle.move_laws.proofs.Legal.{facet-found, no_fault}
 use Rattle.move_laws.proofs.Covered.{kept-count}
 use Rattle.move_laws.proofs.Renamed.{renamed, renamed_back, renamed-back, back-new, IsInverseCore, inverse_core, new_as_old_labels, renamed_labels, across, behind-renamed, match-renamed}
 
--- the inverse, and new facet j as a facet of it
+-- the inverse move, and new facet j as a facet of it
 
 abbrev pub inverse_of : List Row → Move → Move
 inverse_of old m = inverse_move (length old) m
@@ -25,7 +25,7 @@ inverse_of old m = inverse_move (length old) m
 abbrev pub new_as_old : List Row → Move → ℕ → Facet
 new_as_old old m j = record { tet = kept old m + j; missing = renamed (length m.core) j; labels = new_as_old_labels (length m.core) j }
 
--- what is known throughout
+-- the facts about the move that all lemmas here use
 pub record IsPlayed (old : List Row) (m : Move) (new : List Row) : Type 0 where
   pub table : IsTable old
   pub core : IsCore m.core
@@ -46,7 +46,7 @@ played old m new table h = record {
   inverse_core = inverse_core (length m.core) (core_size m.core h.core).0 (core_size m.core h.core).1;
 }
 
--- a vertex keeps its place where labels are renamed
+-- a vertex keeps its number when labels are renamed
 pub renamed-vertex : (s j l : ℕ) → s < 5 → j < 5 → l < 5 → l ≢ j → preimage (new_as_old_labels s j) (renamed s l) ≡ preimage (ascending j) l
 renamed-vertex s j l hs hj hl d =
     let at : HasVertex (ascending j) l = vertex_at j (ascending j) (new_labels j hj) l hl d in
@@ -112,7 +112,7 @@ new_label old m new p i low high =
     let is : renamed s j ≡ i = renamed-back s i p.few high in
     record { label = j; small = small; is = is; facet_is = ap (facet new (inverse_of old m)) (sym is) ∙ facet-inverse old m new p j small }
 
--- no tetrahedron is found twice
+-- the facets that the inverse finds have different tetrahedra
 
 among_found : (old : List Row) (m : Move) (new : List Row) → IsPlayed old m new → (i : ℕ) → Among i (found_labels (inverse_of old m)) → (5 - length m.core ≤ i) × (i < 4)
 among_found old m new p i a =
@@ -179,7 +179,7 @@ facet_fine old m new p i a =
     let n : IsNewLabel old m new i = new_label old m new p i r.0 (omega arith) in
     ap (facet_fault new (inverse_of old m) i) n.facet_is ∙ ap (λ (b : Bool). if b then Some (Repeated i) else None) (new_tet old m new p i r.0 r.1 n.label n.is n.small)
 
--- each two match
+-- each two facets that the inverse finds are glued label by label
 
 pair_fine : (old : List Row) (m : Move) (new : List Row) → IsPlayed old m new → (a b : ℕ) → a < length m.core → b < length m.core → a ≢ b → pair_fault new (Some (new_as_old old m a)) (Some (new_as_old old m b)) ≡ None
 pair_fine old m new p a b ha hb d =
@@ -208,7 +208,7 @@ pair_at old m new p q a =
     ∙ ap (λ (o : Option Facet). pair_fault new (Some (new_as_old old m n.label)) o) n'.facet_is
     ∙ pair_fine old m new p n.label n'.label n.small n'.small apart
 
--- so nothing is wrong with the inverse
+-- the inverse move has no error
 pub inverse_legal : (old : List Row) (m : Move) (new : List Row) → IsPlayed old m new → move_fault new (inverse_of old m) ≡ None
 unfolding move_fault
 inverse_legal old m new p =

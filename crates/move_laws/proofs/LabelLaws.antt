@@ -1,4 +1,4 @@
--- Facets by their labels, and where vertices go label by label.
+-- Facets by their labels, and the maps of vertices that keep labels.
 use Rattle.std.proofs.Common.{◌≡◌, ℕ, ◌<◌, true, List, length, get_or, refl, sym, ap, ◌∙◌, arith, inl, inr}
 use Rattle.std.specs.Prelude.{◌⊎◌, ◌==◌, ◌&&◌, ◌≢◌}
 use Rattle.std.proofs.lemmas.Bool.{eq-eqb, cases_eq, ne_eqb}
@@ -12,12 +12,12 @@ use Rattle.table_definitions.proofs.Permutations.{is_permutation-four, same_imag
 use Rattle.move_definitions.specs.Moves.{Facet, vertex_of, label_by_label}
 use Rattle.move_laws.specs.Facets.{IsFacet}
 
--- the first place of a number
+-- the preimage of a number is the first place where it occurs
 pub stands_first : (xs : List ℕ) (w l : ℕ) → w < length xs → get_or xs w 0 ≡ l → ((v : ℕ) → v < w → get_or xs v 0 ≢ l) → preimage xs l ≡ w
 unfolding preimage
 stands_first xs w l b e before = position_or_len_is (λ v. v == l) xs w 0 (omega arith) (λ k m. ne_eqb (get_or xs k 0) l (before k m)) (λ _. eq-eqb _ l e)
 
--- labels with a way back
+-- labels with an inverse are those of a facet
 pub facet_from : (f : Facet) (back : ℕ → ℕ) → f.missing < 5 → length f.labels ≡ 4
     → ((v : ℕ) → v < 4 → image f.labels v < 5)
     → ((v : ℕ) → v < 4 → image f.labels v ≢ f.missing)
@@ -40,7 +40,7 @@ facet_from f back few long small other there inside here = record {
     place : (l : ℕ) → l < 5 → l ≢ f.missing → preimage f.labels l ≡ back l
     place l b d = ap (preimage f.labels) (sym (here l b d)) ∙ vertex_is (back l) (inside l b d)
 
--- the label to which a label goes, where the labels a and b are missing on the two sides
+-- the label that a label is mapped to, where the labels a and b are missing on the two sides, is below 5
 pub goes_below : (a b l : ℕ) → a < 5 → l < 5 → substitute b a l < 5
 goes_below a b l la ll = by_case (cases_eq l b)
   where
@@ -55,7 +55,7 @@ goes_other a b l apart s = by_case (cases_eq l b)
     by_case (inl e) = apart (sym (in_place-same b a l e) ∙ s)
     by_case (inr d) = d (sym (in_place-other b a l d) ∙ s)
 
--- a list of four places on which each of the four numbers stands
+-- a list of length 4 in which each of the four numbers occurs is a permutation
 pub permutes_from : (p : List ℕ) (back : ℕ → ℕ) → length p ≡ 4 → ((w : ℕ) → w < 4 → back w < 4) → ((w : ℕ) → w < 4 → image p (back w) ≡ w) → IsPermutationOfFour p
 permutes_from p back long inside here = is_permutation-four p long ∙ all (at 0 (omega arith)) (at 1 (omega arith)) (at 2 (omega arith)) (at 3 (omega arith))
   where
@@ -75,7 +75,7 @@ length_by f g F = length-map f.labels (λ l. vertex_of g (substitute g.missing f
 pub vertex_by : (f g : Facet) (l : ℕ) → IsFacet f → l < 5 → l ≢ f.missing → image (label_by_label f g) (vertex_of f l) ≡ vertex_of g (substitute g.missing f.missing l)
 vertex_by f g l F b d = image_by f g (vertex_of f l) F (F.vertex_below l b d) ∙ ap (λ k. vertex_of g (substitute g.missing f.missing k)) (F.label_back l b d)
 
--- the vertex that goes to w
+-- the vertex of f that is mapped to the vertex w of g
 abbrev from_vertex : Facet → Facet → ℕ → ℕ
 from_vertex f g w = vertex_of f (substitute f.missing g.missing (image g.labels w))
 
@@ -100,7 +100,7 @@ by_back f g F G apart =
     same_images (inverse (label_by_label f g)) (label_by_label g f) (inverse_permutes (label_by_label f g) p) (by_permutes g f G F (λ e. apart (sym e)))
     (λ w l. image-inverse (label_by_label f g) w l ∙ preimage_at (label_by_label f g) p w (from_vertex f g w) (from_below f g w F G apart l) (to_vertex f g w F G apart l) ∙ sym (image_by g f w G l))
 
--- a permutation that keeps labels is the one label by label
+-- a permutation that keeps labels is the map label by label
 pub by_is : (f g : Facet) (p : List ℕ) → IsFacet f → IsFacet g → f.missing ≢ g.missing → IsPermutationOfFour p → ((v : ℕ) → v < 4 → image p v < 4)
     → ((v : ℕ) → v < 4 → image g.labels (image p v) ≡ substitute g.missing f.missing (image f.labels v)) → p ≡ label_by_label f g
 by_is f g p F G apart permutes small labels =

@@ -34,7 +34,7 @@ on_labels t all i labels h =
 pub length-labels : (i : ℕ) (labels : List ℕ) → AreLabels i labels → length labels ≡ 4
 length-labels i labels h = ap length h.is ∙ length-map h.perm (substitute i 4) ∙ length-permutation h.perm h.permutes
 
--- a vertex has a label below 5 other than the missing one, and that label leads back to it
+-- a vertex has a label below 5 other than the missing one, and is the vertex with that label
 vertex_test : ℕ → List ℕ → Bool
 vertex_test i labels = list_all (λ v. nat_lt (slice_index labels v) 5 && (not (slice_index labels v == i) && (preimage labels (slice_index labels v) == v))) (below 4)
 
@@ -83,7 +83,7 @@ own_labels q h = record {
   is = sym (same_list-true (labels_by 4 q) q (by_words (λ q. same_list (labels_by 4 q) q) refl q h));
 }
 
--- the labels of a facet that is put in
+-- the labels of a new facet, in ascending order
 abbrev pub ascending : ℕ → List ℕ
 ascending j = filter (λ l. not (l == j)) (below 5)
 
@@ -96,6 +96,6 @@ new_labels j l = record {
   is = same_list-true (ascending j) (labels_by j (map (substitute 4 j) (ascending j))) (list_all-below (λ k. same_list (ascending k) (labels_by k (map (substitute 4 k) (ascending k)))) 5 refl j l);
 }
 
--- where a vertex goes label by label
+-- the label of a vertex under a map of labels
 pub image-map : (h : ℕ → ℕ) (labels : List ℕ) (v : ℕ) → v < length labels → image (map h labels) v ≡ h (image labels v)
 image-map h labels v l = get_or-map h labels v 0 0 l

@@ -1,4 +1,4 @@
--- The inverse move leads to the old table, relabelled.
+-- The inverse move results in a relabelling of the old table.
 use Rattle.std.proofs.Common.{◌≡◌, ℕ, ◌+◌, ◌-◌, ◌<◌, ◌≤◌, true, List, length, map, Option, Some, None, refl, sym, ap, ◌∙◌, subst, arith, inl, inr}
 use Rattle.std.specs.Prelude.{◌⊎◌, ◌==◌, ◌||◌, ◌≢◌, option_map, option_and_then}
 use Rattle.std.specs.List.{list_all}
@@ -24,7 +24,7 @@ use Rattle.move_laws.proofs.InverseFacets.{inverse_of, new_as_old, IsPlayed, pla
 use Rattle.move_laws.proofs.Placed.{moved_perm, moved_perm_permutes, place, facet_place, place-old, relabelling, stand_in-placed, is_relabelling, led_back, carries_back}
 use Rattle.move_laws.proofs.SecondStand.{kept-inverse, StandsAgain, stands_again, other_stands}
 
--- the carried table, by places
+-- the gluings of the relabelled table
 
 carried_at : (old : List Row) (m : Move) (new : List Row) → IsPlayed old m new → (x : Face) → x.tet < length old → x.face < 4 → (o : Option Gluing) → glue old x ≡ o
     → glue (led_back old m) (face_under (place old m x.tet) x) ≡ option_map (λ g. gluing_under (place old m x.tet) (place old m g.tet) g) o
@@ -41,7 +41,7 @@ carried_at old m new p x lt lf o e =
         ap (option_map (λ g. gluing_under (place old m x.tet) (relabelled_place (relabelling old m) g.tet) g)) e
         ∙ ap (λ (r : Gluing). Some (gluing_under (place old m x.tet) r g)) (stand_in-placed old m g.tet (p.table.in_range x g e))
 
--- between the facets that the inverse puts in
+-- between the facets that the inverse adds
 
 pub across_permutes : (j l : ℕ) → j < 5 → l < 5 → j ≢ l → IsPermutationOfFour (across j l)
 across_permutes j l hj hl d =
@@ -74,7 +74,7 @@ moved_across s i k a b q small low low' d ha hb hq e =
     hk : IsPermutationOfFour pk
     hk = moved_perm_permutes s k b small low' hb
 
-    -- the label of the vertex to which w goes
+    -- the label of the vertex that w is mapped to
     label : (w : ℕ) → w < 4 → image (ascending j) (image pi w) ≡ renamed s (image a w)
     label w lw =
         let h : HasLabel i a w = label_at i a ha w lw in
@@ -97,7 +97,7 @@ moved_across s i k a b q small low low' d ha hb hq e =
         ∙ ap (λ x. preimage (ascending l) (substitute l j x)) (sym is)
         ∙ sym (image-map (λ x. preimage (ascending l) (substitute l j x)) (ascending j) v (rw (length-labels j (ascending j) (new_labels j (let m = ha.missing in omega arith))) lv))
 
--- the face of the facet for old facet i that lies behind that for old facet k
+-- the face of the facet that replaces old facet i, where it is glued to the one that replaces old facet k
 inner_at : (old : List Row) (m : Move) (new : List Row) → IsPlayed old m new → (i k : ℕ) → length m.core ≤ i → i < 5 → length m.core ≤ k → k < 5 → i ≢ k
     → glue (led_back old m) (face_at (kept old m + (i - length m.core)) (preimage (ascending (i - length m.core)) (k - length m.core))) ≡ Some (record { tet = kept old m + (k - length m.core); perm = across (i - length m.core) (k - length m.core) })
 inner_at old m new p i k low high low' high' d = ap (glue (led_back old m)) (sym face) ∙ carried_at old m new p x is.in_range vertex.small (Some a.by) a.glued ∙ ap (λ (g : Gluing). Some g) gluing
@@ -169,9 +169,9 @@ inner_back old m new p j l hj hl d =
     let at : At (kept old m) j l = subst (λ z. At (kept old m) j z) el (subst (λ y. At (kept old m) y (l + s - s)) ej here) in
     subst (λ q. At q j l) (sym base) at
 
--- each other face
+-- the other faces
 
--- nothing stands again for a face between new facets
+-- the inverse has no replacement of a face between new facets
 inner_none : (old : List Row) (m : Move) (new : List Row) → IsPlayed old m new → (x : Face) → IsInner old m x → place_after new (inverse_of old m) x ≡ None
 inner_none old m new p x n =
     let s : ℕ = length m.core in
@@ -187,7 +187,7 @@ inner_none old m new p x n =
     ∙ ap (facet_place_after new (inverse_of old m) (new_as_old old m n.j)) label
     ∙ facet_stand_in-old new (inverse_of old m) (new_as_old old m n.j) (renamed s n.l) (low n.l n.l_small)
 
--- where the face that stands for x leads
+-- the face that replaces x is glued to the face that replaces the other side of x
 pub over_there : (x : Face) (s r g : Gluing) → IsPermutationOfFour s.perm → IsPermutationOfFour r.perm → IsPermutationOfFour g.perm → x.face < 4 → other_side (face_under s x) (gluing_under s r g) ≡ face_under r (other_side x g)
 over_there x s r g hs hr hg l =
     let k : image s.perm x.face < 4 = image_below s.perm hs x.face l in
@@ -196,7 +196,7 @@ over_there x s r g hs hr hg l =
     (image-compose r.perm (compose g.perm (inverse s.perm)) (compose_permutes g.perm (inverse s.perm) hg q) (image s.perm x.face) k
     ∙ ap (image r.perm) (image-compose g.perm (inverse s.perm) q (image s.perm x.face) k ∙ ap (image g.perm) (image-inverse s.perm (image s.perm x.face) k ∙ preimage-image s.perm hs x.face l)))
 
--- a face that stands for the old face x
+-- a face that replaces the old face x
 outer_at : (old : List Row) (m : Move) (new : List Row) → IsPlayed old m new → (x : Face) (s s' : Gluing) → x.tet < length old → x.face < 4 → place_after old m x ≡ Some s → place_after new (inverse_of old m) (face_under s x) ≡ Some s'
     → glue (led_back old m) (face_under s' (face_under s x)) ≡ option_and_then (moved_gluing new (inverse_of old m) (face_under s x) s') (glue new (face_under s x))
 outer_at old m new p x s s' lt lf stands stands' = by_gluing (glue old x) refl

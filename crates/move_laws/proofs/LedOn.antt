@@ -1,4 +1,4 @@
--- A legal move leads to a table, which is made face by face.
+-- A legal move results in a table, which is defined face by face.
 use Rattle.std.proofs.Common.{◌≡◌, ℕ, zero, suc, ◌<◌, ◌≤◌, List, [], length, map, get_or, Option, Some, None, refl, sym, ap, ◌∙◌, subst, arith, inl, inr}
 use Rattle.std.specs.Prelude.{◌⊎◌, ◌≢◌, option_and_then}
 use Rattle.std.proofs.lemmas.Bool.{cases_lt}
@@ -19,7 +19,7 @@ use Rattle.move_laws.proofs.Legal.{HasNoFault, no_fault}
 use Rattle.move_laws.proofs.Covered.{StandsForOld, IsInner, covered}
 use Rattle.move_laws.proofs.Shapes.{shape, IsKeptFace, IsFacetFace, stands_for_one, inner_stands_for_none, inner_once, stand_in_range}
 
--- what a face is glued by, by that for which it stands
+-- the gluing of a new face: between new facets, or the image of the gluing of the old face that it replaces
 abbrev pub inner_gluing : List Row → Move → ℕ → ℕ → Option Gluing
 inner_gluing rows m j l = Some (record { tet = (new_facet rows m l).tet; perm = label_by_label (new_facet rows m j) (new_facet rows m l) })
 
@@ -41,7 +41,7 @@ made_row rows m table h c t = map (λ v. made_gluing rows m table h c (face_at t
 made : (rows : List Row) (m : Move) → IsTable rows → HasNoFault rows m → IsCore m.core → List Row
 made rows m table h c = map (made_row rows m table h c) (below (new_length rows m))
 
--- it is the same, however the face is found to stand for another
+-- the gluing does not depend on the old face that was found
 outer_value : (rows : List Row) (m : Move) → IsTable rows → HasNoFault rows m → IsCore m.core → (x : Face) (s : Gluing) → x.tet < length rows → x.face < 4 → place_after rows m x ≡ Some s
     → (k : StandsForOld rows m (face_under s x) ⊎ IsInner rows m (face_under s x)) → gluing_of rows m (face_under s x) k ≡ option_and_then (moved_gluing rows m x s) (glue rows x)
 unfolding gluing_of
@@ -61,7 +61,7 @@ inner_value rows m table h c y n (inr n') =
     let same : (n'.j ≡ n.j) × (n'.l ≡ n.l) = inner_once rows m c y n' n in
     ap (λ j. inner_gluing rows m j n'.l) same.0 ∙ ap (inner_gluing rows m n.j) same.1
 
--- the faces of the table that is made
+-- the faces of the table so defined
 
 made_face : (rows : List Row) (m : Move) (table : IsTable rows) (h : HasNoFault rows m) (c : IsCore m.core) (y : Face) → y.tet < new_length rows m → y.face < 4 → glue (made rows m table h c) y ≡ made_gluing rows m table h c y
 unfolding made made_row

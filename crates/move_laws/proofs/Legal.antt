@@ -1,4 +1,4 @@
--- What is known of the facets of a legal move.
+-- The facets of a legal move: each label has one, in different tetrahedra.
 use Rattle.std.proofs.Common.{◌≡◌, ℕ, zero, suc, ◌-◌, ◌<◌, ◌≤◌, Bool, true, false, List, [], ◌∷◌, length, map, drop, get_or, Option, Some, None, refl, sym, ap, ◌∙◌, subst, arith, inl, inr}
 use Rattle.std.specs.Prelude.{◌⊎◌, ◌==◌, ◌||◌, ◌&&◌, nat_lt, not, filter, option_map, if◌then◌else◌}
 use Rattle.std.specs.List.{list_all}
@@ -21,7 +21,7 @@ use Rattle.table_definitions.proofs.Carried.{lesser}
 use Rattle.table_definitions.proofs.Listed.{has_among}
 use Rattle.move_laws.proofs.Renamed.{un_lt}
 
--- labels that are found, all old labels, and labels before one
+-- the labels of facets across faces, all old labels, and the labels below one
 
 found_test : ℕ → ℕ → Bool
 found_test s i = nat_lt i s || has (drop s four) i
@@ -45,7 +45,7 @@ unfolding old_test
 old_label s i small low high =
     has_among (drop s (below 5)) i (not_before i s (has (drop s (below 5)) i) (list_all-below (λ i. old_test s i) 5 (list_all-below (λ s. list_all (λ i. old_test s i) (below 5)) 5 refl s small) i high) low)
 
--- and only those are old labels
+-- labels are old only if they are in that range
 label_range : ℕ → Bool
 label_range s = list_all (λ l. not (nat_lt l s) && nat_lt l 5) (drop s (below 5))
 
@@ -81,7 +81,7 @@ labels_distinct s small = list_all-below (λ s. is_distinct (drop s (below 5))) 
 pub labels_length : (s : ℕ) → s < 5 → length (drop s (below 5)) ≡ 5 - s
 labels_length s small = eqb-true (length (drop s (below 5))) (5 - s) (list_all-below (λ s. length (drop s (below 5)) == 5 - s) 5 refl s small)
 
--- a facet that a table has
+-- a facet that the table has
 
 pub record IsFacet (rows : List Row) (i : ℕ) (f : Facet) : Type 0 where
   pub missing : f.missing ≡ i
@@ -91,7 +91,7 @@ pub record IsFacet (rows : List Row) (i : ℕ) (f : Facet) : Type 0 where
 own_is : (rows : List Row) (m : Move) → IsCore m.core → m.tet < length rows → IsFacet rows 4 (own_facet m)
 own_is rows m c l = record { missing = refl; in_range = l; labels = own_labels (inverse (vertices_by_label m.core)) (own_permutes m.core c) }
 
--- the labels behind a face, by a permutation
+-- the labels of the facet across a face, as a permutation
 behind_labels : (i : ℕ) (q p : List ℕ) → i < 5 → IsPermutationOfFour q → IsPermutationOfFour p → AreLabels i (map (λ v. substitute i 4 (image q (preimage p v))) four)
 unfolding compose inverse
 behind_labels i q p l hq hp = record { missing = l; perm = compose q (inverse p); permutes = compose_permutes q (inverse p) hq (inverse_permutes p hp); is = refl }
@@ -115,7 +115,7 @@ facet-found rows m i l =
     let e : (i == 4) ≡ false = grind arith in
     ap (λ b. if b then Some (own_facet m) else option_map (facet_across (own_facet m) i) (glue rows (opposite (own_facet m) i))) e
 
--- facet i, if there is one
+-- facet i, if the table has it
 pub facet_is : (rows : List Row) (m : Move) (i : ℕ) (f : Facet) → IsTable rows → IsCore m.core → m.tet < length rows → i < 5 → facet rows m i ≡ Some f → IsFacet rows i f
 facet_is rows m i f table c l small e = by_case (cases_lt i 4)
   where
@@ -131,7 +131,7 @@ facet_is rows m i f table c l small e = by_case (cases_lt i 4)
         let four_is : IsFacet rows i (own_facet m) = subst (λ k. IsFacet rows k (own_facet m)) (sym at) (own_is rows m c l) in
         subst (λ (k : Facet). IsFacet rows i k) is four_is
 
--- what legality says
+-- what legality implies
 
 pub record HasNoFault (rows : List Row) (m : Move) : Type 0 where
   pub in_range : m.tet < length rows
@@ -147,7 +147,7 @@ no_fault rows m e =
     let q : (facets ≡ None) × (pairs ≡ None) = both_none facets pairs p.1 in
     record { in_range = ltb-true m.tet (length rows) (not-false (nat_lt m.tet (length rows)) p.0); facets = q.0; pairs = q.1 }
 
--- a facet without a fault
+-- a facet without an error
 pub record IsNew (rows : List Row) (m : Move) (i : ℕ) : Type 0 where
   pub facet_of : Facet
   pub is : facet rows m i ≡ Some facet_of
@@ -211,7 +211,7 @@ facets_apart rows m h c k l f g hk hl ek el t = by_case (cases_eq k l)
     by_case (inl e) = e
     by_case (inr d) = elim (lesser k l d) [ inl less ↦ absurd (apart_before rows m h c k l f g kr.0 less lr.1 ek el t) | inr more ↦ absurd (apart_before rows m h c l k g f lr.0 more kr.1 el ek (sym t)) ]
 
--- the tetrahedra that are taken out
+-- the tetrahedra that are removed
 
 pub old_tets_distinct : (rows : List Row) (m : Move) → HasNoFault rows m → IsCore m.core → is_distinct (old_tets rows m) ≡ true
 old_tets_distinct rows m h c = tets_distinct (facet rows m) (old_labels m) (labels_distinct (length m.core) (core_size m.core c).1) (facets_apart rows m h c)

@@ -1,4 +1,4 @@
--- A move whose facets are there, apart, and glued label by label has no fault.
+-- A move has no error if its facets exist, are in different tetrahedra, and are glued label by label.
 use Rattle.std.proofs.Common.{◌≡◌, ℕ, zero, suc, ◌<◌, ◌≤◌, Bool, true, false, List, length, map, drop, Option, Some, None, refl, ap, ◌∙◌, arith, inl, inr}
 use Rattle.std.specs.Prelude.{◌==◌, ◌≢◌, nat_lt, filter, if◌then◌else◌}
 use Rattle.std.proofs.lemmas.Bool.{eqb-true, eq-eqb, lt-ltb, ltb-true, and_from, or_cases}
@@ -28,7 +28,7 @@ found_range (suc (suc (suc zero))) i l (inr e) = absurd e
 found_range (suc (suc (suc (suc zero)))) i l a = absurd a
 found_range (suc (suc (suc (suc (suc s))))) i l a = absurd (omega arith)
 
--- what is asked of the facets
+-- the conditions on the facets
 pub record AreFacets (rows : List Row) (m : Move) : Type 0 where
   pub in_range : m.tet < length rows
   pub there : (i : ℕ) → length m.core ≤ i → i < 5 → (f : Facet) × (facet rows m i ≡ Some f) × (f.missing ≡ i)

@@ -1,4 +1,4 @@
--- The facets that a legal move takes out.
+-- The facets that a legal move removes.
 use Rattle.std.proofs.Common.{◌≡◌, ℕ, ◌<◌, ◌≤◌, Bool, true, false, List, length, map, Option, Some, None, refl, sym, ap, ◌∙◌, subst, arith, inl, inr}
 use Rattle.std.specs.Prelude.{◌⊎◌, ◌==◌, ◌≢◌, nat_lt, filter, if◌then◌else◌}
 use Rattle.std.proofs.lemmas.Bool.{eqb-true, lt-ltb, cases_lt, cases_eq}
@@ -35,7 +35,7 @@ among-has fs t h =
     let m : (f : Facet) × Among f fs × (t ≡ f.tet) = map-among (λ (f : Facet). f.tet) t fs (has_among (map (λ (f : Facet). f.tet) fs) t h) in
     (m.0, m.1, sym m.2)
 
--- what stands behind a face of the move's tetrahedron
+-- the facet across a face of the move's tetrahedron
 
 pub found_behind : (rows : List Row) (m : Move) (i : ℕ) (f : Facet) → i < 4 → facet rows m i ≡ Some f
     → (g : Gluing) × (glue rows (opposite (own_facet m) i) ≡ Some g) × (facet_across (own_facet m) i g ≡ f)
@@ -47,7 +47,7 @@ same_facet rows m i f g a b = let z : Some f ≡ Some g = sym a.found ∙ b.foun
 pub label_in : (rows : List Row) (m : Move) (i : ℕ) (f : Facet) → IsOldFacet rows m i f → i < 5
 label_in rows m i f a = let b = a.labelled.missing_below in let e = a.missing_is in omega arith
 
--- faces that are glued label by label lead back so
+-- if f is glued to g label by label, g is glued to f label by label
 pub leads_by : (rows : List Row) → IsTable rows → (f g : Facet) → IsFacet f → IsFacet g → f.missing ≢ g.missing → glue rows (opposite f g.missing) ≡ Some (record { tet = g.tet; perm = label_by_label f g })
     → glue rows (opposite g f.missing) ≡ Some (record { tet = f.tet; perm = label_by_label g f })
 leads_by rows table f g F G apart e =
@@ -78,7 +78,7 @@ behind_old rows m i f table core low high e =
       in_range = subst (λ (x : Facet). x.tet < length rows) b.2 (table.in_range (opposite (own_facet m) i) b.0 b.1);
     }
 
--- the move's tetrahedron is glued to a facet that is found, label by label
+-- the move's tetrahedron is glued label by label to the facet across its face
 own_glued : (rows : List Row) (m : Move) (k : ℕ) (g : Facet) → IsTable rows → IsCore m.core → k < 4 → IsOldFacet rows m k g → glue rows (opposite (own_facet m) k) ≡ Some (record { tet = g.tet; perm = label_by_label (own_facet m) g })
 own_glued rows m k g table core small G =
     let b = found_behind rows m k g small G.found in
@@ -88,7 +88,7 @@ own_glued rows m k g table core small G =
     let t : b.0.tet ≡ g.tet = ap (λ (x : Facet). x.tet) b.2 in
     b.1 ∙ ap (λ t. mk t b.0.perm) t ∙ ap (mk g.tet) p
 
--- two facets that are found are glued to each other so
+-- two facets that were found are glued to each other label by label
 pair_matched : (rows : List Row) (f g : Facet) → pair_fault rows (Some f) (Some g) ≡ None → is_matched f g (glue rows (opposite f g.missing)) ≡ true
 pair_matched rows f g h = by_test (is_matched f g (glue rows (opposite f g.missing))) h
   where

@@ -1,4 +1,4 @@
--- What is found in a list of what a function gives of the numbers in a list.
+-- The list of the facets of a list of labels, and the list of their tetrahedra.
 use Rattle.std.proofs.Common.{◌≡◌, ℕ, suc, ◌+◌, ◌<◌, Bool, true, false, cond, List, [], ◌∷◌, length, map, get_or, Option, Some, None, refl, sym, ap, ◌∙◌, subst, arith, inl, inr}
 use Rattle.std.specs.Prelude.{◌⊎◌, ◌==◌, ◌||◌, ◌&&◌, nat_lt, not, find, filter_map, count_by}
 use Rattle.std.specs.List.{cons_option}
@@ -18,7 +18,7 @@ tet_of f = f.tet
 abbrev pub tets_of : (ℕ → Option Facet) → List ℕ → List ℕ
 tets_of F ls = map tet_of (filter_map F ls)
 
--- the facet of a label stands in the list
+-- the tetrahedron of a facet of one of the labels is in the list
 pub has_tet : (F : ℕ → Option Facet) (ls : List ℕ) (k : ℕ) (g : Facet) → Among k ls → F k ≡ Some g → has (tets_of F ls) g.tet ≡ true
 has_tet F [] k g h e = absurd h
 has_tet F (l ∷ ls) k g (inl s) e =
@@ -31,7 +31,7 @@ has_tet F (l ∷ ls) k g (inr h) e = later (F l) (has_tet F ls k g h e)
     later None t = t
     later (Some f) t = grind arith
 
--- what stands in the list is the facet of a label
+-- each number in the list is the tetrahedron of a facet of one of the labels
 pub record IsOf (F : ℕ → Option Facet) (ls : List ℕ) (t : ℕ) : Type 0 where
   pub label : ℕ
   pub facet : Facet
@@ -87,7 +87,7 @@ is_found F (l ∷ ls) k g a h e = by_head (F l) refl h (λ h'. is_found F ls k g
             other (inl q) = let at : F l ≡ Some g = ap F (sym q) ∙ e in let is : f ≡ g = same_some (F l) f g i at in let t : (f.tet == g.tet) ≡ true = eq-eqb f.tet g.tet (ap tet_of is) in absurd (false≢true (sym s ∙ t))
             other (inr q) = later q
 
--- numbers that stand in a list once
+-- lists in which no number occurs twice
 
 unfoldable pub is_distinct : List ℕ → Bool
 is_distinct [] = true
@@ -111,7 +111,7 @@ tets_distinct F (l ∷ ls) d a = by_head (F l) refl (tets_distinct F ls (and_par
             let new : not (has ls l) ≡ true = (and_parts (not (has ls l)) (is_distinct ls) d).0 in
             absurd (let q : not (has ls l) ≡ false = ap not there in false≢true (sym q ∙ new))
 
--- how many they are, where each label has a facet
+-- the number of facets, if each label has one
 pub length-tets : (F : ℕ → Option Facet) (ls : List ℕ) → ((k : ℕ) → Among k ls → (f : Facet) × (F k ≡ Some f)) → length (tets_of F ls) ≡ length ls
 length-tets F [] all = refl
 length-tets F (l ∷ ls) all =
@@ -119,7 +119,7 @@ length-tets F (l ∷ ls) all =
     let later : length (tets_of F ls) ≡ length ls = length-tets F ls (λ k h. all k (inr h)) in
     ap (λ (o : Option Facet). length (map tet_of (cons_option o (filter_map F ls)))) here.1 ∙ ap suc later
 
--- numbers that close up over those that are taken out, each once
+-- the new numbers of retained tetrahedra, if no removed number occurs twice
 
 never_counted : (xs : List ℕ) (t : ℕ) → has xs t ≡ false → count_by (λ u. u == t) xs ≡ 0
 never_counted [] t h = refl
@@ -156,7 +156,7 @@ pub stays-count : (gone : List ℕ) (n : ℕ) → is_distinct gone ≡ true → 
 stays-count gone n d small =
     omega (arith, stays_and_gone gone n d, count_whole (λ u. nat_lt u n) gone (λ k l. lt-ltb (get_or gone k 0) n (small k l)))
 
--- each number below the number of those that stay is that of one that stays
+-- each number below the number of retained tetrahedra is the new number of one of them
 pub comes_from : (gone : List ℕ) (n u : ℕ) → is_distinct gone ≡ true → ((k : ℕ) → k < length gone → get_or gone k 0 < n) → u + length gone < n → (t : ℕ) × (t < n) × (has gone t ≡ false) × (rank_without gone t ≡ u)
 comes_from gone n u d small l =
     let many : u < rank (stays gone) n = omega (arith, stays-count gone n d small) in

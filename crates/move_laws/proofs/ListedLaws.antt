@@ -1,4 +1,4 @@
--- The list of the facets that are taken out, their tetrahedra, and what stands for the old faces.
+-- The list of the facets that a move removes, their tetrahedra, and the replacements of old faces.
 use Rattle.std.proofs.Common.{◌≡◌, ℕ, zero, suc, ◌+◌, ◌-◌, ◌<◌, ◌≤◌, Bool, true, false, cond, List, [], ◌∷◌, length, drop, get_or, Option, Some, refl, sym, ap, ◌∙◌, subst, arith, inl, inr}
 use Rattle.std.specs.Prelude.{◌⊎◌, ◌==◌, nat_lt, filter_map, find}
 use Rattle.std.specs.List.{range_with_len, cons_option}
@@ -18,7 +18,7 @@ use Rattle.move_laws.proofs.FacetLaws.{core_some, core_few}
 use Rattle.move_laws.proofs.LegalLaws.{IsLegal, has-among, among-has, same_facet, label_in}
 use Rattle.move_laws.proofs.NumberLaws.{Apart, rank-same, rank-has, picked-up, picked-has, increasing-apart}
 
--- where something is found for each number of a range
+-- a list with an item for each number of a range
 
 abbrev AllFound : (ℕ → Option Facet) → ℕ → ℕ → Type 0
 AllFound h a n = (i : ℕ) → a ≤ i → i < a + n → (f : Facet) × (h i ≡ Some f)
@@ -91,7 +91,7 @@ old_of_tet rows m t legal h =
     let y = from_list rows m x.0 legal x.1 in
     (y.0, x.0, y.1, x.2)
 
--- what stands for an old face
+-- the replacement of an old face
 
 find-only : (p : Facet → Bool) (fs : List Facet) (f : Facet) → Among f fs → p f ≡ true → ((g : Facet) → Among g fs → p g ≡ true → g ≡ f) → find p fs ≡ Some f
 find-only p [] f a h only = absurd a
@@ -113,7 +113,7 @@ stand_old rows m i f x legal F e =
         let same : k ≡ i = legal.apart k i g f G.1 F (eqb-true g.tet x.tet h ∙ e) in
         same_facet rows m i g f (subst (λ j. IsOldFacet rows m j g) same G.1) F
 
--- the tetrahedra that are taken out
+-- the tetrahedra that are removed
 
 pub old_tets_apart : (rows : List Row) (m : Move) → IsLegal rows m → Apart (old_tets rows m)
 old_tets_apart rows m legal i j l b e =
@@ -140,14 +140,14 @@ old_tets_within rows m legal k b =
 pub taken-has : (rows : List Row) (m : Move) (t : ℕ) → t < length rows → has (taken_numbers rows m) t ≡ has (old_tets rows m) t
 taken-has rows m t l = picked-has (has (old_tets rows m)) (length rows) t l
 
--- as many as facets
+-- as many tetrahedra are removed as there are old facets
 pub length-taken : (rows : List Row) (m : Move) → IsLegal rows m → length (taken_numbers rows m) ≡ 5 - length m.core
 length-taken rows m legal =
     length-picked (has (old_tets rows m)) (length rows) ∙ rank-has (old_tets rows m) (length rows) (old_tets_apart rows m legal)
     ∙ count_whole (λ u. nat_lt u (length rows)) (old_tets rows m) (λ k l. lt-ltb (get_or (old_tets rows m) k 0) (length rows) (old_tets_within rows m legal k l))
     ∙ length-map (old_facets rows m) (λ (f : Facet). f.tet) ∙ length-old rows m legal
 
--- what closes up over the tetrahedra closes up over them in order
+-- the new number of a tetrahedron, by the removed numbers in ascending order
 pub closed-taken : (rows : List Row) (m : Move) (t : ℕ) → IsLegal rows m → t < length rows → rank_without (taken_numbers rows m) t ≡ rank_without (old_tets rows m) t
 closed-taken rows m t legal l =
     ap (λ k. t - k)
@@ -161,7 +161,7 @@ enough rows m legal =
     let c = rank_fits (has (old_tets rows m)) (length rows) in
     omega arith
 
--- the facets that legality found
+-- the facets that the test of legality found
 pub are_old : (rows : List Row) (m : Move) (facets : List Facet) → IsLegal rows m → facets ≡ old_facets rows m → AreOldFacets rows m facets
 are_old rows m facets legal e = subst (λ (fs : List Facet). AreOldFacets rows m fs) (sym e) old
   where

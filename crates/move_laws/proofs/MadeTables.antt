@@ -1,4 +1,4 @@
--- The rows to which a move leads from a table are a table, within the limit of tetrahedra.
+-- The rows that result from a move on a table are a table, if they are within the limit of tetrahedra.
 use Rattle.std.proofs.Common.{◌≡◌, ℕ, ◌+◌, ◌<◌, Bool, true, List, length, Option, Some, None, refl, sym, ap, ◌∙◌, subst, arith, inl, inr}
 use Rattle.std.specs.Prelude.{◌⊎◌, ◌==◌, ◌||◌, ◌≢◌, option_map, option_and_then}
 use Rattle.std.specs.List.{list_all}
@@ -72,7 +72,7 @@ good_inner old m new h j l hj hl d = record {
 
 -- the other faces
 
--- the gluing that stands for the gluing g of x
+-- the gluing that replaces the gluing g of x
 good_outer : (old : List Row) (m : Move) (new : List Row) → IsTable old → IsMoved old m new → (x : Face) (s g r : Gluing) → x.tet < length old → x.face < 4 → place_after old m x ≡ Some s → glue old x ≡ Some g → place_after old m (other_side x g) ≡ Some r
     → IsGood (length new) new (face_under s x) (gluing_under s r g)
 good_outer old m new table h x s g r lt lf stands glued stands' = record {
@@ -162,7 +162,7 @@ moves_make_tables_lem old m new table few h = record {
     good : (y : Face) (g : Gluing) → glue new y ≡ Some g → IsGood (length new) new y g
     good y g e = good_at old m new table h y g e (covered old m y table (no_fault old m h.legal) h.core (rw (← h.length_is) (glued_tet new y g e)) (glued_face new y g h.four_faces e))
 
--- so the inverse leads back to nothing else
+-- the inverse move results in nothing but a relabelling of the old table
 pub inverses_lead_only_back_lem : InversesLeadOnlyBack
 inverses_lead_only_back_lem old m new back table few h h' =
     let led : (found : List Row) × IsMoved new (inverse_move (length old) m) found × AreIsomorphic old found = inverses_lead_back_lem old m new table h in

@@ -19,7 +19,7 @@ use Rattle.move_definitions.proofs.CoreTests.{core_size, own_permutes}
 use Rattle.move_laws.proofs.Labels.{AreLabels, label_at, HasVertex, vertex_at, length-labels, image-map}
 use Rattle.move_laws.proofs.Legal.{IsFacet, facet_is, HasNoFault, found_label, facet-found}
 
--- the face of f opposite label k is glued to g, label k going to label i and the others staying
+-- the face of f opposite label k is glued to g; label k is mapped to label i, and the others to themselves
 pub record AreGlued (rows : List Row) (i k : ℕ) (f g : Facet) : Type 0 where
   pub by : Gluing
   pub glued : glue rows (opposite f k) ≡ Some by
@@ -45,7 +45,7 @@ image-four h (suc (suc zero)) l = refl
 image-four h (suc (suc (suc zero))) l = refl
 image-four h (suc (suc (suc (suc v)))) l = absurd (omega arith)
 
--- from the tetrahedron of the move
+-- between the facet of the move's tetrahedron and one across a face
 
 behind_glued : (k : ℕ) (q p : List ℕ) → IsPermutationOfFour q → IsPermutationOfFour p → compose (map (λ v. substitute k 4 (image q (preimage p v))) four) p ≡ map (substitute k 4) q
 behind_glued k q p hq hp =
@@ -73,7 +73,7 @@ from_behind rows m k (Some by) f table c g e =
 own_glued : (rows : List Row) (m : Move) (k : ℕ) (f : Facet) → IsTable rows → IsCore m.core → k < 4 → facet rows m k ≡ Some f → AreGlued rows 4 k (own_facet m) f
 own_glued rows m k f table c l e = from_behind rows m k (glue rows (opposite (own_facet m) k)) f table c refl (sym (facet-found rows m k l) ∙ e)
 
--- between facets that are found
+-- between facets across faces, the smaller label first
 
 is_glued : (rows : List Row) (i k : ℕ) (f g : Facet) (o : Option Gluing) → f.missing ≡ i → g.missing ≡ k → glue rows (opposite f g.missing) ≡ o → is_matched f g o ≡ true → AreGlued rows i k f g
 is_glued rows i k f g None ei ek e t = cc
@@ -103,7 +103,7 @@ found_glued rows m i k f g table h c low less high ef eg =
     let here : pair_fault rows (Some f) (Some g) ≡ None = ap (λ (o : Option Facet). pair_fault rows o (Some g)) (sym ef) ∙ ap (λ (o : Option Facet). pair_fault rows (facet rows m i) o) (sym eg) ∙ none in
     is_glued rows i k f g (glue rows (opposite f g.missing)) is.missing is'.missing refl (allowed (is_matched f g (glue rows (opposite f g.missing))) (NotMatched f.missing g.missing) here)
 
--- and the other way round
+-- between facets across faces, in the other order
 
 turned_labels : (i k : ℕ) (a b p : List ℕ) → AreLabels i a → AreLabels k b → IsPermutationOfFour p → compose b p ≡ map (substitute k i) a → compose a (inverse p) ≡ map (substitute i k) b
 turned_labels i k a b p ha hb hp e =
@@ -152,7 +152,7 @@ glued_back rows i k f g table hf hg apart a = record {
     there : other_side (opposite f k) a.by ≡ opposite g i
     there = ap (λ t. face_at t (image a.by.perm w)) a.tet ∙ ap (face_at g.tet) vertex
 
--- so any two old facets are glued
+-- any two old facets are glued label by label
 own_or : (rows : List Row) (m : Move) (i : ℕ) (f : Facet) → 4 ≤ i → i < 5 → facet rows m i ≡ Some f → (i ≡ 4) × (own_facet m ≡ f)
 own_or rows m i f low high e = let at : i ≡ 4 = omega arith in let own : facet rows m i ≡ Some (own_facet m) = ap (facet rows m) at in (at, cc)
 

@@ -1,4 +1,4 @@
--- What a legal move takes out and puts in moves the table.
+-- The exchange of a legal move results in the table that the move defines.
 use Rattle.std.proofs.Common.{◌≡◌, ℕ, ◌+◌, ◌<◌, ◌≤◌, Bool, true, false, cond, List, length, Option, Some, None, refl, sym, ap, ◌∙◌, subst, arith, inl, inr}
 use Rattle.std.specs.Prelude.{◌⊎◌, nat_lt, option_map, option_and_then, All}
 use Rattle.std.specs.Option.{option_or}
@@ -28,7 +28,7 @@ use Rattle.move_laws.proofs.StandLaws.{side_under, way_under, under_kept, closes
 use Rattle.move_laws.proofs.PutLaws.{put-length, is-put, not-put, glue-inner, glue-outer}
 use Rattle.move_laws.proofs.ExchangeLaws.{number-kept, can_exchange}
 
--- a table that a move can be played on
+-- a table on which a move can be played
 pub record CanMove (rows : List Row) (m : Move) : Type 0 where
   pub legal : IsLegal rows m
   pub fault : move_fault rows m ≡ None
@@ -42,7 +42,7 @@ put_in rows m j v legal l =
     let n = put-length rows m legal in
     glue-fresh rows (exchange rows m) (record { tet = kept rows m + j; face = v }) (omega arith) (is-put rows m (kept rows m + j) (omega arith) (omega arith))
 
--- the gluing by which a kept face was glued to an old facet
+-- the face, in the new table, of a tetrahedron that is retained
 abbrev pub kept_place : List Row → Move → Face → Face
 kept_place rows m x = record { tet = rank_without (old_tets rows m) x.tet; face = x.face }
 
@@ -138,7 +138,7 @@ moves rows m c = record {
         ∙ ap (λ (y : Face). option_and_then (moved_gluing rows m y (facet_gluing rows m p.f p.j)) (glue rows y)) (sym p.at)
         ∙ ap (λ (t : Gluing). option_and_then (moved_gluing rows m x t) (glue rows x)) (sym p.is)
 
--- a move that is not at fault
+-- a move that can be played has no error
 pub can_move : (rows : List Row) (m : Move) → CanPlay rows m → CanMove rows m
 can_move rows m can =
     let b = both_none (move_fault rows m) (cond (nat_lt max_tets (new_length rows m)) (Some TooMany) None) can.playable in
@@ -154,7 +154,7 @@ can_be_replaced rows m can = let c = can_move rows m can in can_exchange rows m 
 pub plays : (rows : List Row) (m : Move) → CanPlay rows m → Plays rows m (replaced rows (exchange rows m))
 plays rows m can = record { table = can.table; moved = moves rows m (can_move rows m can); accepted = can.playable }
 
--- the same, by what the calls give
+-- what the functions that play a move return is the table that the move defines
 
 abbrev replacement : List ℕ → List (ℕ × Row) → Replacement
 replacement removed fresh = record { removed = removed; fresh = fresh }

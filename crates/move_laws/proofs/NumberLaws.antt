@@ -17,7 +17,7 @@ use Rattle.table_definitions.proofs.Bijections.{there, get_or-any}
 use Rattle.move_laws.specs.Facets.{numbered}
 use Rattle.basic_lemmas.proofs.Truths.{one_if}
 
--- each number stands at one place
+-- no number occurs twice
 abbrev pub Apart : List ℕ → Type 0
 Apart xs = (i j : ℕ) → i < j → j < length xs → get_or xs i 0 ≢ get_or xs j 0
 
@@ -63,7 +63,7 @@ not-has xs u never = by_test (has xs u) refl
     by_test true h = absurd (never h)
     by_test false h = h
 
--- as many of the numbers are below t as stand among them of those below t
+-- the count of numbers below t that are in the list is the count of items of the list below t
 pub rank-has : (xs : List ℕ) (t : ℕ) → Apart xs → rank (has xs) t ≡ gone_before xs t
 rank-has [] t apart = rank-nothing t
 rank-has (x ∷ xs) t apart =

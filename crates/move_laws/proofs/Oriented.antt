@@ -1,4 +1,5 @@
--- A move keeps what is orientable orientable: the signs of the tetrahedra that are kept stay, and the others follow from the sign of the move's own.
+-- A move keeps a table orientable: the signs of retained tetrahedra stay, and those of new facets follow from the sign
+-- of the move's tetrahedron.
 use Rattle.std.proofs.Common.{◌≡◌, ◌≢◌, ℕ, ◌+◌, ◌-◌, ◌<◌, ◌≤◌, Bool, false, List, [], ◌∷◌, length, map, Option, Some, None, refl, sym, ap, ◌∙◌, subst, arith, inl, inr}
 use Rattle.std.specs.Prelude.{◌⊎◌, option_map, option_and_then}
 use Rattle.std.proofs.lemmas.Bool.{cases_lt}
@@ -37,11 +38,11 @@ module _ (old : List Row) (m : Move) (new : List Row) (table : IsTable old) (h :
   own_is : IsPermutationOfFour own
   own_is = own_permutes m.core h.core
 
-  -- the sign of the facet that is put in for label j
+  -- the sign of the new facet for label j
   put_in : ℕ → Bool
   put_in j = flip (is_odd (crossing 4 j own)) (sign_of signs m.tet)
 
-  -- the old tetrahedron that is kept as t
+  -- the face 0 of the old tetrahedron that is retained as t
   kept_as : (t : ℕ) → t < kept old m → StandsForOld old m (face_at t 0)
   kept_as t l = kept_covered old m (face_at t 0) table fine h.core l (omega arith)
 
@@ -75,7 +76,7 @@ module _ (old : List Row) (m : Move) (new : List Row) (table : IsTable old) (h :
       at (inl l) = unfold sign_by in ap (λ (y : Face). sign_of signs y.tet) (same (kept_as s.tet l))
       at (inr l) = (let small = k.small in absurd (omega arith))
 
-  -- whatever facet is taken out, the sign that follows from it is the same
+  -- the sign of a new facet is the same, whichever old facet it is computed from
   facet_sign : (i j : ℕ) (f : Facet) → length m.core ≤ i → i < 5 → j < length m.core → facet old m i ≡ Some f → IsFacet old i f →
       put_in j ≡ flip (is_odd (crossing i j f.labels)) (sign_of signs f.tet)
   unfolding put_in
@@ -105,7 +106,7 @@ module _ (old : List Row) (m : Move) (new : List Row) (table : IsTable old) (h :
         ∙ ap (λ (y : Face). flip (is_odd s.perm) (sign_of signs y.tet)) f.old_is
   ]
 
-  -- a gluing leads to a tetrahedron of the new table, with the sign behind it
+  -- the gluing g of the face y is to a tetrahedron of the new table, whose sign is the one across the gluing
   abbrev Agrees : Face → Gluing → Type 0
   Agrees y g = (g.tet < new_length old m) × (new_sign g.tet ≡ behind (is_odd g.perm) (new_sign y.tet))
 

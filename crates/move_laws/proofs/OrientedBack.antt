@@ -1,4 +1,4 @@
--- What leads to an orientable table is orientable.
+-- If a table has an orientable relabelling, or a move on it results in an orientable table, it is orientable.
 use Rattle.std.proofs.Common.{◌≡◌, ℕ, ◌<◌, Bool, false, List, [], ◌∷◌, length, map, Some, sym, ap, ◌∙◌, subst, arith}
 use Rattle.std.specs.Prelude.{option_map}
 use Rattle.std.proofs.lemmas.List.{length-map}
@@ -19,7 +19,7 @@ use Rattle.move_laws.proofs.Parities.{flip, behind, back_sign}
 use Rattle.move_laws.proofs.Oriented.{moves_keep_orientable_lem}
 
 module _ (old new : List Row) (table : IsTable old) (by : Relabelling) (is : IsRelabelling (length old) by) (c : Carries by old new) (signs : List Bool) (are : AreSigns new signs) where
-  -- the sign of what stands for a tetrahedron, turned where its vertices are turned
+  -- the sign of the image of a tetrahedron, the other one if the permutation of its vertices is odd
   old_sign_of : ℕ → Bool
   old_sign_of t = flip (is_odd (relabelled_place by t).perm) (sign_of signs (relabelled_place by t).tet)
 

@@ -1,4 +1,4 @@
--- Signs of facets, by the parity with which they go to the facets that are put in.
+-- Signs of facets, by the parities of the maps of their vertices to those of new facets.
 use mathlib.Core.Bool.{beq}
 use Rattle.std.proofs.Common.{◌≡◌, ◌≢◌, ℕ, ◌<◌, Bool, true, false, List, length, map, refl, sym, ap, ◌∙◌, arith}
 use Rattle.std.specs.Prelude.{◌==◌, ◌||◌, not, if◌then◌else◌}
@@ -14,11 +14,11 @@ use Rattle.move_laws.proofs.Matched.{same_four, image-composed, length-composed}
 use Rattle.move_laws.proofs.Renamed.{across}
 use Rattle.move_laws.proofs.SecondStand.{crossing, crossing_permutes}
 
--- the other sign, where the parity is odd
+-- the other sign if the parity is odd
 abbrev pub flip : Bool → Bool → Bool
 flip odd s = if odd then not s else s
 
--- the sign behind a gluing
+-- the sign across a gluing: the same if the gluing is odd, and otherwise the other
 abbrev pub behind : Bool → Bool → Bool
 behind odd s = if odd then s else not s
 
@@ -87,17 +87,17 @@ stood_parity : (r g s : List ℕ) → IsPermutationOfFour r → IsPermutationOfF
 stood_parity r g s hr hg hs = is_odd-compose r (compose g (inverse s)) hr (compose_permutes g (inverse s) hg (inverse_permutes s hs))
     ∙ ap (λ o. not (beq (is_odd r) o)) (is_odd-compose g (inverse s) hg (inverse_permutes s hs) ∙ ap (λ o. not (beq (is_odd g) o)) (is_odd-inverse s hs))
 
--- the sign across a gluing that stands for another
+-- the sign across the image of a gluing
 pub across_sign : (r g s : List ℕ) → IsPermutationOfFour r → IsPermutationOfFour g → IsPermutationOfFour s → (a : Bool) →
     flip (is_odd r) (behind (is_odd g) a) ≡ behind (is_odd (compose r (compose g (inverse s)))) (flip (is_odd s) a)
 across_sign r g s hr hg hs a = flip_across (is_odd r) (is_odd g) (is_odd s) a ∙ ap (λ o. behind o (flip (is_odd s) a)) (sym (stood_parity r g s hr hg hs))
 
--- and across one for which another stands
+-- the sign across a gluing, by that across its image
 pub back_sign : (r g s : List ℕ) → IsPermutationOfFour r → IsPermutationOfFour g → IsPermutationOfFour s → (a : Bool) →
     flip (is_odd r) (behind (is_odd (compose r (compose g (inverse s)))) a) ≡ behind (is_odd g) (flip (is_odd s) a)
 back_sign r g s hr hg hs a = ap (λ o. flip (is_odd r) (behind o a)) (stood_parity r g s hr hg hs) ∙ flip_back (is_odd r) (is_odd g) (is_odd s) a
 
--- facets that are put in are glued so that their parities from the own facet fit
+-- the signs of new facets, computed from the facet of the move's tetrahedron, agree across the gluings between them
 inner_test : List ℕ → Bool
 inner_test q = list_all (λ j. list_all (λ l. (j == l) || beq (is_odd (crossing 4 l q)) (behind (is_odd (across j l)) (is_odd (crossing 4 j q)))) (below 4)) (below 4)
 
@@ -113,7 +113,8 @@ inner_sign q h j l lj ll d a = ap (λ o. flip o a) (bool_equal _ _ at) ∙ flip_
         (list_all-below (λ j. list_all (λ l. (j == l) || beq (is_odd (crossing 4 l q)) (behind (is_odd (across j l)) (is_odd (crossing 4 j q)))) (below 4)) 4
         (unfold inner_test in by_words inner_test inner_tests q h) j lj) l ll) d
 
--- and one that is taken out has the other parity than the own facet, the gluing between them left aside
+-- an old facet is mapped to a new one with the other parity than the move's tetrahedron, the gluing between the two
+-- left aside
 old_test : List ℕ → Bool
 old_test q = list_all (λ i. list_all (λ j. (j == i) || beq (is_odd (crossing 4 j q)) (not (is_odd (crossing i j (labels_by i q))))) (below 4)) (below 4)
 

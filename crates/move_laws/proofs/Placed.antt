@@ -1,4 +1,4 @@
--- The relabelling to which the inverse of a move leads: what stands there for each tetrahedron of the old table.
+-- The relabelling that the inverse of a move results in: the image of each tetrahedron of the old table.
 use Rattle.std.proofs.Common.{◌≡◌, ℕ, ◌+◌, ◌-◌, ◌<◌, ◌≤◌, Bool, true, false, List, [], length, map, get_or, Option, Some, None, refl, sym, ap, ◌∙◌, subst, arith, inl, inr}
 use Rattle.std.specs.Prelude.{◌⊎◌, ◌==◌, ◌||◌, ◌≢◌, nat_lt, not, slice_index}
 use Rattle.std.specs.List.{list_all, slice_index_or, position_or_len}
@@ -26,7 +26,7 @@ use Rattle.move_definitions.proofs.CoreTests.{core_size}
 use Rattle.move_definitions.proofs.StandIns.{find-none}
 use Rattle.move_laws.proofs.Renamed.{renamed, given_le}
 
--- where the vertices of old facet i go, by their labels
+-- the vertices that those of old facet i are mapped to, by their labels
 abbrev pub moved_perm : ℕ → ℕ → List ℕ → List ℕ
 moved_perm s i labels = map (λ l. preimage (ascending (i - s)) (renamed s l)) labels
 
@@ -40,7 +40,7 @@ moved_perm_permutes s i labels small low h =
     tests : label_tests perm_test ≡ true
     tests = unfold perm_test is_permutation renamed preimage in refl
 
--- kept tetrahedra stand in order, and old facets behind them
+-- retained tetrahedra come first, in order, and old facets after them
 abbrev pub facet_place : List Row → Move → ℕ → List ℕ → Gluing
 facet_place old m i labels = record { tet = kept old m + (i - length m.core); perm = moved_perm (length m.core) i labels }
 
@@ -59,7 +59,7 @@ place-old old m i f table h c low high e =
     ap (place_of old m f.tet) (is_found (facet old m) (old_labels m) i f (facets_apart old m h c) (old_label (length m.core) i (core_size m.core c).1 low high) e)
     ∙ ap (λ k. facet_place old m k f.labels) (facet_is old m i f table c h.in_range high e).missing
 
--- what is known of a place
+-- the image of a tetrahedron, either retained or an old facet
 pub record IsKeptPlace (old : List Row) (m : Move) (t : ℕ) : Type 0 where
   pub stays : has (old_tets old m) t ≡ false
   pub is : place old m t ≡ kept_place_after old m t
@@ -103,7 +103,7 @@ place_cases old m t table h c l = by_test (has (old_tets old m) t) refl
     by_test false e = inl (record { stays = e; is = place-kept old m t e; small = closed_up_small old m t table h c l e })
     by_test true e = inr (by_facet (old_tet_facet old m t c e))
 
--- places are in range, apart, and permute the vertices
+-- images are in range and different, and permute the vertices
 pub place_below : (old : List Row) (m : Move) (t : ℕ) → IsTable old → HasNoFault old m → IsCore m.core → t < length old → (place old m t).tet < length old
 place_below old m t table h c l =
     let fits : 5 - length m.core ≤ length old = kept-count old m table h c in
@@ -189,7 +189,7 @@ is_relabelling old m table h c = record {
         let same : i ≡ j = place_apart old m i j table h c li lj (sym (mapped (λ t. (place old m t).tet) n i 0 li) ∙ e ∙ mapped (λ t. (place old m t).tet) n j 0 lj) in
         absurd (omega arith)
 
--- the table to which it leads
+-- the relabelled table
 
 abbrev pub old_numbers : List Row → Move → List ℕ
 old_numbers old m = map (λ u. position_or_len (λ v. v == u) (relabelling old m).images) (below (length old))

@@ -1,4 +1,4 @@
--- Moves that are played one after another lead to one table, and so do descents and the generator.
+-- Sequences of moves, descents and the generator each result in at most one table.
 use Rattle.std.proofs.Common.{◌≡◌, ◌≤◌, Bool, true, false, List, [], ◌∷◌, ◌++◌, Option, Some, None, refl, sym, ap, ◌∙◌, subst, arith, inl, inr}
 use Rattle.std.specs.Prelude.{◌⊎◌, nat_lt, if◌then◌else◌}
 use Rattle.std.specs.Option.{option_or}
@@ -12,7 +12,7 @@ use Rattle.move_definitions.specs.Laws.{PlaysAgree, DescentsAgree, MakingsAgree}
 use Rattle.move_laws.proofs.Agreement.{moves_agree_lem}
 use Rattle.move_laws.proofs.MadeTables.{moves_make_tables_lem}
 
--- what is played keeps within the limit
+-- the result of a move that is played is within the limit
 second_none : (a b : Option MoveFault) → option_or a b ≡ None → b ≡ None
 second_none None b e = e
 second_none (Some a) b e = cc
@@ -37,12 +37,12 @@ all_played_same rows (m ∷ ms) last last' (next, first, rest) (next', first', r
     let same : next' ≡ next = played_same rows m next' next first' first in
     all_played_same next ms last last' rest (subst (λ (t : List Row). PlaysAll t ms last') same rest')
 
--- moves that are played one after another lead to tables
+-- moves that are played one after another result in a table
 pub all_led_table : (rows : List Row) (moves : List Move) (last : List Row) → IsTable rows → PlaysAll rows moves last → IsTable last
 all_led_table rows [] last table e = subst (λ (t : List Row). IsTable t) e table
 all_led_table rows (m ∷ ms) last table (next, first, rest) = all_led_table next ms last (played_table rows m next first) rest
 
--- one move more
+-- a further move at the end
 pub played_on : (rows : List Row) (moves : List Move) (table : List Row) (m : Move) (next : List Row) → PlaysAll rows moves table → Plays table m next → PlaysAll rows (moves ++ m ∷ []) next
 played_on rows [] table m next h p = (next, subst (λ (r : List Row). Plays r m next) (sym h) p, refl)
 played_on rows (k ∷ ks) table m next h p = (h.0, h.1, played_on h.0 ks table m next h.2 p)

@@ -1,4 +1,4 @@
--- The rows that a legal move puts in.
+-- The rows that a legal move adds.
 use Rattle.std.proofs.Common.{◌≡◌, ℕ, ◌+◌, ◌-◌, ◌<◌, ◌≤◌, true, false, List, length, get_or, Option, Some, None, refl, sym, ap, ◌∙◌, arith, inl, inr}
 use Rattle.std.specs.Prelude.{◌⊎◌, ◌≢◌, option_map, option_and_then, if◌then◌else◌}
 use Rattle.std.specs.List.{range_with_len}
@@ -48,7 +48,7 @@ row-is rows m j l =
     row-of (taken_numbers rows m) (row_at rows m) (range_with_len (kept rows m) (length m.core)) (kept rows m + j) (has-range (kept rows m) (length m.core) (kept rows m + j) (omega arith) (omega arith))
     ∙ ap (put_row rows m) e
 
--- what a face of a new facet is glued by
+-- the gluing of a face of a new facet
 pub glue-put : (rows : List Row) (m : Move) (j v : ℕ) → j < length m.core → length m.core < 5 → v < 4 → fresh_glue (exchange rows m) (record { tet = kept rows m + j; face = v }) ≡ fresh_gluing rows m j (image (new_facet rows m j).labels v)
 glue-put rows m j v l few small =
     ap (λ (row : Row). get_or row v None) (row-is rows m j l)
@@ -73,7 +73,7 @@ glue-outer rows m i j f legal F nj =
     ∙ ap (λ b. if◌then◌else◌ {A = Option Gluing} b (Some (facet_gluing rows m (new_facet rows m j) i)) (option_and_then (λ f. outer_gluing rows m f j) (facet rows m i))) (le-ltb i (length m.core) low)
     ∙ ap (option_and_then (λ f. outer_gluing rows m f j)) F.found
 
--- a glued face of a new facet: it leads to a new facet, or stands for one of an old facet
+-- a glued face of a new facet: it is glued to a new facet, or replaces a face of an old facet
 
 pub record LeadsIn (rows : List Row) (m : Move) (x : Face) (g : Gluing) : Type 0 where
   pub j : ℕ

@@ -10,7 +10,7 @@ use Rattle.table_definitions.proofs.ListFacts.{list_all-below, same_list-true}
 use Rattle.move_definitions.specs.Moves.{IsCore, vertices_by_label}
 use Rattle.move_laws.proofs.Labels.{AreLabels, labels_by, ascending}
 
--- the old labels come first, then those of the new facets, that of the facet that the inverse move names as the last
+-- old labels come first, then those of new facets; the one of the facet that the inverse move names is the last
 unfoldable pub renamed : ℕ → ℕ → ℕ
 renamed s l = if nat_lt l s then (if l == 0 then 4 else l + (4 - s)) else l - s
 
@@ -68,7 +68,7 @@ pub back-renamed : (s l : ℕ) → s < 5 → l < 5 → renamed_back s (renamed s
 unfolding back_test renamed renamed_back
 back-renamed s l hs hl = eqb-true (renamed_back s (renamed s l)) l (two_at back_test refl s l hs hl)
 
--- labels that differ are renamed to labels that differ
+-- different labels are renamed to different labels
 pub renamed_apart : (s i x : ℕ) → s < 5 → s ≤ i → i < 5 → x < 5 → x ≢ i → renamed s x ≢ i - s
 renamed_apart s i x small low high lx n z =
     let back : renamed_back s (renamed s x) ≡ x = back-renamed s x small lx in
@@ -89,7 +89,7 @@ pub back-new : (s i : ℕ) → s < 5 → i < 5 → 5 - s ≤ i → renamed_back 
 unfolding range_test renamed_back
 back-new s i hs hi l = ltb-true (renamed_back s i) s (given_le (5 - s) i (nat_lt (renamed_back s i) s) (two_at range_test refl s i hs hi) l)
 
--- what stands for one label in place of another
+-- renaming commutes with the replacement of one label by another
 place_test : ℕ → ℕ → ℕ → ℕ → Bool
 place_test s i k x = nat_lt i s || (nat_lt k s || (renamed s (substitute k i x) == substitute (k - s) (i - s) (renamed s x)))
 
@@ -144,11 +144,11 @@ renamed_labels s j hs hj = record {
     p : (is_permutation perm ≡ true) × (same_list (new_as_old_labels s j) (labels_by (renamed s j) perm) ≡ true)
     p = and_parts (is_permutation perm) (same_list (new_as_old_labels s j) (labels_by (renamed s j) perm)) (unfold labels_test in two_at labels_test tests s j hs hj)
 
--- where the vertices of the new facet i go in the new facet j, the label of each staying, and label j going to label i
+-- the map of the vertices of new facet i to those of new facet j that keeps labels, and maps label j to label i
 abbrev pub across : ℕ → ℕ → List ℕ
 across i j = map (λ l. preimage (ascending j) (substitute j i l)) (ascending i)
 
--- new facet j, as it is found behind new facet 0
+-- the labels of new facet j, as the facet across a face of new facet 0
 behind_test : ℕ → ℕ → Bool
 behind_test s j = (j == 0) || (not (nat_lt j s) || same_list (map (λ v. substitute (renamed s j) 4 (image (new_as_old_labels s 0) (preimage (across 0 j) v))) four) (new_as_old_labels s j))
 

@@ -1,4 +1,4 @@
--- What stands in the table of the inverse move for what stands in the new table.
+-- The replacement, under the inverse move, of a tetrahedron of the new table that replaces an old one.
 use Rattle.std.proofs.Common.{◌≡◌, ℕ, ◌+◌, ◌-◌, ◌<◌, ◌≤◌, Bool, true, false, List, [], ◌∷◌, length, map, Option, Some, None, refl, sym, ap, ◌∙◌, subst, arith, inl, inr}
 use Rattle.std.specs.Prelude.{◌⊎◌, ◌==◌, ◌||◌, ◌≢◌, nat_lt, not}
 use Rattle.std.specs.List.{list_all}
@@ -26,7 +26,7 @@ use Rattle.move_laws.proofs.Renamed.{renamed, renamed-old, renamed-new, renamed_
 use Rattle.move_laws.proofs.InverseFacets.{inverse_of, new_as_old, IsPlayed, facet-inverse, IsNewLabel, new_label, inverse_legal}
 use Rattle.move_laws.proofs.Placed.{moved_perm, place, facet_place, place-kept, place-old, closed_up_small}
 
--- where the vertices of facet i go in the new facet j
+-- the map of the vertices of facet i to those of the new facet j
 
 abbrev pub crossing : ℕ → ℕ → List ℕ → List ℕ
 crossing i j labels = map (λ l. preimage (ascending j) (substitute j i l)) labels
@@ -41,7 +41,7 @@ crossing_permutes i j labels h l d =
     tests : label_tests crossing_test ≡ true
     tests = unfold crossing_test is_permutation preimage in refl
 
--- over the new facet j into that of the inverse
+-- the map to the new facet j, followed by that to a facet of the inverse
 twice_same : ℕ → ℕ → ℕ → List ℕ → Bool
 twice_same s j i labels = same_list (compose (crossing (renamed s j) (i - s) (new_as_old_labels s j)) (crossing i j labels)) (moved_perm s i labels)
 
@@ -63,7 +63,7 @@ crossed_twice s i j labels h small low less = same_list-true (compose (crossing 
         (list_all-below (λ j. not (nat_lt j s) || twice_same s j i labels) 5
         (given_le s i (list_all (λ j. not (nat_lt j s) || twice_same s j i labels) (below 5)) (list_all-below (λ s. nat_lt i s || list_all (λ j. not (nat_lt j s) || twice_same s j i labels) (below 5)) 5 all s small) low) j (omega arith)) less
 
--- what the inverse takes out stands behind what is kept
+-- the tetrahedra that the inverse removes come after those that it retains
 
 inverse_fine : (old : List Row) (m : Move) (new : List Row) → IsPlayed old m new → HasNoFault new (inverse_of old m)
 inverse_fine old m new p = no_fault new (inverse_of old m) (inverse_legal old m new p)
@@ -102,7 +102,7 @@ pub closed_up_low : (old : List Row) (m : Move) (new : List Row) → IsPlayed ol
 closed_up_low old m new p u l =
     omega (arith, none_before (old_tets new (inverse_of old m)) u (λ v h. (let high = old_tets_high old m new p v h in omega arith)))
 
--- what stands for what stands for the tetrahedron of x
+-- the replacement, under the inverse move, of what replaces the tetrahedron of x
 pub record StandsAgain (old : List Row) (m : Move) (new : List Row) (x : Face) (s : Gluing) : Type 0 where
   pub second : Gluing
   pub stands : place_after new (inverse_of old m) (face_under s x) ≡ Some second
@@ -131,7 +131,7 @@ again-kept old m new p x lt lf e = record {
     small : u < kept old m
     small = closed_up_small old m x.tet p.table (no_fault old m p.moved.legal) p.core lt e
 
--- the face of old facet i with label j of a new facet
+-- the face of old facet i opposite label j, replaced by a face of new facet j
 again-new : (old : List Row) (m : Move) (new : List Row) → IsPlayed old m new → (i j : ℕ) (f : Facet) → length m.core ≤ i → i < 5 → j < length m.core → facet old m i ≡ Some f → IsFacet old i f
     → StandsAgain old m new (face_at f.tet (preimage f.labels j)) (facet_gluing old m f j)
 again-new old m new p i j f low high less e is = record {
@@ -173,7 +173,7 @@ again-new old m new p i j f low high less e is = record {
         ∙ ap (facet_place_after new (inverse_of old m) (new_as_old old m j)) label
         ∙ facet_stand_in-new new (inverse_of old m) (new_as_old old m j) (i - s) (rw p.inverse_core.size (omega arith))
 
--- a face of an old facet for which something stands has the label of a new facet
+-- a face of an old facet that is replaced in the new table has the label of a new facet
 pub record HasNewLabel (old : List Row) (m : Move) (f : Facet) (v : ℕ) (s : Gluing) : Type 0 where
   pub small : image f.labels v < length m.core
   pub is : s ≡ facet_gluing old m f (image f.labels v)
@@ -211,7 +211,7 @@ stands_again old m new p x s lt lf stands = by_test (has (old_tets old m) x.tet)
     by_test false e = subst (λ (g : Gluing). StandsAgain old m new x g) (same_some (place_after old m x) (kept_place_after old m x.tet) s (stand_in-kept old m x e) stands) (again-kept old m new p x lt lf e)
     by_test true e = by_facet (old_tet_facet old m x.tet p.core e)
 
--- where something stands for a face, something stands for the face to which it is glued
+-- if a face is replaced in the new table, so is the face that it is glued to
 
 pub other_stands : (old : List Row) (m : Move) → IsTable old → HasNoFault old m → IsCore m.core → (x : Face) (s g : Gluing) → x.face < 4 → place_after old m x ≡ Some s → glue old x ≡ Some g
     → (r : Gluing) × (place_after old m (other_side x g) ≡ Some r)
@@ -226,7 +226,7 @@ other_stands old m table h c x s g lf stands glued = by_test (has (old_tets old 
     yf : y.face < 4
     yf = image_below g.perm hp x.face lf
 
-    -- between old facets nothing stands for either face
+    -- a face between two old facets is not replaced
     never : (k l : ℕ) (f f' : Facet) → length m.core ≤ k → k < 5 → length m.core ≤ l → l < 5 → facet old m k ≡ Some f → facet old m l ≡ Some f' → IsFacet old k f → IsFacet old l f' → f.tet ≡ g.tet → image f.labels y.face ≡ l → ⊥
     never k l f f' low high low' high' ef ef' is is' t label =
         let here : HasLabel k f.labels y.face = label_at k f.labels is.labels y.face yf in

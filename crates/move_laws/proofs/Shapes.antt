@@ -1,4 +1,4 @@
--- A face of the new table stands for one face of the old table alone, or lies between new facets.
+-- A face of the new table replaces exactly one face of the old table, or lies between new facets.
 use Rattle.std.proofs.Common.{◌≡◌, ℕ, ◌+◌, ◌<◌, ◌≤◌, Bool, true, false, List, length, Some, refl, sym, ap, ◌∙◌, subst, arith, inl, inr}
 use Rattle.std.specs.Prelude.{◌⊎◌, ◌≢◌}
 use Rattle.table_definitions.specs.Lists.{has, rank_without}
@@ -18,7 +18,7 @@ use Rattle.move_laws.proofs.Covered.{crossed, IsInner}
 use Rattle.move_laws.proofs.Placed.{closed_up_small, stays_true}
 use Rattle.move_laws.proofs.SecondStand.{crossing, crossing_permutes, HasNewLabel, has_new_label}
 
--- the face y stands for the face x of a kept tetrahedron
+-- the face y replaces the face x of a retained tetrahedron
 pub record IsKeptFace (rows : List Row) (m : Move) (x y : Face) (s : Gluing) : Type 0 where
   pub stays : has (old_tets rows m) x.tet ≡ false
   pub by : s ≡ kept_place_after rows m x.tet
@@ -26,7 +26,7 @@ pub record IsKeptFace (rows : List Row) (m : Move) (x y : Face) (s : Gluing) : T
   pub face : x.face ≡ y.face
   pub small : y.tet < kept rows m
 
--- the face of new facet j opposite label i stands for that of old facet i opposite label j
+-- the face of new facet j opposite label i replaces that of old facet i opposite label j
 pub record IsFacetFace (rows : List Row) (m : Move) (x y : Face) (s : Gluing) : Type 0 where
   pub i : ℕ
   pub j : ℕ
@@ -84,7 +84,7 @@ shape rows m table h c x s lt lf stands = by_test (has (old_tets rows m) x.tet) 
     by_test false e = inl (by_kept e)
     by_test true e = inr (by_facet (old_tet_facet rows m x.tet c e))
 
--- what stands for a tetrahedron permutes its vertices
+-- the map to a new facet permutes the vertices
 new_permutes : (rows : List Row) (m : Move) (x y : Face) (s : Gluing) → IsCore m.core → IsFacetFace rows m x y s → IsPermutationOfFour s.perm
 new_permutes rows m x y s c f =
     let few : length m.core < 5 = (core_size m.core c).1 in
@@ -101,7 +101,7 @@ stand_permutes rows m table h c x s lt lf stands =
       | inr f ↦ new_permutes rows m x (face_under s x) s c f
     ]
 
--- and the face that stands for another is in range
+-- the face that replaces another is in range
 pub stand_in_range : (rows : List Row) (m : Move) → IsTable rows → HasNoFault rows m → IsCore m.core → (x : Face) (s : Gluing) → x.tet < length rows → x.face < 4 → place_after rows m x ≡ Some s
     → (s.tet < new_length rows m) × (image s.perm x.face < 4)
 stand_in_range rows m table h c x s lt lf stands = (
@@ -112,7 +112,7 @@ stand_in_range rows m table h c x s lt lf stands = (
   image_below s.perm (stand_permutes rows m table h c x s lt lf stands) x.face lf,
 )
 
--- two facets' faces
+-- a face of a new facet is given by one pair of labels
 
 same_label : (j i k : ℕ) → j < 5 → i < 5 → k < 5 → i ≢ j → k ≢ j → preimage (ascending j) i ≡ preimage (ascending j) k → i ≡ k
 same_label j i k hj hi hk d d' e =
@@ -124,7 +124,7 @@ kept_not_facet rows m x x' y s s' k f =
     let small = k.small in
     omega arith
 
--- one face of the old table alone
+-- a face of the new table replaces at most one face of the old table
 pub stands_for_one : (rows : List Row) (m : Move) → IsTable rows → HasNoFault rows m → IsCore m.core → (x x' y : Face) (s s' : Gluing) → x.tet < length rows → x'.tet < length rows
     → IsKeptFace rows m x y s ⊎ IsFacetFace rows m x y s → IsKeptFace rows m x' y s' ⊎ IsFacetFace rows m x' y s' → x ≡ x'
 stands_for_one rows m table h c x x' y s s' lt lt' (inl k) (inl k') =
@@ -147,7 +147,7 @@ stands_for_one rows m table h c x x' y s s' lt lt' (inr f) (inr f') =
     let facets : f.facet_of ≡ f'.facet_of = same_some (facet rows m f'.i) f.facet_of f'.facet_of (ap (facet rows m) (sym i) ∙ f.found) f'.found in
     sym f.old_is ∙ ap (λ (g : Facet). face_at g.tet (preimage g.labels f.j)) facets ∙ ap (λ q. face_at f'.facet_of.tet (preimage f'.facet_of.labels q)) j ∙ f'.old_is
 
--- and none where it lies between new facets
+-- a face between new facets replaces none
 pub inner_stands_for_none : (rows : List Row) (m : Move) → IsCore m.core → (x y : Face) (s : Gluing) → IsKeptFace rows m x y s ⊎ IsFacetFace rows m x y s → IsInner rows m y → ⊥
 inner_stands_for_none rows m c x y s (inl k) n =
     let t : kept rows m + n.j ≡ y.tet = λ i. (n.is i).tet in
@@ -166,7 +166,7 @@ inner_stands_for_none rows m c x y s (inr f) n =
     let i : f.i ≡ n.l = same_label f.j f.i n.l (omega arith) f.high (omega arith) (λ e. absurd (omega arith)) (λ e. apart (sym j ∙ sym e)) (vertices ∙ ap (λ q. preimage (ascending q) n.l) (sym j)) in
     omega arith
 
--- it lies between two in one way
+-- a face lies between one pair of new facets alone
 pub inner_once : (rows : List Row) (m : Move) → IsCore m.core → (y : Face) (n n' : IsInner rows m y) → (n.j ≡ n'.j) × (n.l ≡ n'.l)
 inner_once rows m c y n n' =
     let few : length m.core < 5 = (core_size m.core c).1 in

@@ -1,4 +1,4 @@
--- What stands for the faces of a table on which a legal move is played, and how gluings are carried over.
+-- The replacements of the faces of a table on which a legal move is played, and the images of gluings.
 use Rattle.std.proofs.Common.{◌≡◌, ℕ, ◌+◌, ◌<◌, ◌≤◌, Bool, true, false, List, length, Some, None, refl, sym, ap, ◌∙◌, arith, inl, inr}
 use Rattle.std.specs.Prelude.{◌⊎◌, ◌≢◌, not}
 use Rattle.std.proofs.lemmas.Bool.{cases_lt}
@@ -21,27 +21,27 @@ use Rattle.move_laws.proofs.ListedLaws.{tet_of_old, old_of_tet, stand_old, taken
 use Rattle.table_definitions.proofs.Carried.{carried_image as image_under, carried_back as back_under}
 use Rattle.table_definitions.proofs.InPlace.{in_place-same}
 
--- a gluing that is carried over
+-- the image of a gluing
 
 pub under_permutes : (s r g : Gluing) → IsPermutationOfFour s.perm → IsPermutationOfFour r.perm → IsPermutationOfFour g.perm → IsPermutationOfFour (gluing_under s r g).perm
 under_permutes s r g hs hr hg = compose_permutes r.perm (compose g.perm (inverse s.perm)) hr (compose_permutes g.perm (inverse s.perm) hg (inverse_permutes s.perm hs))
 
--- the other side of what is carried over is what stands for the other side
+-- the other side of the image of a gluing is the image of the other side
 pub side_under : (s r g : Gluing) (x : Face) → IsPermutationOfFour s.perm → IsPermutationOfFour r.perm → IsPermutationOfFour g.perm → x.face < 4
     → other_side (face_under s x) (gluing_under s r g) ≡ face_under r (other_side x g)
 side_under s r g x hs hr hg l = ap (λ v. record { tet = r.tet; face = v }) (image_under s.perm r.perm g.perm x.face hs hr hg l)
 
--- and the way back is what is carried over of the way back
+-- the inverse of the image of a gluing is the image of its inverse
 pub way_under : (s r g : Gluing) (x : Face) → IsPermutationOfFour s.perm → IsPermutationOfFour r.perm → IsPermutationOfFour g.perm → way_back (face_under s x) (gluing_under s r g) ≡ gluing_under r s (way_back x g)
 way_under s r g x hs hr hg = ap (λ (p : List ℕ). record { tet = s.tet; perm = p }) (sym (back_under s.perm r.perm g.perm hs hr hg))
 
--- between tetrahedra that are kept permutations stay
+-- between retained tetrahedra permutations stay
 pub under_kept : (t u : ℕ) (g : Gluing) → IsPermutationOfFour g.perm → gluing_under (record { tet = t; perm = identity }) (record { tet = u; perm = identity }) g ≡ record { tet = u; perm = g.perm }
 under_kept t u g h =
     ap (λ (p : List ℕ). record { tet = u; perm = p })
     (ap (λ (q : List ℕ). compose identity (compose g.perm q)) inverse-identity ∙ ap (compose identity) (compose-identity g.perm h) ∙ identity-compose g.perm h)
 
--- the numbers of the tetrahedra that are kept
+-- the new numbers of retained tetrahedra
 
 pub record ClosedUp (rows : List Row) (m : Move) (t : ℕ) : Type 0 where
   pub rank_is : rank (stays (taken_numbers rows m)) t ≡ rank_without (old_tets rows m) t
@@ -67,7 +67,7 @@ closed-apart rows m t u legal lt lu ft fu e =
     ranks_apart (stays (taken_numbers rows m)) (length rows) t u lt lu (stays_on rows m t lt ft) (stays_on rows m u lu fu)
     ((closes rows m t legal lt ft).rank_is ∙ e ∙ sym (closes rows m u legal lu fu).rank_is)
 
--- what stands for a face
+-- the replacement of a face: of a retained tetrahedron, or of an old facet
 
 pub record StandsKept (rows : List Row) (m : Move) (x : Face) (s : Gluing) : Type 0 where
   pub free : has (old_tets rows m) x.tet ≡ false
@@ -132,7 +132,7 @@ put_permutes rows m i j f legal F l =
     let b = F.old_label in
     by_permutes f (new_facet rows m j) F.labelled (new_is_facet rows m j (omega arith)) (λ e. absurd (omega arith))
 
--- its place is taken by the face of the new facet opposite the old label
+-- an old face is replaced by the face of the new facet opposite the old label
 pub put_face : (rows : List Row) (m : Move) (i j : ℕ) (f : Facet) → IsLegal rows m → IsOldFacet rows m i f → j < length m.core → face_under (facet_gluing rows m f j) (opposite f j) ≡ opposite (new_facet rows m j) i
 put_face rows m i j f legal F l =
     let few = core_few m.core legal.core in
@@ -142,7 +142,7 @@ put_face rows m i j f legal F l =
     vertex_by f (new_facet rows m j) j F.labelled (omega arith) (λ e. absurd (omega arith)) ∙ ap (vertex_of (new_facet rows m j)) (in_place-same j f.missing j refl ∙ a) in
     ap (λ v. record { tet = (new_facet rows m j).tet; face = v }) at
 
--- an old face that leads to a tetrahedron that is kept lies opposite a new label
+-- a face of an old facet that is glued to a retained tetrahedron lies opposite a new label
 pub outer_label : (rows : List Row) (m : Move) (i : ℕ) (f : Facet) (x : Face) (g : Gluing) → IsLegal rows m → IsOldFacet rows m i f → x.tet ≡ f.tet → x.face < 4 → glue rows x ≡ Some g → has (old_tets rows m) g.tet ≡ false
     → image f.labels x.face < length m.core
 outer_label rows m i f x g legal F e l glued free = by_size (cases_lt (image f.labels x.face) (length m.core))

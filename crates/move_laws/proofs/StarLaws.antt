@@ -1,4 +1,4 @@
--- A move is legal exactly if the star of its core is a part of the boundary of a 4-simplex.
+-- A move is legal if and only if the star of its core is a part of the boundary of a 4-simplex.
 use Rattle.std.proofs.Common.{◌≡◌, ◌≢◌, ℕ, ◌<◌, inl, inr, Bool, true, List, length, map, Option, Some, None, refl, sym, ap, ◌∙◌, subst, arith}
 use Rattle.std.specs.Prelude.{◌==◌, ◌||◌, option_map}
 use Rattle.std.specs.List.{list_all}
@@ -31,7 +31,7 @@ stands_for rows i f h = record {
   once = λ v w l m e. sym (label_at i f.labels h.labels v l).vertex ∙ ap (preimage f.labels) e ∙ (label_at i f.labels h.labels w m).vertex;
 }
 
--- facets that are glued meet label by label
+-- if old facets are glued, each vertex is mapped to the vertex with its label
 meets : (rows : List Row) (i k : ℕ) (f g : Facet) → IsTable rows → IsFacet rows i f → IsFacet rows k g → AreGlued rows i k f g → MeetsByLabels rows f g
 meets rows i k f g table hf hg a = record {
   by = a.by;
@@ -71,7 +71,7 @@ module _ (rows : List Row) (m : Move) (table : IsTable rows) (c : IsCore m.core)
 
 -- ---- from stars
 
--- four labels that are apart leave no other out
+-- four different labels below 5 other than i include each label but i
 fifth : ℕ → ℕ → ℕ → ℕ → ℕ → ℕ → Bool
 fifth i l a b c d = (i == d) || ((l == d) || ((a == d) || ((b == d) || (c == d))))
 
@@ -140,7 +140,7 @@ vertex_with rows i f h small l low other = elim (cases_eq l (at 0)) [
     apart : (v w : ℕ) → v < 4 → w < 4 → (v ≡ w → ⊥) → at v ≢ at w
     apart v w lv lw n = distinct rows i f h v w lv lw n
 
--- the vertex opposite the face goes to that opposite the other face
+-- the vertex opposite the face is mapped to the vertex opposite the other face
 module _ (rows : List Row) (i k : ℕ) (f g : Facet) (by : Gluing) (hf : StandsFor rows i f) (hg : StandsFor rows k g) (permutes : IsPermutationOfFour by.perm) (i_small : i < 5) (k_small : k < 5) (i_not_k : i ≢ k)
     (keeps : (v : ℕ) → v < 4 → image f.labels v ≢ k → image g.labels (image by.perm v) ≡ image f.labels v) where
   across : (v : ℕ) → v < 4 → image f.labels v ≡ k → image g.labels (image by.perm v) ≡ i
@@ -170,7 +170,7 @@ module _ (rows : List Row) (i k : ℕ) (f g : Facet) (by : Gluing) (hf : StandsF
       (λ v l. image-composed g.labels by.perm v (let n = length-permutation by.perm permutes in omega arith) ∙ each_label v l
       ∙ sym (image-map (substitute k i) f.labels v (let n = hf.four in omega arith)))
 
--- facets that meet are glued
+-- facets that meet label by label are glued
 glued : (rows : List Row) (i k : ℕ) (f g : Facet) → IsTable rows → StandsFor rows i f → StandsFor rows k g → i < 5 → k < 5 → i ≢ k → MeetsByLabels rows f g → AreGlued rows i k f g
 glued rows i k f g table hf hg li lk other h =
     let there : glue rows (opposite f k) ≡ Some h.by = ap (λ l. glue rows (opposite f l)) (sym hg.missing) ∙ h.glued in
@@ -181,7 +181,7 @@ glued rows i k f g table hf hg li lk other h =
       labels = all_labels rows i k f g h.by hf hg (table.permutes (opposite f k) h.by there) li lk other (λ v l n. h.keeps v l (λ e. n (e ∙ hg.missing)));
     }
 
--- a facet that meets the move's own is the one behind its face
+-- a facet that meets the move's own facet is the one across its face
 behind_labels_are : (i : ℕ) (own labels perm : List ℕ) → IsPermutationOfFour perm → length own ≡ 4 → length labels ≡ 4 → compose labels perm ≡ map (substitute i 4) own
     → map (λ v. substitute i 4 (image own (preimage perm v))) four ≡ labels
 behind_labels_are i own labels perm permutes n k e = same_four (map (λ v. substitute i 4 (image own (preimage perm v))) four) labels refl k (λ v l.

@@ -1,4 +1,4 @@
--- Boundary arcs of a link by the numbers of sides.
+-- Boundary arcs of a link, by the numbers of sides.
 use Rattle.std.proofs.Common.{◌≡◌, ℕ, ◌+◌, ◌*◌, ◌/◌, ◌%◌, ◌<◌, List, length, sym, ap, ◌∙◌, arith}
 use Rattle.std.specs.Prelude.{slice_index}
 use Rattle.table_definitions.specs.Table.{glue}

@@ -21,7 +21,7 @@ use Rattle.move_link_laws.proofs.FreeSidesBack.{back}
 use Rattle.move_link_laws.proofs.ArcNumbers.{arc_number, arc_of, parts_of, arc_is, is_arc}
 use Rattle.move_link_laws.proofs.CurvesMatched.{Partners, curves_correspond}
 
--- what replaces the tetrahedron of arc a at its face carries it to arc b
+-- arc b is the image of arc a under the replacement of its tetrahedron at its face
 pub record CarriesArc (rows : List Row) (m : Move) (a b : LinkSide) : Type 0 where
   pub by : Gluing
   pub stands : place_after rows m (face_at a.tet a.face) ≡ Some by
@@ -37,7 +37,7 @@ module _ (s : Skeleton) (m : Move) (s' : Skeleton) (k : IsSkeleton s) (k' : IsSk
   abbrev Pair : LinkSide → LinkSide → Type 0
   Pair a b = Partners s s' c c' (CarriesArc s.rows m) a b
 
-  -- the parts of a side, from its number by what carries it
+  -- the tetrahedron, vertex and face of the image of a side, from its number
   carried_parts : (g : Gluing) (v f n : ℕ) → IsPermutationOfFour g.perm → v < 4 → f < 4 → side_number g.tet (image g.perm v) (image g.perm f) ≡ n
       → (n / 4 / 4 ≡ g.tet) × (n / 4 % 4 ≡ image g.perm v) × (n % 4 ≡ image g.perm f)
   carried_parts g v f n hg lv lf e =
@@ -69,7 +69,7 @@ module _ (s : Skeleton) (m : Move) (s' : Skeleton) (k : IsSkeleton s) (k' : IsSk
       let q = carried_parts z.2.0 (z.0 / 4 % 4) (z.0 % 4) (arc_number b) (permutes (arc_of z.0) z.2.0 here z.2.1) here.is_vertex here.is_face z.2.2 in
       (arc_of z.0, record { one = here; other = is; related = record { by = g; stands = z.2.1; tet = sym p.tet ∙ q.0; vertex = sym p.vertex ∙ q.1; face = sym p.face ∙ q.2 } })
 
-  -- what carries an arc carries its ends
+  -- the ends of the image of an arc are the images of its ends
   module _ (a b : LinkSide) (t : Pair a b) where
     abbrev g : Gluing
     g = t.related.by

@@ -1,4 +1,4 @@
--- The edge class of an arrow, in one direction or the other.
+-- The edge class of a directed edge.
 use Rattle.std.proofs.Common.{◌≡◌, ℕ, ◌*◌, ◌<◌, ◌+◌, List, length, get_or, ◌⊎◌, inl, inr, sym, ◌∙◌, subst, arith}
 use Rattle.std.specs.Prelude.{slice_index}
 use Rattle.std.specs.List.{AllPairs}
@@ -13,14 +13,14 @@ use Rattle.skeleton_laws.proofs.EdgeEnds.{edge_below}
 use Rattle.skeleton_laws.proofs.Arrows.{IsArrow}
 use Rattle.table_definitions.proofs.ClassLaws.{least_class}
 
--- in one direction or the other
+-- p is joined to edge i in one direction or the other
 abbrev pub EitherWay : List Row → Place → ℕ → Type 0
 EitherWay rows p i = IsJoined rows p (edge i) ⊎ IsJoined rows p (turned (edge i))
 
 pub apart_from_ascending : (xs : List ℕ) → AllPairs ◌<◌ xs → AreApart xs
 apart_from_ascending xs up = apart_from 0 xs (λ i j l m e. (let a : get_or xs i 0 < get_or xs j 0 = up i j 0 l m in absurd (omega arith)))
 
--- the class of an arrow
+-- the class of a directed edge
 module _ (rows : List Row) (table : IsTable rows) (es : List ℕ) (e : ℕ) (edges : IsNumbering (6 * length rows) (SameEdge rows) es e) where
   pub start_is : (c : ℕ) → c < e → (least es c < 6 * length rows) × (slice_index es (least es c) ≡ c)
   start_is c l = least_class (6 * length rows) (SameEdge rows) es e edges c l
@@ -57,7 +57,7 @@ module _ (rows : List Row) (table : IsTable rows) (es : List ℕ) (e : ℕ) (edg
       go (inr f) (inl g) = inr (from (turned (edge j)) (turned (edge (least es c))) f (joined_turned rows (edge j) (edge (least es c)) g))
       go (inr f) (inr g) = inl (from (turned (edge j)) (edge (least es c)) f (subst (λ (q : Place). IsJoined rows (turned (edge j)) q) (turned_twice (least es c)) (joined_turned rows (edge j) (turned (edge (least es c))) g)))
 
-  -- an arrow joined to its own reverse is of an invalid class
+  -- a directed edge that is joined to its own reverse is of an invalid class
   pub invalid_class : (p : Place) → IsPlace p → (turned (turned p) ≡ p) → (i : ℕ) → EitherWay rows p i → IsJoined rows p (turned p) → IsInvalidEdge rows i
   invalid_class p place twice i (inl w) j = joined_trans rows (edge i) p (turned (edge i)) (joined_sym rows p (edge i) table place w) (joined_trans rows p (turned p) (turned (edge i)) j (joined_turned rows p (edge i) w))
   invalid_class p place twice i (inr w) j =
@@ -65,7 +65,7 @@ module _ (rows : List Row) (table : IsTable rows) (es : List ℕ) (e : ℕ) (edg
       let whole : IsJoined rows (turned (edge i)) (edge i) = joined_trans rows (turned (edge i)) p (edge i) (joined_sym rows p (turned (edge i)) table place w) (joined_trans rows p (turned p) (edge i) j back) in
       subst (λ (q : Place). IsJoined rows q (turned (edge i))) (turned_twice i) (joined_turned rows (turned (edge i)) (edge i) whole)
 
-  -- arrows joined to one edge are joined, in one direction or the other
+  -- directed edges that are joined to one edge are joined, in one direction or the other
   pub both_ways : (p q : Place) → IsPlace q → (turned (turned q) ≡ q) → (i : ℕ) → EitherWay rows p i → EitherWay rows q i → IsJoined rows p q ⊎ IsJoined rows p (turned q)
   both_ways p q place twice i (inl a) (inl b) = inl (joined_trans rows p (edge i) q a (joined_sym rows q (edge i) table place b))
   both_ways p q place twice i (inr a) (inr b) = inl (joined_trans rows p (turned (edge i)) q a (joined_sym rows q (turned (edge i)) table place b))

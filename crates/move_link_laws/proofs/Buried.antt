@@ -1,4 +1,4 @@
--- Places of the old table that stand for none of the new one: they have all the core's labels.
+-- Places of the old table without an image in the new one: their vertices have all labels of the core.
 use Rattle.std.proofs.Common.{◌≡◌, ℕ, ◌+◌, ◌-◌, ◌<◌, ◌≤◌, Bool, true, false, List, [], ◌∷◌, length, map, ◌⊎◌, inl, inr, zero, suc, sym, ap, ◌∙◌, subst, arith}
 use Rattle.std.specs.Prelude.{◌==◌, ◌||◌}
 use Rattle.std.proofs.lemmas.Bool.{cases_lt, false≢true, or_cases, eqb-true}
@@ -21,7 +21,7 @@ use Rattle.move_link_laws.proofs.Ties.{fine, few, new_at, small_label, IsOld, is
 use Rattle.move_link_laws.proofs.TieShapes.{kept_tie, facet_tie}
 use Rattle.move_link_laws.proofs.JoinedBack.{there_again}
 
--- some number fails, or all pass
+-- a test that fails for some number below n, or passes for all of them
 pub fails_or_all : (p : ℕ → Bool) (n : ℕ) → ((j : ℕ) × (j < n) × (p j ≡ false)) ⊎ ((j : ℕ) → j < n → p j ≡ true)
 fails_or_all p zero = inr (λ j l. absurd (omega arith))
 fails_or_all p (suc n) = elim (fails_or_all p n) [
@@ -29,7 +29,7 @@ fails_or_all p (suc n) = elim (fails_or_all p n) [
   | inr all ↦ by_bool (p n) (λ t. inr (λ j l. elim (cases_lt j n) [ inl m ↦ all j m | inr m ↦ (let e : n ≡ j = omega arith in subst (λ k. p k ≡ true) e t) ])) (λ f. inl (n, omega arith, f))
 ]
 
--- a face that has both vertices
+-- a face that contains all of these vertices
 abbrev pub IsFree : List ℕ → Type 0
 IsFree vs = (f : ℕ) × (f < 4) × (has vs f ≡ false)
 
@@ -58,7 +58,7 @@ module _ (old : List Row) (m : Move) (new : List Row) (table : IsTable old) (h :
   abbrev at : ℕ → Facet
   at j = new_at old m new table h j
 
-  -- in an old facet, with all labels of the core
+  -- a place in an old facet whose labels include those of the core
   pub record Buried (ls : List ℕ) (p : Place) : Type 0 where
     pub i : ℕ
     pub f : Facet
@@ -68,7 +68,7 @@ module _ (old : List Row) (m : Move) (new : List Row) (table : IsTable old) (h :
     pub all : (j : ℕ) → j < length m.core → has ls j ≡ true
     pub from : p ≡ in_facet f ls
 
-  -- in a new facet, with all other labels
+  -- a place in a new facet whose labels include all labels but the core's
   pub record NewBuried (ls : List ℕ) (q : Place) : Type 0 where
     pub j : ℕ
     pub less : j < length m.core
@@ -101,7 +101,7 @@ module _ (old : List Row) (m : Move) (new : List Row) (table : IsTable old) (h :
           from : p ≡ in_facet o.facet_of ls
           from = λ k. record { tet = sym o.tet k; vertices = sym (vertices_again o.label o.facet_of.labels a.is.labels p.vertices place) k }
 
-  -- a place of the new table over a face that stands for an old one
+  -- a place of the new table in a face that replaces an old one is the image of a place
   pull_back : (q : Place) (f : ℕ) → IsPlace q → f < 4 → has q.vertices f ≡ false → StandsForOld old m (face_at q.tet f) → (p : Place) × Tie p q
   pull_back q f place lf off o = (
     record { tet = o.old.tet; vertices = vs },

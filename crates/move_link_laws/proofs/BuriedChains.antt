@@ -1,4 +1,4 @@
--- Chains keep the labels of places that stand for none.
+-- Chains keep the labels of places without an image.
 use Rattle.std.proofs.Common.{◌≡◌, ℕ, ◌<◌, ◌≤◌, false, List, length, map, Some, inl, inr, sym, ap, ◌∙◌, subst}
 use Rattle.std.proofs.lemmas.Bool.{cases_eq, cases_lt, false≢true}
 use Rattle.table_definitions.specs.Lists.{has}

@@ -1,4 +1,4 @@
--- So the links of a table with a certificate are spheres.
+-- The links of a table with a certificate are spheres.
 use Rattle.std.proofs.Common.{◌≡◌, ℕ, ◌+◌, ◌*◌, ◌/◌, ◌<◌, Bool, true, false, List, length, map, refl, sym, ap, ◌∙◌, arith}
 use Rattle.std.specs.Prelude.{pos}
 use Rattle.std.proofs.lemmas.Int.{ints}
@@ -54,7 +54,7 @@ sphere_kind : (o : Bool) → closed_kind (pos 2) o ≡ Sphere
 sphere_kind true = refl
 sphere_kind false = refl
 
--- by its numbers and signs a link is a sphere
+-- a link with these numbers and an orientation is a sphere
 pub sphere_from : (s : Skeleton) (c : ℕ) (link : Link) (has : HasLink s c link) → SphereNumbers s.rows s.vertices.classes has.directions c → IsOrientableLink s.rows s.vertices.classes c → IsSphere link
 sphere_from s c link has numbers oriented =
     let l = has.is_link in

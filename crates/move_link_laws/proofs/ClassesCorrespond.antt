@@ -104,7 +104,7 @@ module _ (s : Skeleton) (m : Move) (s' : Skeleton) (k : IsSkeleton s) (k' : IsSk
           let l : IsLeft s m (class_of s.vertices.classes p) = (k.vertices.in_range _ (spot_below (length s.rows) p sp), not_taken s m s' k k' h (class_of s.vertices.classes p) c' match) in
           (class_of s.vertices.classes p, l, sym (over (class_of s.vertices.classes p) (to_of (class_of s.vertices.classes p)) (match_of (class_of s.vertices.classes p) l) p (vertex j.0) sp t refl) ∙ at)
 
-  -- a vertex of a tetrahedron that stays
+  -- a vertex of a tetrahedron that is retained
   stays_of : (t v : ℕ) → t < length s.rows → has (old_tets s.rows m) t ≡ false → v < 4 → to_of (class_of s.vertices.classes (one_vertex t v)) ≡ class_of s'.vertices.classes (one_vertex (rank_without (old_tets s.rows m) t) v)
   stays_of t v lt there low =
       let q : Place = one_vertex (rank_without (old_tets s.rows m) t) v in

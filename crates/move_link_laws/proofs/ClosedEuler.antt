@@ -1,4 +1,4 @@
--- Twice the Euler characteristic of a closed table without invalid edges is what the links have less than 2, in all.
+-- Twice the Euler characteristic of a closed table without invalid edges is the sum of 2 - euler over the links.
 use Rattle.std.proofs.Common.{◌≡◌, ℕ, zero, suc, ◌+◌, ◌*◌, ◌/◌, ◌%◌, ◌<◌, true, List, [], ◌∷◌, length, map, Some, None, refl, sym, ap, ◌∙◌, subst, arith}
 use Rattle.std.specs.Prelude.{◌==◌, ◌&&◌, sum_by, count_by, slice_index, ℤ, pos, ◌-ℤ◌, ◌+ℤ◌}
 use Rattle.std.specs.List.{range_with_len, slice_index_or}
@@ -85,7 +85,7 @@ module _ (s : Skeleton) (k : IsSkeleton s) (valid : HasValidEdges s.rows) (all :
         ∙ sum_classes (λ i. true) (λ i. slice_index s.vertices.classes i) s.vertices.count (length s.vertices.classes) (λ i l. k.vertices.in_range i (let e = k.vertices.one_each in omega arith))
         ∙ rank_all (λ i. true) (length s.vertices.classes) (λ i l. refl) ∙ k.vertices.one_each
 
-    -- the numbers of all links against those of the table
+    -- the sums of the numbers of all links, in terms of the numbers of the table
     pub links_add_up : 2 * (s.vertices.count + s.faces.count) + sum_by (λ c. V c + F c) (below s.vertices.count) ≡ 2 * (s.edges.count + length s.rows) + sum_by (λ c. 2 + E c) (below s.vertices.count)
     links_add_up =
         let a : sum_by (λ c. V c + F c) (below s.vertices.count) ≡ sum_by V (below s.vertices.count) + sum_by F (below s.vertices.count) = sum_by_plus V F (λ c. V c + F c) (λ c. refl) (below s.vertices.count) in

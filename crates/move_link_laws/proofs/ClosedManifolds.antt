@@ -22,7 +22,7 @@ AtMostTwo l = l.euler ≤ℤ pos 2
 abbrev IsTwo : Link → Type 0
 IsTwo l = l.euler ≡ pos 2
 
--- what the links have less than 2, in all
+-- the sum of 2 - euler over the links
 abbrev lacking : List Link → ℤ
 lacking links = integer_sum (map (λ (l : Link). pos 2 -ℤ l.euler) links)
 
@@ -59,7 +59,7 @@ half_none x y e z = omega (arith, ints)
 twice_none : (x y : ℤ) → x +ℤ x ≡ y → x ≡ pos 0 → y ≡ pos 0
 twice_none x y e z = omega (arith, ints)
 
--- no edge class is invalid where no edge is
+-- no edge class is invalid if no edge is
 pub no_first_invalid : (s : Skeleton) → IsSkeleton s → HasValidEdges s.rows → IsFirstInvalid s None
 no_first_invalid s k valid c lc invalid = valid (least s.edges.classes c) (least_class (6 * length s.rows) (SameEdge s.rows) s.edges.classes s.edges.count k.edges c lc).0 invalid
 

@@ -1,4 +1,4 @@
--- A move leads to a connected table only from connected tables, so a table with a certificate is connected.
+-- A table is connected if a move on it results in a connected table, so a table with a certificate is connected.
 use Rattle.std.proofs.Common.{◌≡◌, ℕ, ◌<◌, true, List, [], ◌∷◌, length, map, inl, inr, refl, sym, ap, subst, subst₂, arith}
 use Rattle.std.proofs.lemmas.Bool.{false≢true}
 use Rattle.table_definitions.specs.Lists.{has}
@@ -17,7 +17,7 @@ none_there g [] j e t = false≢true t
 none_there g (l ∷ ls) j e t = cc
 
 module _ (old : List Row) (m : Move) (new : List Row) (table : IsTable old) (h : IsMoved old m new) where
-  -- each tetrahedron stands for one
+  -- each tetrahedron has an image
   tied : (t : ℕ) → t < length old → (q : Place) × Ties old m new table h (whole t) q
   tied t l = elim (tied_or_buried old m new table h (whole t) l tt (0, omega arith, refl)) [
     | inl w ↦ w

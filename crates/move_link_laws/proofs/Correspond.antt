@@ -1,4 +1,5 @@
--- The vertex class that a move takes away, and the one that it puts in: no vertex of these stands for one, or is stood for.
+-- The vertex class that a move removes, and the one that it adds: no vertex of the former has an image, and none of the
+-- latter is one.
 use Rattle.std.proofs.Common.{◌≡◌, ℕ, ◌+◌, ◌-◌, ◌<◌, ◌≤◌, true, false, List, [], ◌∷◌, length, map, drop, inl, inr, refl, sym, ap, ◌∙◌, subst, arith}
 use Rattle.std.specs.Prelude.{◌||◌, slice_index}
 use Rattle.std.proofs.lemmas.Bool.{cases_lt, eq-eqb}
@@ -59,7 +60,7 @@ module _ (s : Skeleton) (m : Move) (s' : Skeleton) (k : IsSkeleton s) (k' : IsSk
   abbrev Matching : ℕ → ℕ → Type 0
   Matching c c' = Match s.rows m s'.rows k.table h s.vertices.classes s.vertices.count k.vertices s'.vertices.classes s'.vertices.count k'.vertices c c'
 
-  -- a vertex that stands for none is the core, of the class that is taken away
+  -- a vertex without an image is the core, of the class that is removed
   pub taken_from : (p : Place) (ls : List ℕ) → IsSpot (length s.rows) p → In ls p → IsTakenAway s m (class_of s.vertices.classes p)
   taken_from p ls sp b =
       let l = lone_core s.rows m s'.rows k.table h (length s.rows) p ls sp b in
@@ -69,13 +70,13 @@ module _ (s : Skeleton) (m : Move) (s' : Skeleton) (k : IsSkeleton s) (k' : IsSk
             (buried_joined s.rows m s'.rows k.table h (0 ∷ []) (one_vertex m.tet (slice_index m.core 0)) p (core_buried s.rows m s'.rows k.table h l.0) b0),
       )
 
-  -- and such a class has no vertex that stands for one
+  -- no vertex of such a class has an image
   pub not_taken : (c c' : ℕ) → Matching c c' → IsTakenAway s m c → ⊥
   not_taken c c' t (one, at) =
       let z = all_tied s.rows m s'.rows k.table h s.vertices.classes s.vertices.count k.vertices s'.vertices.classes s'.vertices.count k'.vertices c c' t (one_vertex m.tet (slice_index m.core 0)) (core_is_spot s.rows m s'.rows k.table h one) at in
       tie_not_buried s.rows m s'.rows k.table h (0 ∷ []) (one_vertex m.tet (slice_index m.core 0)) z.0 z.1 (core_buried s.rows m s'.rows k.table h one)
 
-  -- the vertex that is put in
+  -- the vertex that is added
   added_buried : length m.core ≡ 4 → New (4 ∷ []) (one_vertex (kept s.rows m) 3)
   unfolding preimage
   added_buried e = record {

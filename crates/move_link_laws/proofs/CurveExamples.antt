@@ -84,7 +84,7 @@ is_arc_1 = record { in_range = omega arith; is_vertex = omega arith; is_face = o
 differ : (t u : ℕ) → t ≡ 0 → u ≡ 1 → t ≡ u → ⊥
 differ t u a b e = omega arith
 
--- a directed place of the class of the ends of the first
+-- a directed edge in the class of the ends of the first arc
 abbrev Ends : Place → Type 0
 Ends p = (p ≡ pair 0 0 1) ⊎ ((p ≡ pair 0 0 2) ⊎ (p ≡ pair 1 0 3))
 

@@ -1,4 +1,4 @@
--- Arcs that are on one curve, and that the curves of one link are of one number.
+-- Arcs on one curve, and the uniqueness of the number of boundary curves of a link.
 use Rattle.std.proofs.Common.{◌≡◌, ℕ, ◌<◌, List, [], ◌∷◌, inl, inr, refl, sym, ◌∙◌, subst}
 use Rattle.std.proofs.lemmas.Bool.{cases_order}
 use Rattle.std.proofs.lemmas.List.FromFn.{length-range_with_len}
@@ -21,7 +21,7 @@ some_end a = let f = free_of_two a.vertex a.face in (
   record { further = f.0; is_vertex = f.1; off_vertex = (λ e. head_off a.vertex (a.face ∷ []) f.0 f.2 (sym e)); in_face = (λ e. head_off a.face [] f.0 (tail_off a.vertex (a.face ∷ []) f.0 f.2) (sym e)); is = refl },
 )
 
--- so it meets itself
+-- an arc meets itself
 pub meets_itself : (s : Skeleton) (a : LinkSide) → ArcsMeet s.rows a a
 meets_itself s a = let e = some_end a in record { end = e.0; other_end = e.0; of_one = e.1; of_other = e.1; joined = joined_refl s.rows e.0 }
 

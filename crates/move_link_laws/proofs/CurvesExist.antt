@@ -1,4 +1,4 @@
--- Each link has a number of boundary curves: its boundary arcs are numbered by what meeting arcs join.
+-- Each link has a number of boundary curves: its boundary arcs are numbered so that arcs that meet have one number.
 use Rattle.std.proofs.Common.{◌≡◌, ◌↔◌, ℕ, ◌<◌, Bool, true, List, [], ◌∷◌, length, filter, Contains, refl, sym, ap, ◌∙◌, subst, subst₂, arith}
 use Rattle.std.specs.Prelude.{◌==◌, ◌&&◌, not, nat_lt, slice_index}
 use Rattle.std.specs.List.{list_any, slice_index_or}
@@ -29,7 +29,7 @@ module _ (s : Skeleton) (k : IsSkeleton s) (c : ℕ) (d : HasClasses Directions 
   abbrev Arc : LinkSide → Type 0
   Arc a = IsBoundaryArc s c a
 
-  -- ---- whether two arcs meet is tested by the classes of their ends
+  -- ---- two arcs meet if and only if their ends have a class in common
 
   is_end : LinkSide → ℕ → Bool
   is_end a w = not (w == a.vertex) && not (w == a.face)
@@ -67,7 +67,7 @@ module _ (s : Skeleton) (k : IsSkeleton s) (c : ℕ) (d : HasClasses Directions 
     apart = λ z. e.off_vertex (sym z);
   }
 
-  -- two directed places are of one class if and only if they are joined
+  -- two directed edges are of one class if and only if they are joined
   one_class : (p q : Place) → IsArrow (length s.rows) p → IsArrow (length s.rows) q → (slice_index d.classes (direction_at p) ≡ slice_index d.classes (direction_at q)) ↔ JoinedPlaces s.rows p q
   one_class p q a b =
       let z = d.numbered.together (direction_at p) (direction_at q) (arrow_below (length s.rows) p a) (arrow_below (length s.rows) q b) in (
@@ -106,7 +106,7 @@ module _ (s : Skeleton) (k : IsSkeleton s) (c : ℕ) (d : HasClasses Directions 
       (and_from (is_end a m.of_one.further) (is_end b m.of_other.further && (end_class a m.of_one.further == end_class b m.of_other.further)) (is_end_of a m.end m.of_one)
       (and_from (is_end b m.of_other.further) (end_class a m.of_one.further == end_class b m.of_other.further) (is_end_of b m.other_end m.of_other) (eq-eqb (end_class a m.of_one.further) (end_class b m.of_other.further) same))))
 
-  -- ---- the arcs by their places in the list of all
+  -- ---- the arcs, by their indices in the list of all
 
   abbrev all : List ℕ
   all = arc_numbers s k c
@@ -152,7 +152,7 @@ module _ (s : Skeleton) (k : IsSkeleton s) (c : ℕ) (d : HasClasses Directions 
   within : HasNeighboursBelow size neighbours
   within i j l h = (neighbour_is i j h).1
 
-  -- ---- and what neighbours join is one curve
+  -- ---- arcs are on one curve if and only if a chain of neighbours joins their indices
 
   curve_by : (path : List ℕ) (i j : ℕ) → LeadsBy (λ a b. Contains (neighbours a) b) i path j → AreOnOneCurve s c (arc_at i) (arc_at j)
   curve_by [] i j e = ([], ap arc_at e)

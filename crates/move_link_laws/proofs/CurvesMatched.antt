@@ -1,4 +1,4 @@
--- Links whose boundary arcs correspond, and meet if and only if their counterparts do, have one number of boundary
+-- Links whose boundary arcs correspond, and meet if and only if their counterparts do, have the same number of boundary
 -- curves.
 use Rattle.std.proofs.Common.{◌↔◌, ℕ, ◌<◌, List, [], ◌∷◌, inl, inr, refl, subst, arith}
 use Rattle.std.proofs.lemmas.Bool.{cases_lt}
@@ -12,7 +12,7 @@ pub record Partners (s s' : Skeleton) (c c' : ℕ) (R : LinkSide → LinkSide �
   pub other : IsBoundaryArc s' c' b
   pub related : R a b
 
--- each arc of the one link has a partner, and each of the other is one; two arcs meet if and only if their partners do
+-- each arc of either link has a counterpart; two arcs meet if and only if their counterparts do
 pub record ArcsCorrespond (s s' : Skeleton) (c c' : ℕ) (R : LinkSide → LinkSide → Type 0) : Type 0 where
   pub forth : (a : LinkSide) → IsBoundaryArc s c a → (b : LinkSide) × Partners s s' c c' R a b
   pub back : (b : LinkSide) → IsBoundaryArc s' c' b → (a : LinkSide) × Partners s s' c c' R a b

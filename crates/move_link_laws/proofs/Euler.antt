@@ -23,7 +23,7 @@ use Rattle.move_link_laws.proofs.VerticesMatched.{vertices_match}
 use Rattle.skeleton_laws.proofs.TwiceEdges.{free_count, twice_edges, closed_told}
 use Rattle.move_link_laws.proofs.FreeSidesBack.{frees_match}
 
--- ---- what the star has inside and outside balances, at each set of labels
+-- ---- for each set of labels, the pairs inside the star and the triangles before and after the move balance
 
 abbrev looked : List Bool → ℕ → Bool
 looked bs l = slice_index_or bs l false
@@ -115,7 +115,7 @@ module _ (s : ℕ) (x : ℕ → Bool) (some : 0 < s) (few : s < 5) (first : (s =
       let d = count_same (new_pair s x) (new_pair s (looked (five x))) 25 same_pairs' in
       (λ i. 2 * a i + d i) ∙ e ∙ (λ i. 2 * sym b i + sym c i)
 
--- ---- so the Euler characteristics agree
+-- ---- the Euler characteristics agree
 
 same_euler : (v e f v' e' f' : ℕ) → v + f + e' ≡ v' + f' + e → euler_of v e f ≡ euler_of v' e' f'
 same_euler v e f v' e' f' h = omega (arith, ints)

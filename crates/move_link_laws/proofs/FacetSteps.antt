@@ -1,4 +1,4 @@
--- From one old facet to another: the gluing, what it carries, and the parities on both sides.
+-- From one old facet to another: the gluing, the images of places, and the parities on both sides.
 use Rattle.std.proofs.Common.{◌≡◌, ◌≢◌, ℕ, ◌<◌, false, List, length, Some, sym, ap, ◌∙◌, arith}
 use Rattle.table_definitions.specs.Lists.{has}
 use Rattle.table_definitions.specs.Permutation.{IsPermutationOfFour, compose, is_odd}
@@ -22,7 +22,7 @@ module _ (old : List Row) (m : Move) (new : List Row) (table : IsTable old) (h :
   pub core_apart : (i j : ℕ) (f : Facet) → Old i f → j < length m.core → j ≢ i
   core_apart i j f a l e = (let low = a.low in absurd (omega arith))
 
-  -- the step between two facets
+  -- the step across the face between two facets
   pub record FacetStep (i k : ℕ) (f g : Facet) (ls : List ℕ) : Type 0 where
     pub by : Gluing
     pub glued : glue old (opposite f k) ≡ Some by

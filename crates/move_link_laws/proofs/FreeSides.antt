@@ -29,7 +29,7 @@ use Rattle.move_link_laws.proofs.TiedSpots.{Match, class_over}
 use Rattle.move_link_laws.proofs.StarLabels.{off_one}
 
 module _ (old : List Row) (m : Move) (new : List Row) (table : IsTable old) (h : IsMoved old m new) where
-  -- something stands for a boundary face
+  -- a boundary face is replaced in the new table
   free_stands : (x : Face) → x.tet < length old → x.face < 4 → glue old x ≡ None → (s : Gluing) × (place_after old m x ≡ Some s)
   free_stands x lt lf none = by_bool (has (old_tets old m) x.tet) (λ e. of_facet (old_tet_facet old m x.tet h.core e)) (λ e. (kept_place_after old m x.tet, stand_in-kept old m x e))
     where
@@ -83,7 +83,7 @@ module _ (old : List Row) (m : Move) (new : List Row) (table : IsTable old) (h :
     pub permutes : (x : Face) (s : Gluing) → x.tet < length old → x.face < 4 → place_after old m x ≡ Some s → IsPermutationOfFour s.perm
     permutes x s lt lf e = stand_permutes old m table (fine old m new table h) h.core x s lt lf e
 
-    -- the vertex of a side stands over its face
+    -- the vertex of a side has an image in the face of the side
     pub tie_at : (x : Face) (v : ℕ) (s : Gluing) → x.tet < length old → x.face < 4 → v < 4 → v ≢ x.face → place_after old m x ≡ Some s → Tie (one_vertex x.tet v) (one_vertex s.tet (image s.perm v))
     tie_at x v s lt lf lv ne e = record { face = x.face; by = s; tet = lt; place = (lv, tt); low = lf; off = off_one v x.face ne; stands = e; is = refl }
 

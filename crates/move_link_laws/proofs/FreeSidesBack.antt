@@ -1,4 +1,4 @@
--- So the sides of corresponding links that lie in boundary faces are as many.
+-- Corresponding links have the same number of sides in boundary faces.
 use Rattle.std.proofs.Common.{◌≡◌, ◌≢◌, ℕ, ◌*◌, ◌/◌, ◌%◌, ◌<◌, true, List, length, Option, Some, None, ◌⊎◌, inl, inr, refl, sym, ap, ◌∙◌, subst, arith}
 use Rattle.std.specs.Prelude.{option_map, option_and_then, slice_index}
 use Rattle.table_definitions.specs.Permutation.{IsPermutationOfFour, image, preimage}

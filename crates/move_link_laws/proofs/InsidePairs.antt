@@ -1,4 +1,4 @@
--- Pairs of labels that lie inside the star, before the move or behind it.
+-- Pairs of labels whose edge lies inside the star, before or after the move.
 use Rattle.std.proofs.Common.{◌≡◌, ◌≢◌, ℕ, ◌+◌, ◌*◌, ◌/◌, ◌%◌, ◌<◌, ◌≤◌, Bool, true, List, [], ◌∷◌, map, inl, inr, refl, sym, ◌∙◌, arith}
 use Rattle.std.specs.Prelude.{◌==◌, ◌&&◌, ◌||◌, not, nat_lt}
 use Rattle.std.specs.List.{list_all}
@@ -10,7 +10,7 @@ use Rattle.table_definitions.proofs.ListFacts.{list_all-below}
 use Rattle.table_definitions.proofs.Listed.{below-among, among_contains}
 use Rattle.move_link_laws.proofs.LabelPairs.{parts_of_pair}
 
--- two labels, the first at the class, that have all the core's; or all the others
+-- two different labels, the first at the vertex class, that include all labels of the core; or all other labels
 unfoldable pub inside_old : (size : ℕ) (at_class : ℕ → Bool) → ℕ → Bool
 inside_old s x k = not (k / 5 == k % 5) && (list_all (has (k / 5 ∷ k % 5 ∷ [])) (below s) && x (k / 5))
 
@@ -67,7 +67,7 @@ module _ (s : ℕ) (x : ℕ → Bool) where
         | inr more ↦ or_right (nat_lt i s) (has (a ∷ b ∷ []) i) (all i more l)
       ]
 
--- two things under a function
+-- a list of two items is the image of a list of two items
 pub two_under : (g : ℕ → ℕ) (ls : List ℕ) (v w : ℕ) → v ∷ w ∷ [] ≡ map g ls → (a : ℕ) × (b : ℕ) × (ls ≡ a ∷ b ∷ []) × (g a ≡ v) × (g b ≡ w)
 two_under g [] v w e = absurd cc
 two_under g (a ∷ []) v w e = absurd (let z : w ∷ [] ≡ [] = cc in cc)

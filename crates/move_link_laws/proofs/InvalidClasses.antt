@@ -43,7 +43,7 @@ module _ (s : Skeleton) (m : Move) (s' : Skeleton) (k : IsSkeleton s) (k' : IsSk
   below' : (c : ℕ) → c < s'.edges.count → least s'.edges.classes c < 6 * length s'.rows
   below' c l = (start_is s'.rows k'.table s'.edges.classes s'.edges.count k'.edges c l).0
 
-  -- a tie goes over to the reverses
+  -- the reverse of an image is the image of the reverse
   turned_tie : (p q : Place) → IsArrow (length s.rows) p → Tie p q → Tie (turned p) (turned q)
   turned_tie p q a t = subst (λ (r : Place). Tie r (turned q)) (ap turned (sym a.is)) (tie_turned s.rows m s'.rows k.table h p.tet a.v a.w q (subst (λ (r : Place). Tie r q) a.is t))
 
@@ -98,7 +98,7 @@ module _ (s : Skeleton) (m : Move) (s' : Skeleton) (k : IsSkeleton s) (k' : IsSk
               let j : IsJoined s'.rows (turned q) z.0 = joined_over s.rows m s'.rows k.table h (turned p) (edge (least s.edges.classes c)) (turned q) z.0 ta z.1 w' in
               (z.0, z.1, inr (joined_sym s'.rows (turned q) z.0 k'.table (tie_place s.rows m s'.rows k.table h (turned p) (turned q) ta) j))
 
-  -- one class of each table for one of the other
+  -- different classes of one table correspond to different classes of the other
   once : (c c' d : ℕ) → c < s.edges.count → c' < s.edges.count → Corresponds c d → Corresponds c' d → c ≡ c'
   once c c' d l l' (q, t, w) (r, u, v) =
       let a = edge_arrow s.rows (least s.edges.classes c) (below c l) in

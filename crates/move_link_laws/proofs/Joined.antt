@@ -1,4 +1,4 @@
--- A step of the old table is followed in the new one.
+-- A step of the old table corresponds to steps of the new one.
 use Rattle.std.proofs.Common.{◌≡◌, ℕ, ◌<◌, ◌≤◌, false, List, [], ◌∷◌, length, map, Option, Some, None, inl, inr, refl, sym, ap, ◌∙◌, subst}
 use Rattle.std.specs.Prelude.{option_map, option_and_then}
 use Rattle.std.specs.List.{AllByRecursion}
@@ -24,7 +24,7 @@ use Rattle.move_link_laws.proofs.Ties.{fine, new_at, IsOld, old_at, old_step, Ti
 use Rattle.move_link_laws.proofs.TieShapes.{tie_shape, facet_tie}
 use Rattle.move_link_laws.proofs.TiesOnce.{stands_once}
 
--- over what stands for a gluing
+-- the image of a gluing commutes with the images of vertices
 pub through : (r g s : List ℕ) (vs : List ℕ) → IsPermutationOfFour r → IsPermutationOfFour g → IsPermutationOfFour s → AllByRecursion (λ v. v < 4) vs
     → map (image (compose r (compose g (inverse s)))) (map (image s) vs) ≡ map (image r) (map (image g) vs)
 through r g s [] hr hg hs a = refl
@@ -48,7 +48,7 @@ module _ (old : List Row) (m : Move) (new : List Row) (table : IsTable old) (h :
   pub tie_place : (p q : Place) → Tie p q → IsPlace q
   tie_place p q t = subst IsPlace (sym t.is) (images_below t.by.perm p.vertices (tie_permutes old m new table h p q t) t.place)
 
-  -- what stands for a gluing of x and what it carries
+  -- the image of the gluing g of x, and of the places in x
   module _ (x : Face) (s g : Gluing) (lt : x.tet < length old) (lf : x.face < 4) (stands : place_after old m x ≡ Some s) (glued : glue old x ≡ Some g) where
     pub other : (r : Gluing) × (place_after old m (other_side x g) ≡ Some r)
     other = other_stands old m table (fine old m new table h) h.core x s g lf stands glued

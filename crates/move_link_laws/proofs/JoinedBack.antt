@@ -1,5 +1,5 @@
--- A step of the new table is followed in the old one: so chains join places of the old table if and only if they join
--- those for which these stand.
+-- A step of the new table corresponds to steps of the old one: chains join places of the old table if and only if they
+-- join their images.
 use Rattle.std.proofs.Common.{◌≡◌, ◌≢◌, ℕ, ◌+◌, ◌<◌, false, List, [], ◌∷◌, length, map, Option, Some, None, ◌⊎◌, inl, inr, refl, sym, ap, ◌∙◌, subst, arith}
 use Rattle.std.specs.Prelude.{option_and_then}
 use Rattle.std.specs.List.{AllByRecursion}
@@ -146,14 +146,14 @@ module _ (old : List Row) (m : Move) (new : List Row) (table : IsTable old) (h :
       let rest : Precedes q' one.there = led_under fs s.0 q' one.there s.2 one.tie in
       record { there = rest.there; tie = rest.tie; joined = joined_trans old p one.there rest.there one.joined rest.joined }
 
-  -- chains join the ones if and only if they join the others
+  -- chains join places if and only if they join their images
   pub joined_over : (p p' q q' : Place) → Tie p q → Tie p' q' → IsJoined old p p' → IsJoined new q q'
   joined_over p p' q q' t t' j = let f = led_over j.0 p p' q j.1 t in joined_trans new q f.there q' f.joined (stands_once old m new table h p' f.there q' f.tie t')
 
   pub joined_under : (p p' q q' : Place) → Tie p q → Tie p' q' → IsJoined new q q' → IsJoined old p p'
   joined_under p p' q q' t t' j = let f = led_under j.0 q q' p j.1 t in joined_trans old p f.there p' f.joined (stood_for_once old m new table h f.there p' q' f.tie t')
 
-  -- what is joined to a place that stands for one does so too
+  -- a place that is joined to one with an image has an image, and one that is joined to an image is an image
   pub tie_follows : (p p' q : Place) → Tie p q → IsJoined old p p' → (q' : Place) × Tie p' q'
   tie_follows p p' q t j = let f = led_over j.0 p p' q j.1 t in (f.there, f.tie)
 

@@ -1,4 +1,4 @@
--- Each vertex of a link takes over the sign of the vertex which stands for it, turned where that is turned.
+-- The sign of a vertex of a link in the old table gives one of its image, the other sign if the map of vertices is odd.
 use Rattle.std.proofs.Common.{◌≡◌, ◌≢◌, ℕ, ◌*◌, ◌<◌, Bool, false, List, length, Some, ◌⊎◌, inl, inr, sym, ap, ◌∙◌, subst}
 use Rattle.std.proofs.lemmas.Bool.{cases_eq}
 use Rattle.table_definitions.specs.Lists.{has}

@@ -1,4 +1,4 @@
--- Each vertex of a link takes back the sign of the vertex for which it stands.
+-- The sign of the image of a vertex of a link gives one of the vertex.
 use Rattle.std.proofs.Common.{◌≡◌, ℕ, ◌+◌, ◌*◌, ◌<◌, Bool, false, List, length, Some, ◌⊎◌, inl, inr, sym, ap, ◌∙◌, subst, arith}
 use Rattle.std.proofs.lemmas.Bool.{cases_eq, false≢true}
 use Rattle.table_definitions.specs.Lists.{has}

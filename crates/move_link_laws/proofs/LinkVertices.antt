@@ -1,4 +1,4 @@
--- The vertices of corresponding links, as arrows that begin at the class.
+-- The vertices of corresponding links, as directed edges that begin at the class.
 use Rattle.std.proofs.Common.{◌≡◌, ℕ, ◌*◌, Bool, List, length}
 use Rattle.table_definitions.specs.Table.{Row, IsTable}
 use Rattle.table_definitions.specs.Classes.{IsNumbering}

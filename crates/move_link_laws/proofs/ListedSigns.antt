@@ -1,4 +1,4 @@
--- A list of the signs that vertices of a class have, and false elsewhere.
+-- The list with the signs of the vertices of a class, and false elsewhere.
 use Rattle.std.proofs.Common.{◌≡◌, ◌≢◌, ℕ, ◌*◌, ◌<◌, ◌≤◌, Bool, false, List, [], length, map, Some, ◌⊎◌, inl, inr, sym, ap, ◌∙◌, arith}
 use Rattle.std.specs.Prelude.{slice_index}
 use Rattle.std.proofs.lemmas.Bool.{cases_eq, cases_lt}
@@ -28,7 +28,7 @@ agree_at rows vs c signs are n p s f g lf off e glued =
     let at : slice_index vs (vertex_number p.tet s.v) ≡ c = ap (class_of vs) (sym s.is) ∙ e in
     ap (λ (r : Place). S signs (carried g r)) s.is ∙ are p.tet s.v f g s.low lf ne at glued ∙ ap (λ (r : Place). behind (is_odd g.perm) (S signs r)) (sym s.is)
 
--- a list of the signs that vertices of a class have, and false elsewhere
+-- the list with the signs of the vertices of a class, and false elsewhere
 module _ (rows : List Row) (vs : List ℕ) (c : ℕ) (long : length vs ≡ 4 * length rows) (value : (p : Place) → IsSpot (length rows) p → class_of vs p ≡ c → Bool)
     (one : (p q : Place) (s : IsSpot (length rows) p) (t : IsSpot (length rows) q) (e : class_of vs p ≡ c) (f : class_of vs q ≡ c) → p ≡ q → value p s e ≡ value q t f) where
   chosen : (i : ℕ) → (i < 4 * length rows) ⊎ (4 * length rows ≤ i) → (slice_index vs i ≡ c) ⊎ (slice_index vs i ≢ c) → Bool

@@ -1,4 +1,4 @@
--- The core of a 4-1 is a vertex of its own class, whose link has four triangles.
+-- The core of a 4-1 move is the only vertex of its class, and its link has four triangles.
 use Rattle.std.proofs.Common.{◌≡◌, ◌≢◌, ℕ, ◌*◌, ◌<◌, ◌≤◌, Bool, true, false, List, [], ◌∷◌, length, map, inl, inr, refl, sym, ap, ◌∙◌, arith}
 use Rattle.std.specs.Prelude.{◌==◌, ◌||◌, not}
 use Rattle.std.proofs.lemmas.Bool.{cases_lt, false≢true, eqb-true, eq-eqb, ne_eqb, eqb-false, not-true, not_from_false, or_cases}
@@ -49,7 +49,7 @@ module _ (old : List Row) (m : Move) (new : List Row) (table : IsTable old) (h :
   abbrev In : List ℕ → Place → Type 0
   In ls p = Buried old m new table h ls p
 
-  -- a vertex stands for none only where it is the core
+  -- a vertex has no image only if it is the core
   pub lone_core : (n : ℕ) (p : Place) (ls : List ℕ) → IsSpot n p → In ls p → (length m.core ≡ 1) × (ls ≡ 0 ∷ [])
   lone_core n p ls s b = alone ls (ap (λ (r : Place). r.vertices) (sym s.is ∙ b.from)) b.all
     where

@@ -1,4 +1,4 @@
--- The vertices of the link of a lone core, and its sides: it is a sphere by its numbers.
+-- The vertices of the link of the core of a 4-1 move, and its sides: it is a sphere by its numbers.
 use Rattle.std.proofs.Common.{◌≡◌, ◌≢◌, ℕ, ◌+◌, ◌*◌, ◌/◌, ◌%◌, ◌<◌, ◌≤◌, Bool, true, List, [], ◌∷◌, length, Some, None, inl, inr, refl, sym, ap, ◌∙◌, subst, arith}
 use Rattle.std.specs.Prelude.{◌||◌, slice_index, count_by}
 use Rattle.std.proofs.lemmas.Bool.{cases_eq, eq-eqb, ne_eqb}
@@ -33,7 +33,7 @@ use Rattle.skeleton_laws.proofs.LinkCorners.{tail_spot, is_corner_number, corner
 use Rattle.move_link_laws.proofs.InsidePairs.{two_under}
 use Rattle.move_link_laws.proofs.Lone.{nonzero, others, four_others, other_is, is_other, in_class, of_class, at_label, zero_off, zero_in, buried_at, spot_of, four_triangles}
 
--- none of the numbers passes
+-- if no number passes, the count is 0
 pub none_passing : (p : ℕ → Bool) (n : ℕ) → ((i : ℕ) → Among i (passing p n) → ⊥) → count_by p (below n) ≡ 0
 none_passing p n none = sym (length-passing p n) ∙ empty (passing p n) none
   where

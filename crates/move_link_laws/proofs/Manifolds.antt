@@ -1,4 +1,4 @@
--- So a table with a certificate has the numbers of a closed manifold, and so has one that `check` accepts.
+-- A table with a certificate has the numbers of a closed manifold, and so has each table that `check` accepts.
 use Rattle.std.proofs.Common.{◌≡◌, List, sym, subst}
 use Rattle.table_definitions.specs.Table.{Row, IsTable}
 use Rattle.skeleton_definitions.specs.Skeleton.{Skeleton}

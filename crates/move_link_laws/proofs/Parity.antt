@@ -1,4 +1,5 @@
--- The parity with which a facet goes to a new one is a sign itself: it stays over odd gluings between facets, and changes over even ones.
+-- The parities of the maps of facets to a new one agree as signs: across an odd gluing between facets they are equal,
+-- and across an even one they differ.
 use mathlib.Core.Bool.{beq}
 use Rattle.std.proofs.Common.{◌≡◌, ◌≢◌, ℕ, ◌<◌, Bool, true, false, List, map, refl, sym, ap, ◌∙◌}
 use Rattle.std.specs.Prelude.{◌==◌, ◌||◌, not}

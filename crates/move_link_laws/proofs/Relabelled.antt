@@ -15,11 +15,11 @@ use Rattle.signature_laws.proofs.Back.{inverted_stands, inverted_relabelling, ca
 use Rattle.move_link_laws.proofs.JoinedBack.{there_again}
 use Rattle.move_link_laws.proofs.Joined.{through}
 
--- what stands for a place
+-- the image of a place
 abbrev pub under : Relabelling → Place → Place
 under by p = carried (relabelled_place by p.tet) p
 
--- in range
+-- a place of the table
 pub record IsWithin (rows : List Row) (p : Place) : Type 0 where
   pub below : p.tet < length rows
   pub place : IsPlace p
@@ -74,7 +74,7 @@ module _ (old : List Row) (new : List Row) (table : IsTable old) (by : Relabelli
   pub joined_under_it : (p q : Place) → IsWithin old p → IsJoined old p q → IsJoined new (under by p) (under by q)
   joined_under_it p q w j = (kept_along old (Led p) (led_step p) j.0 p q (record { within = w; joined = joined_refl new (under by p) }) j.1).joined
 
-  -- each place of the new table stands for one
+  -- each place of the new table is the image of a place
   pub came_from : (q : Place) → IsWithin new q → (p : Place) × IsWithin old p × (under by p ≡ q)
   came_from q w =
       let t = comes_from (length old) by is q.tet (let e = c.same_length in let l = w.below in omega arith) in
@@ -85,7 +85,7 @@ module _ (old : List Row) (new : List Row) (table : IsTable old) (by : Relabelli
         (λ i. record { tet = t.2 i; vertices = there_again s q.vertices hs w.place i }),
       )
 
-  -- and one alone
+  -- places with the same image are equal
   pub one_under : (p q : Place) → IsWithin old p → IsWithin old q → under by p ≡ under by q → p ≡ q
   one_under p q w v e =
       let tets : p.tet ≡ q.tet = images_apart (length old) by is p.tet q.tet w.below v.below (ap (λ (r : Place). r.tet) e) in

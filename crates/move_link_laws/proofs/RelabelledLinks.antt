@@ -55,7 +55,7 @@ module _ (old : List Row) (new : List Row) (table : IsTable old) (table' : IsTab
         apart = images_apart (relabelled_place by p.tet).perm a.v a.w hp a.low_v a.low_w a.apart;
       }
 
-  -- a table has valid edges where its relabelling has
+  -- a table has valid edges if its relabelling has
   pub valid_relabelled : HasValidEdges new → HasValidEdges old
   valid_relabelled valid i l j =
       let e : EdgeAt i = edge_ends_at i in
@@ -90,7 +90,7 @@ module _ (old : List Row) (new : List Row) (table : IsTable old) (table' : IsTab
     class_back p s e = (one_class old vs n numbered p p0 s s0).1
         ((joined_both old new table table' by is carries p p0 (spot_within p s) (spot_within p0 s0)).1 ((one_class new vs' n' numbered' (under by p) (under by p0) (spot_under p s) (spot_under p0 s0)).0 e))
 
-    -- each vertex is that for which one stands
+    -- each vertex is the image of a vertex
     spot_from : (q : Place) → IsSpot (length new) q → (p : Place) × IsSpot (length old) p × (under by p ≡ q)
     spot_from q s =
         let f = came_from old new table by is carries q (spot_within' q s) in

@@ -1,4 +1,4 @@
--- The signs that are taken over agree across faces, so signs of a link give signs of the corresponding link.
+-- The signs of images agree across faces, so signs of a link give signs of the corresponding link.
 use Rattle.std.proofs.Common.{◌≡◌, ◌≢◌, ℕ, ◌+◌, ◌*◌, ◌<◌, Bool, false, List, [], ◌∷◌, length, map, Option, Some, None, ◌⊎◌, inl, inr, refl, sym, ap, ◌∙◌, subst, arith}
 use Rattle.std.specs.Prelude.{option_map, option_and_then, slice_index}
 use Rattle.table_definitions.specs.Lists.{has, rank_without}

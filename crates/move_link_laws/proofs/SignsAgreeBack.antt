@@ -1,4 +1,4 @@
--- The signs that are taken back agree across faces, so signs of the corresponding link give signs of the link.
+-- The signs that images give agree across faces, so signs of the corresponding link give signs of the link.
 use Rattle.std.proofs.Common.{◌≡◌, ℕ, ◌*◌, ◌<◌, ◌≤◌, Bool, false, List, [], ◌∷◌, length, map, Option, Some, None, ◌⊎◌, inl, inr, refl, sym, ap, ◌∙◌}
 use Rattle.std.specs.Prelude.{option_map, option_and_then, slice_index}
 use Rattle.std.proofs.lemmas.Bool.{cases_lt}

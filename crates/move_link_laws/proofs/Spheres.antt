@@ -1,4 +1,4 @@
--- What leads to a table whose links are spheres is such a table.
+-- If the links of the table that results from a move are spheres by their numbers, so are those of the old table.
 use Rattle.std.proofs.Common.{◌≡◌, ℕ, ◌+◌, ◌*◌, ◌%◌, ◌<◌, List, [], ◌∷◌, length, inl, inr, refl, sym, ap, ◌∙◌, subst, arith}
 use Rattle.std.specs.Prelude.{◌==◌, slice_index}
 use Rattle.table_definitions.specs.Lists.{times_in}
@@ -30,7 +30,7 @@ use Rattle.move_link_laws.proofs.RelabelledLinks.{spot_under, valid_relabelled}
 use Rattle.move_link_laws.proofs.RelabelledSides.{closed_same, eulers_same}
 use Rattle.move_link_laws.proofs.Standard.{SphereNumbers, HasSpheres, sphere_spheres, sphere_valid}
 
--- a free face of one vertex
+-- a face that contains a vertex
 pub free_of_one : (v : ℕ) → IsFree (v ∷ [])
 free_of_one v = let f = free_of_two v v in (f.0, f.1, off_one v f.0 (head_off v (v ∷ []) f.0 f.2))
 

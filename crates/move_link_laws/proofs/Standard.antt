@@ -26,7 +26,7 @@ use Rattle.skeleton_laws.proofs.TestedClasses.{stays, stays_over, is_place_at, l
 abbrev pub SphereNumbers : List Row → List ℕ → List ℕ → ℕ → Type 0
 SphereNumbers rows vs ds c = (is_closed_link rows vs c ≡ true) × (link_vertices vs ds c + times_in vs c ≡ link_edges rows vs c + 2)
 
--- each link has them, by whatever numberings
+-- each link has these numbers, in any numbering of the classes
 abbrev pub HasSpheres : List Row → Type 0
 HasSpheres rows =
     (vs : List ℕ) (n : ℕ) → IsNumbering (4 * length rows) (SameVertex rows) vs n → (ds : List ℕ) (d : ℕ) → IsNumbering (12 * length rows) (SameDirected rows) ds d
@@ -82,7 +82,7 @@ sphere_spheres vs n numbered ds d arrows c l =
     let z : 0 ≡ c = omega arith in
     subst (λ k. SphereNumbers standard_sphere vs ds k) z (subst₂ (λ (xs ys : List ℕ). SphereNumbers standard_sphere xs ys 0) (sym v) (sym a) known_numbers)
 
--- no pair is joined to itself the other way round
+-- no directed edge is joined to its reverse
 turn_test : ℕ → ℕ → Bool
 turn_test a b = (a == b) || not (slice_index arrow_classes (pair_number a b) == slice_index arrow_classes (pair_number b a))
 

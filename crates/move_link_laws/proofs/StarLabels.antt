@@ -1,4 +1,4 @@
--- Which labels of the star are at a vertex class: the same in both tables.
+-- Which labels of the star are those of a vertex class: the same in both tables.
 use Rattle.std.proofs.Common.{◌≡◌, ◌≢◌, ℕ, ◌+◌, ◌*◌, ◌<◌, ◌≤◌, Bool, true, false, List, [], ◌∷◌, length, ◌⊎◌, inl, inr, refl, sym, ap, ◌∙◌, subst, arith}
 use Rattle.std.specs.Prelude.{◌==◌, ◌&&◌, ◌||◌, ◌↔◌, not, nat_lt, if◌then◌else◌}
 use Rattle.std.specs.List.{list_all}
@@ -20,15 +20,15 @@ use Rattle.skeleton_laws.proofs.Spots.{IsSpot, one_class, class_of}
 use Rattle.move_link_laws.proofs.TiedSpots.{tie_not_buried, tie_not_new_buried, Match, class_over, class_under, all_tied, all_tied_new}
 use Rattle.move_laws.proofs.StarLaws.{found_or}
 
--- one label
+-- the only label of a list
 pub off_one : (l i : ℕ) → l ≢ i → has (l ∷ []) i ≡ false
 off_one l i ne = λ j. ne_eqb l i ne j || false
 
--- whether a label stands in an old facet and in a new one, where the core has s vertices
+-- whether label l is one of an old facet and of a new one, if the core has s vertices
 unfoldable pub in_both : ℕ → ℕ → Bool
 in_both s l = not ((s == 1) && (l == 0)) && not ((s == 4) && (l == 4))
 
--- an old label other than this one
+-- an old label other than l
 abbrev pub rep : ℕ → ℕ → ℕ
 rep s l = if l == s then s + 1 else s
 
@@ -83,7 +83,7 @@ module _ (old : List Row) (m : Move) (new : List Row) (table : IsTable old) (h :
 
   module _ (vs : List ℕ) (n : ℕ) (numbered : IsNumbering (4 * length old) (SameVertex old) vs n) (vs' : List ℕ) (n' : ℕ) (numbered' : IsNumbering (4 * length new) (SameVertex new) vs' n') (c c' : ℕ)
       (k : Match old m new table h vs n numbered vs' n' numbered' c c') where
-    -- whether the label is at the class
+    -- whether the vertex with label l is of the class
     pub label_in : ℕ → Bool
     label_in l = in_both (length m.core) l && (class_of vs (in_facet (found_or (facet old m (rep (length m.core) l)) (own_facet m)) (l ∷ [])) == c)
 

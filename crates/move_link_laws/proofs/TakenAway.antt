@@ -1,4 +1,4 @@
--- The class of the core of a 4-1: its link is oriented by the parities of its four facets, and so a sphere.
+-- The class of the core of a 4-1 move: its link is oriented by the parities of its four facets, and so it is a sphere.
 use Rattle.std.proofs.Common.{◌≡◌, ◌≢◌, ℕ, ◌*◌, ◌<◌, ◌≤◌, Bool, true, false, List, [], ◌∷◌, length, Some, refl, sym, ap, ◌∙◌, subst, arith}
 use Rattle.std.specs.Prelude.{◌==◌, ◌||◌, slice_index}
 use Rattle.std.specs.List.{list_all}

@@ -1,4 +1,5 @@
--- What ties: a kept tetrahedron, or an old facet and a new one with the same labels.
+-- A place with an image lies in a retained tetrahedron, or in an old facet, and its image in a new one has the same
+-- labels.
 use Rattle.std.proofs.Common.{◌≡◌, ◌≢◌, ℕ, ◌+◌, ◌<◌, false, List, [], ◌∷◌, length, map, ◌⊎◌, inl, inr, refl, sym, ap, ◌∙◌, arith}
 use Rattle.std.specs.List.{AllByRecursion}
 use Rattle.table_definitions.specs.Lists.{has, substitute, rank_without}
@@ -19,7 +20,7 @@ use Rattle.move_laws.proofs.SecondStand.{crossing}
 use Rattle.move_link_laws.proofs.Labelled.{head_off, tail_off, in_facet, Below5, has-vertices, has-labels, labels_below, labels_off, vertices_below, vertices_again, labels_again}
 use Rattle.move_link_laws.proofs.Ties.{fine, IsOld, is_old, small_label, Ties, KeptTie, FacetTie}
 
--- four images
+-- the images of vertices
 map_identity : (vs : List ℕ) → AllByRecursion (λ v. v < 4) vs → map (image identity) vs ≡ vs
 map_identity [] small = refl
 map_identity (v ∷ vs) small = λ j. image-identity v small.0 j ∷ map_identity vs small.1 j
@@ -28,7 +29,7 @@ module _ (old : List Row) (m : Move) (new : List Row) (table : IsTable old) (h :
   abbrev new_at : ℕ → Facet
   new_at j = new_facet old m j
 
-  -- where the vertices of an old facet go in a new one
+  -- the images of the vertices of an old facet in a new one
   facet_carries : (f : Facet) (i j : ℕ) (vs : List ℕ) → AreLabels i f.labels → AllByRecursion (λ v. v < 4) vs → has (map (image f.labels) vs) j ≡ false
       → map (image (facet_gluing old m f j).perm) vs ≡ map (vertex_of (new_at j)) (map (image f.labels) vs)
   facet_carries f i j [] hf small off = refl
@@ -89,7 +90,7 @@ module _ (old : List Row) (m : Move) (new : List Row) (table : IsTable old) (h :
   pub tie_shape : (p q : Place) → Ties old m new table h p q → KeptTie old m new table h p q ⊎ FacetTie old m new table h p q
   tie_shape p q t = elim (tie_shape_by p q t) [ inl k ↦ inl k.0 | inr a ↦ inr a.0 ]
 
-  -- and each of these shapes ties
+  -- in each of the two cases a place has an image
   pub kept_tie : (p : Place) → has (old_tets old m) p.tet ≡ false → p.tet < length old → IsPlace p → (f : ℕ) → f < 4 → has p.vertices f ≡ false → Ties old m new table h p (record { tet = rank_without (old_tets old m) p.tet; vertices = p.vertices })
   kept_tie p stays lt place f lf off = record {
     face = f;

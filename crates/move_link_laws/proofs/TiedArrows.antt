@@ -1,4 +1,4 @@
--- Arrows that stand for arrows.
+-- Directed edges and their images.
 use Rattle.std.proofs.Common.{◌≡◌, ℕ, ◌<◌, List, [], ◌∷◌, length, sym, ap, ◌∙◌, subst}
 use Rattle.std.specs.Prelude.{slice_index}
 use Rattle.table_definitions.specs.Lists.{has}
@@ -19,7 +19,7 @@ module _ (old : List Row) (m : Move) (new : List Row) (table : IsTable old) (h :
   abbrev Tie : Place → Place → Type 0
   Tie p q = Ties old m new table h p q
 
-  -- an arrow and the one for which it stands begin at vertices of which the one stands for the other
+  -- the tail of the image of a directed edge is the image of its tail
   pub tie_tails : (p q : Place) → IsArrow (length old) p → (z : Tie p q) → Tie (tail_of p) (tail_of q)
   tie_tails p q a z = record {
     face = z.face;
@@ -46,7 +46,7 @@ module _ (old : List Row) (m : Move) (new : List Row) (table : IsTable old) (h :
         apart = images_apart z.by.perm a.v a.w hp a.low_v a.low_w a.apart;
       }
 
-  -- the arrow of which one stands for an arrow
+  -- a directed edge whose image is given
   pub pulled_arrow : (p q : Place) → IsArrow (length new) q → Tie p q → IsArrow (length old) p
   pulled_arrow p q a z =
       let w = two_of z.by.perm p.vertices a.v a.w (ap (λ (r : Place). r.vertices) (sym z.is ∙ a.is)) in

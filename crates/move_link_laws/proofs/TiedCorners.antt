@@ -1,4 +1,4 @@
--- Arrows that stand for arrows correspond, and the others are pairs of labels that lie inside the star.
+-- Directed edges with an image correspond to their images, and the others are pairs of labels inside the star.
 use Rattle.std.proofs.Common.{◌≡◌, ◌≢◌, ℕ, ◌+◌, ◌*◌, ◌/◌, ◌%◌, ◌<◌, ◌≤◌, Bool, true, false, List, [], ◌∷◌, length, ◌⊎◌, inl, inr, refl, sym, ap, ◌∙◌, subst, arith}
 use Rattle.std.proofs.lemmas.Bool.{cases_lt}
 use Rattle.table_definitions.specs.Lists.{has}
@@ -68,7 +68,7 @@ module _ (old : List Row) (m : Move) (new : List Row) (table : IsTable old) (tab
   abbrev Found' : Place → Type 0
   Found' q = Corners.Found new vs' n' numbered' c' ds' d' arrows' q
 
-  -- an arrow stands for one of the class, or it is a pair of labels
+  -- a directed edge has an image in the class, or is a pair of labels
   abbrev CornerOf : ℕ ⊎ ℕ → ℕ ⊎ ℕ → Type 0
   CornerOf (inl i) (inl j) = (q : Place) × Tie (directed i) q × IsJoined new q (directed j)
   CornerOf (inl i) (inr k) = In (k / 5 ∷ k % 5 ∷ []) (directed i)

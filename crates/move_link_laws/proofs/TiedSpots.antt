@@ -1,5 +1,5 @@
--- Vertex classes of the two tables that correspond: a vertex that stands for one is of the one class if and only if
--- that is of the other.
+-- Vertex classes of the two tables that correspond: a vertex with an image is of the one class if and only if its image
+-- is of the other.
 use Rattle.std.proofs.Common.{◌≡◌, ℕ, ◌+◌, ◌*◌, ◌<◌, List, [], ◌∷◌, length, map, inl, inr, refl, sym, ap, ◌∙◌, subst, arith}
 use Rattle.std.proofs.lemmas.Bool.{false≢true}
 use Rattle.table_definitions.specs.Lists.{has, rank_without}
@@ -29,7 +29,7 @@ module _ (old : List Row) (m : Move) (new : List Row) (table : IsTable old) (h :
   abbrev at : ℕ → Facet
   at j = new_at old m new table h j
 
-  -- what stands for a place is not buried
+  -- a place with an image does not have all labels of the core
   pub tie_not_buried : (ls : List ℕ) (p q : Place) → Tie p q → Buried old m new table h ls p → ⊥
   tie_not_buried ls p q t b = elim (tie_shape old m new table h p q t) [
     | inl k ↦ false≢true (sym k.stays ∙ ap (λ (r : Place). has (old_tets old m) r.tet) b.from ∙ old_has old m new table h b.i b.f b.old_is)
@@ -53,7 +53,7 @@ module _ (old : List Row) (m : Move) (new : List Row) (table : IsTable old) (h :
     low = image_below t.by.perm (tie_permutes old m new table h p q t) s.v s.low;
   }
 
-  -- what stands for a vertex is one vertex too
+  -- a place whose image is a vertex is a vertex
   pub spot_of_tie : (p q : Place) → IsSpot (length new) q → Tie p q → IsSpot (length old) p
   spot_of_tie p q s t = let one = single p.vertices t.by.perm s.v (ap (λ (r : Place). r.vertices) (sym t.is ∙ s.is)) in record {
     v = one.0;
@@ -68,7 +68,7 @@ module _ (old : List Row) (m : Move) (new : List Row) (table : IsTable old) (h :
       single (w ∷ u ∷ us) g v e = absurd (let z : image g u ∷ map (image g) us ≡ [] = cc in cc)
 
   module _ (vs : List ℕ) (n : ℕ) (numbered : IsNumbering (4 * length old) (SameVertex old) vs n) (vs' : List ℕ) (n' : ℕ) (numbered' : IsNumbering (4 * length new) (SameVertex new) vs' n') where
-    -- classes that have vertices of which one stands for the other
+    -- two classes: a vertex of the one has an image in the other
     pub record Match (c c' : ℕ) : Type 0 where
       pub p : Place
       pub q : Place
@@ -88,7 +88,7 @@ module _ (old : List Row) (m : Move) (new : List Row) (table : IsTable old) (h :
           (one_class old vs n numbered p k.p s k.spot_is).1
           (joined_under old m new table h p k.p q k.q t k.tie ((one_class new vs' n' numbered' q k.q (tie_spot p q s t) (tie_spot k.p k.q k.spot_is k.tie)).0 (e ∙ sym k.there))) ∙ k.here
 
-      -- each vertex of such a class stands for one, or one stands for it
+      -- each vertex of such a class has an image, or is one
       pub all_tied : (p : Place) → IsSpot (length old) p → class_of vs p ≡ c → (q : Place) × Tie p q
       all_tied p s e = tie_follows old m new table h k.p p k.q k.tie ((one_class old vs n numbered k.p p k.spot_is s).0 (k.here ∙ sym e))
 

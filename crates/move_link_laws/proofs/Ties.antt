@@ -1,4 +1,4 @@
--- Places of the old table that stand, over a face, for places of the new one.
+-- Places of the old table, and their images in faces of the new one that replace old faces.
 use Rattle.std.proofs.Common.{◌≡◌, ◌≢◌, ℕ, ◌<◌, ◌≤◌, true, false, List, length, Some, refl, sym, ap, ◌∙◌, arith}
 use Rattle.table_definitions.specs.Lists.{has, rank_without}
 use Rattle.table_definitions.specs.Permutation.{IsPermutationOfFour}
@@ -54,7 +54,7 @@ module _ (old : List Row) (m : Move) (new : List Row) (table : IsTable old) (h :
   pub small_label : (j : ℕ) → j < length m.core → j < 5
   small_label j l = let f = few in omega arith
 
-  -- across the face between two facets
+  -- the step across the face between two facets
   pub old_step : (i k : ℕ) (f g : Facet) (ls : List ℕ) → IsOld i f → IsOld k g → i ≢ k → Below5 ls → has ls i ≡ false → has ls k ≡ false → across old (in_facet f ls) (vertex_of f k) ≡ Some (in_facet g ls)
   old_step i k f g ls a b apart small oi ok =
       let e : AreGlued old i k f g = old_glued old m i k f g table fine h.core a.low a.high b.low b.high apart a.found b.found in
@@ -65,7 +65,7 @@ module _ (old : List Row) (m : Move) (new : List Row) (table : IsTable old) (h :
   new_step j l ls lj ll apart small oj ol =
       meet_step new j l (new_at j) (new_at l) _ ls (new_labels j (small_label j lj)) (small_label l ll) (λ z. apart (sym z)) (h.inner j l lj ll apart) refl (new_meets j l (small_label j lj)) small oj ol
 
-  -- place p stands over a face for place q
+  -- all vertices of place p lie in a face that is replaced in the new table, and q is the image of p there
   pub record Ties (p q : Place) : Type 0 where
     pub face : ℕ
     pub by : Gluing
@@ -79,7 +79,7 @@ module _ (old : List Row) (m : Move) (new : List Row) (table : IsTable old) (h :
   pub tie_permutes : (p q : Place) (t : Ties p q) → IsPermutationOfFour t.by.perm
   tie_permutes p q t = stand_permutes old m table fine h.core (face_at p.tet t.face) t.by t.tet t.low t.stands
 
-  -- in a kept tetrahedron, or from an old facet to a new one
+  -- in a retained tetrahedron, or from an old facet to a new one
   pub record KeptTie (p q : Place) : Type 0 where
     pub stays : has (old_tets old m) p.tet ≡ false
     pub tet : p.tet < length old

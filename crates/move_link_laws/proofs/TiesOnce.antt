@@ -1,4 +1,4 @@
--- A place stands for joined places alone, and joined ones alone stand for a place.
+-- All images of a place are joined, and so are all places with one image.
 use Rattle.std.proofs.Common.{◌≡◌, ℕ, ◌+◌, ◌<◌, false, List, length, map, ◌⊎◌, inl, inr, sym, ap, ◌∙◌, subst, arith}
 use Rattle.std.proofs.lemmas.Bool.{cases_eq, false≢true}
 use Rattle.table_definitions.specs.Lists.{has, rank_without}
@@ -20,7 +20,7 @@ module _ (old : List Row) (m : Move) (new : List Row) (table : IsTable old) (h :
   abbrev new_at : ℕ → Facet
   new_at j = new_facet old m j
 
-  -- labels of a place in a facet
+  -- the labels of a place in a facet
   old_labels_of : (i : ℕ) (f : Facet) (ls : List ℕ) → IsOld old m new table h i f → Below5 ls → has ls i ≡ false → map (image f.labels) (in_facet f ls).vertices ≡ ls
   old_labels_of i f ls a small oi = labels_again i f.labels a.is.labels ls small oi
 
@@ -35,7 +35,7 @@ module _ (old : List Row) (m : Move) (new : List Row) (table : IsTable old) (h :
       let same : j ≡ l = omega arith in
       (same, sym (labels_again j (ascending j) (new_labels j (small_label old m new table h j lj)) ls sl oj) ∙ (λ k. map (image (ascending (same k))) (e k).vertices) ∙ labels_again l (ascending l) (new_labels l (small_label old m new table h l ll)) ks sk ol)
 
-  -- a place stands for joined places alone
+  -- all images of a place are joined
   pub stands_once : (p q q' : Place) → Ties old m new table h p q → Ties old m new table h p q' → IsJoined new q q'
   stands_once p q q' t t' = by_shapes (tie_shape old m new table h p q t) (tie_shape old m new table h p q' t')
     where
@@ -63,7 +63,7 @@ module _ (old : List Row) (m : Move) (new : List Row) (table : IsTable old) (h :
       let e : rank_without (old_tets old m) p.tet ≡ kept old m + b.j = ap (λ (x : Place). x.tet) (sym a.is ∙ b.to) in
       omega arith
 
-  -- and joined places alone for one place
+  -- all places with one image are joined
   pub stood_for_once : (p p' q : Place) → Ties old m new table h p q → Ties old m new table h p' q → IsJoined old p p'
   stood_for_once p p' q t t' = by_shapes (tie_shape old m new table h p q t) (tie_shape old m new table h p' q t')
     where

@@ -1,4 +1,5 @@
--- The triangles of corresponding links: those in kept tetrahedra correspond, and the others are the labels at the class.
+-- The triangles of corresponding links: those in retained tetrahedra correspond, and the others are pairs of a facet
+-- and a label at the class.
 use Rattle.std.proofs.Common.{◌≡◌, ◌≢◌, ℕ, ◌+◌, ◌-◌, ◌*◌, ◌/◌, ◌%◌, ◌<◌, ◌≤◌, Bool, true, false, List, [], ◌∷◌, length, ◌⊎◌, inl, inr, sym, ap, ◌∙◌, subst, arith}
 use Rattle.std.proofs.lemmas.Bool.{cases_lt}
 use Rattle.basic_lemmas.proofs.Truths.{by_bool}
@@ -68,7 +69,7 @@ module _ (old : List Row) (m : Move) (new : List Row) (table : IsTable old) (h :
   is_member' : (p : Place) → IsSpot (length new) p → class_of vs' p ≡ c' → Among (vertex_at p) members'
   is_member' p s e = Corners.is_member new vs' n' numbered' c' p s e
 
-  -- a kept triangle is that for which it stands, and the others are pairs of a facet and a label
+  -- a triangle in a retained tetrahedron corresponds to its image, and the others are pairs of a facet and a label
   abbrev Triangle : ℕ ⊎ ℕ → ℕ ⊎ ℕ → Type 0
   Triangle (inl i) (inl j) = Kept (vertex i) (vertex j)
   Triangle (inl i) (inr k) = (f : Facet) × Old (k / 5) f × (vertex i ≡ in_facet f (k % 5 ∷ []))

@@ -1,4 +1,4 @@
--- So the triangles of corresponding links are as many, but for pairs of a facet and a label of it.
+-- Corresponding links have the same number of triangles, up to pairs of a facet and a label of it.
 use Rattle.std.proofs.Common.{◌≡◌, ◌≢◌, ℕ, ◌+◌, ◌*◌, ◌/◌, ◌%◌, ◌<◌, Bool, List, [], ◌∷◌, length, ◌⊎◌, inl, inr, sym, ap, ◌∙◌, arith}
 use Rattle.std.specs.Prelude.{count_by}
 use Rattle.std.proofs.lemmas.Bool.{false≢true}

@@ -1,4 +1,5 @@
--- Invalid edges of the one table are tied to invalid edges of the other; those within the star are valid.
+-- Invalid edges of one table have invalid edges of the other as their images, or are images of such; edges within the
+-- star are valid.
 use Rattle.std.proofs.Common.{◌≡◌, ◌≢◌, ℕ, ◌+◌, ◌*◌, ◌<◌, false, List, [], ◌∷◌, length, map, inl, inr, refl, sym, ap, ◌∙◌, subst, subst₂, arith}
 use Rattle.std.specs.Prelude.{◌==◌, ◌||◌}
 use Rattle.std.proofs.lemmas.Bool.{or_parts, or_from}
@@ -18,7 +19,7 @@ use Rattle.move_link_laws.proofs.JoinedBack.{joined_over, joined_under}
 use Rattle.move_link_laws.proofs.Buried.{free_of_two, Buried, NewBuried, tied_or_buried, new_tied_or_buried}
 use Rattle.move_link_laws.proofs.BuriedChains.{buried_along, new_buried_along}
 
--- two images are of two
+-- a list with two images is one of two items
 pub two_of : (g vs : List ℕ) (a b : ℕ) → map (image g) vs ≡ a ∷ b ∷ [] → (x : ℕ) × (y : ℕ) × (vs ≡ x ∷ y ∷ []) × (image g x ≡ a) × (image g y ≡ b)
 two_of g [] a b e = absurd cc
 two_of g (x ∷ []) a b e = absurd (let z : [] ≡ b ∷ [] = cc in cc)
@@ -29,7 +30,7 @@ module _ (old : List Row) (m : Move) (new : List Row) (table : IsTable old) (h :
   abbrev Tie : Place → Place → Type 0
   Tie p q = Ties old m new table h p q
 
-  -- the other way round
+  -- the reverse of an image is the image of the reverse
   pub tie_turned : (t a b : ℕ) (q : Place) → Tie (pair t a b) q → Tie (pair t b a) (turned q)
   tie_turned t a b q z = record {
     face = z.face;
@@ -67,7 +68,7 @@ module _ (old : List Row) (m : Move) (new : List Row) (table : IsTable old) (h :
       let lists : a ∷ b ∷ [] ≡ b ∷ a ∷ [] = ap (λ (p : Place). p.vertices) z.to ∙ ap (λ k. map (vertex_of (new_at old m new table h k)) ls) same ∙ ap (λ (p : Place). p.vertices) (sym w.to) in
       cc
 
-  -- so the one table has valid edges if and only if the other has
+  -- one table has valid edges if and only if the other has
   valid_forth : HasValidEdges old → HasValidEdges new
   valid_forth valid i l j = elim (new_tied_or_buried old m new table h (pair e.t e.a e.b) lt (e.low_a, (e.low_b, tt)) (free_of_two e.a e.b)) [
     | inl w ↦ tied w.0 w.1

@@ -1,4 +1,4 @@
--- So the vertices of corresponding links are as many, but for pairs of labels inside the star.
+-- Corresponding links have the same number of vertices, up to pairs of labels inside the star.
 use Rattle.std.proofs.Common.{◌≡◌, ℕ, ◌+◌, ◌*◌, ◌/◌, ◌%◌, Bool, List, [], ◌∷◌, length, ◌⊎◌, inl, inr, ap, arith}
 use Rattle.std.specs.Prelude.{count_by}
 use Rattle.table_definitions.specs.Lists.{below}

@@ -1,4 +1,4 @@
--- What is kept of moves, as they are played, taken back and played once more.
+-- The records of moves as they are played, undone and played again.
 use Rattle.std.proofs.Common.{◌≡◌, ℕ, ◌+◌, ◌≤◌, ◌<◌, get_or, length-take-le, List, [], ◌∷◌, ◌++◌, length, take, Some, refl, sym, ap, ◌∙◌, subst, arith}
 use Rattle.std.specs.Prelude.{slice_get, None}
 use Rattle.std.proofs.lemmas.Option.{slice_get_read}
@@ -11,7 +11,7 @@ use Rattle.move_laws.proofs.Played.{played_same}
 use Rattle.move_laws.proofs.BackLaws.{takes_back}
 use Rattle.move_undo.specs.Records.{first_table, IsPlayed, CanPlayAll, Recorded}
 
--- taking back all moves begins with the last one
+-- undoing all moves begins with the last one
 pub first_more : (us : List Undo) (u : Undo) (table : List Row) → first_table (us ++ u ∷ []) table ≡ first_table us (former table u)
 unfolding first_table
 first_more [] u table = refl
@@ -25,14 +25,14 @@ pub recorded-none : (table : List Row) → Recorded table [] [] table
 unfolding Recorded
 recorded-none table = (refl, (table, refl))
 
--- something is kept of at most all moves
+-- there are at most as many records as moves
 pub recorded-most : (rows : List Row) (moves : List Move) (us : List Undo) (table : List Row) → Recorded rows moves us table → length us ≤ length moves
 unfolding Recorded
 recorded-most rows moves [] table h = omega arith
 recorded-most rows [] (u ∷ us) table h = absurd h
 recorded-most rows (m ∷ ms) (u ∷ us) table h = let rest : length us ≤ length ms = recorded-most h.0 ms us table h.2 in omega arith
 
--- a move is played behind those of which something is kept
+-- a move is played after those with a record
 pub recorded-play : (rows : List Row) (moves : List Move) (us : List Undo) (table : List Row) (m : Move) (u : Undo) (new : List Row) → Recorded rows moves us table
     → IsPlayed table m u new → Recorded rows (take (length us) moves ++ m ∷ []) (us ++ u ∷ []) new
 unfolding Recorded
@@ -40,7 +40,7 @@ recorded-play rows moves [] table m u new h p = (new, subst (λ (r : List Row). 
 recorded-play rows [] (v ∷ us) table m u new h p = absurd h
 recorded-play rows (k ∷ ms) (v ∷ us) table m u new h p = (h.0, h.1, recorded-play h.0 ms us table m u new h.2 p)
 
--- what was kept takes the move back
+-- the record of a move undoes it
 taken_back : (rows : List Row) (m : Move) (u : Undo) (next : List Row) → IsPlayed rows m u next → former next u ≡ rows
 taken_back rows m u next p = ap (λ (v : Undo). former next v) p.kept ∙ takes_back rows m next p.plays
 
@@ -50,7 +50,7 @@ can_take_back rows m u next p = subst (λ (v : Undo). CanTakeBack next v) (sym p
 pub played-back : (us : List Undo) (rows : List Row) (m : Move) (u : Undo) (next : List Row) → IsPlayed rows m u next → first_table (us ++ u ∷ []) next ≡ first_table us rows
 played-back us rows m u next p = first_more us u next ∙ ap (λ (t : List Row). first_table us t) (taken_back rows m u next p)
 
--- the last move is taken back
+-- the last move is undone
 pub record LeadsBack (rows : List Row) (moves : List Move) (us : List Undo) (u : Undo) (table : List Row) : Type 0 where
   pub can : CanTakeBack table u
   pub recorded : Recorded rows moves us (former table u)
@@ -70,7 +70,7 @@ recorded-back rows (m ∷ ms) (v ∷ us) u table h =
     let later : LeadsBack h.0 ms us u table = recorded-back h.0 ms us u table h.2 in
     record { can = later.can; recorded = (h.0, h.1, later.recorded) }
 
--- a move that was taken back can be played once more
+-- a move that was undone can be played again
 pub recorded-free : (rows : List Row) (moves : List Move) (us : List Undo) (table : List Row) (m : Move) → Recorded rows moves us table → slice_get moves (length us) ≡ Some m
     → play_fault table m ≡ None
 unfolding Recorded
@@ -91,7 +91,7 @@ recorded-again rows (k ∷ ms) [] table m u new h e p =
 recorded-again rows [] (v ∷ us) table m u new h e p = absurd h
 recorded-again rows (k ∷ ms) (v ∷ us) table m u new h e p = (h.0, h.1, recorded-again h.0 ms us table m u new h.2 e p)
 
--- the moves of which something is kept lead to the table, and all can be played
+-- the moves with a record result in the table, and all moves can be played
 recorded-plays : (rows : List Row) (moves : List Move) (us : List Undo) (table : List Row) → Recorded rows moves us table → PlaysAll rows (take (length us) moves) table
 unfolding Recorded
 recorded-plays rows moves [] table h = h.0
@@ -112,7 +112,7 @@ recorded-table rows moves us table h = record {
   others = recorded-all rows moves us table h;
 }
 
--- a session in which no move is kept
+-- a session without a move
 pub recorded-begun : (table : List Row) (moves : List Move) (us : List Undo) → moves ≡ [] → us ≡ [] → Recorded (first_table us table) moves us table
 recorded-begun table moves us e f =
     subst (λ (ms : List Move). Recorded (first_table us table) ms us table) (sym e)
@@ -121,7 +121,7 @@ recorded-begun table moves us e f =
 pub first-begun : (table : List Row) (us : List Undo) → us ≡ [] → first_table us table ≡ table
 first-begun table us e = ap (λ (vs : List Undo). first_table vs table) e ∙ first_none table
 
--- where the fields of a session are these, its records are in order
+-- the records of a session with these fields are in order
 pub recorded-as : (first : List Row) (moves ms : List Move) (us vs : List Undo) (table : List Row) → ms ≡ moves → vs ≡ us → first_table us table ≡ first → Recorded first moves us table
     → Recorded (first_table vs table) ms vs table
 recorded-as first moves ms us vs table e f g h =
@@ -131,11 +131,11 @@ recorded-as first moves ms us vs table e f g h =
 pub first-as : (us vs : List Undo) (table first : List Row) → vs ≡ us → first_table us table ≡ first → first_table vs table ≡ first
 first-as us vs table first f g = ap (λ (ws : List Undo). first_table ws table) f ∙ g
 
--- the first move that was taken back
+-- the first move that was undone
 pub next_move : (moves : List Move) (us : List Undo) (m : Move) (n : ℕ) → n < length moves → n ≡ length us → m ≡ get_or moves n m → slice_get moves (length us) ≡ Some m
 next_move moves us m n within e at = subst (λ k. slice_get moves k ≡ Some m) e (slice_get_read moves _ n m refl within at)
 
--- the last record is taken off
+-- the last record is removed
 pub recorded-last : (rows : List Row) (moves : List Move) (us vs : List Undo) (u : Undo) (table : List Row) → us ≡ vs ++ u ∷ [] → Recorded rows moves us table
     → LeadsBack rows moves vs u table
 recorded-last rows moves us vs u table e h = recorded-back rows moves vs u table (subst (λ (ws : List Undo). Recorded rows moves ws table) e h)
@@ -143,7 +143,7 @@ recorded-last rows moves us vs u table e h = recorded-back rows moves vs u table
 pub first-last : (us vs : List Undo) (u : Undo) (table new : List Row) → us ≡ vs ++ u ∷ [] → new ≡ former table u → first_table vs new ≡ first_table us table
 first-last us vs u table new e f = ap (λ (t : List Row). first_table vs t) f ∙ sym (first_more vs u table) ∙ ap (λ (ws : List Undo). first_table ws table) (sym e)
 
--- the moves and the records once a move is played
+-- the moves after a further move is played
 pub moves-after : (moves ks ms : List Move) (us vs : List Undo) (m : Move) → ks ≡ moves → vs ≡ us → ms ≡ take (length vs) ks ++ m ∷ [] → ms ≡ take (length us) moves ++ m ∷ []
 moves-after moves ks ms us vs m e f g = g ∙ ap (λ (ws : List Undo). take (length ws) ks ++ m ∷ []) f ∙ ap (λ (ns : List Move). take (length us) ns ++ m ∷ []) e
 

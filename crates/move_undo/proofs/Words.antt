@@ -1,4 +1,4 @@
--- Words that are none of those that are known.
+-- Words that are none of the known ones.
 use Rattle.std.proofs.Common.{◌≡◌, ℕ, ◌≤◌, false, List, None, Ok, refl, sym, ◌∙◌, subst, eqb}
 use Rattle.std.specs.Cmp.Lexicographic.{pointwise}
 use Rattle.std.specs.Prelude.{codes}

@@ -1,4 +1,4 @@
--- A written move is its parts.
+-- The text of a written move is its parts, one after another.
 use Rattle.std.proofs.Common.{◌≡◌, ℕ, zero, suc, ◌<◌, ◌≤◌, List, [], ◌∷◌, ◌++◌, length, sym, ap, ◌∙◌, subst, arith, append_assoc}
 use Rattle.std.specs.Prelude.{not, filter, ◌==◌, if◌then◌else◌, decimal, nat_lt}
 use Rattle.std.proofs.lemmas.Bool.{and_parts}
@@ -10,14 +10,14 @@ use Rattle.move_definitions.specs.Moves.{Move, IsCore}
 use Rattle.move_definitions.specs.MoveText.{core_words, move_text}
 use Rattle.move_undo.specs.Written.{is_chosen, head_text, core_tail}
 
--- a core is those of the four vertices that it has
+-- a core is the list of those of the four vertices that it contains
 core_again : (core : List ℕ) → IsCore core → filter (has core) four ≡ core
 core_again core h = same_list-true (filter (has core) four) core (and_parts (nat_lt 0 (length core)) (same_list (filter (has core) four) core) h).1
 
 abbrev tail_by : ℕ → List ℕ → List ℕ
 tail_by n core = if n == 4 then [] else (32 ∷ digits_of (filter (is_chosen core (not (n == 3))) four))
 
--- what stands behind the kind of a move, put together
+-- what comes after the kind of a move, in one piece
 together : (tet : ℕ) (tail : List ℕ) → decimal tet ++ (tail ++ 10 ∷ []) ≡ (decimal tet ++ tail) ++ 10 ∷ []
 together tet tail = sym (append_assoc (decimal tet) tail (10 ∷ []))
 
@@ -39,7 +39,7 @@ pub move_parts : (m : Move) → IsCore m.core → 0 < length m.core → length m
 unfolding move_text core_tail
 move_parts m h some most = parts_by (length m.core) m.tet m.core (core_again m.core h) some most
 
--- a text to which the parts were added one after another
+-- a text to which the parts were appended one after another
 pub put_together : (m : Move) (size : ℕ) (core empty head tail whole : List ℕ) (tet : ℕ) → tet ≡ m.tet → core ≡ m.core → size ≡ length core → 0 < size → size ≤ 4 → IsCore core
     → empty ≡ [] → head ≡ empty ++ head_text size tet → tail ≡ head ++ core_tail core → whole ≡ tail ++ 10 ∷ [] → whole ≡ move_text m
 put_together m size core empty head tail whole tet t c s some most ascends e h l w =

@@ -1,4 +1,4 @@
--- What the calls give, piece by piece.
+-- What the functions return, part by part.
 use Rattle.std.proofs.Common.{◌≡◌, ℕ, zero, suc, ◌+◌, ◌<◌, Bool, true, false, cond, List, [], ◌∷◌, ◌++◌, length, map, get_or, take, Some, None, refl, sym, ap, ◌∙◌, subst, arith, append-nil}
 use Rattle.std.specs.Prelude.{◌==◌, ◌≢◌, filter, find, option_and_then}
 use Rattle.std.specs.List.{range_with_len}
@@ -17,7 +17,7 @@ use Rattle.move_definitions.specs.Moves.{Move, Facet, facet, old_facets, new_fac
 use Rattle.move_definitions.specs.Undos.{taken_numbers}
 use Rattle.move_laws.specs.Facets.{IsOldFacet, AreOldFacets, outer_gluing, fresh_gluing}
 
--- the first facet of a tetrahedron
+-- the first facet with a given tetrahedron
 
 pub found_at : (t : ℕ) (fs : List Facet) (i : ℕ) (f : Facet) → i < length fs → f ≡ get_or fs i f → find (λ (f : Facet). f.tet == t) (take i fs) ≡ None → f.tet ≡ t → find (λ (f : Facet). f.tet == t) fs ≡ Some f
 found_at t [] i f l is none e = absurd (omega arith)
@@ -36,7 +36,7 @@ not_yet t fs i f l is none d =
     ∙ ap (λ o. option_or o (find (λ (f : Facet). f.tet == t) (get_or fs i f ∷ []))) none
     ∙ ap (λ (g : Facet). find (λ (f : Facet). f.tet == t) (g ∷ [])) (sym is) ∙ ap (λ b. cond b (Some f) None) (ne_eqb f.tet t d)
 
--- numbers and rows that are put in
+-- numbers and rows that are added
 
 pub one_number : (numbers more : List ℕ) (first label : ℕ) → numbers ≡ range_with_len first label → more ≡ numbers ++ (first + label) ∷ [] → more ≡ range_with_len first (label + 1)
 one_number numbers more first label so_far e = let s : suc label ≡ label + 1 = omega arith in e ∙ ap (λ (ns : List ℕ). ns ++ (first + label) ∷ []) so_far ∙ range-push first label ∙ ap (range_with_len first) s
@@ -44,7 +44,7 @@ one_number numbers more first label so_far e = let s : suc label ≡ label + 1 =
 pub few_numbers : (numbers : List ℕ) (first label : ℕ) → numbers ≡ range_with_len first label → length numbers ≡ label
 few_numbers numbers first label e = ap length e ∙ length-range_with_len first label
 
--- numbers that pass
+-- numbers that pass a test
 
 pub one_taken : (p : ℕ → Bool) (so more : List ℕ) (t : ℕ) → so ≡ filter p (below t) → p t ≡ true → more ≡ so ++ t ∷ [] → more ≡ filter p (below (t + 1))
 one_taken p so more t so_far h e =
@@ -66,7 +66,7 @@ few_taken rows m facets so t old so_far l h =
     let d = old.few in
     omega arith
 
--- what stands for a face
+-- the replacement of a face
 
 find-in : (p : Facet → Bool) (fs : List Facet) (f : Facet) → find p fs ≡ Some f → (k : ℕ) × (k < length fs) × (get_or fs k f ≡ f)
 find-in p [] f e = absurd cc

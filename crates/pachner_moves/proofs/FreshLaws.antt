@@ -1,4 +1,4 @@
--- How a facet goes to one that is put in.
+-- The map of the vertices of a facet to those of a new one.
 use Rattle.std.proofs.Common.{◌≡◌, ℕ, ◌<◌, ◌≤◌, List, length, get_or, sym, ap, ◌∙◌, subst, arith, inl, inr}
 use Rattle.std.specs.Prelude.{◌⊎◌, ◌≢◌, ◌-◌, ◌+◌}
 use Rattle.std.proofs.lemmas.Bool.{cases_eq}
@@ -11,7 +11,7 @@ use Rattle.move_laws.specs.Facets.{IsFacet, IsOldFacet, AreOldFacets}
 use Rattle.move_laws.proofs.LabelLaws.{permutes_from, by_permutes, length_by, vertex_by}
 use Rattle.move_laws.proofs.FacetLaws.{new_is_facet}
 
--- a label in place of itself
+-- the replacement of a label by itself
 in_own_place : (a b l : ℕ) → a ≡ b → substitute a b l ≡ l
 in_own_place a b l same = by_case (cases_eq l a)
   where
@@ -30,7 +30,7 @@ same_permutes f g F G same =
     other : (w : ℕ) → w < 4 → image g.labels w ≢ f.missing
     other w l e = G.label_other w l (e ∙ same)
 
--- a facet goes to each that is put in by a permutation
+-- the map of a facet to each new one permutes the vertices
 pub puts_permute : (rows : List Row) (m : Move) (f : Facet) (label : ℕ) → IsFacet f → label < 5 → IsPermutationOfFour (label_by_label f (new_facet rows m label))
 puts_permute rows m f label F l = by_case (cases_eq f.missing label)
   where
@@ -38,7 +38,7 @@ puts_permute rows m f label F l = by_case (cases_eq f.missing label)
     by_case (inl e) = same_permutes f (new_facet rows m label) F (new_is_facet rows m label l) e
     by_case (inr d) = by_permutes f (new_facet rows m label) F (new_is_facet rows m label l) d
 
--- the old facet that lacks a label, by its place
+-- the old facet that lacks a label, by its index in the list
 pub old_at : (rows : List Row) (m : Move) (facets : List Facet) (label size : ℕ) (d : Facet) → AreOldFacets rows m facets → size ≡ length m.core → size ≤ label → label < 5 → IsOldFacet rows m label (get_or facets (label - size) d)
 old_at rows m facets label size d old es low high =
     let count = old.count in

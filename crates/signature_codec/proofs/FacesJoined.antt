@@ -1,4 +1,4 @@
--- A face that is joined by its type.
+-- A face that is joined, by its type.
 use Rattle.std.proofs.Common.{◌≡◌, ℕ, zero, suc, ◌+◌, ◌<◌, ◌≤◌, Bool, List, [], ◌∷◌, length, get_or, drop, Option, Some, None, false, true, refl, sym, ap, ◌∙◌, add-one, drop-cons, arith}
 use Rattle.std.specs.Prelude.{Result, Ok, Err, is_some, nat_le, ◌||◌, ◌==◌, slice_set, if◌then◌else◌}
 use Rattle.std.specs.List.{slice_index_or}
@@ -16,7 +16,7 @@ use Rattle.signature_text_laws.proofs.Simulation.{slots_join}
 use Rattle.signature_codec.specs.Views.{glued_at}
 use Rattle.signature_codec.proofs.SeenJoined.{some_left}
 
--- a face of a tetrahedron that is seen, and that is not met, is joined by the next type
+-- a face that was not read, of a tetrahedron that is seen, is joined by the next type
 pub face_typed : (x : Face) (u type : ℕ) (xs : List ℕ) (s : Slots) → s.parts.types ≡ drop u xs → x.tet < s.seen → u < length xs → type ≡ get_or xs u type → is_some (slot s.met x) ≡ false
     → slot_face x s ≡ slot_type x type (with_types (drop (u + 1) xs) s)
 face_typed x u type xs s types seen inside is unmet =
@@ -31,12 +31,12 @@ unseen x s l = ap (λ wrong. signatures.unless wrong sig_faults.Unreached (slot_
 pub passed : (x : Face) (s : Slots) → x.tet < s.seen → slot_face x s ≡ slot_next x s.parts.types s
 passed x s l = ap (λ wrong. signatures.unless wrong sig_faults.Unreached (slot_next x s.parts.types s)) (lt-leb s.seen x.tet l)
 
--- a face that is met needs no type
+-- a face that was read needs no type
 pub met_already : (x : Face) (types : List ℕ) (s : Slots) → is_some (slot s.met x) ≡ true → slot_next x types s ≡ Ok s
 met_already x [] s is = refl
 met_already x (type ∷ types) s is = ap (λ met. if met then Ok s else slot_type x type (with_types types s)) is
 
--- what each type does, where so many types were used
+-- the state after a face of each type is joined, if the types ts remain
 pub at_boundary : (x : Face) (type : ℕ) (ts : List ℕ) (s : Slots) (met : List (Option (Option Gluing))) → type ≡ 0 → met ≡ slice_set s.met (face_number x) (Some None)
     → slot_type x type (with_types ts s) ≡ Ok (with_types ts (record s { met = met }))
 at_boundary x type ts s met is e = ap (λ k. slot_type x k (with_types ts s)) is ∙ ap (λ (m : List (Option (Option Gluing))). Ok (with_types ts (record s { met = m }))) (sym e)
@@ -52,7 +52,7 @@ at_seen x type s ne0 ne1 =
     ap (λ b. if b then Ok (slot_boundary x s) else (if type == 1 then Ok (slot_new x s) else slot_seen x s)) (ne_eqb type 0 ne0)
     ∙ ap (λ b. if b then Ok (slot_new x s) else slot_seen x s) (ne_eqb type 1 ne1)
 
--- what is left where the next type was used is as it was
+-- joining a face by the next type keeps the conditions on the state
 pub kept_next : (n u type : ℕ) (x : Face) (xs : List ℕ) (s t : Slots) → IsSlots n (with_types (drop u xs) s) → u < length xs → type ≡ get_or xs u type → slot_type x type (with_types (drop (u + 1) xs) s) ≡ Ok t → IsSlots n t
 kept_next n u type x xs s t h l is e = taken_kept n x type (with_types (drop (u + 1) xs) s) t (taking_next n u type xs s h l is) e
 
@@ -62,7 +62,7 @@ joined_none n parts none =
     let s : Slots = slots_begun 0 parts in
     sym (next_ok (slot_faces 0 0 s) s (λ t. Ok (slot_rows 0 t.met)) (slot_faces-end 0 0 s refl)) ∙ slots_join 0 parts (λ l. absurd (omega arith)) ∙ ap (λ m. signatures.table_of m parts) (sym none)
 
--- a face that is glued to a tetrahedron which is seen needs no types
+-- gluing a face to a tetrahedron that is seen uses no further type
 abbrev mapped : (Slots → Slots) → Result Slots SigFault → Result Slots SigFault
 mapped f (Ok s) = Ok (f s)
 mapped f (Err e) = Err e
@@ -91,7 +91,7 @@ at_glued x type ts s g met ds gs ne0 ne1 e em ed eg =
 pub seen_refused : (x : Face) (type : ℕ) (ts : List ℕ) (s : Slots) (e : SigFault) → (type ≡ 0 → ⊥) → (type ≡ 1 → ⊥) → slot_seen x s ≡ Err e → slot_type x type (with_types ts s) ≡ Err e
 seen_refused x type ts s e ne0 ne1 is = at_seen x type (with_types ts s) ne0 ne1 ∙ seen_mapped x ts s ∙ ap (mapped (with_types ts)) is
 
--- there is a destination for it
+-- a type other than 0 and 1 is 2, and has a destination
 is_two : (k : ℕ) → k < 3 → (k ≡ 0 → ⊥) → (k ≡ 1 → ⊥) → k ≡ 2
 is_two zero l ne0 ne1 = absurd (ne0 refl)
 is_two (suc zero) l ne0 ne1 = absurd (ne1 refl)

@@ -1,4 +1,4 @@
--- A face that is joined to a tetrahedron which is seen, or is not.
+-- A face of type 2, whose tetrahedron is seen or not.
 use Rattle.std.proofs.Common.{◌≡◌, ℕ, ◌<◌, ◌≤◌, Bool, true, false, List, [], ◌∷◌, length, drop, refl, sym, ap, ◌∙◌, subst₂, arith, length-drop}
 use Rattle.std.specs.Prelude.{Result, Err, Ok, All, is_some, ◌||◌}
 use Rattle.std.specs.List.{slice_index_or}
@@ -13,7 +13,7 @@ use Rattle.signature_text_laws.specs.Slots.{Slots, slot, meet_at, slot_glued, sl
 use Rattle.signature_text_laws.proofs.SlotLaws.{times-same}
 use Rattle.signature_codec.specs.Views.{glued_at}
 
--- the destination and the gluing are those that were read
+-- the destination and the gluing are the next ones
 module _ (x : Face) (s : Slots) (d i : ℕ × ℕ) (d_is : d ≡ signatures.first_pair s.parts.destinations) (i_is : i ≡ signatures.first_pair s.parts.gluings) where
   abbrev used : Slots
   used = record s { parts = record s.parts { destinations = drop 1 s.parts.destinations; gluings = drop 1 s.parts.gluings } }
@@ -36,7 +36,7 @@ module _ (x : Face) (s : Slots) (d i : ℕ × ℕ) (d_is : d ≡ signatures.firs
   pub too_far : s.seen ≤ d.0 → slot_seen x s ≡ Err (sig_faults.Destination d.1)
   too_far far = read ∙ ap (λ wrong. signatures.unless wrong (sig_faults.Destination d.1) (signatures.unless taken (sig_faults.FaceTaken i.1) joined)) (le-leb s.seen d.0 far)
 
-  -- the tetrahedron is seen, and the other face is the one that was made
+  -- the tetrahedron is seen, and `other` is the other side of the gluing
   module _ (near : d.0 < s.seen) (p : List ℕ) (other : Face) (p_is : p ≡ slice_index_or words i.0 []) (other_is : other ≡ other_side x (record { tet = d.0; perm = p })) where
     seen : slot_seen x s ≡ signatures.unless taken (sig_faults.FaceTaken i.1) joined
     seen = read ∙ ap (λ wrong. signatures.unless wrong (sig_faults.Destination d.1) (signatures.unless taken (sig_faults.FaceTaken i.1) joined)) (lt-leb s.seen d.0 near)
@@ -52,7 +52,7 @@ module _ (x : Face) (s : Slots) (d i : ℕ × ℕ) (d_is : d ≡ signatures.firs
         seen ∙ ap (λ wrong. signatures.unless wrong (sig_faults.FaceTaken i.1) joined) (sym (ap taken_by made) ∙ h)
         ∙ ap (λ q. Ok (record used { met = meet_at s.met x (record { tet = d.0; perm = q }) })) (sym p_is)
 
--- where a type 2 was taken, there is a destination, and a gluing
+-- if type 2 was used, a destination and a gluing remain
 pub some_left : (u : ℕ) (types : List ℕ) (ps : List (ℕ × ℕ)) → length (drop u ps) ≡ times_in (2 ∷ types) 2 → u < length ps
 some_left u types ps h = omega (arith, times-same 2 types, length-drop u ps)
 
@@ -60,6 +60,6 @@ pub first_small : (ps : List (ℕ × ℕ)) → All (λ (i : ℕ × ℕ). i.0 < 2
 first_small [] h = omega arith
 first_small (p ∷ ps) h = h 0 (0, 0) (omega arith)
 
--- a test after one that failed decides
+-- if one test fails, the next one decides
 pub or_next : (a b r : Bool) → a ≡ false → b ≡ r → (a || b) ≡ r
 or_next a b r h k = ap (λ q. q || b) h ∙ k

@@ -1,4 +1,4 @@
--- A walk that stops names the first face that is not in order.
+-- A traversal that stops names the first face that is not in order.
 use Rattle.std.proofs.Common.{ℕ, ◌*◌, ◌<◌, List, length, Some, sym, ap, ◌∙◌}
 use Rattle.std.specs.Prelude.{Err}
 use Rattle.table_definitions.specs.Table.{Row}

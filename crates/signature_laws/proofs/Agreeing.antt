@@ -1,4 +1,4 @@
--- Two walks of a table from one start agree.
+-- Two traversals of a table from the same start result in the same relabelling and table.
 use Rattle.std.proofs.Common.{◌≡◌, ℕ, zero, suc, ◌+◌, ◌*◌, ◌/◌, ◌%◌, ◌<◌, ◌≤◌, List, [], length, get_or, Option, Some, None, refl, sym, ap, ◌∙◌, subst, arith, ⊎_elim}
 use Rattle.std.specs.Prelude.{option_map, slice_index}
 use Rattle.std.specs.List.{slice_index_or}
@@ -15,7 +15,7 @@ use Rattle.table_definitions.specs.Places.{face_of}
 use Rattle.signature_laws.proofs.Standing.{same_relabelling}
 use Rattle.signature_laws.proofs.Seen.{SeenBelow, tet_below, seen_begun, at_boundary, to_seen, to_next}
 
--- a gluing and what it becomes determine what stands for the tetrahedron behind it
+-- a gluing and its image determine the image of the tetrahedron across it
 pub one_behind : (s r r' g : Gluing) → IsPermutationOfFour s.perm → IsPermutationOfFour r.perm → IsPermutationOfFour r'.perm → IsPermutationOfFour g.perm → gluing_under s r g ≡ gluing_under s r' g → r ≡ r'
 one_behind s r r' g hs hr hr' hg e =
     let a : List ℕ = compose g.perm (inverse s.perm) in
@@ -23,7 +23,7 @@ one_behind s r r' g hs hr hr' hg e =
     let perm : r.perm ≡ r'.perm = taken_away r.perm r'.perm a hr hr' (compose_permutes g.perm (inverse s.perm) hg (inverse_permutes s.perm hs)) (ap (λ (k : Gluing). k.perm) e) in
     λ i. record { tet = tet i; perm = perm i }
 
--- a relabelling carries a table to one table
+-- a relabelling carries a table to only one table
 pub one_table : (rows new other : List Row) (by : Relabelling) → IsRelabelling (length rows) by → Carries by rows new → Carries by rows other → new ≡ other
 one_table rows new other by h c d = ext_get_or [] new other (c.same_length ∙ sym d.same_length) row
   where
@@ -47,7 +47,7 @@ module _ (rows new other : List Row) (by others : Relabelling) (table : IsTable 
   abbrev n : ℕ
   n = length rows
 
-  -- before the face at k the tetrahedra below s are seen, and they are the same in both walks
+  -- before the face at k is read, both traversals have seen the tetrahedra below s, with the same preimages
   record Agree (k s : ℕ) : Type 0 where
     first : SeenBelow new k s
     second : SeenBelow other k s
@@ -69,7 +69,7 @@ module _ (rows new other : List Row) (by others : Relabelling) (table : IsTable 
   same_at : (t u : ℕ) → t < n → u < n → slice_index by.images t ≡ slice_index by.images u → relabelled_place by t ≡ relabelled_place others t → relabelled_place by u ≡ relabelled_place others u
   same_at t u l m e same = let one : t ≡ u = images_apart n by w.relabels.0 t u l m e in subst (λ v. relabelled_place by v ≡ relabelled_place others v) one same
 
-  -- a face that leads to a tetrahedron
+  -- a face that is glued
   glued_on : (k s t : ℕ) (x : Face) (g : Gluing) → k < 4 * n → Agree k s → x.tet < n → glue rows x ≡ Some g → relabelled_place by x.tet ≡ relabelled_place others x.tet
       → glue new (face_of k) ≡ Some (gluing_under (relabelled_place by x.tet) (relabelled_place by g.tet) g) → glue other (face_of k) ≡ Some (gluing_under (relabelled_place others x.tet) (relabelled_place others g.tet) g) → (s' : ℕ) × Agree (k + 1) s'
   glued_on k s t x g l a m e same there there' = ⊎_elim old next (cases_lt (slice_index by.images g.tet) s)
@@ -116,7 +116,7 @@ module _ (rows new other : List Row) (by others : Relabelling) (table : IsTable 
           at : (v : ℕ) → v < s + 1 → slice_index by.images g.tet ≡ s → relabelled_place by g.tet ≡ relabelled_place others g.tet → (t : ℕ) × (t < n) × (slice_index by.images t ≡ v) × (relabelled_place by t ≡ relabelled_place others t)
           at v c is one = ⊎_elim (λ (d : v < s). a.both v d) (λ (d : s ≤ v). (g.tet, behind, is ∙ omega arith, one)) (cases_lt v s)
 
-  -- one more face
+  -- a further face
   agree_on : (k s : ℕ) → k < 4 * n → Agree k s → (s' : ℕ) × Agree (k + 1) s'
   agree_on k s l a = at (a.both (k / 4) (tet_below new w.ordered (k / 4) k s (let e = w.relabels.1.same_length in omega (arith, e)) (omega arith) (let m = inside k l in omega (arith, m)) a.first))
     where

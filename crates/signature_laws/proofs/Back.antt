@@ -12,7 +12,7 @@ use Rattle.table_definitions.proofs.Carried.{carried_and_back}
 use Rattle.signature_laws.specs.Between.{place_of, back_of, inverted, after_of, after}
 use Rattle.signature_laws.proofs.Standing.{made_stands, CanStand, made_relabelling, place_of-image}
 
--- on the way back t stands for what stands for t
+-- the inverse maps the image of t back to t
 pub inverted_stands : (n : ℕ) (by : Relabelling) → IsRelabelling n by → (t : ℕ) → t < n
     → relabelled_place (inverted n by) (slice_index by.images t) ≡ record { tet = t; perm = inverse (slice_index_or by.perms t []) }
 inverted_stands n by h t l =

@@ -1,4 +1,4 @@
--- What relabellings keep.
+-- What relabellings keep: tables, and whether they are connected.
 use Rattle.std.proofs.Common.{◌≡◌, ℕ, List, [], ◌∷◌, length, Some, refl, sym, ap, ◌∙◌, subst, arith}
 use Rattle.std.specs.Prelude.{option_map, slice_index}
 use Rattle.std.specs.List.{slice_index_or}
@@ -30,7 +30,7 @@ relabels_on rows next last table a b =
 pub relabels_table : (rows new : List Row) → IsTable rows → AreIsomorphic rows new → IsTable new
 relabels_table rows new table r = carried_is_table rows new r.0 table r.1 r.2
 
--- a chain is carried along
+-- the images of the tetrahedra along a chain are joined
 module _ (rows new : List Row) (by : Relabelling) (table : IsTable rows) (c : Carries by rows new) where
   abbrev Led : Place → Place → Type 0
   Led start p = (p.vertices ≡ []) × IsJoined new (whole (slice_index by.images start.tet)) (whole (slice_index by.images p.tet))

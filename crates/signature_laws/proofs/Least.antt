@@ -1,4 +1,4 @@
--- The least text of the walks from all starts is the signature.
+-- The least text of the traversals from all starts is the signature.
 use Rattle.std.proofs.Common.{◌≡◌, ℕ, ◌+◌, ◌*◌, ◌/◌, ◌%◌, ◌<◌, ◌≤◌, Bool, true, false, List, [], ◌∷◌, length, Some, None, refl, sym, ap, ◌∙◌, subst, arith, inl, inr, ⊎_elim}
 use Rattle.std.specs.Prelude.{not, find}
 use Rattle.std.specs.List.{list_all, slice_index_or}
@@ -20,7 +20,7 @@ use Rattle.signature_laws.proofs.Standing.{made_relabelling}
 use Rattle.signature_laws.proofs.Agreeing.{one_walk}
 use Rattle.signature_laws.proofs.Uniqueness.{before_before}
 
--- a walk-ordered table has no face at which it is not
+-- a walk-ordered table has no first face at which it is not walk-ordered
 none_found : (p : Face → Bool) (xs : List Face) → list_all p xs ≡ true → find (λ x. not (p x)) xs ≡ None
 none_found p [] e = refl
 none_found p (x ∷ xs) e = let b = and_parts (p x) (list_all p xs) e in rw b.0 (none_found p xs b.1)
@@ -29,7 +29,7 @@ pub never_unordered : (rows : List Row) (x : Face) → IsWalkOrdered rows → fi
 unfolding first_unordered
 never_unordered rows x ordered e = let n = none_found (is_ordered_at rows) (faces (length rows)) ordered in let z : None ≡ Some x = sym n ∙ e in cc
 
--- the number of a start
+-- the start whose number is given by a tetrahedron and a permutation
 pub number_of : (t : ℕ) (p : List ℕ) → IsPermutationOfFour p → numbered_start (24 * t + index p) ≡ record { tet = t; perm = p }
 number_of t p h =
     let low = index_below p h in
@@ -38,13 +38,13 @@ number_of t p h =
     let c : slice_index_or words ((24 * t + index p) % 24) [] ≡ p = ap (λ i. slice_index_or words i []) b ∙ words_at p h in
     λ i. record { tet = a i; perm = c i }
 
--- a text of the walk from each start is one of the first start's
+-- the traversals from a start have one text
 pub one_text : (rows : List Row) (start : Start) (text other : List ℕ) → IsTable rows → start.tet < length rows → IsTextFrom rows start text → IsTextFrom rows start other → text ≡ other
 one_text rows start text other table l a b =
     let w = one_walk rows a.1 b.1 a.0 b.0 table start l a.2 b.2 in
     a.3.spelled ∙ ap spelling w.1 ∙ sym b.3.spelled
 
--- a text that is one of the first start's is not before it
+-- a list is not before itself
 not_before_same : (xs ys : List ℕ) → xs ≡ ys → is_list_before xs ys ≡ false
 not_before_same xs ys e = ap (is_list_before xs) (sym e) ∙ not_before_itself xs
 
@@ -57,7 +57,7 @@ least_begun rows text table some h = record {
   least = λ i other l k. let z : i ≡ 0 = omega arith in not_before_same other text (one_text rows (numbered_start 0) other text table some (subst (λ j. IsTextFrom rows (numbered_start j) other) z k) h);
 }
 
--- one more walk
+-- one more traversal
 least_of : (rows : List Row) (i : ℕ) (w : List ℕ) → ((j : ℕ) (other : List ℕ) → j < i → IsTextFrom rows (numbered_start j) other → is_list_before other w ≡ false) → ((other : List ℕ) → IsTextFrom rows (numbered_start i) other → is_list_before other w ≡ false)
     → (j : ℕ) (other : List ℕ) → j < i + 1 → IsTextFrom rows (numbered_start j) other → is_list_before other w ≡ false
 least_of rows i w before here j other m f = ⊎_elim

@@ -1,4 +1,4 @@
--- The marks of a walk.
+-- The marks of a traversal: which tetrahedra are visited.
 use Rattle.std.proofs.Common.{◌≡◌, ℕ, ◌<◌, ◌≤◌, Bool, true, false, List, [], ◌∷◌, ◌++◌, length, get_or, refl, sym, ap, ◌∙◌, arith, ⊎_elim}
 use Rattle.std.specs.Prelude.{◌==◌, ◌||◌}
 use Rattle.std.specs.List.{slice_set}
@@ -12,7 +12,7 @@ use Rattle.table_definitions.proofs.Marked.{mark_same, mark_other, or-false as o
 use Rattle.signature_laws.specs.Orders.{start_at, is_visited, start_behind, follow, IsWalking, AreVisited}
 use Rattle.signature_laws.proofs.Growing.{met_from}
 
--- what stands in the order is in range
+-- the tetrahedra of the order have marks
 pub met_inside : (order : List Start) (marks : List Bool) (i : ℕ) → AreVisited order marks → i < length order → (start_at order i).tet < length marks
 met_inside order marks i h l = ⊎_elim
     (λ (m : (start_at order i).tet < length marks). m)
@@ -27,7 +27,7 @@ met_below rows order marks i h l = let m = met_inside order marks i h.met l in l
 is_met-push : (order : List Start) (s : Start) (t : ℕ) → is_visited (order ++ s ∷ []) t ≡ (is_visited order t || (s.tet == t))
 is_met-push order s t = list_any-append (λ (r : Start). r.tet == t) order (s ∷ []) ∙ ap (λ b. is_visited order t || b) (or_false (s.tet == t))
 
--- the marks say so of one more
+-- the marks after one more tetrahedron is visited
 pub push_marks : (order : List Start) (s : Start) (marks : List Bool) → s.tet < length marks → AreVisited order marks → AreVisited (order ++ s ∷ []) (slice_set marks s.tet true)
 push_marks order s marks l h t = ⊎_elim
     (λ (e : t ≡ s.tet).
@@ -39,7 +39,7 @@ push_marks order s marks l h t = ⊎_elim
     mark_other marks s.tet t d ∙ h t ∙ sym (is_met-push order s t ∙ ap (λ b. is_visited order t || b) away ∙ or_false (is_visited order t)))
     (cases_eq t s.tet)
 
--- the marks once a gluing is followed
+-- the marks after a gluing is followed
 pub follow_met : (from : Start) (g : Gluing) (order : List Start) (marks : List Bool) → AreVisited order marks → g.tet < length marks → AreVisited (follow (get_or marks g.tet false) from g order) (slice_set marks g.tet true)
 follow_met from g order marks h l = by_bool (get_or marks g.tet false) (λ e. old e) (λ e. fresh e)
   where
@@ -59,6 +59,6 @@ follow_marks rows from g order new marks marked h l made set = record {
   met = rw (made, set) (follow_met from g order marks h.met l);
 }
 
--- a start that is read
+-- an item of the order that is read is the start there
 pub start_is : (order : List Start) (i : ℕ) (s : Start) → i < length order → s ≡ get_or order i s → s ≡ start_at order i
 start_is order i s l e = e ∙ get_or_default order i s (record { tet = 0; perm = [] }) l

@@ -1,4 +1,4 @@
--- The first walk of the second table that leads to the walked first one tells the least relabelling.
+-- The first traversal of the second table that results in the traversed first table gives the least relabelling.
 use Rattle.std.proofs.Common.{◌≡◌, ℕ, ◌+◌, ◌*◌, ◌/◌, ◌%◌, ◌<◌, true, false, List, [], length, get_or, refl, sym, ap, ◌∙◌, subst, arith, ⊎_elim}
 use Rattle.std.specs.Prelude.{Option, Some, None, IfSome, IfNone, ◌==◌, ◌&&◌, nat_lt, slice_index}
 use Rattle.std.specs.List.{slice_index_or}
@@ -16,7 +16,7 @@ use Rattle.signature_laws.specs.Starts.{numbered_start, numbered_start_back, IsN
 use Rattle.signature_laws.specs.Between.{inverted, after, between, images_between, perms_between}
 use Rattle.signature_laws.proofs.Back.{inverted_stands, inverted_relabelling, carries_back, after_stands, after_relabelling, carries_on}
 
--- where the start of a number begins, as a gluing
+-- the start with number i, as a gluing
 abbrev start_gluing : ℕ → Gluing
 start_gluing i = record { tet = i / 24; perm = slice_index_or words (i % 24) [] }
 
@@ -24,7 +24,8 @@ module _ (first second new : List Row) (by : Relabelling) (table : IsTable first
   abbrev n : ℕ
   n = length first
 
-  -- the walk of the second table that goes back by a relabelling of the first to it, and then on
+  -- a relabelling `other` of the first table to the second gives a traversal of the second: by its inverse, and then by
+  -- that of the first
   back_walk : (other : Relabelling) → Relabels first second other → (k : ℕ) → k ≡ 24 * slice_index other.images 0 + index (slice_index_or other.perms 0 [])
       → IsWalked second (numbered_start_back k) (after n by (inverted n other)) new
   back_walk other r k e = record { relabels = (second_relabelling, carried); begins = begun; ordered = w.ordered }
@@ -62,7 +63,7 @@ module _ (first second new : List Row) (by : Relabelling) (table : IsTable first
           ∙ ap inverse (sym word) in
           ap (relabelled_place (after n by (inverted n other))) q ∙ after_stands n by (inverted n other) (slice_index other.images 0) low ∙ (λ j. record { tet = to j; perm = whole j })
 
-  -- where no walk matches, there is no relabelling
+  -- if no traversal of the second table matches, the tables are not isomorphic
   pub no_relabelling : ((i : ℕ) → i < 24 * length second → IsNoMatch second new i) → AreIsomorphic first second → ⊥
   no_relabelling none r =
       let k : ℕ = 24 * slice_index r.0.images 0 + index (slice_index_or r.0.perms 0 []) in
@@ -70,7 +71,7 @@ module _ (first second new : List Row) (by : Relabelling) (table : IsTable first
       let under = index_below (slice_index_or r.0.perms 0 []) (perm_permutes n r.0 r.1 0 some) in
       none k (omega (arith, low, under, equal)) (after n by (inverted n r.0)) (back_walk r.0 (r.1, r.2) k refl)
 
-  -- what stands for tetrahedron 0 by way of a walk that matches
+  -- the image of tetrahedron 0 under the relabelling that a matching traversal gives
   module _ (back : Relabelling) (i : ℕ) (in_range : i < 24 * length second) (m : IsWalked second (numbered_start_back i) back new) where
     back_relabelling : IsRelabelling n back
     back_relabelling = subst (λ l. IsRelabelling l back) (sym equal) m.relabels.0
@@ -98,7 +99,7 @@ module _ (first second new : List Row) (by : Relabelling) (table : IsTable first
           carries_on first new second (inverted n back) by table (inverted_relabelling n back back_relabelling) w.relabels.0 w.relabels.1 c,
         )
 
-    -- an earlier start than this one's would have matched
+    -- the start of an earlier relabelling has a smaller number
     earlier : (other : Relabelling) → Relabels first second other → is_stand_in_before (relabelled_place other 0) (start_gluing i) ≡ true → 24 * slice_index other.images 0 + index (slice_index_or other.perms 0 []) < i
     earlier other r h =
         let q : List ℕ = slice_index_or other.perms 0 [] in
@@ -147,7 +148,7 @@ module _ (n : ℕ) (first second : Relabelling) (h : IsRelabelling n first) (h2 
   perm_at : (t : ℕ) → t < n → get_or perms t [] ≡ compose (inverse (slice_index_or second.perms (slice_index images t) [])) (slice_index_or first.perms t [])
   perm_at t l = get_or-map-range_with_len (λ t. compose (inverse (slice_index_or second.perms (slice_index images t) [])) (slice_index_or first.perms t [])) 0 (length first.images) t t [] (let e = long_first in omega (arith, e)) (omega arith)
 
-  -- the place that goes to the image of t by the second
+  -- the tetrahedron u that the second maps to the image of t under the first
   met : (t : ℕ) → t < n → (u : ℕ) × (u < n) × (slice_index second.images u ≡ slice_index first.images t) × (slice_index images t ≡ u)
   met t l =
       let a = comes_from n second h2 (slice_index first.images t) (image_in_range n first h t l) in
@@ -180,7 +181,7 @@ module _ (n : ℕ) (first second : Relabelling) (h : IsRelabelling n first) (h2 
   pub between_relabelling : IsRelabelling n (record { images = images; perms = perms })
   between_relabelling = subst (IsRelabelling n) (sym is_between) (after_relabelling n (inverted n second) first (inverted_relabelling n second h2) h)
 
--- the old numbers of a relabelling
+-- `olds` is the inverse of the images of `second`
 pub record AreOlds (n : ℕ) (second : Relabelling) (olds : List ℕ) : Type 0 where
   pub long : length olds ≡ n
   pub home : (t : ℕ) → t < n → slice_index olds (slice_index second.images t) ≡ t
@@ -192,7 +193,7 @@ olds_by n second items olds h e long back = record {
   home = λ t l. ap (λ (o : List ℕ). slice_index o (slice_index second.images t)) e ∙ back t (let m = length-images n second h in omega (arith, m));
 }
 
--- the same of lists that calls gave
+-- what the functions return is the relabelling by the first and back by the second
 pub listed_range : (first second : Relabelling) (olds images : List ℕ) → IsRelabelling (length first.images) first → IsRelabelling (length first.images) second → AreOlds (length first.images) second olds
     → images ≡ images_between first olds → (length images ≡ length first.images) × ((t : ℕ) → t < length images → slice_index images t < length second.images)
 listed_range first second olds images h h2 o e =
@@ -215,7 +216,7 @@ listed_between first second olds images perms h h2 o e f =
     let r : IsRelabelling n (record { images = images; perms = perms }) = subst (IsRelabelling n) (sym made) (between_relabelling n first second h h2 olds o.long o.home) in
     (subst (λ m. IsRelabelling m (record { images = images; perms = perms })) (sym long) r, made ∙ is_between n first second h h2 olds o.long o.home)
 
--- what is said of an option, where its form is known
+-- a statement on an option of known form
 pub from_none : {X : Type 0} (o : Option X) (P : Type 0) → o ≡ None → IfNone o P → P
 from_none None P e h = h
 from_none (Some x) P e h = absurd cc

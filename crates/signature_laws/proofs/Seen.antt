@@ -16,7 +16,7 @@ use Rattle.table_definitions.proofs.Marked.{or-false as or_none}
 use Rattle.table_definitions.specs.Places.{face_of}
 use Rattle.signature_text_laws.proofs.WalkLaws.{seen_same, seen_next}
 
--- the tetrahedra below s are seen before the face at k is taken
+-- exactly the tetrahedra below s are seen before the face at index k is read
 abbrev pub SeenBelow : List Row → ℕ → ℕ → Type 0
 SeenBelow rows k s = (u : ℕ) → is_seen rows (face_of k) u ≡ nat_lt u s
 
@@ -27,7 +27,7 @@ ordered_at rows ordered k l =
     let long : length (map face_of (below (4 * length rows))) ≡ 4 * length rows = length-map-range_with_len face_of 0 (4 * length rows) in
     ap (is_ordered_at rows) (sym at) ∙ list_all-at (is_ordered_at rows) (map face_of (below (4 * length rows))) all k (face_of 0) (omega (arith, long))
 
--- a tetrahedron is seen before its first face is taken
+-- a tetrahedron is seen before its first face is read
 first_seen : (rows : List Row) → IsWalkOrdered rows → (v : ℕ) → v < length rows → is_seen rows (face_of (4 * v)) v ≡ true
 first_seen rows ordered v l =
     let t : 4 * v / 4 ≡ v = omega arith in
@@ -53,7 +53,7 @@ seen_begun rows u = is_seen-begun rows u ∙ only u
 more : (rows : List Row) (k s : ℕ) (o : Option Gluing) (u : ℕ) → k < 4 * length rows → SeenBelow rows k s → glue rows (face_of k) ≡ o → is_seen rows (face_of (k + 1)) u ≡ (nat_lt u s || is_glued_to u o)
 more rows k s o u l seen e = is_seen-more rows k u (omega arith) ∙ ap (λ b. b || is_glued_to u (glue rows (face_of k))) (seen u) ∙ ap (λ p. nat_lt u s || is_glued_to u p) e
 
--- a face of the boundary, one that leads to what is seen, and one that leads on
+-- a boundary face, a face that is glued to a tetrahedron already seen, and one that is glued to one not yet seen
 pub at_boundary : (rows : List Row) (k s : ℕ) → k < 4 * length rows → SeenBelow rows k s → glue rows (face_of k) ≡ None → SeenBelow rows (k + 1) s
 at_boundary rows k s l seen e u = more rows k s None u l seen e ∙ or_none (nat_lt u s)
 

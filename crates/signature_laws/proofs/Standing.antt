@@ -1,4 +1,4 @@
--- Relabellings, by what stands for each tetrahedron.
+-- Relabellings, by the image of each tetrahedron.
 use Rattle.std.proofs.Common.{◌≡◌, ℕ, ◌<◌, false, List, [], length, map, get_or, refl, sym, ap, ◌∙◌, subst, arith}
 use Rattle.std.specs.Prelude.{◌==◌, slice_index}
 use Rattle.std.proofs.lemmas.Bool.{eqb-true, eq-eqb}
@@ -15,7 +15,7 @@ use Rattle.signature_laws.specs.Between.{made, place_of}
 use Rattle.table_definitions.proofs.Bijections.{onto, IsDistinct-from_before}
 use Rattle.table_definitions.proofs.Carried.{length-images, images_apart}
 
--- relabellings by which the same stands for each tetrahedron are the same
+-- relabellings with the same image of each tetrahedron are equal
 pub same_relabelling : (n : ℕ) (by other : Relabelling) → IsRelabelling n by → IsRelabelling n other → ((t : ℕ) → t < n → relabelled_place by t ≡ relabelled_place other t) → by ≡ other
 same_relabelling n by other h k same =
     let long = length-images n by h in
@@ -25,7 +25,7 @@ same_relabelling n by other h k same =
     let perms : by.perms ≡ other.perms = ext_get_or [] by.perms other.perms (h.perms ∙ sym k.perms) (λ t l. ap (λ (g : Gluing). g.perm) (same t (omega (arith, wide)))) in
     λ i. record { images = images i; perms = perms i }
 
--- a relabelling that is made has what it is made of
+-- the relabelling that maps each t to f t does so
 pub made_stands : (n : ℕ) (f : ℕ → Gluing) (t : ℕ) → t < n → relabelled_place (made n f) t ≡ f t
 unfolding made
 made_stands n f t l =
@@ -33,7 +33,7 @@ made_stands n f t l =
     let b : get_or (map (λ t. (f t).perm) (below n)) t [] ≡ (f t).perm = get_or-map-range_with_len (λ t. (f t).perm) 0 n t t [] l (omega arith) in
     λ i. record { tet = a i; perm = b i }
 
--- what a relabelling asks of what stands for each tetrahedron
+-- the conditions on f under which the map of each t to f t is a relabelling
 pub record CanStand (n : ℕ) (f : ℕ → Gluing) : Type 0 where
   pub in_range : (t : ℕ) → t < n → (f t).tet < n
   pub apart : (t u : ℕ) → t < n → u < n → (f t).tet ≡ (f u).tet → t ≡ u
@@ -69,7 +69,7 @@ made_relabelling n f h = record {
     permuted : (k : ℕ) → k < n → IsPermutationOfFour (get_or perms k [])
     permuted k l = subst IsPermutationOfFour (sym (get_or-map-range_with_len (λ t. (f t).perm) 0 n k k [] l (omega arith))) (h.permutes k l)
 
--- a tetrahedron is found by its image
+-- the tetrahedron with a given image
 pub place_of-image : (n : ℕ) (by : Relabelling) → IsRelabelling n by → (t : ℕ) → t < n → place_of by (slice_index by.images t) ≡ t
 unfolding place_of
 place_of-image n by h t l =

@@ -1,4 +1,4 @@
--- Of signatures and of relabellings that are told there is one, and what they tell.
+-- A table has at most one signature, and two tables at most one least relabelling; what follows from them.
 use Rattle.std.proofs.Common.{◌≡◌, ℕ, ◌<◌, ◌≤◌, Bool, true, false, List, [], ◌∷◌, length, Some, refl, sym, ap, ◌∙◌, subst, arith, inl, inr}
 use Rattle.std.specs.Prelude.{◌⊎◌, ◌==◌, ◌||◌, ◌&&◌, ◌↔◌, nat_lt, option_map}
 use Rattle.std.proofs.lemmas.Bool.{eqb-true, eq-eqb, ltb-true, ltb-false, lt-ltb, and_parts, or_cases, or_parts}
@@ -22,7 +22,7 @@ use Rattle.signature_laws.proofs.Agreeing.{one_behind}
 open_and : (p q : Bool) → p ≡ true → (p && q) ≡ q
 open_and p q h = rw h refl
 
--- of two different lists the one is before the other
+-- if neither of two lists is before the other, they are equal
 pub neither_before : (xs ys : List ℕ) → is_list_before xs ys ≡ false → is_list_before ys xs ≡ false → xs ≡ ys
 neither_before [] [] e f = refl
 neither_before [] (y ∷ ys) e f = absurd cc
@@ -36,7 +36,7 @@ neither_before (x ∷ xs) (y ∷ ys) e f =
     let rest : xs ≡ ys = neither_before xs ys (sym (open_and (x == y) (is_list_before xs ys) (eq-eqb x y same)) ∙ a.1) (sym (open_and (y == x) (is_list_before ys xs) (eq-eqb y x (sym same))) ∙ b.1) in
     λ i. same i ∷ rest i
 
--- a list before one that is before a third is before that
+-- being before is transitive
 pub before_before : (xs ys zs : List ℕ) → is_list_before xs ys ≡ true → is_list_before ys zs ≡ true → is_list_before xs zs ≡ true
 before_before xs [] zs e f = absurd (never xs e)
   where
@@ -72,7 +72,7 @@ pub one_signature : (rows : List Row) (text other : List ℕ) → IsSignature ro
 one_signature rows text other s t =
     neither_before text other (t.least s.found.0 text s.found.1 s.found.2) (s.least t.found.0 other t.found.1 t.found.2)
 
--- tables with one signature are relabelled to one table
+-- two tables have the same signature if and only if they are isomorphic
 pub tells_tables : (first second : List Row) (text other : List ℕ) → IsTable first → IsTable second → IsSignature first text → IsSignature second other → (text ≡ other) ↔ AreIsomorphic first second
 tells_tables first second text other a b s t = (there, back)
   where
@@ -87,7 +87,7 @@ tells_tables first second text other a b s t = (there, back)
         (t.least s.found.0 text (relabels_on second first s.found.0 b (relabels_back first second a r) s.found.1) s.found.2)
         (s.least t.found.0 other (relabels_on first second t.found.0 a r t.found.1) t.found.2)
 
--- of two different gluings the one is before the other
+-- if neither of two gluings is before the other, they are equal
 neither_stand_in : (s r : Gluing) → IsPermutationOfFour s.perm → IsPermutationOfFour r.perm → is_stand_in_before s r ≡ false → is_stand_in_before r s ≡ false → s ≡ r
 neither_stand_in s r hs hr e f =
     let a = or_parts (nat_lt s.tet r.tet) ((s.tet == r.tet) && nat_lt (index s.perm) (index r.perm)) e in
@@ -101,7 +101,7 @@ neither_stand_in s r hs hr e f =
     let perms : s.perm ≡ r.perm = index_apart s.perm r.perm hs hr places in
     λ i. record { tet = same i; perm = perms i }
 
--- relabellings of a connected table agree where they agree at tetrahedron 0
+-- relabellings of a connected table that agree at tetrahedron 0 are equal
 module _ (first second : List Row) (by other : Relabelling) (table : IsTable first) (r : Relabels first second by) (r' : Relabels first second other) where
   abbrev Agrees : Place → Type 0
   Agrees p = (p.vertices ≡ []) × (p.tet < length first) × (relabelled_place by p.tet ≡ relabelled_place other p.tet)

@@ -1,4 +1,4 @@
--- Each relabelling carries a table to some table, and a connected table has its walks and its signature.
+-- Each relabelling carries a table to some table, and a connected table has its traversals and its signature.
 use Rattle.std.proofs.Common.{◌≡◌, ℕ, zero, suc, ◌+◌, ◌-◌, ◌*◌, ◌%◌, ◌<◌, Bool, true, false, List, [], length, map, refl, sym, ap, ◌∙◌, subst, arith, inl, inr}
 use Rattle.std.specs.Prelude.{◌⊎◌, ◌==◌, slice_index}
 use Rattle.std.specs.List.{position_or_len}
@@ -26,7 +26,7 @@ use Rattle.signature_laws.proofs.Sound.{IsOrder, order_holds}
 use Rattle.signature_laws.proofs.Reaching.{order_few, whole_order_holds}
 use Rattle.signature_laws.proofs.Labelled.{labelled_is_walked}
 
--- the table to which a relabelling carries
+-- the table that a relabelling carries a table to
 pub relabelled_exist_lem : RelabelledExist
 relabelled_exist_lem rows by table h = (new, carries_from rows new by olds h (length-map olds (moved_row rows by) ∙ size) (λ k l. get_or-map (moved_row rows by) olds k 0 [] (rw size l)) back)
   where
@@ -44,7 +44,7 @@ relabelled_exist_lem rows by table h = (new, carries_from rows new by olds h (le
         get_or-map-range_with_len (place_of by) 0 (length rows) (slice_index by.images t) (slice_index by.images t) 0 (image_in_range (length rows) by h t l) (omega arith)
         ∙ place_of-image (length rows) by h t l
 
--- each tetrahedron goes to its place in the order
+-- the index of each tetrahedron in the order
 abbrev place_in : List Start → ℕ → ℕ
 place_in order t = position_or_len (λ (s : Start). s.tet == t) order
 
@@ -112,7 +112,7 @@ text_from rows i table connected l =
     let w = walks_exist_lem rows (numbered_start i) table connected (omega arith) (words_permute (i % 24) (omega arith)) in
     (spelling w.1, (w.0, w.1, w.2, record { table = carried_is_table rows w.1 w.0 table w.2.relabels.0 w.2.relabels.1; ordered = w.2.ordered; spelled = refl }))
 
--- of the least text of some starts and a text from the next one, the one that stands first
+-- the less of the least text of some starts and a text of the next one, the former if they are equal
 one_more : (rows : List Row) (k : ℕ) (best new : List ℕ) → IsTable rows → k < 24 * length rows → IsLeastText rows k best → IsTextFrom rows (numbered_start k) new → (b : Bool) → is_list_before new best ≡ b
     → (text : List ℕ) × IsLeastText rows (k + 1) text
 one_more rows k best new table l among h true e = (new, least_better rows k best new table l among (inl (h, e)))
@@ -121,7 +121,7 @@ one_more rows k best new table l among h false e = (best, least_better rows k be
     none : (other : List ℕ) → IsTextFrom rows (numbered_start k) other → is_list_before other best ≡ false
     none other f = subst (λ (text : List ℕ). is_list_before text best ≡ false) (one_text rows (numbered_start k) new other table (omega arith) h f) e
 
--- so there is a least one
+-- the first k + 1 starts have a least text
 least_up_to : (rows : List Row) (k : ℕ) → IsTable rows → IsConnected rows → 0 < length rows → k < 24 * length rows → (text : List ℕ) × IsLeastText rows (k + 1) text
 least_up_to rows zero table connected some l =
     let t = text_from rows 0 table connected (omega arith) in

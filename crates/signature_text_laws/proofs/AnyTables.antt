@@ -1,4 +1,4 @@
--- What is read in either form is a table, and no more lines are left behind it.
+-- What is read in either form is a table, and fewer lines remain after it.
 use Rattle.std.proofs.Common.{◌≡◌, ℕ, ◌≤◌, Bool, true, false, List, [], ◌∷◌, ◌++◌, length, length-append, refl, sym, ap, ◌∙◌, arith, Result, Ok, Err}
 use Rattle.std.specs.Prelude.{codes, if◌then◌else◌}
 use Rattle.text_definitions.specs.Text.{Token, word, stray, Line}
@@ -26,7 +26,7 @@ pub texted_ok : {A : Type 0} (r : Result A TextFault) (x : A) → texted r ≡ O
 texted_ok (Ok y) x e = let same : y ≡ x = cc in cc
 texted_ok (Err f) x e = absurd cc
 
--- a reader's Ok is no fault of the input
+-- what a reader reads is read also where its errors are those of an input
 worded_ok : {A : Type 0} (r : Result A LexFault) (x : A) → texted (lexed r) ≡ Ok x → r ≡ Ok x
 worded_ok r x e = lexed_ok r x (texted_ok (lexed r) x e)
 
@@ -45,7 +45,7 @@ end_line_keeps : (c d : Reading) → end_line_at c ≡ Ok d → d ≡ c
 unfolding end_line_at
 end_line_keeps c d e = end_keeps c.current.tokens c d e
 
--- the line was not begun yet
+-- the reading before its current line is begun
 abbrev unbegun : Reading → Reading
 unbegun c = record c { later = c.current ∷ c.later }
 

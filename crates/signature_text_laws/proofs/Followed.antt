@@ -1,4 +1,4 @@
--- Joining the parts of a walk-ordered table face after face gives the table.
+-- Joining the sections of the text of a walk-ordered table, face after face, gives the table.
 use Rattle.std.proofs.Common.{◌≡◌, ℕ, zero, suc, ◌+◌, ◌*◌, ◌/◌, ◌%◌, ◌<◌, true, false, List, [], ◌∷◌, ◌++◌, length, drop, get_or, map, Option, Some, None, refl, sym, ap, ◌∙◌, subst, arith}
 use Rattle.std.specs.Prelude.{Ok, nat_le, is_some, filter_map, sum_by, ◌||◌, ◌==◌, if◌then◌else◌, cond}
 use Rattle.std.specs.List.{slice_index_or, list_all, range_with_len}
@@ -28,27 +28,27 @@ use Rattle.signature_text_laws.proofs.Walked.{before_at}
 use Rattle.signature_text_laws.proofs.SpelledReads.{unless_of}
 use Rattle.signature_text_laws.proofs.Following.{Took, took_none, took_met, took_old, took_new, took, FollowsMet, met_follows, bound_follows, both_unmet, both_follows}
 
--- what each face spells
+-- the type of a face in the text of a table
 abbrev pub type_at : List Row → Face → Option ℕ
 type_at rows x = type_of rows x (glue rows x)
 
 abbrev pub gluing_at : List Row → Face → Option Gluing
 gluing_at rows x = seen_gluing rows x (glue rows x)
 
--- the faces from a place on
+-- m faces from index k on
 abbrev pub faces_from : ℕ → ℕ → List Face
 faces_from k m = map face_of (range_with_len k m)
 
 abbrev pub values_of : List (ℕ × ℕ) → List ℕ
 values_of ps = map (λ (p : ℕ × ℕ). p.0) ps
 
--- the parts that are left are those of the faces from place k on
+-- the unused sections are those of m faces from index k on
 pub record Rest (rows : List Row) (k m : ℕ) (s : Slots) : Type 0 where
   pub types : s.parts.types ≡ filter_map (type_at rows) (faces_from k m)
   pub destinations : values_of s.parts.destinations ≡ map (λ (g : Gluing). g.tet) (filter_map (gluing_at rows) (faces_from k m))
   pub gluings : values_of s.parts.gluings ≡ map (λ (g : Gluing). index g.perm) (filter_map (gluing_at rows) (faces_from k m))
 
--- the state follows the walk
+-- before the face at index k, the state s agrees with the traversal w
 pub record Follows (rows : List Row) (k : ℕ) (w : Walking) (s : Slots) : Type 0 where
   pub met : FollowsMet rows k s.met
   pub seen : s.seen ≡ w.seen
@@ -61,7 +61,7 @@ filter_none F x xs e = rw e refl
 filter_some : {A : Type 0} (F : Face → Option A) (x : Face) (xs : List Face) (y : A) → F x ≡ Some y → filter_map F (x ∷ xs) ≡ y ∷ filter_map F xs
 filter_some F x xs y e = rw e refl
 
--- the front of a list of numbers with their places
+-- the first of a list of numbers with their places
 pairs_front : (ps : List (ℕ × ℕ)) (v : ℕ) (vs : List ℕ) → values_of ps ≡ v ∷ vs → ((signatures.first_pair ps).0 ≡ v) × (values_of (drop 1 ps) ≡ vs)
 pairs_front [] v vs e = cc
 pairs_front (p ∷ ps) v vs e = (first p.0 v (values_of ps) vs e, rest p.0 v (values_of ps) vs e)
@@ -72,7 +72,7 @@ pairs_front (p ∷ ps) v vs e = (first p.0 v (values_of ps) vs e, rest p.0 v (va
     rest : (a b : ℕ) (xs ys : List ℕ) → a ∷ xs ≡ b ∷ ys → xs ≡ ys
     rest a b xs ys e = cc
 
--- a face that is met stays
+-- a face that was read leaves the state unchanged
 next_stays : (x : Face) (ts : List ℕ) (s : Slots) → is_some (slot s.met x) ≡ true → slot_next x ts s ≡ Ok s
 next_stays x [] s e = refl
 next_stays x (t ∷ ts) s e = rw e refl
@@ -97,7 +97,7 @@ times-behind type ts = let a = sum_by-append (λ m. cond (m == 1) 1 0) ts (type 
 faces-behind : (type : ℕ) (ts : List ℕ) → sum_by faces_of_type (ts ++ type ∷ []) ≡ sum_by faces_of_type ts + faces_of_type type
 faces-behind type ts = let a = sum_by-append faces_of_type ts (type ∷ []) in let b = sum_by-cons faces_of_type type [] in omega (arith, a, b)
 
--- what is answered at one face
+-- joining the face at index k gives a state that agrees with the traversal
 pub record Step (rows : List Row) (k m : ℕ) (v : Walking) (s : Slots) : Type 0 where
   pub to : Slots
   pub goes : slot_face (face_of k) s ≡ Ok to
@@ -229,7 +229,7 @@ follow_step rows k m w v s table l walk f r hx (took_new g e late same_tet id sa
       };
     }
 
--- each face of a walk-ordered table is taken
+-- each face of a walk-ordered table is in order
 pub ordered_at : (rows : List Row) (k : ℕ) → IsWalkOrdered rows → k < 4 * length rows → is_ordered_at rows (face_of k) ≡ true
 ordered_at rows k ordered l =
     list_all-below (λ m. is_ordered_at rows (face_of m)) (4 * length rows)

@@ -1,4 +1,4 @@
--- A walk-ordered table is joined from its parts as it is walked through.
+-- A walk-ordered table is joined from the sections of its text in the order of its traversal.
 use Rattle.std.proofs.Common.{◌≡◌, ℕ, ◌+◌, ◌*◌, ◌/◌, ◌%◌, ◌<◌, ◌≤◌, List, [], ◌∷◌, ◌++◌, length, get_or, Option, Some, None, refl, sym, ap, ◌∙◌, subst, arith, ⊎_elim}
 use Rattle.std.specs.Prelude.{nat_lt, slice_set, ◌&&◌, ◌==◌}
 use Rattle.std.proofs.lemmas.Bool.{eqb-true, cases_eq, and_parts}
@@ -19,7 +19,7 @@ use Rattle.table_definitions.proofs.Retained.{not_true}
 use Rattle.table_definitions.proofs.Faces.{there_and_back, back_again, number-face_of, face_of-number}
 use Rattle.table_definitions.specs.Places.{face_of}
 
--- what the walk does at a face
+-- what the traversal does at a face
 pub data Took (rows : List Row) (k : ℕ) (w v : Walking) : Type 0 where
   took_none : glue rows (face_of k) ≡ None → with_type 0 w ≡ v → Took rows k w v
   took_met : (g : Gluing) → glue rows (face_of k) ≡ Some g → face_number (other_side (face_of k) g) < k → w ≡ v → Took rows k w v
@@ -53,14 +53,14 @@ took rows k w v table e = by_bool (nat_lt (k / 4) w.seen)
     entry None h f = took_none h (some_same (with_type 0 w) v f)
     entry (Some g) h f = glued g h f
 
--- the faces before place k, and those that they lead to, are met and glued as in the table
+-- exactly the faces below index k, and the faces that they are glued to, were read, with the gluings of the table
 pub record FollowsMet (rows : List Row) (k : ℕ) (met : List (Option (Option Gluing))) : Type 0 where
   pub size : length met ≡ 4 * length rows
   pub before : (p : ℕ) → p < k → get_or met p None ≡ Some (glue rows (face_of p))
   pub partner : (p : ℕ) (g : Gluing) → k ≤ p → p < 4 * length rows → glue rows (face_of p) ≡ Some g → face_number (other_side (face_of p) g) < k → get_or met p None ≡ Some (Some g)
   pub unmet : (p : ℕ) → k ≤ p → p < 4 * length rows → ((g : Gluing) → glue rows (face_of p) ≡ Some g → k ≤ face_number (other_side (face_of p) g)) → get_or met p None ≡ None
 
--- the two sides of a face
+-- the face at index k is glued back to the one at index p
 pub record Paired (rows : List Row) (p k : ℕ) (h : Gluing) : Type 0 where
   pub glued : glue rows (face_of k) ≡ Some (way_back (face_of p) h)
   pub place : face_number (other_side (face_of k) (way_back (face_of p) h)) ≡ p
@@ -79,7 +79,7 @@ paired rows p k h table e same =
 pub gluing_same : (g h : Gluing) → Some g ≡ Some h → g ≡ h
 gluing_same g h e = cc
 
--- a face that is met already
+-- a face that was read from its other side
 pub met_follows : (rows : List Row) (k : ℕ) (g : Gluing) (met : List (Option (Option Gluing))) → IsTable rows → k < 4 * length rows → FollowsMet rows k met → glue rows (face_of k) ≡ Some g → face_number (other_side (face_of k) g) < k
     → FollowsMet rows (k + 1) met
 met_follows rows k g met table l f e early = record {
@@ -118,7 +118,7 @@ bound_follows rows k met table l f e = record {
     free_k : get_or met k None ≡ None
     free_k = f.unmet k (omega arith) l (λ h glued. absurd (let c = sym e ∙ glued in cc))
 
--- a face both sides of which are met now
+-- a face both sides of which are read now
 pub both_unmet : (rows : List Row) (k : ℕ) (g : Gluing) (met : List (Option (Option Gluing))) → IsTable rows → k < 4 * length rows → FollowsMet rows k met → glue rows (face_of k) ≡ Some g → k ≤ face_number (other_side (face_of k) g)
     → BothMet met k g
 both_unmet rows k g met table l f e late = record {

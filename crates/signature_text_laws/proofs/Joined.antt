@@ -1,4 +1,4 @@
--- Joining face after face keeps what is met, and meets all faces before the next one.
+-- Joining face after face keeps the gluings that were read, and reads all faces before the next one.
 use Rattle.std.proofs.Common.{◌≡◌, ◌≢◌, ℕ, zero, suc, ◌+◌, ◌*◌, ◌/◌, ◌%◌, ◌<◌, ◌≤◌, false, List, [], ◌∷◌, length, get_or, replicate, Option, Some, None, refl, sym, ap, ◌∙◌, subst, arith, ◌⊎◌, inl, inr, ⊎_elim}
 use Rattle.std.specs.Prelude.{Ok, slice_set, sum_by}
 use Rattle.std.specs.List.{slice_index_or}
@@ -21,11 +21,11 @@ use Rattle.signature_text_laws.proofs.Simulation.{place-apart}
 use Rattle.text_definitions.proofs.Readers.{bind_ok}
 use Rattle.signature_text_laws.proofs.Stepping.{free, IsJoined, Stepped, stays, bounds, reaches, glues, stepped}
 
--- a place where nothing is met is none where something is
+-- a face that was not read is different from each that was
 none_apart : (met : List (Option (Option Gluing))) (p q : ℕ) (o : Option Gluing) → get_or met q None ≡ None → get_or met p None ≡ Some o → p ≢ q
 none_apart met p q o none some e = let f = ap (λ m. get_or met m None) e in cc
 
--- what is known where both sides of the face at place k are met
+-- the conditions under which both sides of the face at index k are read
 pub record BothMet (met : List (Option (Option Gluing))) (k : ℕ) (g : Gluing) : Type 0 where
   pub inside : k < length met
   pub inside_other : face_number (other_side (face_of k) g) < length met
@@ -62,7 +62,7 @@ met_other met k g b =
     get_or-set_other (slice_set met q (Some (Some (way_back (face_of k) g)))) (face_number (face_of k)) q (Some (Some g)) None ne
     ∙ get_or-set_at met q q (Some (Some (way_back (face_of k) g))) None refl b.inside_other
 
--- two faces fewer are free
+-- two faces fewer remain
 pub met_count : (met : List (Option (Option Gluing))) (k : ℕ) (g : Gluing) → BothMet met k g → sum_by free (meet_at met (face_of k) g) + 2 ≡ sum_by free met
 met_count met k g b =
     let q : ℕ = face_number (other_side (face_of k) g) in
@@ -78,7 +78,7 @@ met_count met k g b =
     let h : free (get_or (slice_set met q back) (face_number (face_of k)) None) ≡ 1 = ap free none in
     omega (arith, first, second, f, h)
 
--- what is met stays
+-- the gluings that were read are kept
 pub met_kept : (met : List (Option (Option Gluing))) (k : ℕ) (g : Gluing) → BothMet met k g → (p : ℕ) (o : Option Gluing) → get_or met p None ≡ Some o → get_or (meet_at met (face_of k) g) p None ≡ Some o
 met_kept met k g b p o e = met_elsewhere met k g p (none_apart met p k o b.free_here e) (none_apart met p (face_number (other_side (face_of k) g)) o b.free_other e) ∙ e
 
@@ -154,7 +154,7 @@ bound_joined n k ts s l j none hx types fit = record {
   count = let c = bound_count s.met k l none in let d = j.count in let f : sum_by faces_of_type s.parts.types ≡ 1 + sum_by faces_of_type ts = ap (sum_by faces_of_type) types ∙ sum_by-cons faces_of_type 0 ts in omega (arith, c, d, f);
 }
 
--- both sides of a new face, and of one of type 2
+-- both sides of a face of type 1, and of one of type 2
 pub new_met : (n k : ℕ) (s : Slots) (ts : List ℕ) → k < 4 * n → IsJoined n k s → k / 4 < s.seen → get_or s.met k None ≡ None → s.parts.types ≡ 1 ∷ ts → BothMet s.met k (record { tet = s.seen; perm = identity })
 new_met n k s ts l j hx none types = record {
   inside = let size = fit.size in omega (arith, size);
@@ -198,7 +198,7 @@ glues_met n k s g l fit lt p none none' apart = record {
 two_faces : (type : ℕ) (ts xs : List ℕ) → faces_of_type type ≡ 2 → xs ≡ type ∷ ts → sum_by faces_of_type xs ≡ 2 + sum_by faces_of_type ts
 two_faces type ts xs two e = ap (sum_by faces_of_type) e ∙ sum_by-cons faces_of_type type ts ∙ ap (λ m. m + sum_by faces_of_type ts) two
 
--- one more face is joined
+-- a further face is joined
 pub joined_on : (n k : ℕ) (s t : Slots) → k < 4 * n → IsJoined n k s → k / 4 < s.seen → IsSlots n t → Stepped k s t → IsJoined n (k + 1) t × ((p : ℕ) (o : Option Gluing) → get_or s.met p None ≡ Some o → get_or t.met p None ≡ Some o)
 joined_on n k s t l j hx fit (stays o e same) = (
   subst (IsJoined n (k + 1)) same (record {
@@ -232,7 +232,7 @@ joined_on n k s t l j hx fit (glues ts d i ds gs none types dests gls index late
       λ p x f. ap (λ (u : Slots). get_or u.met p None) (sym same) ∙ met_kept s.met k g b p x f,
     )
 
--- what is met at one time is met so to the end
+-- the gluings that were read are kept to the end
 pub kept_on : (n m k : ℕ) (s t : Slots) → k + m ≡ 4 * n → IsJoined n k s → slot_faces m k s ≡ Ok t → (p : ℕ) (o : Option Gluing) → get_or s.met p None ≡ Some o → get_or t.met p None ≡ Some o
 unfolding slot_faces
 kept_on n zero k s t e j h p o f = let same : s ≡ t = ok_same s t h in ap (λ (u : Slots). get_or u.met p None) (sym same) ∙ f

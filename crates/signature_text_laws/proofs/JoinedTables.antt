@@ -1,4 +1,4 @@
--- Joined faces are a table.
+-- The joined faces are those of a table.
 use Rattle.std.proofs.Common.{◌≡◌, ℕ, zero, suc, ◌+◌, ◌*◌, ◌<◌, ◌≤◌, List, [], length, get_or, map, Option, Some, None, refl, sym, ap, ◌∙◌, subst, arith, ⊎_elim}
 use Rattle.std.specs.Prelude.{Result, Ok, Err, not, unwrap_or}
 use Rattle.std.specs.List.{range_with_len}
@@ -44,7 +44,7 @@ faces_sound n (suc m) k s j u a h sound l e =
 begun_sound : IsSound [] 1
 begun_sound = record { range = λ x o e. absurd cc; permutes = λ x g e. absurd cc; apart = λ x g e. absurd cc; back = λ x g e. absurd cc }
 
--- what the rows of the faces that are met are glued to
+-- the gluing of a face in the rows of the faces that were read
 pub glue-rows_of : (n : ℕ) (met : List (Face × Option Gluing)) (y : Face) → y.tet < n → y.face < 4 → glue (signatures.rows_of n met) y ≡ signatures.glued_in met y
 glue-rows_of n met y ht hf =
     ap (λ (row : Row). get_or row y.face None) (get_or-map-range_with_len (λ t. map (λ f. signatures.glued_in met (record { tet = t; face = f })) four) 0 n y.tet y.tet [] ht (omega arith))
@@ -64,7 +64,7 @@ glue-past n met y l =
 glue-no_face : (n : ℕ) (met : List (Face × Option Gluing)) (y : Face) → y.tet < n → 4 ≤ y.face → glue (signatures.rows_of n met) y ≡ None
 glue-no_face n met y ht l = get_or_past (get_or (signatures.rows_of n met) y.tet []) y.face None (rw (four_long n met y.tet ht) l)
 
--- a glued face is met and glued so
+-- a face of these rows that is glued was read with this gluing
 pub known_glued : (n : ℕ) (met : List (Face × Option Gluing)) (y : Face) (g : Gluing) → glue (signatures.rows_of n met) y ≡ Some g → known_in met y ≡ Some (Some g)
 known_glued n met y g e =
     ⊎_elim

@@ -1,4 +1,4 @@
--- Steps of readers: a fault stays a fault, and what is read first stands in front.
+-- Steps of readers: errors are kept, and what is read first comes first.
 use Rattle.std.proofs.Common.{◌≡◌, ℕ, zero, suc, ◌+◌, ◌-◌, ◌*◌, ◌^◌, ◌<◌, ◌≤◌, true, false, List, [], ◌∷◌, ◌++◌, refl, sym, ap, ◌∙◌, subst, arith, append_assoc, append-nil}
 use Rattle.std.specs.Prelude.{Result, Ok, Err, nat_le, ◌==◌}
 use Rattle.std.proofs.Math.Nat.{pow-succ'}
@@ -10,12 +10,12 @@ use Rattle.signature_definitions.specs.SignatureText.{value_at, number_in, numbe
 use Rattle.signature_definitions.specs.declared.SigFault.{SigFault}
 use Rattle.signature_text_laws.specs.Faults.{Fails}
 
--- what is read is mapped and keeps its fault
+-- xs before what is read; an error is kept
 abbrev pub fronted : {A : Type 0} → List A → Result (List A) SigFault → Result (List A) SigFault
 fronted xs (Ok ys) = Ok (xs ++ ys)
 fronted xs (Err e) = Err e
 
--- a fault stays where further steps follow
+-- an error is kept if further steps follow
 pub fails_on : {A B : Type 0} (e : SigFault) (r : Result A SigFault) (f : A → Result B SigFault) → Fails e r → Fails e (r >>= f)
 fails_on {A} e r f h = λ other. ap (λ (q : Result A SigFault). q >>= f) (h other)
 
@@ -33,13 +33,13 @@ front-step : (v at : ℕ) (r : Result (List (ℕ × ℕ)) SigFault) → (r >>= (
 front-step v at (Ok ys) = refl
 front-step v at (Err e) = refl
 
--- the first of some numbers
+-- the first of the numbers
 pub numbers_in-first : (j k : ℕ) (text : List ℕ) (w bound : ℕ) (fault : ℕ → SigFault) (at v : ℕ) → j ≡ suc k → number_in text w at ≡ Ok v → v < bound
     → numbers_in j text w bound fault at ≡ fronted ((v, at) ∷ []) (numbers_in k text w bound fault (at + w))
 unfolding numbers_in
 numbers_in-first j k text w bound fault at v e read l = let t : nat_le bound v ≡ false = grind arith in rw (e, read, t) (front-step v at (numbers_in k text w bound fault (at + w)))
 
--- one more number is read
+-- a further number is read
 pub numbers_in-more : (j k : ℕ) (text : List ℕ) (w bound : ℕ) (fault : ℕ → SigFault) (at next v : ℕ) (xs : List (ℕ × ℕ)) → j ≡ suc k → next ≡ at + w → number_in text w at ≡ Ok v → v < bound
     → fronted (xs ++ (v, at) ∷ []) (numbers_in k text w bound fault next) ≡ fronted xs (numbers_in j text w bound fault at)
 numbers_in-more j k text w bound fault at next v xs e there read l =
@@ -53,7 +53,7 @@ numbers_in-none text w bound fault at = refl
 pub numbers_in-end : (j : ℕ) (text : List ℕ) (w bound : ℕ) (fault : ℕ → SigFault) (at : ℕ) (xs : List (ℕ × ℕ)) → j ≡ 0 → fronted xs (numbers_in j text w bound fault at) ≡ Ok xs
 numbers_in-end j text w bound fault at xs e = ap (λ m. fronted xs (numbers_in m text w bound fault at)) e ∙ ap (fronted xs) (numbers_in-none text w bound fault at) ∙ ap Ok (append-nil xs)
 
--- the first number is no number, or too great
+-- the first number is none, or too great
 pub numbers_in-unread : (j k : ℕ) (text : List ℕ) (w bound : ℕ) (fault : ℕ → SigFault) (at : ℕ) (e : SigFault) → j ≡ suc k → Fails e (number_in text w at)
     → Fails e (numbers_in j text w bound fault at)
 unfolding numbers_in
@@ -100,7 +100,7 @@ narrow (suc (suc zero)) high l h = omega arith
 narrow (suc (suc (suc zero))) high l h = omega arith
 narrow (suc (suc (suc (suc w)))) high l h = absurd (omega arith)
 
--- types are read on: with enough turns left, what is read behind them is the target
+-- reading the remaining types, with enough steps for them, results in `target`
 abbrev pub ReadsOn : List ℕ → ℕ → ℕ → signatures.Types → Result (signatures.Types × ℕ) SigFault → Type 0
 ReadsOn text n at s target = (m : ℕ) × (s.left ≤ m) × (types_from m text n at s ≡ target)
 
@@ -110,7 +110,7 @@ is_none n h = grind arith
 pub next_ok : {A B : Type 0} (r : Result A SigFault) (x : A) (f : A → Result B SigFault) → r ≡ Ok x → (r >>= f) ≡ f x
 next_ok {A} r x f h = ap (λ (q : Result A SigFault). q >>= f) h
 
--- what a character's types are followed by
+-- the types of a character, and then the types after it
 abbrev pub behind_character : List ℕ → ℕ → ℕ → ℕ → signatures.Types → ℕ → Result (signatures.Types × ℕ) SigFault
 behind_character text n at m s v = character_types n at v s >>= (λ t. types_from m text n (at + 1) t)
 

@@ -1,4 +1,4 @@
--- Where a table is read of a text, the text spells it.
+-- If a table is read from a text, the text spells it.
 use Rattle.std.proofs.Common.{◌≡◌, ℕ, zero, suc, ◌+◌, ◌*◌, ◌<◌, ◌≤◌, Bool, List, [], ◌∷◌, ◌++◌, length, drop, map, refl, sym, ap, ◌∙◌, subst, arith, append-nil}
 use Rattle.std.specs.Prelude.{Result, Ok, Err, nat_lt, sum_by, IfOk}
 use Rattle.std.proofs.lemmas.List.{length-append}
@@ -24,7 +24,7 @@ use Rattle.signature_text_laws.proofs.Segments.{Holds, holds_nothing, holds_more
 use Rattle.signature_text_laws.proofs.TypeSegments.{TypesHold, types_hold, single_values}
 use Rattle.signature_text_laws.proofs.Walked.{IsPartedBy, joined_parts, no_types, no_pairs}
 
--- what the parts of a text are, and where the text ends
+-- the sections of a text that was read, and the end of the text
 pub record PartsHold (text : List ℕ) (h : Head) (s : Types) (at : ℕ) (p : Parts) : Type 0 where
   pub types : p.types ≡ s.read
   pub twos_d : length p.destinations ≡ times_in s.read 2
@@ -149,7 +149,7 @@ read_spelled text rows e =
     let long : h.count ≡ length rows = sym (length-map-range_with_len (slot_row joins.0.met) 0 h.count) ∙ ap (λ (xs : List Row). length xs) same in
     record { table = table; ordered = parted.ordered; spelled = spelled text h p rows head.width long parted (whole_text text h s at p head types.0 parts) }
 
--- an answer that is what is read is spelled
+-- if what a function returns is what is read, the text spells it
 pub spelled_on_ok : (r : Result (List Row) SigFault) (text : List ℕ) → Reads (λ t. t) r (signature_table text) → IfOk r (Spells text)
 spelled_on_ok (Ok rows) text h = read_spelled text rows h
 spelled_on_ok (Err e) text h = tt

@@ -1,4 +1,4 @@
--- Which tetrahedra are seen before a face is taken.
+-- Which tetrahedra are seen before a face is read.
 use Rattle.std.proofs.Common.{◌≡◌, ℕ, zero, suc, ◌+◌, ◌*◌, ◌/◌, ◌%◌, ◌<◌, ◌≤◌, Bool, true, false, List, [], ◌∷◌, ◌++◌, length, map, refl, sym, ap, ◌∙◌, arith, ⊎_elim}
 use Rattle.std.specs.Prelude.{nat_lt, ◌||◌, ◌&&◌, ◌==◌}
 use Rattle.std.specs.List.{list_any, range_with_len}
@@ -12,7 +12,7 @@ use Rattle.table_definitions.proofs.Marked.{or-false as or_false}
 use Rattle.table_definitions.proofs.ListFacts.{below_next}
 use Rattle.table_definitions.specs.Places.{face_of}
 
--- a truth value that is neither of two
+-- laws of `||` and of tests that some item passes
 
 or_assoc : (a b c : Bool) → ((a || b) || c) ≡ (a || (b || c))
 or_assoc true b c = refl
@@ -41,7 +41,7 @@ list_any-append : {A : Type 0} (p : A → Bool) (xs ys : List A) → list_any p 
 list_any-append p [] ys = refl
 list_any-append p (x ∷ xs) ys = ap (λ b. p x || b) (list_any-append p xs ys) ∙ sym (or_assoc (p x) (list_any p xs) (list_any p ys))
 
--- the order of faces is that of their places
+-- the order of faces is that of their indices
 pub before_places : (m k : ℕ) → is_face_before (face_of m) (face_of k) ≡ nat_lt m k
 before_places m k =
     ⊎_elim
@@ -63,7 +63,7 @@ before_places m k =
         (λ e. let same = eqb-true (m / 4) (k / 4) e in let f : k % 4 ≤ m % 4 = omega arith in rw (e, le-ltb (m % 4) (k % 4) f) refl)
         (λ e. rw e refl))
 
--- whether a tetrahedron is 0, or one of the first k faces leads to it
+-- whether a tetrahedron is 0, or one of the first k faces is glued to it
 pub seen_upto : List Row → ℕ → ℕ → Bool
 seen_upto rows k u = (u == 0) || list_any (λ m. is_glued_to u (glue rows (face_of m))) (below k)
 
@@ -85,7 +85,7 @@ seen_upto-more rows k u =
     ∙ ap (λ b. list_any (λ m. is_glued_to u (glue rows (face_of m))) (below k) || b) (or_false (is_glued_to u (glue rows (face_of k)))))
     ∙ sym (or_assoc (u == 0) (list_any (λ m. is_glued_to u (glue rows (face_of m))) (below k)) (is_glued_to u (glue rows (face_of k))))
 
--- one more face
+-- a further face
 pub is_seen-more : (rows : List Row) (k u : ℕ) → k + 1 ≤ 4 * length rows → is_seen rows (face_of (k + 1)) u ≡ (is_seen rows (face_of k) u || is_glued_to u (glue rows (face_of k)))
 is_seen-more rows k u l =
     is_seen-places rows (k + 1) u l ∙ seen_upto-more rows k u ∙ ap (λ b. b || is_glued_to u (glue rows (face_of k))) (sym (is_seen-places rows k u (omega arith)))
@@ -96,7 +96,7 @@ is_seen-begun rows u = is_seen-places rows 0 u (omega arith) ∙ begun
     begun : seen_upto rows 0 u ≡ (u == 0)
     begun = unfold seen_upto in or_false (u == 0)
 
--- what is seen stays seen
+-- a tetrahedron that is seen stays seen
 pub is_seen-later : (rows : List Row) (k d u : ℕ) → k + d ≤ 4 * length rows → is_seen rows (face_of k) u ≡ true → is_seen rows (face_of (k + d)) u ≡ true
 is_seen-later rows k zero u l h = let e : k + 0 ≡ k = omega arith in rw e h
 is_seen-later rows k (suc d) u l h =

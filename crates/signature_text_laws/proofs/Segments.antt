@@ -1,4 +1,4 @@
--- What is read of a text stands in it as it is spelled.
+-- What is read from a text is spelled in it at that place.
 use Rattle.std.proofs.Common.{◌≡◌, ℕ, zero, suc, ◌+◌, ◌*◌, ◌/◌, ◌%◌, ◌<◌, ◌≤◌, Bool, true, false, List, [], ◌∷◌, ◌++◌, length, drop, map, Option, Some, None, refl, sym, ap, ◌∙◌, subst, arith, append_assoc}
 use Rattle.std.specs.Prelude.{Result, Ok, nat_le, nat_lt, not, slice_get, slice_index, ◌||◌, ◌==◌, if◌then◌else◌, cond, All}
 use Rattle.std.specs.List.{position_or_len, position}
@@ -38,7 +38,7 @@ value_at_below text at v h = cases (slice_get text at) h
     cases None h = absurd cc
     cases (Some b) h = valued b (value_of b) refl h
 
--- the values stand in the text from a place on
+-- the characters of the values vs occur in the text from place `at` on
 abbrev pub Holds : List ℕ → ℕ → List ℕ → Type 0
 Holds text at vs = drop at text ≡ map character vs ++ drop (at + length vs) text
 
@@ -183,7 +183,7 @@ head_holds text h e =
 abbrev pub values_of : ℕ → List (ℕ × ℕ) → List ℕ
 values_of w xs = joined (map (λ (p : ℕ × ℕ). in_values w p.0) xs)
 
--- what is known of the numbers that were read
+-- the k numbers that were read from place `at` on
 pub record AreNumbers (k : ℕ) (text : List ℕ) (w bound at : ℕ) (xs : List (ℕ × ℕ)) : Type 0 where
   pub count : length xs ≡ k
   pub small : All (λ (p : ℕ × ℕ). p.0 < bound) xs

@@ -1,4 +1,4 @@
--- Joining faces at their places does what joining them in a list of the faces met does.
+-- Joining faces by their indices gives the same result as joining them in a list of the faces that were read.
 use Rattle.std.proofs.Common.{◌≡◌, ℕ, zero, suc, ◌+◌, ◌*◌, ◌/◌, ◌%◌, ◌<◌, ◌≤◌, Bool, true, false, List, [], ◌∷◌, length, drop, map, Option, Some, None, refl, sym, ap, ◌∙◌, subst, arith}
 use Rattle.std.specs.Prelude.{Result, Ok, Err, find, nat_le, is_some, slice_set, option_map, option_and_then, unwrap_or, ◌||◌, ◌==◌, if◌then◌else◌, cond}
 use Rattle.std.specs.List.{slice_index_or, list_any, range_with_len}
@@ -20,11 +20,11 @@ use Rattle.table_definitions.specs.Places.{face_of}
 use Rattle.signature_text_laws.specs.Slots.{Slots, slot, meet_at, slot_glued, slot_type, with_types, slot_next, slot_face, slot_faces, slots_begun, slot_row, slot_rows, IsSlots, IsTaking}
 use Rattle.signature_text_laws.proofs.SlotLaws.{face_kept, times-same}
 
--- what a list of the faces met knows of a face
+-- what a list of the faces that were read says of a face
 abbrev pub known_in : List (Face × Option Gluing) → Face → Option (Option Gluing)
 known_in met x = option_map (λ (m : Face × Option Gluing). m.1) (find (λ (m : Face × Option Gluing). same_face m.0 x) met)
 
--- both know the same of each face
+-- the two agree on each face
 abbrev pub Shown : ℕ → List (Option (Option Gluing)) → List (Face × Option Gluing) → Type 0
 Shown n slots met = (x : Face) → x.tet < n → x.face < 4 → slot slots x ≡ known_in met x
 
@@ -46,7 +46,7 @@ place-apart x y hx hy apart e =
     let same : same_face x y ≡ true = and_from (x.tet == y.tet) (x.face == y.face) (eq-eqb x.tet y.tet t) (eq-eqb x.face y.face f) in
     false≢true (sym apart ∙ same)
 
--- what is known where one more face is met
+-- what is known after a further face is read
 pub known-here : (x y : Face) (o : Option Gluing) (met : List (Face × Option Gluing)) → same_face x y ≡ true → known_in ((x, o) ∷ met) y ≡ Some o
 known-here x y o met h = rw h refl
 
@@ -69,7 +69,7 @@ meet_shown n slots met x g hx lx ho lo shown =
     rw (length-set slots (face_number (other_side x g)) (Some (Some (way_back x g)))) lx in
     set_shown n (slice_set slots (face_number (other_side x g)) (Some (Some (way_back x g)))) ((other_side x g, Some (way_back x g)) ∷ met) x (Some g) hx inside first
 
--- whether a face is met
+-- whether a face was read
 pub is_some-known : (met : List (Face × Option Gluing)) (x : Face) → is_some (known_in met x) ≡ list_any (λ (m : Face × Option Gluing). same_face m.0 x) met
 is_some-known [] x = refl
 is_some-known (m ∷ met) x = choose (same_face m.0 x) (find (λ (m : Face × Option Gluing). same_face m.0 x) met) (list_any (λ (m : Face × Option Gluing). same_face m.0 x) met) (is_some-known met x)
@@ -150,7 +150,7 @@ type_agrees n x (suc (suc zero)) slots met seen rest shown taking ht hf seen_x =
     (record rest { destinations = drop 1 rest.destinations; gluings = drop 1 rest.gluings }) shown taking.size lt (taking.indices 0 (0, 0) here) ht hf
 type_agrees n x (suc (suc (suc type))) slots met seen rest shown taking ht hf seen_x = absurd (let small : suc (suc (suc type)) < 3 = taking.small 0 0 (omega arith) in omega arith)
 
--- the next face, if it is not met
+-- the next face, if it was not read
 next_agrees : (n : ℕ) (x : Face) (ts : List ℕ) (slots : List (Option (Option Gluing))) (met : List (Face × Option Gluing)) (seen : ℕ) (parts : signatures.Parts)
     → Shown n slots met → IsSlots n (record { met = slots; seen = seen; parts = record parts { types = ts } }) → x.tet < n → x.face < 4 → x.tet < seen
     → Agrees n (slot_next x ts (record { met = slots; seen = seen; parts = record parts { types = ts } })) (signatures.join_next x ts (record { met = met; seen = seen; parts = record parts { types = ts } }))
@@ -176,7 +176,7 @@ face_step n x s j a h ht hf =
     let Q : signatures.Parts → Type 0 = λ ps. Agrees n (slot_face x s) (signatures.join_face x (record { met = j.met; seen = s.seen; parts = ps })) in
     subst P a.seen (subst Q a.parts (face_agrees n x s.met j.met s.seen s.parts a.met h ht hf))
 
--- so many faces from a place on
+-- m faces from index k on
 faces_agree : (n m k : ℕ) (s : Slots) (j : signatures.Joining) → Agree n s j → (0 < m → IsSlots n s) → k + m ≤ 4 * n
     → Agrees n (slot_faces m k s) (join_faces (map face_of (range_with_len k m)) j)
 unfolding slot_faces join_faces
@@ -189,7 +189,7 @@ faces_agree n (suc m) k s j a h l =
     (face_step n (face_of k) s j a slots ht hf)
     (λ t u made b. let kept = face_kept n (face_of k) s t slots made in faces_agree n m (k + 1) t u b (λ some. kept) (omega arith))
 
--- the faces of all tetrahedra stand at their places
+-- the faces of all tetrahedra, in the order of their indices
 four_same : (w x y z w' x' y' z' : Face) (rest rest' : List Face) → w ≡ w' → x ≡ x' → y ≡ y' → z ≡ z' → rest ≡ rest' → w ∷ x ∷ y ∷ z ∷ rest ≡ w' ∷ x' ∷ y' ∷ z' ∷ rest'
 four_same w x y z w' x' y' z' rest rest' a b c d e = cc
 
@@ -232,7 +232,7 @@ rows_shown n slots met shown = map-below (slot_row slots) (λ t. map (λ f. sign
         map-below (λ f. unwrap_or (slot slots (record { tet = t; face = f })) None) (λ f. signatures.glued_in met (record { tet = t; face = f })) 0 4
         (λ f low high. ap (λ o. unwrap_or o None) (shown (record { tet = t; face = f }) l (omega arith)) ∙ glued-known met (record { tet = t; face = f }))
 
--- nothing is met at first
+-- no face was read at first
 pub begun_agrees : (n : ℕ) (parts : signatures.Parts) → Agree n (slots_begun n parts) (record { met = []; seen = 1; parts = parts })
 begun_agrees n parts = record { seen = refl; parts = refl; met = λ x ht hf. get_or-replicate (4 * n) (face_number x) None None (place_below x ht hf) }
   where
@@ -246,7 +246,7 @@ same_rows n (Ok s) (Err f) a = absurd a
 same_rows n (Err e) (Ok j) a = absurd a
 same_rows n (Err e) (Err f) a = ap Err a
 
--- the last phase, at places
+-- the last phase, by indices
 pub slots_join : (n : ℕ) (parts : signatures.Parts) → (0 < n → IsSlots n (slots_begun n parts))
     → (slot_faces (4 * n) 0 (slots_begun n parts) >>= (λ s. Ok (slot_rows n s.met))) ≡ signatures.table_of n parts
 slots_join n parts h =

@@ -18,7 +18,7 @@ use Rattle.signature_text_laws.specs.Faults.{Fails, Leaves}
 use Rattle.signature_text_laws.specs.Slots.{Slots, slot, meet_at, slot_boundary, slot_new, slot_glued, slot_type, with_types, slot_next, slot_face, slot_faces, slot_row, slot_rows, IsSlots, IsTaking}
 use Rattle.signature_text_laws.proofs.ReadLaws.{fails_on, next_ok}
 
--- how often a number stands in a list with one more in front
+-- the number of occurrences in a list with a further item before it
 pub times-other : (a b : ℕ) (xs : List ℕ) → (a == b) ≡ false → times_in (a ∷ xs) b ≡ times_in xs b
 times-other a b xs h = grind (arith, common_steps)
 
@@ -39,7 +39,7 @@ pub unless_same : {A : Type 0} (v t : A) (wrong : Bool) (fault : SigFault) → s
 unless_same v t true fault h = cc
 unless_same v t false fault h = ok_same v t h
 
--- all but the first of some numbers
+-- a property of all items of a list is one of all items after the first
 all_behind : {A : Type 0} (P : A → Type 0) (x : A) (xs : List A) → All P (x ∷ xs) → All P xs
 all_behind P x xs h = λ k d l. h (suc k) d (omega arith)
 
@@ -76,7 +76,7 @@ new_kept n x s h = record {
   room = let e = times-same 1 s.parts.types in let r = h.room in omega (arith, e, r);
 }
 
--- what is left where a destination and a gluing are used
+-- the state after a destination and a gluing are used
 abbrev used_one : List (Option (Option Gluing)) → Slots → Slots
 used_one met s = record s { met = met; parts = record s.parts { destinations = drop 1 s.parts.destinations; gluings = drop 1 s.parts.gluings } }
 
@@ -105,7 +105,7 @@ taken_kept n x (suc zero) s t h e = let same : slot_new x s ≡ t = cc in subst 
 taken_kept n x (suc (suc zero)) s t h e = glued_kept n x (signatures.first_pair s.parts.destinations) (signatures.first_pair s.parts.gluings) s t h e
 taken_kept n x (suc (suc (suc type))) s t h e = absurd (let small : suc (suc (suc type)) < 3 = h.small 0 0 (omega arith) in omega arith)
 
--- one more face
+-- a further face
 
 pub slot_faces-more : (j k p : ℕ) (s t : Slots) → j ≡ suc k → slot_face (face_of p) s ≡ Ok t → slot_faces k (p + 1) t ≡ slot_faces j p s
 unfolding slot_faces
@@ -122,11 +122,11 @@ slot_faces-wrong j k p s e same h =
     let P : ℕ → Type 0 = λ m. Fails e (slot_faces m p s) in
     subst P (sym same) (fails_on e (slot_face (face_of p) s) (λ t. slot_faces k (p + 1) t) h)
 
--- one more row
+-- a further row
 pub slot_rows-more : (t : ℕ) (met : List (Option (Option Gluing))) → slot_rows (t + 1) met ≡ slot_rows t met ++ slot_row met t ∷ []
 slot_rows-more t met = map-range_with_len_more (slot_row met) 0 t t (omega arith)
 
--- a list of types in front of which one is taken
+-- a list of types whose first type is used next
 pub taking_next : (n u type : ℕ) (xs : List ℕ) (s : Slots) → IsSlots n (with_types (drop u xs) s) → u < length xs → type ≡ get_or xs u type → IsTaking n type (with_types (drop (u + 1) xs) s)
 taking_next n u type xs s h l e =
     let P : List ℕ → Type 0 = λ ys. IsSlots n (with_types ys s) in
@@ -142,11 +142,11 @@ next_kept n x (type ∷ types) s t h e = cases (is_some (slot s.met x)) (slot_ty
     cases true r e next = let same : with_types (type ∷ types) s ≡ t = cc in subst (IsSlots n) same h
     cases false r e next = next e
 
--- joining a face keeps them
+-- joining a face keeps the conditions on the state
 pub face_kept : (n : ℕ) (x : Face) (s t : Slots) → IsSlots n s → slot_face x s ≡ Ok t → IsSlots n t
 face_kept n x s t h e = next_kept n x s.parts.types s t h (unless_ok (nat_le s.seen x.tet) sig_faults.Unreached (slot_next x s.parts.types s) t e).1
 
--- an answer that leaves what a step gives
+-- if a call leaves the result of a step, it keeps the conditions on the state
 pub kept_on_ok : {X : Type 0} (r : Result X SigFault) (n : ℕ) (t : Slots) (read : Result Slots SigFault) → Leaves t r read → ((k : Slots) → read ≡ Ok k → IsSlots n k) → OnOk r (IsSlots n t)
 kept_on_ok (Ok u) n t read h keeps = keeps t h
 kept_on_ok (Err e) n t read h keeps = tt

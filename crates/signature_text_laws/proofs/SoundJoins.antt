@@ -1,4 +1,4 @@
--- The faces that are met are glued as in a table.
+-- The faces that were read are glued as in a table.
 use Rattle.std.proofs.Common.{◌≡◌, ℕ, zero, suc, ◌+◌, ◌<◌, ◌≤◌, Bool, true, false, List, [], ◌∷◌, length, drop, Option, Some, None, refl, sym, ap, ◌∙◌, subst, arith, ◌⊎◌, inl, inr, ⊎_elim}
 use Rattle.std.specs.Prelude.{Result, Ok, All, nat_le, is_some, ◌||◌, if◌then◌else◌}
 use Rattle.std.specs.List.{slice_index_or, list_any}
@@ -17,7 +17,8 @@ use Rattle.signature_text_laws.specs.Slots.{Slots, IsSlots}
 use Rattle.signature_text_laws.proofs.SlotLaws.{unless_ok, ok_same, times-same}
 use Rattle.signature_text_laws.proofs.Simulation.{known_in, known-here, known-other, is_some-known, not_le}
 
--- the faces that are met lie in tetrahedra that are seen, and each that is glued leads to another one that leads back
+-- the faces that were read lie in tetrahedra that are seen, and each glued one is glued to a different face by a gluing
+-- with an inverse
 pub record IsSound (met : List (Face × Option Gluing)) (seen : ℕ) : Type 0 where
   pub range : (x : Face) (o : Option Gluing) → known_in met x ≡ Some o → (x.tet < seen) × (x.face < 4)
   pub permutes : (x : Face) (g : Gluing) → known_in met x ≡ Some (Some g) → IsPermutationOfFour g.perm
@@ -31,7 +32,7 @@ not_known met x h = cases (known_in met x) (is_some-known met x ∙ h)
     cases None e = refl
     cases (Some g) e = cc
 
--- a face that is not met is none that is
+-- a face that was not read is different from each that was
 known_apart : (met : List (Face × Option Gluing)) (x y : Face) (o : Option Gluing) → known_in met x ≡ None → known_in met y ≡ Some o → same_face x y ≡ false
 known_apart met x y o none some = by_bool (same_face x y) (λ same. absurd (clash (same_face-true x y same))) (λ apart. apart)
   where
@@ -57,11 +58,11 @@ same_face-sym x y h = by_bool (same_face y x)
     (λ same. let e : y ≡ x = same_face-true y x same in let P : Face → Type 0 = λ z. same_face z y ≡ false in absurd (false≢true (sym (subst P (sym e) h) ∙ same_face-itself y)))
     (λ apart. apart)
 
--- both sides of a face are met
+-- both sides of a face are read
 abbrev pub met_both : Face → Gluing → List (Face × Option Gluing) → List (Face × Option Gluing)
 met_both x g met = (x, Some g) ∷ (other_side x g, Some (way_back x g)) ∷ met
 
--- the three cases of a face that is met then
+-- the three cases of a face that was read then
 abbrev BothCases : List (Face × Option Gluing) → Face → Gluing → Face → Option Gluing → Type 0
 BothCases met x g y o = ((x ≡ y) × (o ≡ Some g)) ⊎ ((other_side x g ≡ y) × (o ≡ Some (way_back x g))) ⊎ (known_in met y ≡ Some o)
 
@@ -151,7 +152,7 @@ both_sound met seen next x g free free' apart hx hg more hf p h = record {
         subst Q e (subst R (sym f)
         (ap (known_in (met_both x g met)) (there_and_back x g p hf) ∙ known_both-x met x g ∙ ap (λ m. Some (Some m)) (sym (back_again x g p))))
 
--- a tetrahedron that is not seen has no face that is met
+-- no face of a tetrahedron that is not seen was read
 unseen : (met : List (Face × Option Gluing)) (seen : ℕ) (y : Face) → IsSound met seen → seen ≤ y.tet → known_in met y ≡ None
 unseen met seen y h late = cases (known_in met y) refl
   where

@@ -1,4 +1,4 @@
--- What is spelled in a text is read of it.
+-- What is spelled in a text is read from it.
 use Rattle.std.proofs.Common.{◌≡◌, ℕ, zero, suc, ◌+◌, ◌-◌, ◌*◌, ◌/◌, ◌%◌, ◌^◌, ◌<◌, ◌≤◌, Bool, true, false, List, [], ◌∷◌, ◌++◌, length, drop, map, Option, Some, None, refl, sym, ap, ◌∙◌, subst, arith, ⊎_elim, append_assoc, append-nil}
 use Rattle.std.specs.Prelude.{Result, Ok, Err, All, nat_le, nat_lt, not, slice_get, unwrap_or, sum_by, ◌||◌, ◌&&◌, ◌==◌, if◌then◌else◌, cond}
 use Rattle.std.specs.List.{list_all}
@@ -20,7 +20,7 @@ use Rattle.signature_text_laws.proofs.TextLaws.{drop-drop}
 use Rattle.signature_text_laws.proofs.Segments.{Holds, holds_nothing, length-in_values}
 use Rattle.signature_text_laws.proofs.TypeSegments.{faces_some}
 
--- a part of what is spelled
+-- a text after its first values
 drop-front : (xs zs : List ℕ) → drop (length xs) (map character xs ++ zs) ≡ zs
 drop-front [] zs = refl
 drop-front (x ∷ xs) zs = drop-front xs zs
@@ -112,7 +112,7 @@ long_head text n w low high same some small fits h =
     le_three : (w : ℕ) → w ≤ 2 → nat_le 3 w ≡ true → ⊥
     le_three w l e = grind arith
 
--- how wide a number is
+-- the width of numbers
 pub width_fits : (n : ℕ) → n ≤ 1000 → (1 ≤ width n) × (width n ≤ 2) × (n < 64 ^ width n)
 width_fits n l = ⊎_elim
     (λ (a : n < 64). let w : width n ≡ 1 = rw (lt-ltb n 64 a) refl in
@@ -174,7 +174,7 @@ three_taken n at v a b c s s0 s1 t ea eb ec ha hb hc =
     next_ok (signatures.type_at n at (v % 4) s) s0 (λ s0. signatures.type_at n at (v / 4 % 4) s0 >>= (λ s1. signatures.type_at n at (v / 16) s1)) fa
     ∙ next_ok (signatures.type_at n at (v / 4 % 4) s0) s1 (λ s1. signatures.type_at n at (v / 16) s1) fb ∙ fc
 
--- what is read where types are spelled
+-- the state after the spelled types ts are read
 abbrev pub behind_types : Types → List ℕ → Types
 behind_types s ts = record { read = s.read ++ ts; left = s.left - sum_by faces_of_type ts; ones = s.ones + times_in ts 1 }
 

@@ -1,4 +1,4 @@
--- Where a text spells a table, the table is read of it.
+-- If a text spells a table, the table is read from it.
 use Rattle.std.proofs.Common.{◌≡◌, ◌≢◌, ℕ, zero, suc, ◌+◌, ◌*◌, ◌/◌, ◌%◌, ◌<◌, Bool, true, false, List, [], ◌∷◌, ◌++◌, length, drop, get_or, map, Option, Some, None, refl, sym, ap, ◌∙◌, subst, arith, ◌⊎◌, inl, inr, append-nil}
 use Rattle.std.specs.Prelude.{Result, Ok, Err, All, nat_lt, filter_map, sum_by, ◌==◌, if◌then◌else◌, cond, unwrap_or, IfErr}
 use Rattle.std.proofs.lemmas.Bool.{le-ltb, and_parts}
@@ -37,18 +37,18 @@ use Rattle.signature_text_laws.proofs.SpelledReads.{holds_split, reads_head, wid
 use Rattle.signature_text_laws.proofs.Followed.{type_at, gluing_at, Rest, Follows, Followed, follow, ordered_at}
 use Rattle.signature_text_laws.proofs.ReadTables.{drop-past, map_twice}
 
--- the tetrahedra and the indices that a table's text names
+-- the destinations and the indices of permutations in a table's text
 abbrev pub tets_of : List Row → List ℕ
 tets_of rows = map (λ (g : Gluing). g.tet) (seen_gluings rows)
 
 abbrev pub indices_of : List Row → List ℕ
 indices_of rows = map (λ (g : Gluing). index g.perm) (seen_gluings rows)
 
--- the parts of a table's text
+-- the sections of a table's text
 abbrev pub parts_at : List Row → ℕ → ℕ → ℕ → Parts
 parts_at rows w at next = record { types = face_types rows; destinations = placed w at (tets_of rows); gluings = placed 1 next (indices_of rows) }
 
--- what a table's text says of its gluings
+-- the gluings in a table's text are those of the table
 glued_at : (rows : List Row) (x : Face) (g : Gluing) → gluing_at rows x ≡ Some g → glue rows x ≡ Some g
 glued_at rows x g e = cases (glue rows x) refl e
   where
@@ -172,7 +172,7 @@ counts_all rows table ordered =
         let most = walk.most (omega (arith, long)) in
         omega (arith, last, most, long, ones, times)
 
--- the rows that are joined
+-- the rows of the joined faces are those of the table
 pub joined_rows : (rows : List Row) (t : Slots) → IsTable rows → ((p : ℕ) → p < 4 * length rows → get_or t.met p None ≡ Some (glue rows (face_of p))) → slot_rows (length rows) t.met ≡ rows
 joined_rows rows t table met = ext_get_or [] (slot_rows (length rows) t.met) rows long (λ i l. get_or-map-range_with_len (slot_row t.met) 0 (length rows) i i [] (omega (arith, long, l)) (omega arith) ∙ row_same i (omega (arith, long, l)))
   where
@@ -242,7 +242,7 @@ unfolding spelling_values
 spelled_values rows =
     ap (λ xs. map character (head_values (length rows) ++ packed (face_types rows) ++ joined xs ++ indices_of rows)) (map_twice (in_values (width (length rows))) (λ (g : Gluing). g.tet) (seen_gluings rows))
 
--- where the parts of a text stand
+-- the sections of a table's text, at their places
 pub record Stands (text : List ℕ) (rows : List Row) : Type 0 where
   pub head : Holds text 0 (head_values (length rows))
   pub types : Holds text (length (head_values (length rows))) (packed (face_types rows))

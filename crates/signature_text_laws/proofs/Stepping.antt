@@ -1,4 +1,4 @@
--- What joining one face does.
+-- What joining one face does to the state.
 use Rattle.std.proofs.Common.{◌≡◌, ℕ, zero, suc, ◌+◌, ◌*◌, ◌<◌, ◌≤◌, Bool, true, false, List, [], ◌∷◌, length, drop, get_or, Option, Some, None, refl, sym, ap, ◌∙◌, subst, arith, ◌⊎◌}
 use Rattle.std.specs.Prelude.{Result, Ok, All, nat_le, is_some, sum_by, ◌||◌, if◌then◌else◌}
 use Rattle.std.specs.List.{slice_index_or}
@@ -18,12 +18,12 @@ use Rattle.signature_text_laws.specs.Slots.{Slots, slot, meet_at, slot_boundary,
 use Rattle.signature_text_laws.proofs.SlotLaws.{unless_ok, ok_same, times-same}
 use Rattle.signature_text_laws.proofs.Simulation.{not_le}
 
--- one for a face that is not met
+-- 1 for a face that was not read
 abbrev pub free : Option (Option Gluing) → ℕ
 free None = 1
 free (Some o) = 0
 
--- the state before the face at place k is joined
+-- the state before the face at index k is joined
 pub record IsJoined (n k : ℕ) (s : Slots) : Type 0 where
   pub fit : IsSlots n s
   pub range : (p : ℕ) (o : Option Gluing) → get_or s.met p None ≡ Some o → p < 4 * s.seen
@@ -31,7 +31,7 @@ pub record IsJoined (n k : ℕ) (s : Slots) : Type 0 where
   pub origin : (p : ℕ) (o : Option Gluing) → get_or s.met p None ≡ Some o → (p < k) ⊎ ((g : Gluing) × (o ≡ Some g) × (face_number (other_side (face_of p) g) < k))
   pub count : sum_by free s.met ≡ sum_by faces_of_type s.parts.types
 
--- what joining the face at place k does
+-- what joining the face at index k does
 pub data Stepped (k : ℕ) (s t : Slots) : Type 0 where
   stays : (o : Option Gluing) → get_or s.met k None ≡ Some o → s ≡ t → Stepped k s t
   bounds : (ts : List ℕ) → get_or s.met k None ≡ None → s.parts.types ≡ 0 ∷ ts → slot_boundary (face_of k) (with_types ts s) ≡ t → Stepped k s t
@@ -42,7 +42,7 @@ pub data Stepped (k : ℕ) (s t : Slots) : Type 0 where
       → (let g : Gluing = record { tet = d.0; perm = slice_index_or words i.0 [] } in record { met = meet_at s.met (face_of k) g; seen = s.seen; parts = record { types = ts; destinations = ds; gluings = gs } } ≡ t)
       → Stepped k s t
 
--- a face at its place
+-- whether a face was read, by its index
 not_some : (o : Option (Option Gluing)) → is_some o ≡ false → o ≡ None
 not_some None h = refl
 not_some (Some x) h = cc
@@ -51,7 +51,7 @@ is_some_at : (o : Option (Option Gluing)) → is_some o ≡ true → (x : Option
 is_some_at None h = absurd cc
 is_some_at (Some x) h = (x, refl)
 
--- some face is not met, so some type is left
+-- if some face was not read, some type remains
 some_left : (met : List (Option (Option Gluing))) (p : ℕ) → p < length met → get_or met p None ≡ None → 1 ≤ sum_by free met
 some_left [] p l e = absurd (omega arith)
 some_left (None ∷ met) zero l e = let c = sum_by-cons free None met in omega (arith, c)

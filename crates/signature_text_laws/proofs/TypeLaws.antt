@@ -1,4 +1,4 @@
--- What is known of the parts of a text that was read.
+-- The sections of a text that was read.
 use Rattle.std.proofs.Common.{◌≡◌, ℕ, zero, suc, ◌+◌, ◌-◌, ◌*◌, ◌/◌, ◌%◌, ◌<◌, ◌≤◌, Bool, true, false, List, [], ◌∷◌, ◌++◌, length, None, refl, sym, ap, ◌∙◌, subst, arith}
 use Rattle.std.specs.Prelude.{Result, Ok, Err, All, nat_lt, not, ◌==◌, if◌then◌else◌}
 use Rattle.std.proofs.lemmas.Grind.{common_steps}
@@ -17,7 +17,7 @@ use Rattle.signature_text_laws.proofs.ReadLaws.{behind_character, next_ok}
 use Rattle.signature_text_laws.proofs.SlotLaws.{unless_ok, ok_of, ok_same, unless_same}
 use Rattle.signature_text_laws.proofs.Segments.{value_at_below, numbers_read}
 
--- what is known of the types that were read
+-- the types that were read
 pub record AreTypes (n : ℕ) (s : Types) : Type 0 where
   pub small : All (λ t. t < 3) s.read
   pub ones : s.ones ≡ times_in s.read 1
@@ -80,7 +80,7 @@ types_read (suc m) text n at s t next h e = cases (s.left == 0) (signatures.valu
     cases true r e f = let same : s ≡ t = first_same s t at next e in subst (AreTypes n) same h
     cases false r e f = f e
 
--- the parts that were read can be joined
+-- the sections that were read can be joined
 pub parts_fit : (text : List ℕ) (h : signatures.Head) (s : Types) (at : ℕ) (p : signatures.Parts) → h.count ≤ 1000
     → types_from (4 * h.count) text h.count h.next (types_begun h.count) ≡ Ok (s, at) → parts_of text h s at ≡ Ok p → 0 < h.count → IsSlots h.count (slots_begun h.count p)
 parts_fit text h s at p few types parts some =
@@ -128,7 +128,7 @@ after_types-parts text h s at =
     (numbers_in twos text 1 24 sig_faults.Gluing gluings_at) (nat_lt (gluings_at + twos) (length text)) (sig_faults.Trailing (gluings_at + twos))
     (λ d g. record { types = s.read; destinations = d; gluings = g }) (signatures.table_of h.count)
 
--- what a text spells where its head and its types are read
+-- what a text spells after its head is read
 abbrev pub behind_head : List ℕ → signatures.Head → Result (List Row) SigFault
 behind_head text h = types_from (4 * h.count) text h.count h.next (types_begun h.count) >>= (λ s. signatures.after_types text h s.0 s.1)
 

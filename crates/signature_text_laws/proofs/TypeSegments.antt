@@ -1,4 +1,4 @@
--- The types that are read stand in the text three to a character, and count the faces.
+-- The types that are read are spelled in the text, three to a character, and count the faces.
 use Rattle.std.proofs.Common.{◌≡◌, ℕ, zero, suc, ◌+◌, ◌-◌, ◌*◌, ◌/◌, ◌%◌, ◌<◌, ◌≤◌, Bool, true, false, List, [], ◌∷◌, ◌++◌, length, map, refl, sym, ap, ◌∙◌, subst, arith, ◌⊎◌, inl, inr, ⊎_elim, append_assoc}
 use Rattle.std.specs.Prelude.{Ok, All, nat_le, nat_lt, not, sum_by, ◌||◌, ◌&&◌, ◌==◌, if◌then◌else◌}
 use Rattle.std.proofs.lemmas.Bool.{eqb-true, eq-eqb, or_parts, not-false}
@@ -16,7 +16,7 @@ use Rattle.signature_text_laws.proofs.ReadLaws.{behind_character}
 use Rattle.signature_text_laws.proofs.SlotLaws.{unless_ok, ok_of, ok_same}
 use Rattle.signature_text_laws.proofs.Segments.{Holds, holds_more, holds_value, value_at_below}
 
--- what one type does: it is 0 behind the last face, and else it is read and counts its faces
+-- a type that is read: 0 after the last face, and otherwise it counts its faces
 pub record Counts (type : ℕ) (s t : Types) : Type 0 where
   pub read : t.read ≡ s.read ++ type ∷ []
   pub some : 0 < s.left
@@ -62,7 +62,7 @@ faces_some type = cases (type == 0)
     cases true = omega arith
     cases false = omega arith
 
--- what a character does
+-- a character of types that is read
 pub record CharacterCounts (v : ℕ) (s t : Types) : Type 0 where
   pub types : List ℕ
   pub read : t.read ≡ s.read ++ types
@@ -130,7 +130,7 @@ character_counts n at v s t some small e =
         subst P (none.2 ∙ l.2) (one_counts v (v % 4) s s0 sum first none.0)
     last_one s0 s1 first none (inr k) = absurd (let z = none.0 in let same = ap (λ (u : Types). u.left) none.2 in let y = k.some in omega (arith, z, same, y))
 
--- the types that are read, from a place on
+-- the types that were read, up to place `at`
 pub record TypesHold (text : List ℕ) (base total at : ℕ) (s : Types) : Type 0 where
   pub holds : Holds text base (packed s.read)
   pub next : at ≡ base + length (packed s.read)

@@ -1,4 +1,4 @@
--- The walk through the faces of a table takes each that is in order, and stops at the first that is not.
+-- The traversal reads the faces of a table in order, and stops at the first face that is not in order.
 use Rattle.std.proofs.Common.{◌≡◌, ℕ, zero, suc, ◌+◌, ◌*◌, ◌/◌, ◌%◌, ◌<◌, ◌≤◌, Bool, true, false, List, [], ◌∷◌, ◌++◌, length, map, Option, Some, None, refl, sym, ap, ◌∙◌, subst, arith, ◌⊎◌, inl, inr, ⊎_elim, append-nil, below_more}
 use Rattle.std.specs.Prelude.{nat_lt, not, find, filter_map, ◌||◌, ◌&&◌, ◌==◌}
 use Rattle.std.specs.List.{list_all, range_with_len}
@@ -19,7 +19,7 @@ use Rattle.table_definitions.proofs.Marked.{or-false as or_none}
 use Rattle.table_definitions.proofs.ListFacts.{below_next}
 use Rattle.table_definitions.specs.Places.{face_of}
 
--- an item that there may be, as a list
+-- an optional item, as a list
 abbrev pub listed : {A : Type 0} → Option A → List A
 listed None = []
 listed (Some x) = x ∷ []
@@ -33,7 +33,7 @@ filter_map-more {A} F k o e =
     one None e = rw e refl
     one (Some x) e = rw e refl
 
--- all of some numbers
+-- a test that all numbers of a range pass
 
 list_all-true : (p : ℕ → Bool) (a c : ℕ) → ((u : ℕ) → a ≤ u → u < a + c → p u ≡ true) → list_all p (range_with_len a c) ≡ true
 list_all-true p a zero h = refl
@@ -50,7 +50,7 @@ list_all-false p a (suc c) u l m e = ⊎_elim
     and_none true = refl
     and_none false = refl
 
--- whether a gluing is in order, where the tetrahedra that are seen are those below s
+-- whether a gluing is in order, if exactly the tetrahedra below s are seen
 glued_order : (rows : List Row) (x : Face) (g : Gluing) (s : ℕ) → ((u : ℕ) → is_seen rows x u ≡ nat_lt u s)
     → is_ordered_gluing rows x (Some g) ≡ (nat_lt g.tet s || ((g.tet == s) && same_list g.perm identity))
 glued_order rows x g s seen = ⊎_elim
@@ -71,14 +71,14 @@ glued_order rows x g s seen = ⊎_elim
     ne-eqb : (a b : ℕ) → (a ≡ b → ⊥) → (a == b) ≡ false
     ne-eqb a b h = by_bool (a == b) (λ e. absurd (h (eqb-true a b e))) (λ e. e)
 
--- the place of the first face of a tetrahedron
+-- the index of the first face of a tetrahedron
 abbrev first_place : ℕ → ℕ
 first_place k = 4 * (k / 4)
 
 start : (k : ℕ) → record { tet = k / 4; face = 0 } ≡ face_of (first_place k)
 start k = let a : k / 4 ≡ 4 * (k / 4) / 4 = omega arith in let b : 0 ≡ 4 * (k / 4) % 4 = omega arith in λ i. record { tet = a i; face = b i }
 
--- whether the tetrahedron of a face was seen before its faces were taken
+-- whether the tetrahedron of a face was seen before its faces were read
 tet_begun : (rows : List Row) (k : ℕ) (w : Walking) → k < 4 * length rows → IsWalkTo rows k w → is_seen rows (record { tet = k / 4; face = 0 }) (k / 4) ≡ nat_lt (k / 4) w.seen
 tet_begun rows k w l h = ⊎_elim
     (λ (early : first_place k < k).
@@ -97,7 +97,7 @@ tet_begun rows k w l h = ⊎_elim
     ap (λ y. is_seen rows y (k / 4)) (start k ∙ ap face_of same) ∙ h.seen (k / 4))
     (cases_lt (first_place k) k)
 
--- one more face
+-- a further face
 walk_more : (rows : List Row) (k : ℕ) (w v : Walking) (o : Option Gluing) (t : Option ℕ) (q : Option Gluing) → k < 4 * length rows → IsWalkTo rows k w → glue rows (face_of k) ≡ o
     → ((u : ℕ) → (nat_lt u w.seen || is_glued_to u o) ≡ nat_lt u v.seen) → is_ordered_at rows (face_of k) ≡ true → type_of rows (face_of k) o ≡ t → seen_gluing rows (face_of k) o ≡ q
     → v.types ≡ w.types ++ listed t → v.gluings ≡ w.gluings ++ listed q → (0 < length rows → v.seen ≤ length rows) → IsWalkTo rows (k + 1) v
@@ -134,7 +134,7 @@ before_tet x y h = ⊎_elim (λ (l : y.tet ≤ x.tet). l) (λ (l : x.tet < y.tet
     cases_le : (a b : ℕ) → (a ≤ b) ⊎ (b < a)
     cases_le a b = ⊎_elim (λ (l : b < a). inr l) (λ (l : a ≤ b). inl l) (cases_lt b a)
 
--- the face at k is in order where its gluing is, since its tetrahedron is seen
+-- the face at index k is in order if its gluing is, since its tetrahedron is seen
 ordered_here : (rows : List Row) (k : ℕ) (w : Walking) (o : Option Gluing) → k < 4 * length rows → IsWalkTo rows k w → glue rows (face_of k) ≡ o → nat_lt (k / 4) w.seen ≡ true
     → is_ordered_gluing rows (face_of k) o ≡ true → is_ordered_at rows (face_of k) ≡ true
 ordered_here rows k w o l h e seen ordered =
@@ -175,7 +175,7 @@ glued_on rows k w v g table l h e seen taken = by_bool (is_face_before (other_si
     (λ u. seen_next u w.seen g.tet same) (ordered_here rows k w (Some g) l h e seen ordered) (rw (later, is_new) refl) (rw (later, is_new) refl) refl (sym (append-nil w.gluings)) (λ some. omega arith)))
     (λ none. absurd (let never = sym (if_false _ _ _ none) ∙ last in cc))))
 
--- a face that is taken was in order
+-- a face that is read is in order
 pub takes_on : (rows : List Row) (k : ℕ) (w v : Walking) → IsTable rows → k < 4 * length rows → IsWalkTo rows k w → take_face rows (face_of k) w ≡ Some v → IsWalkTo rows (k + 1) v
 takes_on rows k w v table l h taken = by_bool (nat_lt (k / 4) w.seen)
     (λ seen. entry (glue rows (face_of k)) refl seen (sym (if_true (nat_lt (k / 4) w.seen) (take_entry (face_of k) (glue rows (face_of k)) w) None seen) ∙ taken))
@@ -187,7 +187,7 @@ takes_on rows k w v table l h taken = by_bool (nat_lt (k / 4) w.seen)
         (walk_more rows k w (with_type 0 w) None (Some 0) None l h e (λ u. or_none (nat_lt u w.seen)) (ordered_here rows k w None l h e seen refl) refl refl refl (sym (append-nil w.gluings)) h.most)
     entry (Some g) e seen made = glued_on rows k w v g table l h e seen made
 
--- a face that is not taken is not in order
+-- a face that is not read is not in order
 glued_off : (rows : List Row) (k : ℕ) (w : Walking) (g : Gluing) → ((u : ℕ) → is_seen rows (face_of k) u ≡ nat_lt u w.seen) → take_glued (face_of k) g w ≡ None
     → is_ordered_gluing rows (face_of k) (Some g) ≡ false
 glued_off rows k w g seen stopped = by_bool (is_face_before (other_side (face_of k) g) (face_of k))
@@ -221,7 +221,7 @@ walk_begins rows = record {
     only_zero : (u : ℕ) → (u == 0) ≡ nat_lt u 1
     only_zero u = grind arith
 
--- behind the last face
+-- after the last face
 pub list_all-map : {A B : Type 0} (p : B → Bool) (f : A → B) (xs : List A) → list_all p (map f xs) ≡ list_all (λ x. p (f x)) xs
 list_all-map p f [] = refl
 list_all-map p f (x ∷ xs) = ap (λ b. p (f x) && b) (list_all-map p f xs)

@@ -1,4 +1,4 @@
--- A table that is joined is walked through as it was joined.
+-- The traversal of a joined table gives the sections that it was joined from.
 use Rattle.std.proofs.Common.{◌≡◌, ℕ, zero, suc, ◌+◌, ◌*◌, ◌/◌, ◌%◌, ◌<◌, ◌≤◌, Bool, true, false, List, [], ◌∷◌, ◌++◌, length, get_or, map, Option, Some, None, refl, sym, ap, ◌∙◌, subst, arith, ⊎_elim, append_assoc, append-nil}
 use Rattle.std.specs.Prelude.{Ok, nat_lt, sum_by, ◌&&◌, ◌==◌, if◌then◌else◌, unwrap_or}
 use Rattle.std.specs.List.{slice_index_or}
@@ -26,14 +26,14 @@ use Rattle.text_definitions.proofs.Readers.{bind_ok}
 use Rattle.signature_text_laws.proofs.Stepping.{free, IsJoined, Stepped, stays, bounds, reaches, glues, stepped}
 use Rattle.signature_text_laws.proofs.Joined.{met_here, new_met, glues_met, bound_here, joined_on, kept_on, joined_begun}
 
--- what the rows are glued to at a place
+-- the gluing at index p of the rows
 pub glue-slot_rows : (n : ℕ) (met : List (Option (Option Gluing))) (p : ℕ) → p < 4 * n → glue (slot_rows n met) (face_of p) ≡ unwrap_or (get_or met p None) None
 glue-slot_rows n met p l =
     ap (λ (row : Row). get_or row (p % 4) None) (get_or-map-range_with_len (slot_row met) 0 n (p / 4) (p / 4) [] (omega arith) (omega arith))
     ∙ get_or-map-range_with_len (λ f. unwrap_or (slot met (record { tet = p / 4; face = f })) None) 0 4 (p % 4) (p % 4) None (omega arith) (omega arith)
     ∙ ap (λ q. unwrap_or (get_or met q None) None) (number-face_of p)
 
--- what is left of the parts where the walk has come so far
+-- the sections are what the traversal w has read and what remains of them
 pub record Parted (parts : signatures.Parts) (w : Walking) (s : Slots) : Type 0 where
   pub seen : w.seen ≡ s.seen
   pub types : parts.types ≡ w.types ++ s.parts.types
@@ -49,7 +49,7 @@ taken rows k w v o l e f = if_true (nat_lt (k / 4) w.seen) (take_entry (face_of 
 more_types : (parts : signatures.Parts) (w : Walking) (type : ℕ) (ts xs : List ℕ) → parts.types ≡ w.types ++ xs → xs ≡ type ∷ ts → parts.types ≡ (w.types ++ type ∷ []) ++ ts
 more_types parts w type ts xs e f = e ∙ ap (λ ys. w.types ++ ys) f ∙ sym (append_assoc w.types (type ∷ []) ts)
 
--- one more face
+-- a further face
 walk_step : (n k : ℕ) (rows : List Row) (parts : signatures.Parts) (s t : Slots) (w : Walking) → IsTable rows → k < 4 * n → IsJoined n k s → k / 4 < s.seen → Stepped k s t → Parted parts w s
     → ((p : ℕ) (o : Option Gluing) → p < 4 * n → get_or t.met p None ≡ Some o → glue rows (face_of p) ≡ o) → (v : Walking) × (take_face rows (face_of k) w ≡ Some v) × Parted parts v t
 walk_step n k rows parts s t w table l j hx (stays o e same) h fin =
@@ -137,7 +137,7 @@ walk_on n (suc m) k rows parts s t w table long e j h walk part fin =
     let inside : k < 4 * length rows = omega (arith, long) in
     walk_on n m (k + 1) rows parts a.0 t v.0 table long (omega arith) on.0 a.2 (takes_on rows k w v.0 table inside walk v.1) v.2 fin
 
--- nothing is left at the end
+-- nothing remains at the end
 pub all_met : (met : List (Option (Option Gluing))) → ((p : ℕ) → p < length met → (o : Option Gluing) × (get_or met p None ≡ Some o)) → sum_by free met ≡ 0
 all_met [] h = refl
 all_met (None ∷ met) h = absurd (let a = h 0 (omega arith) in let e = a.1 in cc)
@@ -155,7 +155,7 @@ pub no_pairs : (ps : List (ℕ × ℕ)) → length ps ≡ 0 → ps ≡ []
 no_pairs [] e = refl
 no_pairs (p ∷ ps) e = absurd (omega arith)
 
--- what the parts of a text say of the table that they are joined to
+-- the sections are those of the text of the table
 pub record IsPartedBy (parts : signatures.Parts) (rows : List Row) : Type 0 where
   pub ordered : IsWalkOrdered rows
   pub types : parts.types ≡ face_types rows

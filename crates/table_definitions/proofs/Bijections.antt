@@ -1,4 +1,4 @@
--- Lists of numbers below their length, each once, are the numbers below it in another order.
+-- A list of n different numbers below n is a permutation of the numbers below n.
 use Rattle.std.proofs.Common.{◌≡◌, ℕ, zero, suc, ◌+◌, ◌<◌, Bool, true, false, List, [], ◌∷◌, ◌++◌, length, get_or, refl, sym, ap, ◌∙◌, subst, arith}
 use Rattle.std.specs.Prelude.{◌==◌, ◌≢◌, nat_eq, All, Contains, IsPermutation}
 use Rattle.std.specs.List.{range_with_len, AllByRecursion, IsDistinct, remove}
@@ -19,14 +19,14 @@ range-push a (suc n) = ap (λ ks. a ∷ ks) (ap (λ k. range_with_len (a + 1) n 
 pub below-push : (n : ℕ) → below n ++ n ∷ [] ≡ below (suc n)
 below-push n = ap (λ k. below n ++ k ∷ []) (omega arith) ∙ range-push 0 n
 
--- an element that is not n
+-- the elements of a list that does not contain n are not n
 pub not_there : (xs : List ℕ) (n k : ℕ) → has xs n ≡ false → k < length xs → get_or xs k 0 ≢ n
 not_there xs n k h l e = let t = list_any_at (λ m. m == n) xs k 0 l (eq-eqb _ _ e) in cc
 
 pub contains_has : (xs : List ℕ) (n : ℕ) → Contains xs n → has xs n ≡ true
 contains_has xs n h = list_any_at (λ m. m == n) xs h.0 n h.1 (eq-eqb (get_or xs h.0 n) n h.2)
 
--- an element that is
+-- a list that contains n has it as an element
 pub there : (xs : List ℕ) (n : ℕ) → has xs n ≡ true → (k : ℕ) × (k < length xs) × (n ≡ get_or xs k n)
 there xs n h = found (Any-from_list_any (λ m. m == n) xs h)
   where
@@ -44,7 +44,7 @@ below_contains n x l = (x, rw length-range_with_len l, get_or-range_with_len 0 n
 pub flips : (x y : ℕ) → nat_eq x y ≡ nat_eq y x
 flips x y = grind arith
 
--- each of the numbers below n, once
+-- a list of n different numbers below n is a permutation of the numbers below n
 pub onto : (n : ℕ) (xs : List ℕ) → length xs ≡ n → ((k : ℕ) → k < n → get_or xs k 0 < n) → IsDistinct nat_eq xs → IsPermutation xs (below n)
 onto zero [] l small d = IsPermutation-refl []
 onto zero (x ∷ xs) l small d = absurd (omega arith)

@@ -18,7 +18,7 @@ use Rattle.table_definitions.proofs.Bijections.{below_contains, IsDistinct-from_
 use Rattle.table_definitions.proofs.TableLaws.{glued_tet, glued_face}
 use Rattle.table_definitions.proofs.ListFacts.{both_true}
 
--- the images of a relabelling
+-- the images of the tetrahedra under a relabelling
 
 below_at : (n i : ℕ) → i < n → get_or (below n) i 0 ≡ i
 below_at n i l = get_or-range_with_len 0 n i 0 l ∙ omega arith
@@ -63,7 +63,7 @@ images_apart n by h t u lt lu e = by_order (cases_eq t u)
     by_order (inl s) = s
     by_order (inr d) = elim (lesser t u d) [ inl l ↦ absurd (permutation_apart n by.images h.images t u l (omega (arith, length-images n by h)) e) | inr l ↦ absurd (permutation_apart n by.images h.images u t l (omega (arith, length-images n by h)) (sym e)) ]
 
--- the permutation of a gluing that was carried goes the carried way
+-- the permutation of the image of a gluing maps images to images
 
 pub carried_image : (s r p : List ℕ) (f : ℕ) → IsPermutationOfFour s → IsPermutationOfFour r → IsPermutationOfFour p → f < 4
     → image (compose r (compose p (inverse s))) (image s f) ≡ image r (image p f)
@@ -84,7 +84,7 @@ carried_back s r p hs hr hp =
     let e3 = inverse-inverse s hs in
     sym (e1 ∙ ap (λ q. compose q (inverse r)) (e2 ∙ ap (λ q. compose q (inverse p)) e3) ∙ compose-compose s (inverse p) (inverse r) hs qp qr)
 
--- and carried back it is as it was
+-- the image under the inverse of the image of a gluing is the gluing
 pub carried_and_back : (s r p : List ℕ) → IsPermutationOfFour s → IsPermutationOfFour r → IsPermutationOfFour p
     → compose (inverse r) (compose (compose r (compose p (inverse s))) (inverse (inverse s))) ≡ p
 carried_and_back s r p hs hr hp =
@@ -96,7 +96,7 @@ carried_and_back s r p hs hr hp =
     ∙ ap (compose (inverse r)) (compose-compose r (compose p (inverse s)) s hr ps hs ∙ ap (compose r) ends)
     ∙ sym (compose-compose (inverse r) r p qr hr hp) ∙ ap (λ q. compose q p) (inverse-compose r hr) ∙ identity-compose p hp
 
--- a face of the new table, by the face of the old one that it stands for
+-- a face of the new table, as the image of a face of the old one
 
 pub record StandsFor (rows new : List Row) (by : Relabelling) (y : Face) (x : Face) : Type 0 where
   pub tet : x.tet < length rows
@@ -117,7 +117,7 @@ stands_for rows new by h c y lt lf = from (comes_from (length rows) by h y.tet l
         let same : face_under (relabelled_place by t) x ≡ y = ap (λ a. mk a (image (slice_index_or by.perms t []) f)) e ∙ ap (λ b. mk y.tet b) (image-preimage (slice_index_or by.perms t []) hs y.face lf) in
         (x, record { tet = m; face = lf'; is = same; glued = ap (glue new) (sym same) ∙ c.glued x m lf' })
 
--- what a glued face of the new table stands for
+-- a glued face of the new table, as the image of a glued face of the old one
 pub record GluedFor (rows : List Row) (by : Relabelling) (y : Face) (g' : Gluing) : Type 0 where
   pub x : Face
   pub g : Gluing
@@ -139,7 +139,7 @@ glued_for rows new by h c y g' lt lf e = from (stands_for rows new by h c y lt l
             let z : Some (gluing_under (relabelled_place by x.tet) (relabelled_place by g.tet) g) ≡ Some g' = sym (st.glued ∙ ap (option_map (λ (g : Gluing). gluing_under (relabelled_place by x.tet) (relabelled_place by g.tet) g)) k) ∙ e in
             record { x = x; g = g; tet = st.tet; face = st.face; is = st.is; glued = k; carried = cc }
 
--- what a table asks of a glued face
+-- the conditions on a glued face of a table
 pub record IsGood (n : ℕ) (new : List Row) (y : Face) (g' : Gluing) : Type 0 where
   pub permutes : IsPermutationOfFour g'.perm
   pub in_range : g'.tet < n

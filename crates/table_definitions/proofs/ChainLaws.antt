@@ -1,4 +1,4 @@
--- Chains of gluings: they can be joined, turned and, in a table, followed back.
+-- Chains of gluings: they can be concatenated, applied to the reverse of a place and, in a table, reversed.
 use Rattle.std.proofs.Common.{◌≡◌, ℕ, ◌<◌, Bool, true, false, List, [], ◌∷◌, ◌++◌, map, reverse, Option, Some, None, refl, sym, ap, ◌∙◌, subst, arith, inl, inr}
 use Rattle.std.specs.Prelude.{◌==◌, ◌||◌, option_map, option_and_then, if◌then◌else◌}
 use Rattle.std.specs.List.{AllByRecursion}
@@ -13,7 +13,7 @@ use Rattle.table_definitions.specs.Places.{Place, IsPlace, carried, across, alon
 use Rattle.table_definitions.proofs.PermutationLaws.{image_below, image-of_inverse, image_same}
 use Rattle.table_definitions.proofs.TableLaws.{glued_face}
 
--- a chain and a further one
+-- a chain followed by a further one
 step_append : (rows : List Row) (fs gs : List ℕ) → ((q : Place) → along rows q (fs ++ gs) ≡ option_and_then (λ r. along rows r gs) (along rows q fs)) → (o : Option Place)
     → option_and_then (λ q. along rows q (fs ++ gs)) o ≡ option_and_then (λ q. along rows q gs) (option_and_then (λ q. along rows q fs) o)
 step_append rows fs gs tails None = refl
@@ -23,7 +23,7 @@ pub along-append : (rows : List Row) (p : Place) (fs gs : List ℕ) → along ro
 along-append rows p [] gs = refl
 along-append rows p (f ∷ fs) gs = step_append rows fs gs (λ q. along-append rows q fs gs) (across rows p f)
 
--- a place is joined to itself, and chains can be joined
+-- a place is joined to itself, and chains can be concatenated
 pub joined_refl : (rows : List Row) (p : Place) → IsJoined rows p p
 joined_refl rows p = ([], refl)
 
@@ -42,7 +42,7 @@ pub has-images : (g : List ℕ) (vs : List ℕ) (f : ℕ) → IsPermutationOfFou
 has-images g [] f h a l = refl
 has-images g (v ∷ vs) f h a l = λ i. image_same g v f h a.0 l i || has-images g vs f h a.1 l i
 
--- a step over a gluing, and the step back
+-- a step across a gluing, and the step back
 pub record Steps (rows : List Row) (p : Place) (f : ℕ) (q : Place) : Type 0 where
   pub gluing : Gluing
   pub glued : glue rows (record { tet = p.tet; face = f }) ≡ Some gluing
@@ -67,7 +67,7 @@ across_by rows p f g e h =
 pub face_crossed : (rows : List Row) (p : Place) (f : ℕ) (q : Place) → IsTable rows → across rows p f ≡ Some q → f < 4
 face_crossed rows p f q t e = let s = steps_across rows p f q e in glued_face rows (record { tet = p.tet; face = f }) s.gluing t.four_faces s.glued
 
--- from where a step leads, a step leads back
+-- in a table, each step has a step back
 pub step_back : (rows : List Row) (p : Place) (f : ℕ) (q : Place) → IsTable rows → IsPlace p → across rows p f ≡ Some q → (g : ℕ) × (g < 4) × (across rows q g ≡ Some p)
 step_back rows p f q t a e = (image s.gluing.perm f, image_below s.gluing.perm f h l, subst (λ (r : Place). across rows r (image s.gluing.perm f) ≡ Some p) (sym s.lands) back)
   where
@@ -99,7 +99,7 @@ across_back rows p f q t a e =
       (back.0 ∷ [], ap (λ (o : Option Place). option_and_then (λ r. Some r) o) back.2),
     )
 
--- in a table a chain can be followed back
+-- in a table, a chain can be reversed
 pub first_step : (rows : List Row) (fs : List ℕ) (r : Place) (o : Option Place) → option_and_then (λ q. along rows q fs) o ≡ Some r → (q : Place) × (o ≡ Some q) × (along rows q fs ≡ Some r)
 first_step rows fs r None e = absurd cc
 first_step rows fs r (Some q) e = (q, refl, e)
@@ -120,7 +120,7 @@ joined_sym rows p q t a j = (back_along rows j.0 p q t a j.1).1
 pub joined_place : (rows : List Row) (p q : Place) → IsTable rows → IsPlace p → IsJoined rows p q → IsPlace q
 joined_place rows p q t a j = (back_along rows j.0 p q t a j.1).0
 
--- a chain carries the place in the other direction too
+-- a chain carries the reverse of a place to the reverse of its end
 reverse-cons : (v : ℕ) (vs : List ℕ) → reverse (v ∷ vs) ≡ reverse vs ++ v ∷ []
 reverse-cons v vs = reverse-append (v ∷ []) vs
 
@@ -156,14 +156,14 @@ turned_along rows (f ∷ fs) p r e =
 pub joined_turned : (rows : List Row) (p q : Place) → IsJoined rows p q → IsJoined rows (turned p) (turned q)
 joined_turned rows p q j = (j.0, turned_along rows j.0 p q j.1)
 
--- what holds of a place and is carried over each step holds of each place that is joined to it
+-- a property that each step keeps holds of each place that is joined to a place with the property
 pub kept_along : (rows : List Row) (P : Place → Type 0) → ((p : Place) (f : ℕ) (q : Place) → P p → across rows p f ≡ Some q → P q) → (fs : List ℕ) (p q : Place) → P p → along rows p fs ≡ Some q → P q
 kept_along rows P kept [] p q h e = let same : p ≡ q = cc in subst P same h
 kept_along rows P kept (f ∷ fs) p q h e =
     let s : (r : Place) × (across rows p f ≡ Some r) × (along rows r fs ≡ Some q) = first_step rows fs q (across rows p f) e in
     kept_along rows P kept fs s.0 q (kept p f s.0 h s.1) s.2
 
--- a step joins, and one more step
+-- a step joins two places, and a chain can be extended by a step
 pub joined_step : (rows : List Row) (p : Place) (f : ℕ) (q : Place) → across rows p f ≡ Some q → IsJoined rows p q
 joined_step rows p f q e = (f ∷ [], ap (λ (o : Option Place). option_and_then (λ r. Some r) o) e)
 
@@ -187,14 +187,14 @@ crossed rows p f q h e = cases (glue rows (record { tet = p.tet; face = f })) re
         let same : carried g p ≡ q = cc in
         record { g = g; glued = n; to = ap (λ (r : Place). r.tet) same; bare = ap (λ (r : Place). r.vertices) (sym same) ∙ rw h refl }
 
--- a gluing joins, and in a table being joined goes both ways
+-- a gluing joins its tetrahedra, and in a table being joined is symmetric
 pub gluing_joins : (rows : List Row) (x : Face) (g : Gluing) → glue rows x ≡ Some g → SameComponent rows x.tet g.tet
 gluing_joins rows x g e = (x.face ∷ [], rw e refl)
 
 pub joins_back : (rows : List Row) (t u : ℕ) → IsTable rows → SameComponent rows t u → SameComponent rows u t
 joins_back rows t u table j = joined_sym rows (whole t) (whole u) table tt j
 
--- one tetrahedron is the least that is not reached; in a connected table none is
+-- at most one tetrahedron is the least that is not reached; in a connected table none is
 pub one_unreached : (rows : List Row) (t u : ℕ) → IsLeastUnreached rows t → IsLeastUnreached rows u → t ≡ u
 one_unreached rows t u a b = elim (cases_order t u) [
   | inl e ↦ e

@@ -1,4 +1,4 @@
--- Classes are numbered in one way alone, and by their least members.
+-- The numbering of classes is unique, and each class has its least member.
 use Rattle.std.proofs.Common.{◌≡◌, ℕ, zero, suc, ◌<◌, ◌≤◌, true, false, List, length, ◌⊎◌, ◌↔◌, refl, sym, ap, ◌∙◌, subst, arith, ⊎_elim, inl, inr}
 use Rattle.std.specs.Prelude.{◌==◌, slice_index}
 use Rattle.std.proofs.lemmas.Bool.{eqb-true, eq-eqb, false≢true, cases_order, cases_lt}
@@ -13,7 +13,7 @@ pub record IsLeastOf (n : ℕ) (Same : ℕ → ℕ → Type 0) (classes : List �
   pub same : Same i m
 
 module _ (n : ℕ) (Same : ℕ → ℕ → Type 0) where
-  -- a lesser class of i in the one numbering than in the other cannot be, where the numberings agree below i
+  -- if two numberings agree below i, the one does not give i a smaller class than the other
   no_lesser : (one other : List ℕ) (k m : ℕ) → IsNumbering n Same one k → IsNumbering n Same other m → (i : ℕ) → i < n → ((j : ℕ) → j < i → slice_index one j ≡ slice_index other j)
       → slice_index one i < slice_index other i → ⊥
   no_lesser one other k m a b i hi below h =
@@ -40,7 +40,7 @@ module _ (n : ℕ) (Same : ℕ → ℕ → Type 0) where
       (cases_order (slice_index one bound) (slice_index other bound))))
       (cases_lt i bound)
 
-  -- two numberings of the same classes agree at each thing
+  -- two numberings of the same classes give each item the same class
   pub numberings_agree : (one other : List ℕ) (k m : ℕ) → IsNumbering n Same one k → IsNumbering n Same other m → (i : ℕ) → i < n → slice_index one i ≡ slice_index other i
   numberings_agree one other k m a b i hi = agree_below one other k m a b n (omega arith) i hi
 
@@ -70,12 +70,12 @@ module _ (n : ℕ) (Same : ℕ → ℕ → Type 0) where
       let l = least_class classes k a (slice_index classes i) (a.in_range i hi) in
       record { below = l.0; same_class = l.1; least_is = eq-eqb (least classes (slice_index classes m)) m (ap (least classes) l.1); same = (a.together i m hi l.0).0 (sym l.1) }
 
-  -- least members that are the same are one
+  -- two least members of one class are equal
   pub one_least : (classes : List ℕ) (k : ℕ) → IsNumbering n Same classes k → (i j : ℕ) → i < n → j < n → is_least classes i ≡ true → is_least classes j ≡ true → Same i j → i ≡ j
   one_least classes k a i j li lj x y s =
       sym (eqb-true (least classes (slice_index classes i)) i x) ∙ ap (least classes) ((a.together i j li lj).1 s) ∙ eqb-true (least classes (slice_index classes j)) j y
 
-  -- and their number is one
+  -- the number of classes is unique
   no_more_classes : (classes : List ℕ) (k m : ℕ) → IsNumbering n Same classes k → IsNumbering n Same classes m → k < m → ⊥
   no_more_classes classes k m a b less =
       let last = b.none_empty k less in
@@ -89,7 +89,7 @@ module _ (n : ℕ) (Same : ℕ → ℕ → Type 0) where
     | inr (inr more) ↦ absurd (no_more_classes classes m k b a more)
   ]
 
-  -- what is the same if and only if other things are has the same numbering
+  -- an equivalent relation has the same numbering
   pub numbering_same : (Other : ℕ → ℕ → Type 0) (classes : List ℕ) (k : ℕ) → IsNumbering n Same classes k → ((i j : ℕ) → i < n → j < n → Same i j ↔ Other i j) → IsNumbering n Other classes k
   numbering_same Other classes k a tie = record {
     one_each = a.one_each;

@@ -1,4 +1,5 @@
--- The definitions that the examples compute: a proof that unfolds `computed` unfolds them all, and those of the crates below.
+-- The definitions that the examples compute: a proof that unfolds `computed` unfolds them all, and those of the crates
+-- below.
 use Rattle.std.proofs.Common.{ℕ}
 use Rattle.std.specs.Fmt.{digits}
 use Rattle.text_definitions.specs.Reading.{need_line_at, word_at, end_line_at, number_at, signed_at, exactly_at, numbers_from}

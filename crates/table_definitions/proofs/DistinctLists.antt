@@ -1,4 +1,4 @@
--- Lists in which nothing stands twice.
+-- Lists in which no item occurs twice.
 use Rattle.std.proofs.Common.{◌≡◌, ◌≢◌, ℕ, zero, suc, ◌+◌, ◌<◌, ◌≤◌, Bool, true, false, cond, List, [], ◌∷◌, ◌++◌, length, get_or, map, filter, ◌⊎◌, inl, inr, ⊎_elim, refl, sym, ap, ◌∙◌, subst, arith}
 use Rattle.std.specs.Prelude.{⊤, sum_by}
 use Rattle.std.specs.List.{range_with_len}
@@ -8,12 +8,12 @@ use Rattle.table_definitions.specs.Lists.{below}
 use Rattle.table_definitions.proofs.TableLaws.{Among}
 use Rattle.table_definitions.proofs.Listed.{contains_among, map-among, appended-among, filter-among, range-among}
 
--- nothing stands in the list twice
+-- no item occurs twice in the list
 abbrev pub AreApart : {A : Type 0} → List A → Type 0
 AreApart [] = ⊤
 AreApart (x ∷ xs) = (Among x xs → ⊥) × AreApart xs
 
--- the same by places
+-- if items at different places are different, no item occurs twice
 pub apart_from : {A : Type 0} (d : A) (xs : List A) → ((i j : ℕ) → i < j → j < length xs → get_or xs i d ≢ get_or xs j d) → AreApart xs
 apart_from d [] once = tt
 apart_from d (x ∷ xs) once = (
@@ -50,7 +50,7 @@ apart_range a (suc n) = ((λ h. let l = (range-among a (a + 1) n h).0 in absurd 
 pub apart_below : (n : ℕ) → AreApart (below n)
 apart_below n = apart_range 0 n
 
--- a list without one of its things
+-- a list without one occurrence of x
 pub record IsWithout {A : Type 0} (x : A) (xs less : List A) : Type 0 where
   pub sums : (f : A → ℕ) → sum_by f xs ≡ f x + sum_by f less
   pub shorter : length xs ≡ suc (length less)
@@ -77,7 +77,7 @@ taken_out x (y ∷ ys) (inr h) =
       },
     )
 
--- things apart that stand in a list are no more than the list
+-- a list of different items that all occur in another list is not longer than that list
 pub apart_short : {A : Type 0} (xs ys : List A) → AreApart xs → ((x : A) → Among x xs → Among x ys) → length xs ≤ length ys
 apart_short [] ys apart inside = omega arith
 apart_short {A} (x ∷ xs) ys apart inside =

@@ -1,4 +1,4 @@
--- The entry of a face: the word of a gluing is taken apart as it is put together.
+-- The entry of a face: a gluing is read from a word if and only if it is spelled by it.
 use Rattle.std.proofs.Common.{◌≡◌, ℕ, ◌+◌, ◌-◌, ◌^◌, ◌<◌, ◌≤◌, Bool, true, false, List, [], ◌∷◌, ◌++◌, length, get_or, take, drop, map, Option, Some, None, ◌⊎◌, inl, inr, refl, sym, ap, ◌∙◌, subst, arith, append_assoc}
 use Rattle.std.specs.Prelude.{nat_lt, nat_le, ◌==◌, ◌&&◌, not, if◌then◌else◌}
 use Rattle.std.specs.List.{before_first, after_first, position_or_len, list_all}
@@ -24,7 +24,7 @@ guard_some : {A : Type 0} (b : Bool) (x y : A) → (if b then Some x else None) 
 guard_some true x y e = (refl, cc)
 guard_some false x y e = absurd cc
 
--- the digits of the permutation that a word gives are the word
+-- the digits of the permutation that a word spells are the word
 permutation_of-some : (w p : List ℕ) → permutation_of w ≡ Some p → (digits_of p ≡ w) × IsPermutationOfFour p
 unfolding permutation_of
 permutation_of-some w p e =
@@ -40,7 +40,7 @@ digits_some p h = ltb-true 0 (length (digits_of p)) (by_words (λ q. nat_lt 0 (l
     tests : list_all (λ q. nat_lt 0 (length (digits_of q))) words ≡ true
     tests = refl
 
--- both parts of a gluing are there
+-- a gluing has both of its parts
 parts_some : (t : Option ℕ) (p : Option (List ℕ)) (g : Gluing) → gluing_parts t p ≡ Some g → (t ≡ Some g.tet) × (p ≡ Some g.perm)
 parts_some None p g e = absurd cc
 parts_some (Some t) None g e = absurd cc
@@ -49,7 +49,7 @@ parts_some (Some t) (Some p) g e =
     let same : h ≡ g = cc in
     ((λ i. Some (same i).tet), (λ i. Some (same i).perm))
 
--- a word with something behind its first colon is what stands before it, the colon and what stands behind it
+-- a word with text after its first colon is the part before the colon, the colon, and the part after it
 at_colon : (w : List ℕ) → 0 < length (after_first is_colon w) → w ≡ before_first is_colon w ++ (58 ∷ after_first is_colon w)
 at_colon w some =
     let there : position_or_len is_colon w < length w = inside (cases_lt (position_or_len is_colon w) (length w)) in
@@ -80,7 +80,7 @@ gluing_of-some w g e small =
       spelled = at_colon w some ∙ sym (append_assoc (before_first is_colon w) (58 ∷ []) (after_first is_colon w)) ∙ ap (λ (xs : List ℕ). (before_first is_colon w ++ 58 ∷ []) ++ xs) (sym perm.0);
     }
 
--- the first colon of a word that begins with digits stands behind them
+-- the first colon of a word that begins with digits comes after them
 decimal_digits : (t : List ℕ) (n : ℕ) → decimal_value t ≡ Some n → list_all is_ascii_digit t ≡ true
 decimal_digits t n e = (and_parts (nat_lt 0 (length t)) (list_all is_ascii_digit t) (guard_some (is_decimal t) (digits_value t) n e).0).1
 

@@ -1,4 +1,4 @@
--- Faces, the test that two are one, and the way across a face and back.
+-- Faces, the test whether two are equal, and the way across a face and back.
 use Rattle.std.proofs.Common.{◌≡◌, ℕ, ◌<◌, true, List, ◌⊎◌, inl, inr, refl, ap, ◌∙◌, ◌+◌, ◌*◌, ◌/◌, ◌%◌, arith}
 use Rattle.std.specs.Prelude.{◌==◌, ◌&&◌, nat_lt}
 use Rattle.std.proofs.lemmas.Bool.{and_parts, eqb-true, or_cases, ltb-true}
@@ -9,7 +9,7 @@ use Rattle.table_definitions.proofs.Permutations.{inverse-inverse}
 use Rattle.table_definitions.proofs.Carried.{same_from, same_to}
 use Rattle.table_definitions.specs.Places.{face_of}
 
--- a face, and a gluing, by their parts; what a gluing leads to, and how
+-- a face, and a gluing, by their parts; the face that x is glued to by g, and the inverse of g
 abbrev pub face_at : ℕ → ℕ → Face
 face_at t f = record { tet = t; face = f }
 
@@ -30,7 +30,7 @@ same_face-true x y h =
 pub same_face-itself : (x : Face) → same_face x x ≡ true
 same_face-itself x = same_to x.tet x.tet x.face x.face refl refl
 
--- across a gluing and back
+-- the way across a gluing and back
 pub there_and_back : (x : Face) (g : Gluing) → IsPermutationOfFour g.perm → x.face < 4 → other_side (other_side x g) (way_back x g) ≡ x
 there_and_back x g h l = ap (face_at x.tet) (image-of_inverse g.perm x.face h l)
 
@@ -47,7 +47,7 @@ face_of-number x l =
     let m : (4 * x.tet + x.face) % 4 ≡ x.face = omega arith in
     λ i. record { tet = d i; face = m i }
 
--- one of two faces before the other
+-- one face is before another
 before_means : (x y : Face) → is_face_before x y ≡ true → (x.tet < y.tet) ⊎ ((x.tet ≡ y.tet) × (x.face < y.face))
 before_means x y h = elim (or_cases (nat_lt x.tet y.tet) ((x.tet == y.tet) && nat_lt x.face y.face) h) [
   | inl l ↦ inl (ltb-true x.tet y.tet l)

@@ -1,4 +1,4 @@
--- Fresh rows, and what leads back to them.
+-- New rows, and the gluings of retained rows to them.
 use Rattle.std.proofs.Common.{◌≡◌, ℕ, zero, suc, ◌<◌, ◌≤◌, Bool, true, false, List, [], ◌∷◌, ◌++◌, length, get_or, map, Option, Some, None, refl, sym, ap, ◌∙◌, subst, arith, inl, inr}
 use Rattle.std.specs.Prelude.{◌⊎◌, ◌==◌, option_and_then, if◌then◌else◌}
 use Rattle.std.specs.List.{slice_index_or, position_or_len, flat_map}
@@ -20,7 +20,7 @@ Numbered = ℕ × Row
 abbrev number_is : ℕ → Numbered → Bool
 number_is u x = x.0 == u
 
--- a number that stands among the fresh ones has a row
+-- a number that is one of a new row has a row
 position_within : (xs : List Numbered) (u : ℕ) → has (map (λ (x : Numbered). x.0) xs) u ≡ true → position_or_len (number_is u) xs < length xs
 position_within [] u h = cc
 position_within (x ∷ xs) u h = by_test (x.0 == u) refl (position_within xs u)
@@ -29,7 +29,7 @@ position_within (x ∷ xs) u h = by_test (x.0 == u) refl (position_within xs u)
     by_test true e later = rw e (omega arith)
     by_test false e later = let t : has (map (λ (x : Numbered). x.0) xs) u ≡ true = rw e at h in rw e (omega (arith, later t))
 
--- and one that does not has none
+-- a number that is not one of a new row has none
 no_row : (xs : List Numbered) (u : ℕ) → has (map (λ (x : Numbered). x.0) xs) u ≡ false → slice_index_or (map (λ (x : Numbered). x.1) xs) (position_or_len (number_is u) xs) [] ≡ []
 no_row [] u h = refl
 no_row (x ∷ xs) u h = by_test (x.0 == u) refl (no_row xs u)
@@ -57,7 +57,7 @@ pub nothing_in : (k : ℕ) → (let none : Row = [] in slice_index_or none k Non
 nothing_in zero = refl
 nothing_in (suc k) = refl
 
--- a fresh gluing is that of a face of a fresh row
+-- a gluing of a new row is one of its faces
 pub fresh_tet : (r : Replacement) (x : Face) (g : Gluing) → fresh_glue r x ≡ Some g → has (fresh_numbers r) x.tet ≡ true
 fresh_tet r x g e = by_test (has (fresh_numbers r) x.tet) refl
   where
@@ -79,7 +79,7 @@ fresh_face rows r can x g e = by_size (cases_lt x.face 4)
         let n : fresh_glue r x ≡ None = get_or_past (fresh_row r x.tet) x.face None past in
         absurd cc
 
--- what is found first
+-- the first result among the items
 
 pub first_some-finds : {A B : Type 0} (f : A → Option B) (xs : List A) (v : B) → first_some f xs ≡ Some v → (x : A) × (f x ≡ Some v)
 first_some-finds f [] v e = absurd cc
@@ -89,7 +89,7 @@ first_some-finds {A} {B} f (x ∷ xs) v e = by_head (f x) refl (first_some-finds
     by_head None h later = later (ap (λ o. option_or o (first_some f xs)) (sym h) ∙ e)
     by_head (Some w) h later = let s : Some w ≡ Some v = ap (λ o. option_or o (first_some f xs)) (sym h) ∙ e in (x, h ∙ s)
 
--- one of the items gives v, and none gives anything else
+-- if one of the items gives v, and none gives anything else, v is the first result
 pub first_some-only : {A B : Type 0} (f : A → Option B) (xs : List A) (x : A) (v : B) → Among x xs → f x ≡ Some v → ((z : A) (w : B) → f z ≡ Some w → w ≡ v) → first_some f xs ≡ Some v
 first_some-only f [] x v a h only = absurd a
 first_some-only {A} {B} f (y ∷ ys) x v a h only = by_head (f y) refl a (λ b. first_some-only f ys x v b h only)
@@ -116,7 +116,7 @@ Among-fresh (x ∷ xs) u f h l = by_test (x.0 == u) refl (λ t. Among-fresh xs u
         Among-left (at u f) (map (at x.0) four) later_faces (subst (λ t. Among (at t f) (map (at x.0) four)) (eqb-true x.0 u e) first)
     by_test false e later = Among-right (at u f) (map (at x.0) four) later_faces (later (rw e at h))
 
--- the gluing back from y that a fresh gluing gives
+-- the gluing from y back to a face of a new row
 
 abbrev pub gives_back : Replacement → Face → Face → Option Gluing
 gives_back r y x = option_and_then (leads_to y x) (fresh_glue r x)

@@ -12,7 +12,7 @@ pub record BeginsLine (c d : Reading) : Type 0 where
   pub lines : c.later ≡ line ∷ rest
   pub left : d ≡ begun line rest c
 
--- what is left with these later lines
+-- the reading with these remaining lines
 abbrev pub with_later : List Line → Reading → Reading
 with_later ls c = record c { later = ls }
 
@@ -39,7 +39,7 @@ pub end_found : (ts : List Token) (c : Reading) → ts ≡ [] → end_line_at (w
 unfolding end_line_at
 end_found ts c e = ap (λ (us : List Token). end_line_at (with_tokens us c)) e
 
--- the first word of a line, and the others
+-- the first word of a line, and the other words
 pub record FirstWord (ts : List Token) (w : List ℕ) (ws : List (List ℕ)) : Type 0 where
   pub column : ℕ
   pub rest : List Token

@@ -16,13 +16,13 @@ both_true true true h = (refl, refl)
 both_true true false h = (refl, h)
 both_true false b h = cc
 
--- what a test shows of a list it shows of each element
+-- a test that all elements pass is passed by the one at index i
 pub list_all-at : {X : Type 0} (test : X → Bool) (xs : List X) → list_all test xs ≡ true → (i : ℕ) (d : X) → i < length xs → test (get_or xs i d) ≡ true
 list_all-at test [] h i d l = absurd (omega arith)
 list_all-at test (x ∷ xs) h zero d l = grind arith
 list_all-at test (x ∷ xs) h (suc i) d l = grind (arith, list_all-at test xs)
 
--- what it shows of each number below n
+-- a test that all numbers below n pass is passed by i
 pub list_all-below : (test : ℕ → Bool) (n : ℕ) → list_all test (below n) ≡ true → (i : ℕ) → i < n → test i ≡ true
 list_all-below test n h i l =
     let in_range : i < length (below n) = rw length-range_with_len l in
@@ -32,7 +32,7 @@ list_all-below test n h i l =
     let P : ℕ → Type 0 = λ k. test k ≡ true in
     subst P f s
 
--- one number more below a bound, and a sum over them
+-- the numbers below n + 1, and a sum over them
 pub below_next : (n : ℕ) → below (n + 1) ≡ below n ++ n ∷ []
 below_next n = let e : 0 + n ≡ n = omega arith in range_next 0 n ∙ ap (λ k. below n ++ k ∷ []) e
 
@@ -58,14 +58,14 @@ four_elements (a ∷ b ∷ c ∷ []) h = cc
 four_elements (a ∷ b ∷ c ∷ d ∷ []) h = refl
 four_elements (a ∷ b ∷ c ∷ d ∷ e ∷ w) h = absurd (omega arith)
 
--- the test of std for lists, at numbers
+-- the test of the standard library whether lists are equal is `same_list` for numbers
 pub pointwise-same_list : (xs ys : List ℕ) → pointwise eqb xs ys ≡ same_list xs ys
 pointwise-same_list [] [] = refl
 pointwise-same_list [] (y ∷ ys) = refl
 pointwise-same_list (x ∷ xs) [] = refl
 pointwise-same_list (x ∷ xs) (y ∷ ys) = ap (λ b. (x == y) && b) (pointwise-same_list xs ys)
 
--- what is found first
+-- the first result among the items
 
 pub first_some-append : {A B : Type 0} (f : A → Option B) (xs ys : List A) → first_some f (xs ++ ys) ≡ option_or (first_some f xs) (first_some f ys)
 first_some-append f [] ys = refl
@@ -87,7 +87,7 @@ first_some-pairs_of {A} {B} f (x ∷ xs) ys =
     ∙ ap (λ o. option_or o (first_some f others)) (first_some-map f (λ (y : B). (x, y)) ys)
     ∙ ap (option_or (first_some (λ y. f (x, y)) ys)) (first_some-pairs_of f xs ys)
 
--- nothing is found before i, and e at i
+-- the first result is that of the number a + i, if no number before it has one
 pub first_some-from : {B : Type 0} (f : ℕ → Option B) (a n i : ℕ) (e : B) → i < n → ((k : ℕ) → k < i → f (a + k) ≡ None) → f (a + i) ≡ Some e → first_some f (range_with_len a n) ≡ Some e
 first_some-from f a zero i e l before found = absurd (omega arith)
 first_some-from {B} f a (suc n) zero e l before found =
@@ -120,13 +120,13 @@ first_some-none_below f n none =
     let Misses : ℕ → Type 0 = λ k. f k ≡ None in
     first_some-none_from f 0 n (λ k m. subst Misses (omega arith) (none k m))
 
--- where nothing is found, nothing is at any place
+-- if there is no result, no item gives one
 pub first_some-is_none : {A B : Type 0} (f : A → Option B) (xs : List A) → first_some f xs ≡ None → (i : ℕ) (d : A) → i < length xs → f (get_or xs i d) ≡ None
 first_some-is_none f [] h i d l = absurd (omega arith)
 first_some-is_none f (x ∷ xs) h zero d l = (both_none (f x) (first_some f xs) h).0
 first_some-is_none f (x ∷ xs) h (suc i) d l = first_some-is_none f xs (both_none (f x) (first_some f xs) h).1 i d (omega arith)
 
--- lists whose elements a test finds equal
+-- lists are equal if a test finds their elements equal
 pub pointwise-true : {A : Type 0} (E : A → A → Bool) → ((x y : A) → E x y ≡ true → x ≡ y) → (xs ys : List A) → pointwise E xs ys ≡ true → xs ≡ ys
 pointwise-true E tells [] [] h = refl
 pointwise-true E tells [] (y ∷ ys) h = cc
@@ -139,11 +139,11 @@ pub pointwise-refl : {A : Type 0} (E : A → A → Bool) → ((x : A) → E x x 
 pointwise-refl E same [] = refl
 pointwise-refl E same (x ∷ xs) = rw (same x) (pointwise-refl E same xs)
 
--- a list that is made number by number
+-- a list that is extended number by number
 pub map_below_more : {X : Type 0} (f : ℕ → X) (t : ℕ) (xs new : List X) (x : X) → xs ≡ map f (below t) → new ≡ xs ++ x ∷ [] → x ≡ f t → new ≡ map f (below (t + 1))
 map_below_more {X} f t xs new x a b e = b ∙ ap (λ (ys : List X). ys ++ x ∷ []) a ∙ ap (λ (y : X). map f (below t) ++ y ∷ []) e ∙ sym (map-range_with_len_more f 0 t t (omega arith))
 
--- what is made of four entries, one by one
+-- a list of f of each of four entries
 pub four_made : {A B : Type 0} (f : A → B) (d : A) (xs : List A) → length xs ≡ 4 → f (get_or xs 0 d) ∷ f (get_or xs 1 d) ∷ f (get_or xs 2 d) ∷ f (get_or xs 3 d) ∷ [] ≡ map f xs
 four_made f d [] h = absurd (omega (arith, h))
 four_made f d (a ∷ []) h = absurd (omega (arith, h))

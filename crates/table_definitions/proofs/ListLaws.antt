@@ -1,10 +1,10 @@
--- Laws of the words on lists.
+-- Laws of the functions on lists.
 use Rattle.std.proofs.Common.{◌≡◌, ℕ, true, List, [], ◌∷◌, refl, subst, false, arith}
 use Rattle.std.proofs.lemmas.Bool.{eq-eqb, le-ltb}
 use Rattle.table_definitions.specs.Lists.{same_list, is_list_before}
 use Rattle.table_definitions.proofs.ListFacts.{same_list-refl}
 
--- a list passes with an equal one
+-- equal lists pass the test
 pub same_list_from : (xs ys : List ℕ) → xs ≡ ys → same_list xs ys ≡ true
 same_list_from xs ys e = let P : List ℕ → Type 0 = λ zs. same_list xs zs ≡ true in subst P e (same_list-refl xs)
 

@@ -1,4 +1,4 @@
--- What stands in lists that are made by filters and maps.
+-- The items of lists that filters and maps return.
 use Rattle.std.proofs.Common.{◌≡◌, ℕ, zero, suc, ◌+◌, ◌<◌, ◌≤◌, Bool, true, false, not, cond, List, [], ◌∷◌, ◌++◌, map, filter, filter_map, flat_map, Option, Some, None, Contains, ◌⊎◌, inl, inr, refl, sym, ap, ◌∙◌, subst, arith}
 use Rattle.std.specs.List.{cons_option, AllByRecursion, range_with_len}
 use Rattle.table_definitions.specs.Lists.{below, first_some, pairs_of, has}
@@ -19,7 +19,7 @@ among_contains x [] (k, l, e) = absurd (omega arith)
 among_contains x (y ∷ ys) (zero, l, e) = inl (sym e)
 among_contains x (y ∷ ys) (suc k, l, e) = inr (among_contains x ys (k, omega arith, e))
 
--- what a list of numbers has stands among them
+-- a number that passes the test of a list occurs in it
 pub has_among : (ns : List ℕ) (n : ℕ) → has ns n ≡ true → Among n ns
 has_among [] n h = absurd (false≢true h)
 has_among (m ∷ ns) n h = pick (or_cases (m == n) (has ns n) h) (λ t. has_among ns n t)
@@ -33,7 +33,7 @@ among_has [] n h = absurd h
 among_has (m ∷ ns) n (inl e) = let t : (m == n) ≡ true = eq-eqb m n (sym e) in ap (λ b. b || has ns n) t
 among_has (m ∷ ns) n (inr h) = let t : has ns n ≡ true = among_has ns n h in grind arith
 
--- what passes a filter
+-- the items that pass a filter
 kept_if : {A : Type 0} (x y : A) (ys : List A) (b : Bool) → (x ≡ y) × (b ≡ true) ⊎ Among x ys → Among x (cond b (y ∷ ys) ys)
 kept_if x y ys true (inl e) = inl e.0
 kept_if x y ys true (inr h) = inr h
@@ -58,7 +58,7 @@ filter-among {A} p x (y ∷ ys) h = go (was_kept p x y (filter p ys) (p y) refl 
     go (inl s) more = (inl s.0, s.1)
     go (inr k) more = let m = more k in (inr m.0, m.1)
 
--- what a list of options gives
+-- the values of a list of options
 some_more : {A : Type 0} (x : A) (o : Option A) (xs : List A) → (o ≡ Some x) ⊎ Among x xs → Among x (cons_option o xs)
 some_more x None xs (inl e) = absurd cc
 some_more x None xs (inr h) = h
@@ -83,7 +83,7 @@ filter_map-among {A} {B} h y (z ∷ zs) a = go (some_less y (h z) (filter_map h 
     go (inl e) more = (z, inl refl, e)
     go (inr k) more = let m = more k in (m.0, inr m.1, m.2)
 
--- what is so of each thing that is made
+-- a property of f of each item
 pub all_mapped : {A B : Type 0} (P : B → Type 0) (f : A → B) (xs : List A) → ((x : A) → Among x xs → P (f x)) → AllByRecursion P (map f xs)
 all_mapped P f [] h = tt
 all_mapped P f (x ∷ xs) h = (h x (inl refl), all_mapped P f xs (λ y a. h y (inr a)))
@@ -114,7 +114,7 @@ Among-flat_map F x y (z ∷ zs) (inr a) b = Among-right y (F z) (flat_map F zs) 
 pub Among-others : (f v : ℕ) → v < 4 → (v ≡ f → ⊥) → Among v (others f)
 Among-others f v l apart = Among-filter (λ w. not (w == f)) v four (Among-four v l) (ap not (ne_eqb v f apart))
 
--- where what stands in a list came from
+-- each item of a mapped list is the image of an item
 pub map-among : {A B : Type 0} (f : A → B) (y : B) (xs : List A) → Among y (map f xs) → (x : A) × Among x xs × (y ≡ f x)
 map-among f y [] h = absurd h
 map-among f y (x ∷ xs) (inl e) = (x, inl refl, e)
@@ -154,7 +154,7 @@ faces-among x n h =
     let a : Among m.0.0 (below n) × Among m.0.1 four = pairs-among {A = ℕ} {B = ℕ} m.0 (below n) four m.1 in
     (subst (λ t. t < n) (sym (ap (λ (y : Face). y.tet) m.2)) (below-among m.0.0 n a.0), subst (λ f. f < 4) (sym (ap (λ (y : Face). y.face) m.2)) (four-among m.0.1 a.1))
 
--- what is found first
+-- the first item that is found
 pub found_among : {A : Type 0} (p : A → Bool) (xs : List A) (x : A) → find p xs ≡ Some x → Among x xs
 found_among p [] x e = cc
 found_among {A} p (y ∷ ys) x e = by_test (p y) e (λ f. found_among p ys x f)
@@ -163,7 +163,7 @@ found_among {A} p (y ∷ ys) x e = by_test (p y) e (λ f. found_among p ys x f)
     by_test true f later = let is : y ≡ x = cc in inl (sym is)
     by_test false f later = inr (later f)
 
--- where there is nothing at any item, nothing is found
+-- if no item gives a result, there is none
 pub first_some-nowhere : {A B : Type 0} (f : A → Option B) (xs : List A) → ((x : A) → Among x xs → f x ≡ None) → first_some f xs ≡ None
 first_some-nowhere f [] none = refl
 first_some-nowhere {A} {B} f (x ∷ xs) none =

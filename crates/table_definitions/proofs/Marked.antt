@@ -1,4 +1,4 @@
--- Marks that are set, and lists of numbers to which one is added.
+-- Lists in which one mark is set, and lists with a number appended.
 use Rattle.std.proofs.Common.{◌≡◌, ℕ, ◌<◌, Bool, true, false, List, [], ◌∷◌, ◌++◌, length, get_or, refl, ap, ◌∙◌}
 use Rattle.std.specs.Prelude.{◌==◌, ◌||◌, ◌≢◌}
 use Rattle.std.specs.List.{slice_set}

@@ -1,4 +1,4 @@
--- Rows that were moved one by one make the table to which a relabelling carries.
+-- Rows that are relabelled one by one are those of the relabelled table.
 use Rattle.std.proofs.Common.{◌≡◌, ℕ, zero, suc, ◌+◌, ◌<◌, List, [], length, get_or, None, Some, Option, refl, sym, ap, ◌∙◌, subst, arith, inl, inr, below_more}
 use Rattle.std.proofs.lemmas.Bool.{cases_eq}
 use Rattle.std.specs.Prelude.{IfSome}
@@ -57,7 +57,7 @@ pub glued_in_range : (rows : List Row) (x : Face) (o : Option Gluing) (n : ℕ) 
 glued_in_range rows x None n table e is = tt
 glued_in_range rows x (Some g) n table e is = rw e (table.in_range x g (sym is))
 
--- positions that are kept in their images' places
+-- the list of the old number of each new tetrahedron
 
 pub placed : (n : ℕ) (images olds : List ℕ) (i : ℕ) → IsPermutation images (below n) → length images ≡ n → length olds ≡ n → i < n
     → ((t : ℕ) → t < i → get_or olds (get_or images t 0) 0 ≡ t) → (t : ℕ) → t < i + 1 → get_or (slice_set olds (get_or images i 0) i) (get_or images t 0) 0 ≡ t
@@ -73,7 +73,7 @@ placed_range n olds image i f m l before u lu = by_case (cases_eq u image)
     by_case (inl e) = rw (e, get_or-set_same olds image i 0 (rw f m)) l
     by_case (inr d) = rw (get_or-set_other olds image u i 0 d) (before u lu)
 
--- the same, by what the calls give
+-- the relabelled table, by what the functions return
 pub carries_by : (rows new : List Row) (by : Relabelling) (olds items : List ℕ) → IsRelabelling (length by.images) by → length by.images ≡ length rows → olds ≡ items → length items ≡ length by.images → length new ≡ length olds
     → ((k : ℕ) → k < length olds → get_or new k [] ≡ moved_row rows by (slice_index olds k))
     → ((t : ℕ) → t < length by.images → slice_index items (slice_index by.images t) ≡ t) → Carries by rows new

@@ -15,17 +15,17 @@ words_lem : filter is_permutation all_lists ≡ words
 unfolding computed all_lists
 words_lem = refl
 
--- each word stands at its index
+-- each permutation is at its index
 indexes : map index words ≡ below 24
 unfolding computed
 indexes = refl
 
--- the inverse leads back, on both sides
+-- the inverse is one on both sides
 inverses : list_all (λ p. same_list (compose p (inverse p)) identity && same_list (compose (inverse p) p) identity) words ≡ true
 unfolding computed
 inverses = refl
 
--- 1230 takes 0 to 1, is odd, has the index 9 and the inverse 3012
+-- 1230 maps 0 to 1, is odd, and has the index 9 and the inverse 3012
 turn : (image (1 ∷ 2 ∷ 3 ∷ 0 ∷ []) 0 ≡ 1) × (preimage (1 ∷ 2 ∷ 3 ∷ 0 ∷ []) 0 ≡ 3) × (is_odd (1 ∷ 2 ∷ 3 ∷ 0 ∷ []) ≡ true) × (index (1 ∷ 2 ∷ 3 ∷ 0 ∷ []) ≡ 9) × (inverse (1 ∷ 2 ∷ 3 ∷ 0 ∷ []) ≡ 3 ∷ 0 ∷ 1 ∷ 2 ∷ [])
 unfolding computed
 turn = (refl, refl, refl, refl, refl)

@@ -1,4 +1,5 @@
--- Further laws of the permutations of four. Those on images take the vertex before the permutation's fact.
+-- Further laws of the permutations of four. In those on images the vertex is the argument before the proof that p
+-- permutes.
 use Rattle.std.proofs.Common.{◌≡◌, ℕ, zero, suc, ◌<◌, Bool, true, List, refl, sym, ◌∙◌, subst, arith, ⊎_elim, ◌≢◌}
 use Rattle.std.specs.Prelude.{◌==◌, ◌&&◌, not, if◌then◌else◌}
 use Rattle.std.specs.List.{list_all}
@@ -8,7 +9,7 @@ use Rattle.table_definitions.specs.Permutation.{IsPermutationOfFour, image, prei
 use Rattle.table_definitions.proofs.Permutations as permutations
 use Rattle.table_definitions.proofs.Permutations.{by_words, by_pairs, bool_equal}
 
--- images are below four, and lead back
+-- images are below 4, and taking images and preimages are inverse to each other
 pub image_below : (p : List ℕ) (v : ℕ) → IsPermutationOfFour p → v < 4 → image p v < 4
 image_below p v h l = permutations.image_below p h v l
 
@@ -18,7 +19,7 @@ preimage-image p v h l = permutations.preimage-image p h v l
 pub image-preimage : (p : List ℕ) (v : ℕ) → IsPermutationOfFour p → v < 4 → image p (preimage p v) ≡ v
 image-preimage p v h l = permutations.image-preimage p h v l
 
--- the inverse takes an image back
+-- the inverse maps an image back
 pub image-of_inverse : (p : List ℕ) (v : ℕ) → IsPermutationOfFour p → v < 4 → image (inverse p) (image p v) ≡ v
 image-of_inverse p v h l = permutations.image-inverse p (image p v) (image_below p v h l) ∙ preimage-image p v h l
 
@@ -35,7 +36,7 @@ all_below_at f (suc n) a e h =
     (λ apart. let less : a < n = omega arith in all_below_at f n a (and_parts (f n) (all_below f n) e).1 less)
     (cases_eq a n)
 
--- an odd and an even one make an odd one
+-- a composition is odd if and only if exactly one of the two permutations is
 pub is_odd-compose : (p q : List ℕ) → IsPermutationOfFour p → IsPermutationOfFour q → is_odd (compose p q) ≡ (if is_odd p then not (is_odd q) else is_odd q)
 unfolding is_odd inversions compose
 is_odd-compose p q hp hq = bool_equal (is_odd (compose p q)) (if is_odd p then not (is_odd q) else is_odd q)

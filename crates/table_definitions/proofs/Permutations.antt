@@ -1,4 +1,4 @@
--- Facts on all permutations of four, which are shown by computing them for each of the 24 words.
+-- Facts on all permutations of four, which are proved by computation for each of the 24 permutations.
 use Rattle.std.proofs.Common.{◌≡◌, ℕ, zero, suc, ◌<◌, Bool, true, false, List, [], ◌∷◌, length, map, refl, arith, sym, ap, subst, ◌∙◌}
 use Rattle.std.proofs.lemmas.List.{get_or-map}
 use Rattle.std.proofs.lemmas.List.{length-map}
@@ -18,7 +18,7 @@ use Rattle.table_definitions.proofs.ListFacts.{both_true, list_all-at, list_all-
 abbrev pub OneIs : ℕ → ℕ → ℕ → ℕ → ℕ → Type 0
 OneIs a b c d v = (a ≡ v) ⊎ (b ≡ v) ⊎ (c ≡ v) ⊎ (d ≡ v)
 
--- four numbers among which 0 to 3 stand are below 4
+-- if 0 to 3 are among four numbers, all of these are below 4
 four_below : (a b c d : ℕ) → OneIs a b c d 0 → OneIs a b c d 1 → OneIs a b c d 2 → OneIs a b c d 3 → (a < 4) × (b < 4) × (c < 4) × (d < 4)
 four_below a b c d h0 h1 h2 h3 = (omega arith, omega arith, omega arith, omega arith)
 
@@ -32,7 +32,7 @@ below_four test h (suc (suc zero)) l = grind arith
 below_four test h (suc (suc (suc zero))) l = grind arith
 below_four test h (suc (suc (suc (suc n)))) l = absurd (omega arith)
 
--- a list of four that is a permutation is one of the words
+-- a list of four that is a permutation is one of the 24
 abbrev is_found : ℕ → ℕ → ℕ → ℕ → Bool
 is_found a b c d = not (is_permutation (a ∷ b ∷ c ∷ d ∷ [])) || list_any (same_list (a ∷ b ∷ c ∷ d ∷ [])) words
 
@@ -71,11 +71,11 @@ at_word : (test : List ℕ → Bool) (ws : List (List ℕ)) → list_all test ws
 at_word test [] all p found = cc
 at_word test (w ∷ ws) all p found = grind (arith, at_word test ws, same_list-true p w)
 
--- what a test shows of the 24 words it shows of each permutation
+-- a test that the 24 permutations pass is passed by each permutation
 pub by_words : (test : List ℕ → Bool) → list_all test words ≡ true → (p : List ℕ) → IsPermutationOfFour p → test p ≡ true
 by_words test all p h = at_word test words all p (is_word p h)
 
--- two numbers, or two lists, that a permutation gives
+-- two functions that agree on the 24 permutations agree on each permutation
 by_equal : (f g : List ℕ → ℕ) → list_all (λ p. f p == g p) words ≡ true → (p : List ℕ) → IsPermutationOfFour p → f p ≡ g p
 by_equal f g all p h = eqb-true (f p) (g p) (by_words (λ p. f p == g p) all p h)
 
@@ -111,7 +111,7 @@ pub preimage-image : (p : List ℕ) → IsPermutationOfFour p → (v : ℕ) → 
 unfolding preimage
 preimage-image p h v l = eqb-true _ _ (by_vertices (λ p v. preimage p (image p v) == v) refl p h v l)
 
--- what goes to v is the one vertex that does
+-- the vertex that is mapped to v is its preimage
 pub preimage_at : (p : List ℕ) → IsPermutationOfFour p → (v w : ℕ) → w < 4 → image p w ≡ v → preimage p v ≡ w
 preimage_at p h v w l e = rw (← e) (preimage-image p h w l)
 
@@ -151,7 +151,7 @@ pub identity-compose : (p : List ℕ) → IsPermutationOfFour p → compose iden
 unfolding compose
 identity-compose p h = by_same (λ p. compose identity p) (λ p. p) refl p h
 
--- the way back of two permutations goes back by the second and then by the first
+-- the inverse of a composition is the composition of the inverses in the other order
 pub inverse-of-compose : (p q : List ℕ) → IsPermutationOfFour p → IsPermutationOfFour q → inverse (compose p q) ≡ compose (inverse q) (inverse p)
 unfolding inverse preimage compose
 inverse-of-compose p q h k = same_list-true _ _ (by_pairs (λ p q. same_list (inverse (compose p q)) (compose (inverse q) (inverse p))) refl p q h k)
@@ -160,7 +160,7 @@ pub index_below : (p : List ℕ) → IsPermutationOfFour p → index p < 24
 unfolding index
 index_below p h = ltb-true _ _ (by_words (λ p. nat_lt (index p) 24) refl p h)
 
--- the word at the index of a permutation is this permutation
+-- the permutation at the index of p is p
 pub words_at : (p : List ℕ) → IsPermutationOfFour p → slice_index_or words (index p) [] ≡ p
 unfolding index
 words_at p h = by_same (λ p. slice_index_or words (index p) []) (λ p. p) refl p h
@@ -174,7 +174,7 @@ bool_equal true false h = sym h
 bool_equal false true h = h
 bool_equal false false h = refl
 
--- a permutation stands at its index alone
+-- the permutation at index i has the index i
 pub index-words : (i : ℕ) → i < 24 → index (slice_index_or words i []) ≡ i
 unfolding index
 index-words i l = eqb-true _ _ (below_words (λ i. index (slice_index_or words i []) == i) refl i l)
@@ -190,7 +190,7 @@ image-compose p q h v l =
     let in_range : v < length q = omega (arith, length-permutation q h) in
     get_or-map (image p) q v 0 0 in_range
 
--- permutations with the same images are the same
+-- permutations with the same images are equal
 pub same_images : (p q : List ℕ) → IsPermutationOfFour p → IsPermutationOfFour q → ((v : ℕ) → v < 4 → image p v ≡ image q v) → p ≡ q
 same_images p q h k same =
     let s0 = same 0 (omega arith) in
@@ -207,7 +207,7 @@ compose-compose p q r h k l =
     (λ v m. image-compose (compose p q) r l v m ∙ image-compose p q k (image r v) (image_below r l v m)
     ∙ sym (image-compose p (compose q r) (compose_permutes q r k l) v m ∙ ap (image p) (image-compose q r l v m)))
 
--- a composition is odd where one of the two is
+-- a composition is odd if and only if exactly one of the two permutations is
 pub is_odd-compose : (p q : List ℕ) → IsPermutationOfFour p → IsPermutationOfFour q → is_odd (compose p q) ≡ not (beq (is_odd p) (is_odd q))
 unfolding is_odd inversions compose
 is_odd-compose p q h k = bool_equal _ _ (by_pairs (λ p q. beq (is_odd (compose p q)) (not (beq (is_odd p) (is_odd q)))) refl p q h k)
@@ -216,7 +216,7 @@ pub is_odd-inverse : (p : List ℕ) → IsPermutationOfFour p → is_odd (invers
 unfolding is_odd inversions inverse preimage
 is_odd-inverse p h = bool_equal _ _ (by_words (λ p. beq (is_odd (inverse p)) (is_odd p)) refl p h)
 
--- whether a pair of images is turned round
+-- whether the images of a pair are in descending order
 abbrev turned : List ℕ → ℕ → ℕ → Bool
 turned p i j = nat_lt (image p j) (image p i)
 
@@ -228,7 +228,7 @@ pub is_odd_pairs : (p : List ℕ) → IsPermutationOfFour p
 unfolding is_odd inversions
 is_odd_pairs p h = bool_equal _ _ (by_words (λ p. beq (unlike (unlike (unlike (unlike (unlike (turned p 0 1) (turned p 0 2)) (turned p 0 3)) (turned p 1 2)) (turned p 1 3)) (turned p 2 3)) (is_odd p)) refl p h)
 
--- the one vertex that is left goes to the one image that is left
+-- if v is the image of none of 0 to 2, it is the image of 3
 pub preimage_last : (p : List ℕ) → IsPermutationOfFour p → (v : ℕ) → v < 4 → image p 0 ≢ v → image p 1 ≢ v → image p 2 ≢ v → preimage p v ≡ 3
 preimage_last p h v l n0 n1 n2 = at_three (preimage p v) (preimage_below p h v l) (image-preimage p h v l)
   where
@@ -239,7 +239,7 @@ preimage_last p h v l n0 n1 n2 = at_three (preimage p v) (preimage_below p h v l
     at_three (suc (suc (suc zero))) l e = refl
     at_three (suc (suc (suc (suc w)))) l e = absurd (omega arith)
 
--- the permutations before p in lexicographic order, by its images
+-- the number of permutations before p in lexicographic order, by the images of p
 pub index_places : (p : List ℕ) (s t : ℕ) → IsPermutationOfFour p → s ≡ from_bool (nat_lt (image p 0) (image p 1)) → t ≡ from_bool (nat_lt (image p 3) (image p 2))
     → 6 * image p 0 + 2 * (image p 1 - s) + t ≡ index p
 unfolding index
@@ -273,7 +273,7 @@ permutation_of-some w p h =
     let IsIt : List ℕ → Type 0 = λ r. IsPermutationOfFour r × (w ≡ digits_of r) in
     subst IsIt s.1 (t.1, sym e)
 
--- a word that no permutation spells
+-- a word that spells no permutation
 pub permutation_of-none : (w : List ℕ) → ((p : List ℕ) → IsPermutationOfFour p → w ≡ digits_of p → ⊥) → permutation_of w ≡ None
 permutation_of-none w never = none_of (permutation_of w) refl
   where
@@ -291,7 +291,7 @@ byte_of_digit b small h = omega arith
 digit_of_byte : (v : ℕ) → v < 4 → digit (48 + v) ≡ v
 digit_of_byte v h = omega arith
 
--- four bytes whose digits permute spell these digits
+-- four bytes whose digits are a permutation spell this permutation
 pub permutation_of-four : (a b c d : ℕ) → a < 256 → b < 256 → c < 256 → d < 256 → IsPermutationOfFour (digit a ∷ digit b ∷ digit c ∷ digit d ∷ [])
     → permutation_of (a ∷ b ∷ c ∷ d ∷ []) ≡ Some (digit a ∷ digit b ∷ digit c ∷ digit d ∷ [])
 permutation_of-four a b c d la lb lc ld h =
@@ -304,7 +304,7 @@ permutation_of-four a b c d la lb lc ld h =
     let Spells : List ℕ → Type 0 = λ w. permutation_of w ≡ Some p in
     subst Spells (sym spelled) (permutation_of-digits p h)
 
--- four bytes that a permutation spells have its images as digits
+-- the digits of four bytes that spell a permutation are a permutation
 digits_permute : (a b c d : ℕ) (p : List ℕ) → IsPermutationOfFour p → a ∷ b ∷ c ∷ d ∷ [] ≡ digits_of p → IsPermutationOfFour (digit a ∷ digit b ∷ digit c ∷ digit d ∷ [])
 digits_permute a b c d p h e =
     let f = four_images p h in
@@ -323,12 +323,12 @@ digits_permute a b c d p h e =
 pub permutation_of-no_four : (a b c d : ℕ) → (IsPermutationOfFour (digit a ∷ digit b ∷ digit c ∷ digit d ∷ []) → ⊥) → permutation_of (a ∷ b ∷ c ∷ d ∷ []) ≡ None
 permutation_of-no_four a b c d never = permutation_of-none (a ∷ b ∷ c ∷ d ∷ []) (λ p h e. never (digits_permute a b c d p h e))
 
--- a word of another length spells nothing
+-- a word of another length spells no permutation
 pub permutation_of-length : (w : List ℕ) → (length w ≡ 4 → ⊥) → permutation_of w ≡ None
 permutation_of-length w never =
     permutation_of-none w (λ p h e. never (ap length e ∙ length-map p (λ v. 48 + v) ∙ length-permutation p h))
 
--- four numbers are a permutation where each of 0 to 3 stands among them
+-- four numbers are a permutation if and only if each of 0 to 3 is among them
 pub is_permutation-four : (p : List ℕ) → length p ≡ 4 → is_permutation p ≡ (has p 0 && has p 1 && has p 2 && has p 3)
 unfolding is_permutation
 is_permutation-four p h = grind arith
@@ -343,7 +343,7 @@ contains_words p = (λ h. Contains-from_any same_list-true p words (is_word p h)
 pub index_apart : (p q : List ℕ) → IsPermutationOfFour p → IsPermutationOfFour q → index p ≡ index q → p ≡ q
 index_apart p q h k e = let f = words_at p h in let g = words_at q k in cc
 
--- the permutation at a place
+-- the permutation at an index
 pub words_found : (p : List ℕ) (i : ℕ) → IsPermutationOfFour p → index p ≡ i → slice_index_or words i [] ≡ p
 words_found p i h e = rw (← e) (words_at p h)
 
@@ -364,7 +364,7 @@ image-identity (suc (suc zero)) l = refl
 image-identity (suc (suc (suc zero))) l = refl
 image-identity (suc (suc (suc (suc v)))) l = absurd (omega arith)
 
--- a permutation that was carried, carried further
+-- the image of a gluing's permutation under one relabelling and then another
 pub carried_twice : (s r t u p : List ℕ) → IsPermutationOfFour s → IsPermutationOfFour r → IsPermutationOfFour t → IsPermutationOfFour u → IsPermutationOfFour p
     → compose u (compose (compose r (compose p (inverse s))) (inverse t)) ≡ compose (compose u r) (compose p (inverse (compose t s)))
 carried_twice s r t u p hs hr ht hu hp =
@@ -375,7 +375,7 @@ carried_twice s r t u p hs hr ht hu hp =
     ap (compose u) (compose-compose r a (inverse t) hr ha qt) ∙ sym (compose-compose u r (compose a (inverse t)) hu hr (compose_permutes a (inverse t) ha qt))
     ∙ ap (compose (compose u r)) (compose-compose p (inverse s) (inverse t) hp qs qt ∙ ap (compose p) (sym (inverse-of-compose t s ht hs)))
 
--- what goes before can be taken away
+-- a composition with a permutation on the right can be cancelled
 pub taken_away : (r s a : List ℕ) → IsPermutationOfFour r → IsPermutationOfFour s → IsPermutationOfFour a → compose r a ≡ compose s a → r ≡ s
 taken_away r s a hr hs ha e = sym (alone r hr) ∙ ap (λ q. compose q (inverse a)) e ∙ alone s hs
   where

@@ -1,4 +1,5 @@
--- Numbers that pass a test, and how many of them come before each. Numbers that are taken out, and what closes up over them.
+-- Numbers that pass a test, and how many of them come before each. Numbers that are removed, and the new numbers of the
+-- others.
 use Rattle.std.proofs.Common.{◌≡◌, ℕ, zero, suc, ◌+◌, ◌<◌, ◌≤◌, Bool, true, false, cond, List, [], ◌∷◌, ◌++◌, length, get_or, refl, sym, ap, ◌∙◌, arith, inl, inr}
 use Rattle.std.specs.Prelude.{◌⊎◌, ◌==◌, ◌||◌, nat_lt, not, filter, count_by, ◌≢◌}
 use Rattle.std.specs.List.{position_or_len}
@@ -13,7 +14,7 @@ use Rattle.table_definitions.proofs.Bijections.{below-push}
 use Rattle.basic_lemmas.proofs.Truths.{one_if}
 use Rattle.basic_lemmas.proofs.Members.{Ascends}
 
--- the numbers below n that pass, and how many
+-- the numbers below n that pass, and their number
 abbrev pub picked : (ℕ → Bool) → ℕ → List ℕ
 picked p n = filter p (below n)
 
@@ -44,7 +45,7 @@ rank_fits p (suc n) = omega (arith, rank_fits p n, rank-suc p n, at_most (p n))
     at_most true = omega arith
     at_most false = omega arith
 
--- where each number passes its rank is itself
+-- if each number passes, its rank is the number itself
 pub rank_all : (p : ℕ → Bool) (n : ℕ) → ((t : ℕ) → t < n → p t ≡ true) → rank p n ≡ n
 rank_all p zero all = refl
 rank_all p (suc n) all =
@@ -52,7 +53,7 @@ rank_all p (suc n) all =
     let one : one_if (p n) ≡ 1 = ap one_if (all n (omega arith)) in
     omega (arith, rank-suc p n)
 
--- a number that passes stands at its rank
+-- a number that passes is the item at its rank
 pub record StandsAt (p : ℕ → Bool) (n t : ℕ) : Type 0 where
   pub fewer : rank p t < rank p n
   pub is : get_or (picked p n) (rank p t) 0 ≡ t
@@ -81,7 +82,7 @@ at_rank p (suc n) t l h = by_size (cases_lt t n) (λ m. at_rank p n t m h)
           is = ap (λ i. get_or (picked p (suc n)) i 0) same ∙ ap (λ (xs : List ℕ). get_or xs (rank p n) 0) (picked-suc p n) ∙ last ∙ sym e;
         }
 
--- and each place below the number of those that pass is the rank of one
+-- each number below the number of those that pass is the rank of one
 pub of_rank : (p : ℕ → Bool) (n i : ℕ) → i < rank p n → (t : ℕ) × (t < n) × (p t ≡ true) × (rank p t ≡ i)
 of_rank p zero i l = absurd (let z : rank p 0 ≡ 0 = refl in omega arith)
 of_rank p (suc n) i l = by_size (cases_lt i (rank p n)) (λ m. of_rank p n i m)
@@ -97,7 +98,7 @@ of_rank p (suc n) i l = by_size (cases_lt i (rank p n)) (λ m. of_rank p n i m)
 pub ranks_apart : (p : ℕ → Bool) (n t u : ℕ) → t < n → u < n → p t ≡ true → p u ≡ true → rank p t ≡ rank p u → t ≡ u
 ranks_apart p n t u lt lu pt pu e = sym (at_rank p n t lt pt).is ∙ ap (λ i. get_or (picked p n) i 0) e ∙ (at_rank p n u lu pu).is
 
--- its position is its rank
+-- the position of a number that passes is its rank
 pub position_is_rank : (p : ℕ → Bool) (n u : ℕ) → u < n → p u ≡ true → position_or_len (λ v. v == u) (picked p n) ≡ rank p u
 position_is_rank p n u l h =
     let s = at_rank p n u l h in
@@ -113,7 +114,7 @@ position_is_rank p n u l h =
         let differs : t ≢ u = λ e. (let r : rank p t ≡ rank p u = ap (rank p) e in let q = o.3 in absurd (omega arith)) in
         ap (λ v. v == u) at ∙ ne_eqb t u differs
 
--- numbers that are taken out
+-- numbers that are removed
 
 abbrev pub stays : List ℕ → ℕ → Bool
 stays gone t = not (has gone t)
@@ -141,7 +142,7 @@ count_whole p (x ∷ xs) all =
     let b : one_if (p x) ≡ 1 = ap one_if (all 0 (omega arith)) in
     omega (arith, count_whole p xs (λ k l. all (suc k) (omega arith)))
 
--- a number stands among them once or never
+-- in an ascending list, a number occurs once or not at all
 times_one : (xs : List ℕ) (t : ℕ) → Ascends xs → count_by (λ u. u == t) xs ≡ one_if (has xs t)
 times_one [] t up = refl
 times_one (x ∷ xs) t up =
@@ -155,11 +156,11 @@ times_one (x ∷ xs) t up =
         rw e (omega arith)
     by_test false e before = rw e (omega arith)
 
--- each number stands among them once or never
+-- each number occurs at most once
 abbrev pub AreOnce : List ℕ → Type 0
 AreOnce xs = (t : ℕ) → count_by (λ u. u == t) xs ≡ one_if (has xs t)
 
--- what stays below t and what is taken out below t are all numbers below t
+-- the counts of the numbers below t that stay and that are removed add up to t
 pub stays_and_once : (gone : List ℕ) (t : ℕ) → AreOnce gone → rank (stays gone) t + gone_before gone t ≡ t
 stays_and_once gone zero once =
     let none : gone_before gone 0 ≡ 0 = count_none (λ u. nat_lt u 0) gone (λ k l. le-ltb (get_or gone k 0) 0 (omega arith)) in
@@ -178,11 +179,11 @@ stays_and_gone gone t up = stays_and_once gone t (λ u. times_one gone u up)
 pub closed_up-rank : (gone : List ℕ) (t : ℕ) → Ascends gone → rank_without gone t ≡ rank (stays gone) t
 closed_up-rank gone t up = omega (arith, stays_and_gone gone t up)
 
--- so many stay of the numbers below n, where all that are taken out are below n
+-- the counts of the numbers below n that stay and of all removed ones add up to n, if these are below n
 pub stays-count : (gone : List ℕ) (n : ℕ) → Ascends gone → ((k : ℕ) → k < length gone → get_or gone k 0 < n) → rank (stays gone) n + length gone ≡ n
 stays-count gone n up small =
     omega (arith, stays_and_gone gone n up, count_whole (λ u. nat_lt u n) gone (λ k l. lt-ltb (get_or gone k 0) n (small k l)))
 
--- the number that stays and has i before it
+-- the number that stays and has i numbers that stay before it
 pub opened_up : (gone : List ℕ) (i t : ℕ) → Ascends gone → t ≡ i + gone_before gone t → rank (stays gone) t ≡ i
 opened_up gone i t up e = omega (arith, stays_and_gone gone t up)

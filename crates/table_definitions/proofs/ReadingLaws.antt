@@ -1,4 +1,4 @@
--- What is read is in the grammar, and what is in the grammar is read: words and numbers.
+-- Words and numbers are read if and only if they are in the grammar.
 use Rattle.std.proofs.Common.{◌≡◌, ℕ, ◌≤◌, Bool, true, false, List, [], ◌∷◌, Option, Some, None, Result, Ok, Err, refl, sym, ap, ◌∙◌, subst, eqb}
 use Rattle.std.specs.Prelude.{nat_lt, if◌then◌else◌}
 use Rattle.std.specs.List.{AllZip}
@@ -10,7 +10,7 @@ use Rattle.text_definitions.specs.Reading.{same_word, Reading, ◌>>=◌, column
 use Rattle.text_definitions.proofs.Readers.{bind_ok}
 use Rattle.table_definitions.specs.Grammar.{IsWord, AreWords, IsDecimalUpTo}
 
--- words that pass the test are equal, and equal words pass
+-- words are equal if and only if they pass the test
 same_word-true : (xs ys : List ℕ) → same_word xs ys ≡ true → xs ≡ ys
 same_word-true [] [] e = refl
 same_word-true [] (y ∷ ys) e = absurd (false≢true e)
@@ -26,19 +26,19 @@ same_word_refl (x ∷ xs) = and_from (eqb x x) (same_word xs xs) (eq-eqb x x ref
 same_word_from : (xs ys : List ℕ) → xs ≡ ys → same_word xs ys ≡ true
 same_word_from xs ys e = subst (λ (zs : List ℕ). same_word xs zs ≡ true) e (same_word_refl xs)
 
--- the parts of what an Ok holds
+-- equal results have equal parts
 pub ok_parts : {A B E : Type 0} (x y : A × B) → (let r : Result (A × B) E = Ok x in r ≡ Ok y) → (x.0 ≡ y.0) × (x.1 ≡ y.1)
 ok_parts {A} {B} x y e = let p : x ≡ y = cc in ((λ i. (p i).0), (λ i. (p i).1))
 
--- what is left with these tokens in the current line
+-- the reading with these remaining tokens in the current line
 abbrev pub with_tokens : List Token → Reading → Reading
 with_tokens ts c = record c { current = record c.current { tokens = ts } }
 
--- what is left behind the token in a column
+-- what remains after the token in a column
 abbrev pub behind : ℕ → Reading → Reading
 behind column c = record c { taken = column_at c column }
 
--- a word that was read, and what is left
+-- a word that was read, and what remains
 pub record TakesWord (ts : List Token) (c : Reading) (w : List ℕ) (d : Reading) : Type 0 where
   pub column : ℕ
   pub rest : List Token
@@ -64,7 +64,7 @@ number_taken max w (Some m) c n d v e = by_test (nat_lt max m) refl e
         let parts : (m ≡ n) × (c ≡ d) = ok_parts (m, c) (n, d) e in
         (record { value = v ∙ ap (λ k. Some k) parts.0; up_to = subst (λ k. k ≤ max) parts.0 (ltb-false max m t) }, sym parts.1)
 
--- a number that was read, and what is left
+-- a number that was read, and what remains
 pub record TakesNumber (max : ℕ) (ts : List Token) (c : Reading) (n : ℕ) (d : Reading) : Type 0 where
   pub w : List ℕ
   pub word : TakesWord ts c w d
@@ -128,7 +128,7 @@ numbers_read max (t ∷ ts) c xs d e =
     (λ c'' same. numbers_read max ts c'' (others.0).0 (others.0).1 (subst (λ (r : Reading). numbers_from max ts r ≡ Ok ((others.0).0, (others.0).1)) same others.1)) in
     subst (λ (ys : List ℕ). TakesNumbers max (t ∷ ts) c ys d) parts.0 (subst (λ (r : Reading). TakesNumbers max (t ∷ ts) c ((first.0).0 ∷ (others.0).0) r) parts.1 made)
 
--- a word that had to stand there
+-- an expected word that was read
 exactly_taken : (w wanted : List ℕ) (c d : Reading) → (if same_word w wanted then Ok c else Err (word_fault c BadWord)) ≡ Ok d → (w ≡ wanted) × (c ≡ d)
 exactly_taken w wanted c d e = by_test (same_word w wanted) refl e
   where
@@ -145,14 +145,14 @@ exactly_read wanted ts c d e =
     let w : TakesWord ts c (first.0).0 (first.0).1 = word_taken ts c (first.0).0 (first.0).1 first.1 in
     record { column = w.column; rest = w.rest; tokens = w.tokens ∙ ap (λ (u : List ℕ). word w.column u ∷ w.rest) taken.0; left = sym taken.1 ∙ w.left }
 
--- What is in the grammar is read.
+-- a number in the grammar is read
 pub number_found : (max : ℕ) (w : List ℕ) (n : ℕ) (c : Reading) → IsDecimalUpTo max w n → number_up_to max (decimal_value w) c ≡ Ok (n, c)
 number_found max w n c h = ap (λ (o : Option ℕ). number_up_to max o c) h.value ∙ in_range
   where
     in_range : number_up_to max (Some n) c ≡ Ok (n, c)
     in_range = ap (λ (b : Bool). if◌then◌else◌ {A = Result (ℕ × Reading) LexFault} b (Err (word_fault c NumberTooWide)) (Ok (n, c))) (le-ltb max n h.up_to)
 
--- numbers to the end of a line are read, and the line is used up
+-- numbers in the grammar are read, up to the end of the line
 pub record FindsNumbers (max : ℕ) (ts : List Token) (c : Reading) (xs : List ℕ) : Type 0 where
   pub left : Reading
   pub read : numbers_from max ts (with_tokens ts c) ≡ Ok (xs, left)

@@ -1,4 +1,4 @@
--- The relations are met: tables and relabellings of the examples.
+-- Examples of the relations: tables and relabellings.
 use Rattle.std.proofs.Common.{[], ◌∷◌, refl}
 use Rattle.table_definitions.specs.Table.{IsTable}
 use Rattle.table_definitions.specs.Relabelling.{Relabelling, Carries}

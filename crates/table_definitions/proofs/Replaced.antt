@@ -15,11 +15,11 @@ use Rattle.table_definitions.proofs.Retained.{IsKeptAs, kept_at, kept_as, keeps,
 use Rattle.table_definitions.proofs.FreshRows.{ComesBack, back_comes, back_is, fresh_tet, fresh_face, length-fresh_row}
 use Rattle.table_definitions.proofs.Faces.{face_at}
 
--- a number that stands in a list of numbers below n
+-- a number in a list of numbers below n is below n
 pub has_below : (xs : List ℕ) (n u : ℕ) → All (λ v. v < n) xs → has xs u ≡ true → u < n
 has_below xs n u all h = let t = there xs u h in let P : ℕ → Type 0 = λ v. v < n in subst P (sym t.2) (All-get_or P xs t.0 u t.1 all)
 
--- what is known where a kept gluing stands in the new table
+-- the gluing of a face of a retained row: back to a new row, or to a retained one
 kept_cases : (rows : List Row) (r : Replacement) (y : Face) (o : Option Gluing) (v : Gluing) → kept_gluing rows r y o ≡ Some v
     → (g : Gluing) × (o ≡ Some g) × (((has r.removed g.tet ≡ true) × (back_to_fresh r y ≡ Some v)) ⊎ ((has r.removed g.tet ≡ false) × (record { tet = number_of_kept rows r g.tet; perm = g.perm } ≡ v)))
 kept_cases rows r y None v e = absurd cc
@@ -39,7 +39,7 @@ kept_gone rows r y g h = ap (λ b. cond b (back_to_fresh r y) (Some (record { te
 kept_stays : (rows : List Row) (r : Replacement) (y : Face) (g : Gluing) → has r.removed g.tet ≡ false → kept_gluing rows r y (Some g) ≡ Some (record { tet = number_of_kept rows r g.tet; perm = g.perm })
 kept_stays rows r y g h = ap (λ b. cond b (back_to_fresh r y) (Some (record { tet = number_of_kept rows r g.tet; perm = g.perm }))) h
 
--- a fresh gluing is good
+-- the conditions on a table hold for a gluing of a new row
 good_fresh : (rows : List Row) (r : Replacement) → IsTable rows → CanReplace rows r → (y : Face) (g : Gluing) → fresh_glue r y ≡ Some g → IsGood (replaced_length rows r) (replaced rows r) y g
 good_fresh rows r table can y g e = record {
   permutes = can.permutes y g e;
@@ -59,7 +59,7 @@ good_fresh rows r table can y g e = record {
         ∙ kept_gone rows r (other_side y g) freed.gluing freed.led_to_removed
         ∙ back_is rows r can y g e h
 
--- a gluing of a kept row that leads to a fresh one is good
+-- they hold for a gluing of a retained row to a new one
 good_back : (rows : List Row) (r : Replacement) → IsTable rows → CanReplace rows r → (y : Face) (v : Gluing) → y.face < 4 → has (fresh_numbers r) y.tet ≡ false → ComesBack r y v
     → IsGood (replaced_length rows r) (replaced rows r) y v
 good_back rows r table can y v lf kept c = subst (λ (w : Gluing). IsGood (replaced_length rows r) (replaced rows r) y w) c.back
@@ -104,7 +104,7 @@ good_back rows r table can y v lf kept c = subst (λ (w : Gluing). IsGood (repla
       leads_back = ap (glue (replaced rows r)) over ∙ glue-fresh rows r x in_range xt ∙ c.glued ∙ ap (λ q. Some (record { tet = g.tet; perm = q })) (sym (inverse-inverse g.perm hp));
     }
 
--- a gluing between kept rows is good
+-- they hold for a gluing between retained rows
 good_kept : (rows : List Row) (r : Replacement) → IsTable rows → CanReplace rows r → (t u f : ℕ) (g : Gluing) → IsKeptAs rows r t u → f < 4 → glue rows (face_at t f) ≡ Some g → has r.removed g.tet ≡ false
     → IsGood (replaced_length rows r) (replaced rows r) (face_at u f) (record { tet = number_of_kept rows r g.tet; perm = g.perm })
 good_kept rows r table can t u f g k lf e h = record {

@@ -1,4 +1,4 @@
--- Where the rows stand in a table in which some were taken out and fresh ones put in.
+-- The places of the rows in a table with some rows removed and new ones added.
 use Rattle.std.proofs.Common.{◌≡◌, ℕ, zero, suc, ◌+◌, ◌<◌, Bool, true, false, cond, List, [], length, get_or, map, Option, None, refl, sym, ap, ◌∙◌, subst, arith}
 use Rattle.std.specs.Prelude.{◌==◌, not, slice_index}
 use Rattle.std.specs.List.{position_or_len}
@@ -14,11 +14,11 @@ use Rattle.table_definitions.specs.Replaceable.{fresh_numbers, fresh_glue, CanRe
 use Rattle.table_definitions.proofs.Ranks.{rank, at_rank, of_rank, position_is_rank, stays, closed_up-rank, stays-count}
 use Rattle.basic_lemmas.proofs.Members.{Ascends}
 
--- the old number of the row at u
+-- the old number of the row at index u
 abbrev pub kept_at : List Row → Replacement → ℕ → ℕ
 kept_at rows r u = slice_index (kept_numbers rows r) (position_or_len (λ v. v == u) (free_numbers rows r))
 
--- row t is kept as row u
+-- row t is retained as row u
 pub record IsKeptAs (rows : List Row) (r : Replacement) (t u : ℕ) : Type 0 where
   pub old_in_range : t < length rows
   pub stays : has r.removed t ≡ false
@@ -36,7 +36,7 @@ fresh_up rows r can = AllPairs-from_increasing (fresh_numbers r) can.fresh_ascen
 pub fewer_removed : (rows : List Row) (r : Replacement) → CanReplace rows r → rank (stays r.removed) (length rows) + length r.removed ≡ length rows
 fewer_removed rows r can = stays-count r.removed (length rows) (removed_up rows r can) (λ k l. All-get_or (λ t. t < length rows) r.removed k 0 l can.removed_in_range)
 
--- as many numbers are free as rows are kept
+-- as many numbers are free as rows are retained
 pub as_many : (rows : List Row) (r : Replacement) → CanReplace rows r → rank (stays r.removed) (length rows) ≡ rank (stays (fresh_numbers r)) (replaced_length rows r)
 as_many rows r can =
     let a = fewer_removed rows r can in
@@ -60,7 +60,7 @@ kept_by rows r can t u lt st lu fu e = record {
   back = ap (λ i. get_or (kept_numbers rows r) i 0) (position_is_rank (stays (fresh_numbers r)) (replaced_length rows r) u lu (ap not fu) ∙ sym e) ∙ (at_rank (stays r.removed) (length rows) t lt (ap not st)).is;
 }
 
--- each row that is kept
+-- each row that is retained has a free number
 pub kept_as : (rows : List Row) (r : Replacement) → CanReplace rows r → (t : ℕ) → t < length rows → has r.removed t ≡ false → IsKeptAs rows r t (number_of_kept rows r t)
 kept_as rows r can t lt st =
     let few = (at_rank (stays r.removed) (length rows) t lt (ap not st)).fewer in
@@ -68,7 +68,7 @@ kept_as rows r can t lt st =
     let k : IsKeptAs rows r t u.0 = kept_by rows r can t u.0 lt st u.1 (not_true (has (fresh_numbers r) u.0) u.2) (sym u.3) in
     subst (λ v. IsKeptAs rows r t v) (sym k.number) k
 
--- each number that is free
+-- each free number is that of a retained row
 pub keeps : (rows : List Row) (r : Replacement) → CanReplace rows r → (u : ℕ) → u < replaced_length rows r → has (fresh_numbers r) u ≡ false → IsKeptAs rows r (kept_at rows r u) u
 keeps rows r can u lu fu =
     let few = (at_rank (stays (fresh_numbers r)) (replaced_length rows r) u lu (ap not fu)).fewer in
@@ -92,7 +92,7 @@ fresh_row_at rows r u l h = row_at rows r u l ∙ ap (λ b. cond b (fresh_row r 
 pub kept_row_at : (rows : List Row) (r : Replacement) (u : ℕ) → u < replaced_length rows r → has (fresh_numbers r) u ≡ false → get_or (replaced rows r) u [] ≡ kept_row rows r (kept_at rows r u) u
 kept_row_at rows r u l h = row_at rows r u l ∙ ap (λ b. cond b (fresh_row r u) (kept_row rows r (kept_at rows r u) u)) h
 
--- a face of a fresh row
+-- a face of a new row
 pub glue-fresh : (rows : List Row) (r : Replacement) (x : Face) → x.tet < replaced_length rows r → has (fresh_numbers r) x.tet ≡ true → glue (replaced rows r) x ≡ fresh_glue r x
 glue-fresh rows r x l h = ap (λ (row : Row). get_or row x.face None) (fresh_row_at rows r x.tet l h)
 
@@ -103,7 +103,7 @@ of_four f (suc (suc zero)) l = refl
 of_four f (suc (suc (suc zero))) l = refl
 of_four f (suc (suc (suc (suc k)))) l = absurd (omega arith)
 
--- a face of a kept row
+-- a face of a retained row
 pub glue-kept : (rows : List Row) (r : Replacement) (t u f : ℕ) → IsKeptAs rows r t u → f < 4
     → glue (replaced rows r) (record { tet = u; face = f }) ≡ kept_gluing rows r (record { tet = u; face = f }) (glue rows (record { tet = t; face = f }))
 glue-kept rows r t u f k l =

@@ -11,7 +11,8 @@ tables : (table_fault sphere ≡ None) × (table_fault other_sphere ≡ None) ×
 unfolding computed
 tables = (refl, refl, refl, refl, refl, refl, refl, refl)
 
--- rows of the table of four taken out and put in: without the last one, with it again, and with the first one in the last place
+-- rows of the table of four that are removed and added: without the last one, with it again, and with the first one as
+-- the last
 replacing : (replaced four_tets (record { removed = 3 ∷ []; fresh = [] })
     ≡ row (by 1 0) (by 2 6) free (by 1 0) ∷ row (by 0 0) (by 2 0) free (by 0 0) ∷ row (by 0 6) (by 1 0) free free ∷ [])
     × (replaced four_tets (record { removed = 3 ∷ []; fresh = (3, row (by 0 12) (by 1 2) (by 2 0) (by 2 12)) ∷ [] }) ≡ four_tets)

@@ -1,4 +1,4 @@
--- Lines that are a table are read as it.
+-- Lines of a table are read as this table.
 use Rattle.std.proofs.Common.{◌≡◌, ℕ, suc, ◌^◌, ◌<◌, ◌≤◌, Bool, true, false, List, [], ◌∷◌, ◌++◌, length, Option, Some, None, Result, Ok, Err, refl, sym, ap, ◌∙◌, subst, arith}
 use Rattle.std.specs.Prelude.{nat_lt, if◌then◌else◌, codes}
 use Rattle.std.specs.List.{AllZip}
@@ -41,7 +41,7 @@ no_entries : (ws : List (List ℕ)) → AllZip IsEntry ws [] → ws ≡ []
 no_entries [] z = refl
 no_entries (w ∷ ws) z = absurd z
 
--- an entry's word is read as it
+-- the word of an entry is read as this entry
 pub no_dash : (w : List ℕ) (g : Gluing) → gluing_of w ≡ Some g → same_list w (codes "-") ≡ false
 no_dash w g e = by_test (same_list w (codes "-")) refl
   where
@@ -68,7 +68,7 @@ entry_found : (column : ℕ) (w : List ℕ) (o : Option Gluing) (ts : List Token
 unfolding entry_at word_at
 entry_found column w o ts c e = entry_word w o (with_tokens ts (behind column c)) e
 
--- an entry is read where the words begin with its word
+-- an entry is read if the words begin with its word
 record EntryFound (ts : List Token) (ws : List (List ℕ)) (row : Row) (c : Reading) (o : Option Gluing) : Type 0 where
   column : ℕ
   rest : List Token
@@ -151,7 +151,7 @@ row_in l ls ws (o0 ∷ o1 ∷ o2 ∷ o3 ∷ []) c a z f =
     record { left = r.0; read = r.1; later = r.2; at_end = r.3 }
 row_in l ls ws (o0 ∷ o1 ∷ o2 ∷ o3 ∷ o4 ∷ row) c a z f = absurd (omega arith)
 
--- lines that are rows are read as them
+-- lines of rows are read as these rows
 record RowsFound (c : Reading) (n : ℕ) (rows : List Row) (rest : List Line) : Type 0 where
   left : Reading
   read : rows_at n c ≡ Ok (rows, left)
@@ -180,7 +180,7 @@ rows_found (l ∷ lines) rest (row ∷ rows) c z =
     rows_more (length rows) (with_later (l ∷ (lines ++ rest)) c) row one.left rows rest one.read one.at_end
     (subst (λ (ls : List Line). RowsFound (with_later ls one.left) (length rows) rows rest) (sym one.later) more)
 
--- what follows the word `tri` is read where it is the number of the rows and their lines follow
+-- what follows the word `tri` is read if it is the number of rows and their lines follow
 pub lexed_with : {A : Type 0} (r : Result A LexFault) (x : A) → r ≡ Ok x → lexed r ≡ Ok x
 lexed_with {A} r x e = ap (λ (q : Result A LexFault). lexed q) e
 

@@ -1,4 +1,4 @@
--- Rows are a table if and only if nothing is wrong with them.
+-- Rows are a table if and only if no error is found in them.
 use Rattle.std.proofs.Common.{◌≡◌, ℕ, zero, suc, ◌+◌, ◌<◌, ◌≤◌, Bool, true, false, eqb, List, [], ◌∷◌, ◌++◌, length, map, Option, Some, None, ◌⊎◌, inl, inr, refl, sym, ap, ◌∙◌, subst, arith, ⊎_elim}
 use Rattle.std.specs.Prelude.{nat_lt, not, All, if◌then◌else◌}
 use Rattle.std.specs.Option.{option_or}
@@ -13,7 +13,7 @@ use Rattle.table_definitions.specs.Table.{max_tets, Gluing, Row, Face, glue, oth
 use Rattle.table_definitions.proofs.ListLaws.{same_list_from}
 use Rattle.table_definitions.proofs.ListFacts.{same_list-true}
 
--- x stands in the list
+-- x occurs in the list
 abbrev pub Among : {A : Type 0} → A → List A → Type 0
 Among x [] = ⊥
 Among x (y ∷ ys) = (x ≡ y) ⊎ Among x ys
@@ -92,7 +92,7 @@ glued_face rows x g fours e =
     let n : glue rows x ≡ None = get_or_past (slice_index_or rows x.tet []) x.face None past in absurd cc)
     (cases_lt x.face 4)
 
--- a test of a gluing says that it is this one
+-- a gluing that passes the test is this one
 pub is_glued_by-true : (o : Option Gluing) (g : Gluing) → is_glued_by o g ≡ true → o ≡ Some g
 is_glued_by-true None g e = absurd (false≢true e)
 is_glued_by-true (Some h) g e =
@@ -115,7 +115,7 @@ allowed : {A : Type 0} (b : Bool) (f : A) → (if b then None else Some f) ≡ N
 allowed true f e = refl
 allowed false f e = absurd cc
 
--- nothing is wrong with a gluing
+-- a gluing without an error
 record IsFine (rows : List Row) (x : Face) (g : Gluing) : Type 0 where
   in_range : g.tet < length rows
   apart : same_face (other_side x g) x ≡ false
@@ -134,7 +134,7 @@ fine_at rows x g e =
       leads_back = is_glued_by-true (glue rows (other_side x g)) (way_back x g) (allowed back (NotMutual x.tet x.face) q.1);
     }
 
--- rows of four permutations with which nothing is wrong are a table
+-- rows of four permutations without an error are a table
 pub IsTable-no_fault : (rows : List Row) → All (λ (row : Row). length row ≡ 4) rows → ((x : Face) (g : Gluing) → glue rows x ≡ Some g → IsPermutationOfFour g.perm)
     → table_fault rows ≡ None → IsTable rows
 unfolding table_fault
@@ -156,7 +156,7 @@ IsTable-no_fault rows fours permutes e = record {
         first_some-none (λ (y : Face). gluing_fault rows y (glue rows y)) x (faces (length rows)) parts.1 (Among-faces x (length rows) (glued_tet rows x g h) (glued_face rows x g fours h)) in
         fine_at rows x g (subst (λ (o : Option Gluing). gluing_fault rows x o ≡ None) h none)
 
--- nothing is wrong with a table
+-- no error is found in a table
 fine_fault : (rows : List Row) (x : Face) (g : Gluing) → g.tet < length rows → same_face (other_side x g) x ≡ false → glue rows (other_side x g) ≡ Some (way_back x g)
     → gluing_fault rows x (Some g) ≡ None
 fine_fault rows x g inside apart back =

@@ -47,7 +47,7 @@ entry_taken w c o d e = by_test (same_list w (codes "-")) refl e
         (subst (λ (p : Option Gluing). IsEntry w p) parts.0 (same_list-true w (codes "-") t), sym parts.1)
     by_test false t e = gluing_taken w (gluing_of w) c o d refl e
 
--- an entry that was read, and what is left
+-- an entry that was read, and what remains
 record TakesEntry (ts : List Token) (c : Reading) (o : Option Gluing) (d : Reading) : Type 0 where
   w : List ℕ
   word : TakesWord ts c w d
@@ -216,7 +216,7 @@ rows_four (l ∷ lines) (row ∷ rows) z (suc k) d h = rows_four lines rows z.1 
 table_of_lines : (lines : List Line) (rows : List Row) → AllZip IsRowLine lines rows → table_fault rows ≡ None → IsTable rows
 table_of_lines lines rows z n = IsTable-no_fault rows (rows_four lines rows z) (λ x g e. rows_permute lines rows z x.tet x.face g e) n
 
--- a reader's Ok is no fault of the table
+-- what a reader reads is read also where its errors are those of a table
 pub lexed_ok : {A : Type 0} (r : Result A LexFault) (x : A) → lexed r ≡ Ok x → r ≡ Ok x
 lexed_ok (Ok y) x e = let same : y ≡ x = cc in cc
 lexed_ok (Err f) x e = absurd cc
@@ -225,7 +225,7 @@ checked_ok : (o : Option TableFault) (x y : List Row × Reading) → checked o x
 checked_ok None x y e = (refl, cc)
 checked_ok (Some f) x y e = absurd cc
 
--- so many rows that were read behind the end of a line
+-- the n rows that were read after the end of a line
 record CountedRead (n : ℕ) (ts : List Token) (c : Reading) (rows : List Row) (d : Reading) : Type 0 where
   ended : ts ≡ []
   lines : List Line
@@ -261,7 +261,7 @@ counted_read n ts c rows d e =
         } in
         subst (λ (rs : List Row). CountedRead n ts c rs d) same_rows (subst (λ (x : Reading). CountedRead n ts c read_rows x) same_end made)
 
--- what follows the word `tri`, where it was read
+-- what follows the word `tri`, if it was read
 record TableRead (ts : List Token) (c : Reading) (rows : List Row) (d : Reading) : Type 0 where
   w : List ℕ
   column : ℕ
@@ -298,7 +298,7 @@ table_read ts c rows d e =
     from_number n x t false g =
         from_counted n x t (counted_read n t.word.rest (behind t.word.column c) rows d (subst (λ (r : Reading). counted_rows_at n r ≡ Ok (rows, d)) t.word.left g))
 
--- a table on the next lines, where it was read
+-- a table on the next lines, if it was read
 pub record TriTableRead (c : Reading) (rows : List Row) (d : Reading) : Type 0 where
   pub lines : List Line
   pub split : c.later ≡ lines ++ d.later

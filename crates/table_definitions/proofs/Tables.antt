@@ -4,7 +4,7 @@ use Rattle.std.specs.List.{slice_index_or}
 use Rattle.table_definitions.specs.Permutation.{words}
 use Rattle.table_definitions.specs.Table.{Gluing, Row}
 
--- glued to tetrahedron t by the word of this index
+-- a gluing to tetrahedron t by the permutation with index i
 abbrev pub by : ℕ → ℕ → Option Gluing
 by t i = Some (record { tet = t; perm = slice_index_or words i [] })
 
@@ -42,7 +42,7 @@ figure_eight = row (by 1 0) (by 1 8) (by 1 7) (by 1 19) ∷ row (by 0 0) (by 0 1
 abbrev pub invalid : List Row
 invalid = row (by 0 7) (by 0 7) free free ∷ []
 
--- `bkaagj` after the move 14 0
+-- `bkaagj` after the move `14 0`
 abbrev pub four_tets : List Row
 four_tets =
     row (by 1 0) (by 2 6) (by 3 8) (by 1 0)

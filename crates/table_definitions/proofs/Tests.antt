@@ -1,4 +1,4 @@
--- Tests that decide the relations between tables, and what passes them: so the relations are met by the tables of the examples.
+-- Tests that decide the relations between tables, so that these can be computed for the tables of the examples.
 use Rattle.std.proofs.Common.{◌≡◌, ℕ, ◌<◌, Bool, true, false, eqb, List, [], ◌∷◌, length, Option, Some, None, inl, inr, refl, ap, ◌∙◌, subst}
 use Rattle.std.specs.Prelude.{◌&&◌, ◌==◌, All, option_map, slice_index_or}
 use Rattle.std.specs.List.{list_all}
@@ -11,7 +11,7 @@ use Rattle.table_definitions.specs.Relabelling.{Relabelling, Carries, relabelled
 use Rattle.table_definitions.proofs.TableLaws.{Among, Among-faces, IsTable-no_fault, glued_tet, glued_face}
 use Rattle.table_definitions.proofs.ListFacts.{same_list-true}
 
--- a test that each item passes is passed by one that stands there
+-- a test that all items pass is passed by each item
 pub list_all-among : {A : Type 0} (t : A → Bool) (x : A) (ys : List A) → list_all t ys ≡ true → Among x ys → t x ≡ true
 list_all-among t x [] e h = absurd h
 list_all-among t x (y ∷ ys) e (inl s) = ap t s ∙ (and_parts (t y) (list_all t ys) e).0
@@ -21,7 +21,7 @@ list_all-among t x (y ∷ ys) e (inr h) = list_all-among t x ys (and_parts (t y)
 pub each_face : (t : Face → Bool) (n : ℕ) → list_all t (faces n) ≡ true → (x : Face) → x.tet < n → x.face < 4 → t x ≡ true
 each_face t n e x ht hf = list_all-among t x (faces n) e (Among-faces x n ht hf)
 
--- whether two faces are glued alike
+-- whether two faces have the same gluing
 abbrev pub same_glue : Option Gluing → Option Gluing → Bool
 same_glue None None = true
 same_glue None (Some h) = false
@@ -45,7 +45,7 @@ has_fours rows = list_all (λ (row : Row). length row == 4) rows
 pub fours_from : (rows : List Row) → has_fours rows ≡ true → All (λ (row : Row). length row ≡ 4) rows
 fours_from rows e k d h = eqb-true (length (slice_index_or rows k d)) 4 (AllPass-from_list_all (λ (row : Row). length row == 4) rows e k d h)
 
--- whether a face of the old table is glued in the new one as it was
+-- whether the image of a face is glued by the image of its gluing
 abbrev pub is_carried : Relabelling → List Row → List Row → Face → Bool
 is_carried by old new x =
     same_glue (glue new (face_under (relabelled_place by x.tet) x)) (option_map (λ g. gluing_under (relabelled_place by x.tet) (relabelled_place by g.tet) g) (glue old x))

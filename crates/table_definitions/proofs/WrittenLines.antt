@@ -1,4 +1,4 @@
--- What the lines are of bytes that begin with a written line, or with a comment.
+-- The lines of bytes that begin with a written line, or with a comment.
 use Rattle.std.proofs.Common.{◌≡◌, ℕ, ◌+◌, true, false, List, [], ◌∷◌, ◌++◌, length, refl, ap, ◌∙◌, arith, append_assoc}
 use Rattle.std.specs.Prelude.{not, if◌then◌else◌}
 use Rattle.std.specs.List.{AllZip, AllByRecursion, list_all, flat_map}
@@ -27,7 +27,8 @@ inner_feeds (b ∷ bs) h =
     let parts : (is_inner b ≡ true) × (list_all is_inner bs ≡ true) = and_parts (is_inner b) (list_all is_inner bs) h in
     ((inner_byte b parts.0).0, inner_feeds bs parts.1)
 
--- words with a space between each two, the first no comment, are one line, and the lines of what follows are numbered on
+-- words with a space between each two, the first one no comment, are one line, and the numbers of the following lines
+-- continue
 pub written_line : (n : ℕ) (w : List ℕ) (ws : List (List ℕ)) (rest : List ℕ) → IsText w → AllByRecursion IsText ws → is_skipped w ≡ false
     → lines_from n (pieces (spaced (w ∷ ws) ++ rest)) ≡ line_of n (w ++ behind_spaces ws) ∷ lines_from (n + 1) (pieces rest)
 unfolding lines_from
@@ -49,7 +50,7 @@ comment_skipped : (bytes : List ℕ) → is_skipped (without_cr (35 ∷ bytes)) 
 comment_skipped [] = refl
 comment_skipped (b ∷ bs) = refl
 
--- a comment is passed, and the lines of what follows are numbered on
+-- a comment is skipped, and the numbers of the following lines continue
 pub comment_line : (n : ℕ) (comment rest : List ℕ) → has_no_feed comment ≡ true → lines_from n (pieces ((35 ∷ comment) ++ 10 ∷ rest)) ≡ lines_from (n + 1) (pieces rest)
 unfolding lines_from
 comment_line n comment rest h =
@@ -57,7 +58,7 @@ comment_line n comment rest h =
     ap (λ (ps : List (List ℕ)). lines_from n ps) (first_piece (35 ∷ comment) rest (refl, no_feeds comment h))
     ∙ cond-true (is_skipped (without_cr (35 ∷ comment))) others (line_of n (without_cr (35 ∷ comment)) ∷ others) (comment_skipped comment)
 
--- lines that a text begins with, each with its value; the lines of what follows are numbered on
+-- lines that a text begins with, each with its value; the numbers of the following lines continue
 pub record BeginsWith {A : Type 0} (form : Line → A → Type 0) (n : ℕ) (bytes : List ℕ) (values : List A) (rest : List ℕ) : Type 0 where
   pub lines : List Line
   pub split : lines_from n (pieces bytes) ≡ lines ++ lines_from (n + length values) (pieces rest)

@@ -18,7 +18,7 @@ pub record IsText (w : List ℕ) : Type 0 where
   pub bytes : list_all is_word_byte w ≡ true
   pub some : 0 < length w
 
--- the words of a list, each behind a space
+-- the words of a list, each after a space
 abbrev pub behind_spaces : List (List ℕ) → List ℕ
 behind_spaces [] = []
 behind_spaces (w ∷ ws) = 32 ∷ (w ++ behind_spaces ws)
@@ -28,7 +28,7 @@ spaced-joined w [] = ap (λ (xs : List ℕ). xs ++ 10 ∷ []) (sym (append-nil w
 spaced-joined w (x ∷ ws) =
     ap (λ (xs : List ℕ). w ++ (32 ∷ xs)) (spaced-joined x ws) ∙ sym (append_assoc w (32 ∷ (x ++ behind_spaces ws)) (10 ∷ []))
 
--- a run of bytes of words in front is a word
+-- a run of bytes of words at the beginning is a word
 run-prefix : (w rest : List ℕ) → list_all is_word_byte w ≡ true → prefix_len is_word_byte rest ≡ 0 → prefix_len is_word_byte (w ++ rest) ≡ length w
 run-prefix [] rest d e = e
 run-prefix (b ∷ bs) rest d e =
@@ -73,7 +73,7 @@ inner_words w (x ∷ ws) t ts =
 pub inner_byte : (b : ℕ) → is_inner b ≡ true → (is_line_feed b ≡ false) × ((b == 13) ≡ false)
 inner_byte b i = (grind (arith, nat_tests), grind (arith, nat_tests))
 
--- no CR is at the end
+-- bytes of words and spaces do not end with a CR
 pub inner_kept : (xs : List ℕ) → list_all is_inner xs ≡ true → without_cr xs ≡ xs
 inner_kept [] h = refl
 inner_kept (b ∷ []) h =
@@ -100,7 +100,7 @@ digits_bytes (b ∷ bs) d =
     let parts : (is_ascii_digit b ≡ true) × (list_all is_ascii_digit bs ≡ true) = and_parts (is_ascii_digit b) (list_all is_ascii_digit bs) d in
     and_from (is_word_byte b) (list_all is_word_byte bs) (digit_byte b parts.0).0 (digits_bytes bs parts.1)
 
--- and they begin no comment
+-- digits begin no comment
 pub digits_kept : (w : List ℕ) → AreDigits w → is_skipped w ≡ false
 digits_kept [] d = absurd (let s = d.some in omega arith)
 digits_kept (b ∷ bs) d =

@@ -11,7 +11,7 @@ use Rattle.std.specs.Str.Parse.{IsNumeral, digits_value as value_by_radix}
 use Rattle.std.proofs.lemmas.Str.Parse.{IsNumeralModel, numerals_by_fold, tells_all_ascii_digits}
 use Rattle.text_definitions.specs.Text.{digits_value, is_decimal, decimal_value, is_line_feed}
 
--- the same test, and the value that digits have
+-- the two tests of digits are equal, and so are the two values
 same_test : (ds : List ℕ) → all_ascii_digits ds ≡ list_all is_ascii_digit ds
 same_test [] = refl
 same_test (d ∷ ds) = ap (λ b. is_ascii_digit d && b) (same_test ds)
@@ -43,7 +43,7 @@ decimal_value-decimal n l =
 abbrev pub has_no_feed : List ℕ → Bool
 has_no_feed bytes = list_all (λ b. not (is_line_feed b)) bytes
 
--- whatever the number is, no line feed is written for it
+-- no byte that is written for a number is a line feed
 glyph_no_feed : (d : ℕ) → not (is_line_feed (digit_glyph false d)) ≡ true
 glyph_no_feed d = grind arith
 

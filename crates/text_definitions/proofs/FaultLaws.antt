@@ -1,1 +1,1 @@
--- A fault that is passed on is the one that was read.
+-- An error that is passed on is the one that was read.

@@ -1,4 +1,4 @@
--- An input has at most one line more than bytes.
+-- The number of lines of an input is at most its number of bytes plus 1.
 use Rattle.std.proofs.Common.{ℕ, ◌+◌, ◌≤◌, Bool, true, false, List, [], ◌∷◌, length, arith}
 use Rattle.std.specs.Prelude.{if◌then◌else◌}
 use Rattle.std.proofs.lemmas.List.Splits.{length-slice_split}

@@ -1,4 +1,4 @@
--- Any number of tables are read if and only if their lines are these.
+-- Any number of tables are read if and only if their lines are those of the tables.
 use Rattle.std.proofs.Common.{◌≡◌, ◌≤◌, ◌+◌, ℕ, List, [], ◌∷◌, ◌++◌, length, Result, Ok, refl, sym, ap, ◌∙◌, subst, arith, inl, inr}
 use Rattle.std.specs.Prelude.{◌↔◌}
 use Rattle.std.proofs.lemmas.List.{length-append}
@@ -17,12 +17,12 @@ use Rattle.text_document_laws.proofs.Tables.{worded_with, table_blocks}
 use Rattle.text_document_laws.proofs.Given.{Table, Tables}
 use Rattle.basic_lemmas.proofs.Lists.{no_items}
 
--- a table of the line that is begun is one of the next lines
+-- reading a table from the next lines is reading one after the next line is begun
 pub next_of_begun : (c : Reading) (l : Line) (ls : List Line) → c.later ≡ l ∷ ls → next_table_at c ≡ any_table_at (begun l ls c)
 unfolding next_table_at
 next_of_begun c l ls e = ap (λ (r : Result Reading InputFault). r >>= any_table_at) (worded_with (need_line_at c) (begun l ls c) (line_found c l ls e))
 
--- tables that were read to the end of the input, where no more lines are left than are counted
+-- the tables are those of all remaining lines, if at least that many lines are counted
 abbrev AreTo : Reading → List (List Row) → Type 0
 AreTo c tables = AreTables c.later tables
 

@@ -1,5 +1,5 @@
--- What stands behind a table that was read: where it leaves the form of what is to stand there, and at no symbol before, all
--- lines leave the grammar of a table and what is to stand behind it there, and at no symbol before.
+-- The input after a table that was read: if it first leaves its grammar at a place, all lines first leave there the
+-- grammar of a table and what may follow it.
 use Rattle.std.proofs.Common.{◌≡◌, ◌≢◌, ◌+◌, suc, List, [], ◌∷◌, ◌++◌, length, Ok, inl, inr, refl, sym, ap, ◌∙◌, arith}
 use Rattle.std.proofs.lemmas.List.{append_assoc, length-append}
 use Rattle.text_definitions.specs.declared.Place.{Place}
@@ -21,7 +21,7 @@ use Rattle.text_document_laws.proofs.Leaving.{begun_symbols}
 use Rattle.text_document_laws.proofs.LeavingCones.{same_symbols}
 use Rattle.text_document_laws.proofs.FirstFaults.{with_lines}
 
--- what stands before the same is the same
+-- if two lists with the same end are equal, so are the parts before it
 longer : {A : Type 0} (y : A) (ys zs : List A) → zs ≢ y ∷ (ys ++ zs)
 longer y ys zs e =
     let same : length zs ≡ suc (length (ys ++ zs)) = ap (λ (xs : List _). length xs) e in
@@ -40,7 +40,7 @@ cancelled (x ∷ xs) (y ∷ ys) zs e =
 left_split : (c : Reading) → left_symbols c ≡ rest_here c ++ symbols_of c.input_end c.later
 left_split c = line_split c.current.number c.current.tokens c.current.end (symbols_of c.input_end c.later)
 
--- the symbols of lines, before those of what is left behind them
+-- the symbols of lines, without those of the lines after them
 unfoldable pub lines_front : List Line → List Placed
 lines_front [] = []
 lines_front (l ∷ ls) = rest_of_line l.number l.tokens l.end ++ lines_front ls
@@ -58,7 +58,7 @@ shown_split xs ys p d e =
     (sym (plain-append xs (symbols_of p d.later)) ∙ ap plain (e ∙ ap (λ (ss : List Placed). ys ++ ss) (left_split d) ∙ sym (append_assoc ys (rest_here d) (symbols_of d.input_end d.later)))
     ∙ plain-append (ys ++ rest_here d) (symbols_of d.input_end d.later) ∙ ap (λ (ss : List Symbol). plain (ys ++ rest_here d) ++ ss) (same_symbols d.input_end p d.later))
 
--- a table has a line
+-- a table has at least one line
 table_begins : (lines rest : List Line) (rows : List Row) → AreTableLines lines rows → (l : Line) × (ls : List Line) × (lines ++ rest ≡ l ∷ ls)
 table_begins [] rest rows (inl h) = absurd h
 table_begins [] rest rows (inr h) = absurd h
@@ -76,7 +76,7 @@ module _ (c : Reading) (rows : List Row) (d : Reading) (l : Line) (ls : List Lin
   abbrev table_front : List Placed
   table_front = g.front ++ rest_here d
 
-  -- a table is read as the same where its symbols are shown, and what is shown behind them is left
+  -- reading a table from the same symbols, whatever follows, leaves what follows
   shown_behind : (o : Reading) (t : List Row) (n : Reading) (ss : List Symbol) → next_table_at o ≡ Ok (t, n) → plain (symbols_of o.input_end o.later) ≡ plain table_front ++ ss → plain (symbols_of n.input_end n.later) ≡ ss
   shown_behind o t n ss e shown =
       let f : (k : Line) × (ks : List Line) × (o.later ≡ k ∷ ks) = first_line o t n e in

@@ -28,7 +28,7 @@ below_term =
     (λ term ls rest (l, split, h). (l, rest, codes "term" ∷ h.k ∷ h.ws, split, h.are_words, (h.k ∷ h.ws, refl, (term.count, h.k, h.ws, refl, h.count, (term.vector, refl, (h.entries, refl))))))
     (below_line _ _ (on_named (codes "term") _ _ (on_number limit _ _ (λ n. on_made (λ xs. record { count = n; vector = xs }) (numbers_at limit) _ on_numbers))))
 
--- so many lines of terms
+-- n lines of terms
 abbrev AreTerms : ℕ → Below (List Term)
 AreTerms n terms ls rest = AreLines IsTermLine n terms ls rest
 

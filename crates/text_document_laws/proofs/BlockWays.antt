@@ -1,4 +1,4 @@
--- Blocks of sums: what stands before a fault can be gone on with to a block.
+-- Blocks of sums: what comes before an error can be continued to a block.
 use Rattle.std.proofs.Common.{ℕ, zero, suc, [], ◌∷◌, refl}
 use Rattle.std.specs.Prelude.{codes}
 use Rattle.text_definitions.specs.Written.{limit}

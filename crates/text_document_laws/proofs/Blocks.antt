@@ -1,4 +1,4 @@
--- Readers that read lines of one form and leave the others, one after another to the end of the input.
+-- Readers that read lines of one form and leave the others, one reader after another up to the end of the input.
 use Rattle.std.proofs.Common.{◌≡◌, ℕ, List, [], ◌∷◌, ◌++◌, Result, Ok, refl, sym, ap, ◌∙◌, subst}
 use Rattle.std.specs.List.{AllZip}
 use Rattle.std.proofs.lemmas.List.{append-nil, append_assoc}
@@ -10,17 +10,17 @@ use Rattle.text_document_definitions.specs.Documents.{no_line_at, each_line_from
 use Rattle.table_definitions.proofs.ReadingLaws.{ok_parts}
 use Rattle.text_document_laws.proofs.LineLaws.{HaveTokens, lines_have_tokens, rest_has_tokens, no_line_left, no_line_found}
 
--- the next lines are read if and only if they have the form
+-- `read` succeeds if and only if the next lines have the form
 pub record ReadsBlocks {A E : Type 0} (read : Reading → Result (A × Reading) E) (Form : List Line → A → Type 0) : Type 0 where
   pub sound : (c : Reading) (x : A) (d : Reading) → read c ≡ Ok (x, d) → (lines : List Line) × (c.later ≡ lines ++ d.later) × Form lines x
   pub complete : (c : Reading) (x : A) (lines rest : List Line) → c.later ≡ lines ++ rest → Form lines x → (d : Reading) × (read c ≡ Ok (x, d)) × (d.later ≡ rest)
 
--- the current line is read if and only if it has the form
+-- `read` succeeds if and only if the current line has the form
 pub record ReadsLine {A E : Type 0} (read : Reading → Result (A × Reading) E) (Form : Line → A → Type 0) : Type 0 where
   pub sound : (c : Reading) (x : A) (d : Reading) → read c ≡ Ok (x, d) → Form c.current x × (d.later ≡ c.later)
   pub complete : (c : Reading) (x : A) → Form c.current x → (d : Reading) × (read c ≡ Ok (x, d)) × (d.later ≡ c.later)
 
--- the end of the input is met if and only if no further line stands
+-- `end` succeeds if and only if no line remains
 pub record ReadsEnd {E : Type 0} (end : Reading → Result Reading E) : Type 0 where
   pub sound : (c d : Reading) → end c ≡ Ok d → no_line_at c ≡ Ok d
   pub complete : (c d : Reading) → no_line_at c ≡ Ok d → end c ≡ Ok d

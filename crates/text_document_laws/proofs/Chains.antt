@@ -1,5 +1,5 @@
--- Readers that are written out as a chain of calls: where one is refused, no more is seen than what stands before the fault and the
--- symbol there, and what stands before it can be gone on with. There is a law for each call of a chain.
+-- Readers that are written out as a chain of calls: if one fails, it has seen no more than what comes before the error
+-- and the symbol there, and what comes before it can be continued. There is a law for each call of a chain.
 use Rattle.std.proofs.Common.{◌≡◌, ℕ, List, [], Result, Ok, Err, refl, ap, ◌∙◌, subst}
 use Rattle.std.specs.Prelude.{⊤, codes}
 use Rattle.text_definitions.specs.Written.{limit}
@@ -23,11 +23,11 @@ Reader A = Reading → Result (A × Reading) LexFault
 abbrev pub Aims : Type 0 → Type 1
 Aims A = A → List Symbol → Type 0
 
--- a reading that can be read with an aim, at the end of a line
+-- a reading at the end of a line that `r` reads so that Aim holds
 abbrev pub SatBehind : {A : Type 0} → Reader A → Aims A → Type 0
 SatBehind r Aim = (s : Sat r Aim) × (s.start.current.tokens ≡ [])
 
--- readers to the end of a line, and readers from there on
+-- readers of the rest of a line, and readers from the end of a line on
 pub record Ends {A : Type 0} (r : Reader A) : Type 1 where
   pub goes : (c : Reading) → Goes r c
   pub sat : (Aim : Aims A) (k : Reading) → k.current.tokens ≡ [] → ((x : A) → Aim x (shows k)) → Sat r Aim
@@ -38,7 +38,7 @@ pub record Opens {A : Type 0} (r : Reader A) : Type 1 where
   pub sat : (Aim : Aims A) (k : Reading) → k.current.tokens ≡ [] → ((x : A) → Aim x (shows k)) → SatBehind r Aim
   pub well : (Aim : Aims A) (k : Reading) → k.current.tokens ≡ [] → ((x : A) → Aim x (shows k)) → (c : Reading) → WellOpen as_is r Aim c
 
--- a word that is put to a test, and what reads behind it
+-- a word that passes a test, and a reader of what follows it
 module _ {A B : Type 0} (test : List ℕ → Result A LexKind) (w : List ℕ) (x : A) (passes : test w ≡ Ok x) (s : A → Reader B) (g : (y : A) → Ends (s y)) where
   alike : (y : A) → Alike (s y)
   alike y = alike_goes (s y) (g y).goes
@@ -53,14 +53,14 @@ module _ {A B : Type 0} (test : List ℕ → Result A LexKind) (w : List ℕ) (x
     well = λ Aim k none a c. well_free as_is (word_with test) s Aim alike c (free_word test c) (well_word test (Then s Aim) c (sat_first Aim k none a)) (λ y d e. (g y).well Aim k none a d);
   }
 
--- so of readers that read a word with a test
+-- as `ends_word`, for a reader that equals a reader of a word with a test
 pub ends_tested : {A B : Type 0} (test : List ℕ → Result A LexKind) (r : Reader A) → ((c : Reading) → word_with test c ≡ r c) → (w : List ℕ) (x : A) → test w ≡ Ok x → (s : A → Reader B) → ((y : A) → Ends (s y)) → Ends (λ c. r c >>= λ (y : A × Reading). s y.0 y.1)
 ends_tested {A} {B} test r same w x passes s g = subst (λ (q : Reader B). Ends q) (λ i c. same c i >>= λ (y : A × Reading). s y.0 y.1) (ends_word test w x passes s g)
 
 pub ends_named : {A : Type 0} (w : List ℕ) (r : Reader A) → exact_test w w ≡ Ok tt → Ends r → Ends (λ c. exactly_at w c >>= r)
 ends_named {A} w r passes g = subst (λ (q : Reader A). Ends q) (λ i c. alone_bind (exactly_at w c) r i) (ends_tested (exact_test w) (exactly w) (exact_word w) w tt passes (λ u. r) (λ u. g))
 
--- a number, of which 0 is one
+-- a number, and a reader of what follows it; 0 is such a number
 pub ends_number : {A : Type 0} (max : ℕ) (s : ℕ → Reader A) → ((n : ℕ) → Ends (s n)) → Ends (λ c. number_at max c >>= λ (n : ℕ × Reading). s n.0 n.1)
 ends_number max s g = ends_tested (plain_test max) (number_at max) (number_word max) (codes "0") 0 (naught_passes max) s g
 
@@ -88,7 +88,7 @@ ends_lines {A} r g =
 pub ends_line : {A : Type 0} (r : Reader A) → Opens r → Ends (λ c. end_line_at c >>= r)
 ends_line {A} r g = subst (λ (q : Reader A). Ends q) (λ i c. alone_bind (end_line_at c) r i) (ends_lines r g)
 
--- the line of a reading is begun behind an empty line
+-- a reading of the line, from the end of an empty line before it
 pub in_next_line : {A : Type 0} (r : Reader A) (Aim : Aims A) → Sat r Aim → SatBehind (λ c. moved need_line_at c >>= λ (u : ⊤ × Reading). r u.1) Aim
 unfolding line_before
 in_next_line r Aim s = (
@@ -107,7 +107,7 @@ opens_next r g = record {
 pub opens_line : {A : Type 0} (r : Reader A) → Ends r → Opens (λ c. need_line_at c >>= r)
 opens_line {A} r g = subst (λ (q : Reader A). Opens q) (λ i c. alone_bind (need_line_at c) r i) (opens_next r g)
 
--- a value; what is made of one
+-- a reader of nothing, with a given value; a function of what a reader returns
 pub opens_pure : {A : Type 0} (x : A) → Opens (λ c. Ok (x, c))
 opens_pure x = record { goes = goes_pure x; sat = λ Aim k none a. (record { start = k; value = x; next = k; reads = refl; aim = a x }, none); well = λ Aim k none a c f e. absurd cc }
 
@@ -130,7 +130,7 @@ module _ {A B : Type 0} (make : A → B) (r : Reader A) where
     well = λ Aim k none a c. well_open_mapped r make Aim c (f.well (λ x ss. Aim (make x) ss) k none (λ x. a (make x)) c);
   }
 
--- readers one after another, in whatever brackets
+-- readers one after another, however they are bracketed
 pub bind_bind : {A B C E : Type 0} (r : Result A E) (f : A → Result B E) (g : B → Result C E) → ((r >>= f) >>= g) ≡ (r >>= λ (x : A). f x >>= g)
 bind_bind (Ok x) f g = refl
 bind_bind (Err e) f g = refl
@@ -140,7 +140,7 @@ behind_both {A} first second Aim alike s =
     let n = again_from (second s.0.value) Aim (alike s.0.value) (shows s.0.next) s.0.aim s.0.next refl in
     (record { start = s.0.start; value = n.0; next = n.1; reads = ap (λ (q : Result (A × Reading) LexFault). q >>= λ (x : A × Reading). second x.0 x.1) s.0.reads ∙ n.2; aim = n.3 }, s.1)
 
--- one after another on further lines
+-- one reader after another, the second on further lines
 abbrev pub join : {A B C : Type 0} → (A → B → C) → Reader A → Reader B → Reader C
 join {A} make r s c = r c >>= λ (x : A × Reading). made (make x.0) s x.1
 
@@ -151,7 +151,7 @@ module _ {A B C : Type 0} (make : A → B → C) (r : Reader A) (s : Reader B) (
   alike_second : (x : A) → Alike (second x)
   alike_second x = alike_goes (second x) (opens_made (make x) s g).goes
 
-  -- from the end of a line on, whatever was read before
+  -- from the end of a line on, whatever the first reader returned
   between : (Aim : Aims C) (k : Reading) → k.current.tokens ≡ [] → ((z : C) → Aim z (shows k)) → (b : Reading) × (b.current.tokens ≡ []) × ((x : A) → Then second Aim x (shows b))
   between Aim k none a =
       let t = g.sat (λ y ss. (x : A) → Aim (make x y) ss) k none (λ y x. a (make x y)) in

@@ -14,7 +14,7 @@ use Rattle.text_document_laws.proofs.ConeSteps.{closed_row, row_on}
 use Rattle.text_document_laws.proofs.ConeWays.{behind, behind_first, one_first, cone_of}
 use Rattle.text_document_laws.proofs.Links.{OnLine, Below, ReadsOn, ReadsBelow, on_as, below_as, on_named, on_word, on_number, reads_signed, on_end, below_line, below_made, below_pure, IsLine, AreLines, below_none, below_more}
 
--- so many coefficients, and what is read behind them
+-- n coefficients, and what is read after them
 module _ {B : Type 0} where
   abbrev Behind : ℕ → (List ℤ → OnLine B) → OnLine B
   Behind n R x ws ls rest = (row : List ℤ) × (front : List (List ℕ)) × (others : List (List ℕ)) × (ws ≡ front ++ others) × AllZip (IsSigned 1000000) front row × (length row ≡ n) × R row x others ls rest
@@ -102,7 +102,7 @@ cone_read c cone d e = by_words (on_cone.sound c cone d e)
     by_words (ws, a, (v, w, lines, p, number, counted, split, are)) =
         record { lines = lines; split = split; cone_lines = (v, w, subst (AreWords c.current.tokens) p a, number, counted, are); at_end = on_cone.at_end c cone d e }
 
--- lines that are a cone are read as it
+-- `cone` is read from the next lines, and `rest` remains
 pub record ReadsLines (c : Reading) (cone : Cone) (rest : List Line) : Type 0 where
   pub left : Reading
   pub read : need_line_at c >>= cone_at ≡ Ok (cone, left)

@@ -5,7 +5,7 @@ use Rattle.text_definitions.specs.Reading.{Reading, ◌>>=◌, end_line_at}
 use Rattle.cone_text_definitions.specs.ConeText.{coefficients_at}
 use Rattle.text_document_laws.proofs.Given.{Row}
 
--- what is read of a line of a cone
+-- the calls of readers for a line of a cone
 abbrev pub closed_row : List ℤ → Reading → Result Row LexFault
 closed_row r d = end_line_at d >>= λ (end : Reading). Ok (r, end)
 

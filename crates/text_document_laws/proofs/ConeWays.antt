@@ -1,4 +1,4 @@
--- Cones: what stands before a fault can be gone on with to a cone.
+-- Cones: what comes before an error can be continued to a cone.
 use Rattle.std.proofs.Common.{◌≡◌, ℕ, zero, suc, ℤ, pos, List, [], ◌∷◌, Ok, refl, sym, ap, ◌∙◌, subst}
 use Rattle.std.specs.Prelude.{replicate, codes}
 use Rattle.text_definitions.specs.declared.Place.{Place}
@@ -18,7 +18,7 @@ naught_signed : signed_test 1000000 (codes "0") ≡ Ok (pos 0)
 unfolding signed_test number_test
 naught_signed = refl
 
--- so many coefficients, and what reads behind them
+-- n coefficients, and a reader of what follows them
 module _ {B : Type 0} where
   abbrev pub behind : ℕ → (List ℤ → Reader B) → Reader B
   behind n more c = coefficients_at n c >>= λ (r : Row). more r.0 r.1
@@ -60,7 +60,7 @@ unfolding cone_at exact_test
 ends_cone =
     ends_named (codes "cone") _ refl (ends_number 10000 _ (λ columns. ends_number 10000 _ (λ n. ends_line (made (cone_of columns) (rows_of_cone_at columns n)) (opens_made (cone_of columns) (rows_of_cone_at columns n) (opens_cone_rows columns n)))))
 
--- nothing is left
+-- nothing remains
 abbrev pub last_symbols : List Symbol
 last_symbols = line_end ∷ input_end ∷ []
 
@@ -75,11 +75,11 @@ at_last k none empty = by_parts k.current.tokens k.later none empty
     by_parts ts ls p q = ap (λ (us : List Token). plain (line_symbols k.current.number us k.current.end (symbols_of k.input_end ls))) p
         ∙ ap (λ (ms : List Line). plain (line_symbols k.current.number [] k.current.end (symbols_of k.input_end ms))) q ∙ at_nothing k.current.number k.current.end k.input_end
 
--- a reading of lines, none of which is begun
+-- a reading of the given lines, before the first of them
 abbrev pub of_lines : List Line → Reading
 of_lines ls = record { current = record { number = 0; tokens = []; end = 0 }; later = ls; input_end = record { line = 0; column = 0 }; taken = record { line = 0; column = 0 } }
 
--- a cone, behind which nothing is left
+-- nothing remains after the cone
 abbrev pub IsLast : Cone → List Symbol → Type 0
 IsLast cone ss = ss ≡ last_symbols
 

@@ -50,7 +50,7 @@ cones_read c cone rest = (
   λ h. (let r : ReadsLines c cone rest = cone_found c cone h.0 rest h.1 h.2 in record { left = r.left; read = r.read; later = r.later; at_end = r.at_end }),
 )
 
--- a cone with no line behind it, from its line on
+-- a cone after which no line remains, from its first line on
 abbrev pub closed_cone : Cone → Reading → Result Cone LexFault
 closed_cone cone d = no_line_at d >>= λ (last : Reading). Ok cone
 

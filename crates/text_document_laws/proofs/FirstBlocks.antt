@@ -1,4 +1,4 @@
--- A table and blocks of sums: the first fault of their text, and of blocks behind a table that was read.
+-- A table and blocks of sums: the first error of their text, and of blocks after a table that was read.
 use Rattle.std.proofs.Common.{◌≡◌, ℕ, List, [], ◌∷◌, ◌++◌, Result, Ok, Err, refl, sym, ap, ◌∙◌, subst, arith}
 use Rattle.std.specs.Prelude.{⊤}
 use Rattle.text_definitions.specs.declared.LexFault.{LexFault}
@@ -56,7 +56,7 @@ next_block : (b : Reading) → Many (b.current ∷ b.later) → NextBlock b
 next_block b ([], h) = absurd cc
 next_block b (x ∷ blocks, h) = first_block b x blocks h.0 h.1 h.2 h.3 h.4
 
--- the text of a table and of blocks, at most one for each line that is counted
+-- the text of a table and of blocks, at most one block for each counted line
 abbrev read : List Line → Reading → Read
 read most c = next_text c >>= λ (u : ⊤ × Reading). each_from block_at most u.1
 
@@ -111,7 +111,7 @@ blocks_faults_stand_first bytes f e =
     stands_first (read (lines_of bytes)) AtEnd AreTableAndBlocksText (complete (lines_of bytes)) (sound (lines_of bytes)) bytes f.place
     (well_read (lines_of bytes) (start_of bytes) f (document_faults bytes f e))
 
--- behind a table that was read
+-- after a table that was read
 put : (table rest : List Line) (rows : List Row) → AreTableLines table rows → Many rest → SomeTableAndBlocks (table ++ rest)
 put table rest rows t h = (rows, h.0, (table, rest, refl, t, h.1))
 

@@ -1,4 +1,5 @@
--- Where the text of a document with tables is refused, the fault stands at the first symbol with which nothing goes on to such a text.
+-- If the text of a document with tables is refused, the error is at the first symbol after which no continuation is
+-- such a text.
 use Rattle.std.proofs.Common.{◌≡◌, ◌≢◌, ℕ, List, [], ◌∷◌, ◌++◌, Some, Ok, refl, sym, ap, ◌∙◌}
 use Rattle.std.specs.Prelude.{⊤}
 use Rattle.text_definitions.specs.declared.Place.{Place}
@@ -11,7 +12,7 @@ use Rattle.text_document_laws.proofs.Ways.{Way, heads as tails}
 use Rattle.text_document_laws.proofs.LeavingCones.{same_symbols}
 use Rattle.text_document_laws.proofs.TextReaders.{Read}
 
--- a reading where no line is begun shows a line's end first
+-- the first symbol of a reading at the end of a line is that end
 no_line_begun : (c : Reading) → c.current.tokens ≡ [] → left_symbols c ≡ (record { line = c.current.number; column = c.current.end }, line_end) ∷ symbols_of c.input_end c.later
 unfolding line_symbols
 no_line_begun c none = ap (λ (ts : List Token). line_symbols c.current.number ts c.current.end (symbols_of c.input_end c.later)) none
@@ -23,11 +24,12 @@ cons_of : (ss : List Symbol) (s : Symbol) → opening ss ≡ Some s → (more : 
 cons_of [] s e = absurd cc
 cons_of (x ∷ ss) s e = (let same : x ≡ s = cc in (ss, ap (λ (y : Symbol). y ∷ ss) same))
 
--- a reading of which no line is begun, with other lines left
+-- the reading c with other remaining lines
 abbrev pub with_lines : Reading → List Line → Reading
 with_lines c lines = record c { later = lines }
 
--- what reads so, from a reading of which no line is begun, is refused first at the fault's place
+-- a reader that succeeds if and only if all remaining lines are in the grammar, from a reading between lines: its error
+-- is at the first symbol after which no continuation is in the grammar
 module _ (read : Reading → Read) (Aim : ⊤ → List Symbol → Type 0) (InGrammar : List Line → Type 0)
     (complete : (c : Reading) → InGrammar c.later → (y : ⊤ × Reading) × (read c ≡ Ok y))
     (sound : (o : Reading) (u : ⊤) (next : Reading) → read o ≡ Ok (u, next) → Aim u (shows next) → InGrammar o.later) where
@@ -38,7 +40,7 @@ module _ (read : Reading → Read) (Aim : ⊤ → List Symbol → Type 0) (InGra
     abbrev First : Place → Type 0
     First p = FirstLeavesAt InGrammar c.input_end c.later p
 
-    -- the end of the line that is not begun is no fault
+    -- the error is not at the end of the line before the remaining ones
     not_begun : (p : Place) (symbol : Symbol) (after : List Placed) → left_symbols c ≡ (p, symbol) ∷ after → Same c [] symbol → (w : Way read [] Aim) → opening (shows w.other) ≡ opening (shows c) → ⊥
     not_begun p symbol after split same w opens =
         let first : opening (shows w.other) ≡ Some symbol = opens ∙ ap (λ (ss : List Placed). opening (plain ss)) split in
@@ -80,7 +82,7 @@ module _ (read : Reading → Read) (Aim : ⊤ → List Symbol → Type 0) (InGra
     pub left_first : (p : Place) → (h : StopsAt read c p) × (w : Way read h.front Aim) × (opening (shows w.other) ≡ opening (shows c)) → First p
     left_first p u = by_front p u.0.front u.0.symbol u.0.after u.0.split u.0.same u.1 u.2
 
-  -- so is a document
+  -- as `left_first`, for a whole document
   pub stands_first : (bytes : List ℕ) (p : Place) → (h : StopsAt read (start_of bytes) p) × (w : Way read h.front Aim) × (opening (shows w.other) ≡ opening (shows (start_of bytes)))
       → FirstLeavesAt InGrammar (end_of bytes) (lines_of bytes) p
   stands_first bytes p u = left_first (start_of bytes) refl p u

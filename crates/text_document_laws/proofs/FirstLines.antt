@@ -1,4 +1,4 @@
--- A table and lines of one form: the first fault of their text, and of lines behind a table that was read.
+-- A table and lines of one form: the first error of their text, and of lines after a table that was read.
 use Rattle.std.proofs.Common.{◌≡◌, ◌≤◌, ◌+◌, ℕ, List, [], ◌∷◌, ◌++◌, length, Result, Ok, Err, refl, sym, ap, ◌∙◌, subst, arith}
 use Rattle.std.specs.Prelude.{⊤}
 use Rattle.std.specs.List.{AllZip, AllByRecursion}
@@ -29,7 +29,7 @@ use Rattle.text_document_laws.proofs.FirstFaults.{left_first, stands_first}
 use Rattle.text_document_laws.proofs.BehindTables.{first_behind}
 use Rattle.text_document_laws.proofs.HaveText.{forget}
 
--- what is made of a value has no fault of its own
+-- a function of the value adds no error
 pub faults_ok : {X Y Z E : Type 0} (lex : LexFault → E) (view : X → Y) (r : Result X E) (s : Result Y LexFault) (g : X → Z) → Copies lex view r s → FaultsAs lex (r >>= λ (x : X). Ok (g x)) s
 faults_ok lex view (Ok x) s g c f e = absurd cc
 faults_ok lex view (Err h) s g c f e = (let same : h ≡ lex f = cc in c f same)
@@ -48,7 +48,7 @@ module _ {A : Type 0} (form : Reading → Result (A × Reading) LexFault) (Form 
   abbrev Lines : Type 0
   Lines = List A × Reading
 
-  -- the lines are read one for each line that is counted
+  -- lines are read until none remains, at most one for each counted line
   copy_line : (m : Line) (most ls : List Line) (c : Reading) (l : Line) → c.later ≡ l ∷ ls → ((d : Reading) → d.later ≡ ls → Copies as_is left_only (each_line_from form ls d) (each_from form most d))
       → Copies as_is left_only (each_line_from form (l ∷ ls) c) (each_from form (m ∷ most) c)
   unfolding each_line_from
@@ -127,7 +127,7 @@ module _ {A : Type 0} (form : Reading → Result (A × Reading) LexFault) (Form 
         stands_first (read (lines_of bytes)) AtEnd (λ (lines : List Line). AreTextAndLines Value lines) (complete (lines_of bytes)) (sound (lines_of bytes)) bytes f.place
         (well_read (lines_of bytes) (start_of bytes) f (lines_faults bytes f e))
 
-    -- behind a table that was read
+    -- after a table that was read
     rest_first : (most : List Line) (d : Reading) → d.current.tokens ≡ [] → (f : LexFault) → each_from form most d ≡ Err f → FirstLeavesAt Many d.input_end d.later f.place
     rest_first most d none f e =
         left_first (each_from form most) AtEnd Many (λ c h. each_complete form Many next_line most c h) (λ o u next r a. each_sound form Many tt one_line most o u next r (a next refl)) d none f.place

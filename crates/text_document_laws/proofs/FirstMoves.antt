@@ -1,4 +1,5 @@
--- A table with steps, or with moves: what a line of them is read as, and the first fault of the text, and of what stands behind a table that was read.
+-- A table with steps, or with moves: the values of their lines, the first error of the text, and that of what follows a
+-- table that was read.
 use Rattle.move_definitions.specs.MoveText.{move_at, step_at}
 use Rattle.move_definitions.specs.Grammar.{IsMoveLine, IsStepLine}
 use Rattle.move_definitions.specs.TextLaws.{ReadsMove, ReadsStep}

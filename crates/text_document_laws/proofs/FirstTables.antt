@@ -1,4 +1,4 @@
--- One table, two tables, and any number of tables: the first fault of their text.
+-- One table, two tables, and any number of tables: the first error of their text.
 use Rattle.std.proofs.Common.{◌≡◌, ℕ, zero, suc, List, [], ◌∷◌, ◌++◌, Result, Ok, Err, inl, inr, refl, sym, ap, ◌∙◌, subst}
 use Rattle.std.specs.Prelude.{⊤}
 use Rattle.std.proofs.lemmas.List.{append-nil}
@@ -28,7 +28,7 @@ use Rattle.text_document_laws.proofs.TextEnds.{first_fault, refused_line, closin
 use Rattle.text_document_laws.proofs.FirstFaults.{stands_first}
 use Rattle.text_document_laws.proofs.Given.{Tables}
 
--- no further line
+-- no line may follow
 abbrev ended : {X : Type 0} → X → List Token → Reading → Result X InputFault
 ended x ts b = worded (end_from ts b) >>= λ (last : Reading). Ok x
 
@@ -45,7 +45,7 @@ closing_faults {X} x d = by_lines_left d.later
     by_lines_left [] f e = absurd cc
     by_lines_left (l ∷ ls) f e = end_faults x l.tokens (begun l ls d) f e
 
--- the text of a table, and nothing more
+-- the text of a table, after which no line may follow
 abbrev pub one_text : Reading → Read
 one_text c = next_text c >>= λ (u : ⊤ × Reading). closing u.1
 

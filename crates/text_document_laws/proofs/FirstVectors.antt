@@ -1,4 +1,4 @@
--- A table with vectors, and with one vector: the first fault of their text, and of what stands behind a table that was read.
+-- A table with vectors, and with one vector: the first error of their text, and of what follows a table that was read.
 use Rattle.std.proofs.Common.{◌≡◌, ℕ, List, [], ◌∷◌, ◌++◌, Result, Ok, refl, sym, ap, ◌∙◌, subst}
 use Rattle.std.specs.Prelude.{⊤, codes}
 use Rattle.std.specs.List.{AllZip}
@@ -44,7 +44,7 @@ vectors_faults_stand_first bytes f e = lines_faults_stand_first vector_at IsVect
 pub vectors_faults_leave_first : VectorsFaultsLeaveFirst
 vectors_faults_leave_first bytes rows d f table e = lines_faults_leave_first vector_at IsVectorLine reads_vectors ends_vector.goes ends_vector.well bytes rows d f table e
 
--- one vector, and nothing more
+-- one vector, after which no line may follow
 abbrev last_vector : Reading → Read
 last_vector c = vector_at c >>= λ (v : Numbers). closing v.1
 
@@ -167,7 +167,7 @@ vector_faults_stand_first bytes f e =
     (well_read c f
     (faults_bind in_text left_only (next_table_at c) (next_text c) (λ (t : List Row × Reading). vector_on t.0 t.1) (λ (u : ⊤ × Reading). vector_line u.1) (copy_next_table c) (λ t p. behind_faults t.0 t.1) f e))
 
--- behind a table that was read
+-- after a table that was read
 put : (table rest : List Line) (rows : List Row) → AreTableLines table rows → OneVector rest → SomeTableAndVector (table ++ rest)
 put table rest rows t h =
     let vector : IsVectorText h.0 = h.2 in

@@ -1,4 +1,4 @@
--- What readers give: a value, and the state behind it.
+-- What readers return: a value, and what remains after it.
 use Rattle.std.proofs.Common.{ℕ, ℤ, List, Option}
 use Rattle.text_definitions.specs.Reading.{Reading}
 use Rattle.table_definitions.specs.Table.{Gluing, Row as TableRow}

@@ -1,4 +1,4 @@
--- The laws of each input with tables. Where it leaves the form of its text, it leaves its grammar.
+-- The laws of each input with tables. An input that leaves the form of its text leaves its grammar.
 use Rattle.std.specs.Prelude.{ℕ, List, [], ◌∷◌, Result}
 use Rattle.text_definitions.specs.Text.{Line, lines_of, end_of}
 use Rattle.text_definitions.specs.declared.LexFault.{LexFault}

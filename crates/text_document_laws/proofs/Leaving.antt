@@ -1,4 +1,4 @@
--- Documents: where one is refused, its lines leave the grammar.
+-- Documents: if one is refused, its lines leave the grammar.
 use Rattle.std.proofs.Common.{◌≡◌, ◌≢◌, ℕ, List, [], ◌∷◌, ◌++◌, Some, Result, Ok, refl, sym, ap, ◌∙◌}
 use Rattle.text_definitions.specs.declared.Place.{Place}
 use Rattle.text_definitions.specs.Text.{Line, lines_of, end_of}
@@ -8,7 +8,7 @@ use Rattle.text_document_definitions.specs.Symbols.{Symbol, input_end, Placed, s
 use Rattle.text_document_laws.proofs.Local.{left_symbols, shows, opening, opening_more, plain-append, StopsAt, alone, moved}
 use Rattle.text_document_laws.proofs.LocalLines.{by_lines, Further, further_in, no_input_end, none_stop}
 
--- a reading of which no line is begun, and where it stops among the lines that are left
+-- a reading between lines, and the place among the remaining lines where `read` fails
 pub record StopsBehind {X E : Type 0} (read : Reading → Result X E) (c : Reading) (p : Place) : Type 0 where
   pub front : List Placed
   pub symbol : Symbol
@@ -57,7 +57,7 @@ module _ {X E : Type 0} (stop go : Reading → Result X E) where
         h.same (begun f.line f.rest other) more f.there x (sym (ap (λ (ks : List Line). by_lines stop go ks other) f.lines) ∙ q));
   }
 
--- what cannot be read is not in the grammar
+-- if `read` reads all lines of a grammar, lines leave the grammar where it fails
 abbrev pub start_with : List ℕ → List Line → Reading
 start_with bytes lines = record (start_of bytes) { later = lines }
 
@@ -71,7 +71,7 @@ leaves read InGrammar bytes p h found = record {
   no_way_on = λ others more e g. (let r = found others g in h.same (start_with bytes others) more e r.0 r.1);
 }
 
--- no further line
+-- no line remains
 pub no_line_alone : (c : Reading) → by_lines none_stop (moved end_line_at) c.later c ≡ alone (no_line_at c)
 no_line_alone c = by_list c.later
   where

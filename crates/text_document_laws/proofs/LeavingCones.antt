@@ -1,4 +1,4 @@
--- Where a cone is refused, its lines leave the grammar at the fault's place, and at none before.
+-- If a cone is refused, its lines leave the grammar at the place of the error, and at none before.
 use Rattle.std.proofs.Common.{◌≡◌, ℕ, List, [], ◌∷◌, ◌++◌, Result, Ok, Err, ◌⊎◌, inl, inr, refl, sym, ap, ◌∙◌, subst}
 use Rattle.std.specs.Prelude.{⊤}
 use Rattle.std.proofs.lemmas.List.{append-nil, append_assoc}
@@ -22,7 +22,7 @@ use Rattle.text_document_laws.proofs.Ways.{Way, graft}
 use Rattle.text_document_laws.proofs.WordWays.{opens_rest}
 use Rattle.text_document_laws.proofs.ConeWays.{last_symbols, IsLast, ends_cone, sat_cone, well_cone}
 
--- what is shown does not depend on the place where the input ends
+-- the symbols alone do not depend on the place where the input ends
 pub same_line : (n : ℕ) (ts : List Token) (end : ℕ) (xs ys : List Placed) → plain xs ≡ plain ys → plain (line_symbols n ts end xs) ≡ plain (line_symbols n ts end ys)
 unfolding line_symbols
 same_line n [] end xs ys e = ap (λ (ss : List Symbol). line_end ∷ ss) e
@@ -40,7 +40,7 @@ opened o = refl
 pub as_lines : (end : Place) (o : Reading) → plain (symbols_of end (o.current ∷ o.later)) ≡ shows o
 as_lines end o = same_symbols end o.input_end (o.current ∷ o.later) ∙ opened o
 
--- no line is left behind the last symbols
+-- if only the end of the input remains, no line does
 pub no_lines : (p : Place) (ls : List Line) → plain (symbols_of p ls) ≡ input_end ∷ [] → ls ≡ []
 unfolding symbols_of
 no_lines p [] e = refl
@@ -52,7 +52,7 @@ none_behind [] n end p ls e = (let tail : plain (symbols_of p ls) ≡ input_end 
 none_behind (word column w ∷ ts) n end p ls e = absurd cc
 none_behind (stray column ∷ ts) n end p ls e = absurd cc
 
--- lines of which a cone was read, and nothing is left
+-- lines that a cone was read from are those of the cone if nothing remains
 whole_cone : (o : Reading) (cone : Cone) (d : Reading) → ConeRead o cone d → d.later ≡ [] → AreConeLines (o.current ∷ o.later) cone
 whole_cone o cone d r none =
     let same : o.later ≡ r.lines = r.split ∙ ap (λ (ls : List Line). r.lines ++ ls) none ∙ append-nil r.lines in
@@ -64,14 +64,14 @@ some_cone o cone d e none = (cone, whole_cone o cone d (cone_read o cone d e) no
 doc_found : (bytes : List ℕ) (others : List Line) → SomeCone others → (x : Cone) × (by_lines no_line cone_on others (start_with bytes others) ≡ Ok x)
 doc_found bytes others g = (g.0, cone_by_line (start_with bytes others) ∙ cone_document_found (start_with bytes others) g.0 g.1)
 
--- where the document stops behind its start, no cone goes on
+-- the lines leave the grammar of cones where the reader fails
 abbrev left_at : (bytes : List ℕ) (p : Place) → StopsBehind (λ c. by_lines no_line cone_on c.later c) (start_of bytes) p → LeavesAt SomeCone (end_of bytes) (lines_of bytes) p
 left_at bytes p h = leaves (λ c. by_lines no_line cone_on c.later c) SomeCone bytes p h (doc_found bytes)
 
 abbrev First : List ℕ → Place → Type 0
 First bytes p = FirstLeavesAt SomeCone (end_of bytes) (lines_of bytes) p
 
--- no line is there
+-- the input has no line
 first_of_none : (bytes : List ℕ) (p : Place) → lines_of bytes ≡ [] → p ≡ end_of bytes → First bytes p
 first_of_none bytes p split there = record {
   leaves = left_at bytes p (behind_end no_line cone_on (start_of bytes) p split there (λ d x q. absurd cc));
@@ -83,7 +83,7 @@ first_of_none bytes p split there = record {
       (none_behind sat_cone.next.current.tokens sat_cone.next.current.number sat_cone.next.current.end sat_cone.next.input_end sat_cone.next.later sat_cone.aim);
 }
 
--- the fault is one of the cone
+-- the error is in the cone
 first_of_cone : (bytes : List ℕ) (l : Line) (ls : List Line) (p : Place) → lines_of bytes ≡ l ∷ ls → (h : StopsAt cone_at (begun l ls (start_of bytes)) p) × Way cone_at h.front IsLast → First bytes p
 first_of_cone bytes l ls p split u =
     let c : Reading = start_of bytes in
@@ -96,7 +96,7 @@ first_of_cone bytes l ls p split u =
       way_on = some_cone w.other w.value w.next w.reads (none_behind w.next.current.tokens w.next.current.number w.next.current.end w.next.input_end w.next.later w.aim);
     }
 
--- a line stands behind the cone
+-- a line follows the cone
 abbrev StopsPast : {X : Type 0} → (Reading → Result X LexFault) → Reading → Place → Type 0
 StopsPast read d p = (h : StopsAt read d p) × (h.front ≡ rest_here d)
 

@@ -1,4 +1,4 @@
--- Cones: where one is refused, its lines leave the grammar at the fault's place.
+-- Cones: if one is refused, its lines leave the grammar at the place of the error.
 use Rattle.std.proofs.Common.{◌≡◌, ◌≢◌, List, [], ◌∷◌, Result, Ok, Err, refl, sym, ap}
 use Rattle.text_definitions.specs.declared.LexKind.TheVariants.{MissingWord}
 use Rattle.text_definitions.specs.declared.LexFault.{LexFault}
@@ -7,7 +7,7 @@ use Rattle.text_definitions.specs.Reading.{Reading, ◌>>=◌, need_line_at, lin
 use Rattle.text_document_laws.proofs.Cones.{cone_on, cone_document_at}
 use Rattle.text_document_laws.proofs.LocalLines.{by_lines}
 
--- the fault of a line that is wanted where none is left
+-- the error if a line is expected and none remains
 abbrev pub missing : Reading → LexFault
 missing c = record { place = c.input_end; kind = MissingWord }
 

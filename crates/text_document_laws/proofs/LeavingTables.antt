@@ -1,5 +1,5 @@
--- One table, two tables, and any number of tables: where what stands behind a table that was read is refused, the lines leave
--- at the fault's place first. A table that stands there leaves the form of its text.
+-- One table, two tables, and any number of tables: if what follows a table that was read is refused, the lines first
+-- leave the grammar at the place of the error. A table that follows leaves the form of its text there.
 use Rattle.std.proofs.Common.{◌≡◌, ◌≢◌, ℕ, suc, List, [], ◌∷◌, ◌++◌, length, Result, Ok, Err, refl, sym, ap, ◌∙◌, subst}
 use Rattle.std.proofs.lemmas.List.{append-nil, append_assoc}
 use Rattle.text_definitions.specs.declared.LexFault.{LexFault}
@@ -26,7 +26,7 @@ use Rattle.text_document_laws.proofs.FirstTables.{closing_faults, one_text, one_
 use Rattle.text_document_laws.proofs.BehindTables.{first_line, first_behind}
 use Rattle.text_document_laws.proofs.Given.{Table, Tables}
 
--- nothing may stand behind a table
+-- no line may follow a table
 abbrev NoLine : List Line → Type 0
 NoLine lines = lines ≡ []
 

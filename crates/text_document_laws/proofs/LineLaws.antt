@@ -51,7 +51,7 @@ pub rest_has_tokens : (front back : List Line) → HaveTokens (front ++ back) �
 rest_has_tokens [] back h = h
 rest_has_tokens (l ∷ front) back h = rest_has_tokens front back h.1
 
--- no further line stands
+-- no line remains
 pub no_line_left : (c d : Reading) → no_line_at c ≡ Ok d → HaveTokens c.later → c.later ≡ []
 no_line_left c d e h = by_lines c.later e h
   where

@@ -1,5 +1,5 @@
--- Readers that are written out as a chain of calls are read if and only if words and lines say so. There is a law for
--- each call of a chain.
+-- Readers that are written out as a chain of calls succeed if and only if words and lines have the form of the chain.
+-- There is a law for each call of a chain.
 use Rattle.std.proofs.Common.{◌≡◌, ℕ, suc, List, [], ◌∷◌, ◌++◌, length, Result, Ok, refl, sym, ap, ◌∙◌, subst}
 use Rattle.std.specs.List.{AllZip}
 use Rattle.text_definitions.specs.Text.{Token, word, Line}
@@ -14,7 +14,8 @@ use Rattle.table_definitions.proofs.LineLaws.{line_begun, line_found, line_ended
 use Rattle.text_document_laws.proofs.SignedLaws.{TakesSigned, signed_read, signed_found}
 use Rattle.text_document_laws.proofs.Chains.{Reader, made, join}
 
--- what the words of the rest of a line say, with further lines and those that are left then; and what lines say
+-- a relation between a value, the words of the rest of a line, the lines after it, and those that remain; and one
+-- between a value and lines alone
 abbrev pub OnLine : Type 0 → Type 1
 OnLine A = A → List (List ℕ) → List Line → List Line → Type 0
 
@@ -31,7 +32,7 @@ pub record ReadsBelow {A : Type 0} (r : Reader A) (S : Below A) : Type 0 where
   pub complete : (c : Reading) (x : A) (rest : List Line) → S x c.later rest → (d : Reading) × (r c ≡ Ok (x, d)) × (d.later ≡ rest)
   pub at_end : (c : Reading) (x : A) (d : Reading) → r c ≡ Ok (x, d) → c.current.tokens ≡ [] → d.current.tokens ≡ []
 
--- the same in other words
+-- an equivalent relation
 pub on_as : {A : Type 0} (r : Reader A) (R Q : OnLine A) → ((x : A) (ws : List (List ℕ)) (ls rest : List Line) → R x ws ls rest → Q x ws ls rest) → ((x : A) (ws : List (List ℕ)) (ls rest : List Line) → Q x ws ls rest → R x ws ls rest)
     → ReadsOn r R → ReadsOn r Q
 on_as r R Q to from one = record { sound = λ c x d e. (let s = one.sound c x d e in (s.0, s.1, to x s.0 c.later d.later s.2)); complete = λ c x ws rest a h. one.complete c x ws rest a (from x ws c.later rest h); at_end = one.at_end }
@@ -39,7 +40,7 @@ on_as r R Q to from one = record { sound = λ c x d e. (let s = one.sound c x d 
 pub below_as : {A : Type 0} (r : Reader A) (S Q : Below A) → ((x : A) (ls rest : List Line) → S x ls rest → Q x ls rest) → ((x : A) (ls rest : List Line) → Q x ls rest → S x ls rest) → ReadsBelow r S → ReadsBelow r Q
 below_as r S Q to from one = record { sound = λ c x d e. to x c.later d.later (one.sound c x d e); complete = λ c x rest h. one.complete c x rest (from x c.later rest h); at_end = one.at_end }
 
--- a word, and what is read behind it
+-- a word, and what is read after it
 word_before : (c b : Reading) (v : List ℕ) (ws : List (List ℕ)) → TakesWord c.current.tokens c v b → AreWords b.current.tokens ws → AreWords c.current.tokens (v ∷ ws)
 word_before c b v ws t a = subst (λ (ts : List Token). AreWords ts (v ∷ ws)) (sym t.tokens) (refl, subst (λ (r : Reading). AreWords r.current.tokens ws) t.left a)
 
@@ -62,7 +63,7 @@ module _ {A : Type 0} (w : List ℕ) (r : Reader A) (R : OnLine A) (one : ReadsO
     at_end = λ c x d e. (let f = bind_ok (exactly_at w c) r (x, d) e in one.at_end f.0 x d f.2);
   }
 
--- a reader of one word, of these forms
+-- a reader of one word of the form `Is`
 pub record ReadsWord {A : Type 0} (read : Reader A) (Is : List ℕ → A → Type 0) : Type 0 where
   pub sound : (c : Reading) (x : A) (d : Reading) → read c ≡ Ok (x, d) → (v : List ℕ) × TakesWord c.current.tokens c v d × Is v x
   pub complete : (column : ℕ) (v : List ℕ) (x : A) (ts : List Token) (c : Reading) → Is v x → read (with_tokens (word column v ∷ ts) c) ≡ Ok (x, with_tokens ts (behind column c))
@@ -131,7 +132,7 @@ below_line {A} r R one = record {
   at_end = λ c x d e h. (let f = bind_ok (need_line_at c) r (x, d) e in one.at_end f.0 x d f.2);
 }
 
--- one after another
+-- one reader after another
 module _ {A B C : Type 0} (make : A → B → C) (r : Reader A) (s : Reader B) where
   abbrev second : A × Reading → Result (C × Reading) LexFault
   second x = made (make x.0) s x.1
@@ -164,7 +165,7 @@ module _ {A B C : Type 0} (make : A → B → C) (r : Reader A) (s : Reader B) w
     at_end = λ c z e h none. (let p = join_parts c z e h in two.at_end p.2 p.1 e p.4 (one.at_end c p.0 p.2 p.3 none));
   }
 
--- what is made of a value
+-- a function of what a reader returns
 module _ {A B : Type 0} (make : A → B) (r : Reader A) where
   made_parts : (c : Reading) (y : B) (d : Reading) → made make r c ≡ Ok (y, d) → (x : A) × (r c ≡ Ok (x, d)) × (make x ≡ y)
   made_parts c y d h =
@@ -189,7 +190,7 @@ module _ {A B : Type 0} (make : A → B) (r : Reader A) where
     at_end = λ c y d h none. (let p = made_parts c y d h in one.at_end c p.0 d p.1 none);
   }
 
--- a value, and no line
+-- a given value, from no line
 pub below_pure : {A : Type 0} (x : A) → ReadsBelow (λ c. Ok (x, c)) (λ y ls rest. (x ≡ y) × (ls ≡ rest))
 below_pure {A} x = record {
   sound = λ c y d e. (let same : (x, c) ≡ (y, d) = sym (ok_value (x, c) (y, d) e) in (ap (λ (q : A × Reading). q.0) same, ap (λ (q : A × Reading). q.1.later) same));
@@ -197,7 +198,7 @@ below_pure {A} x = record {
   at_end = λ c y d e none. ap (λ (q : A × Reading). q.1.current.tokens) (ok_value (x, c) (y, d) e) ∙ none;
 }
 
--- so many lines of one form
+-- n lines of one form
 module _ {A : Type 0} (Form : Line → A → Type 0) where
   abbrev pub IsLine : Below A
   IsLine x ls rest = (l : Line) × (ls ≡ l ∷ rest) × Form l x

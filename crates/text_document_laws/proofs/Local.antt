@@ -1,4 +1,4 @@
--- Readers see no more of the input than the symbols that they take, and the next one.
+-- Readers see no more of the input than the symbols that they read, and the next one.
 use Rattle.std.proofs.Common.{◌≡◌, ◌≢◌, List, [], ◌∷◌, ◌++◌, Option, Some, None, Result, Ok, Err, ◌⊎◌, inl, inr, refl, sym, ap, ◌∙◌, subst}
 use Rattle.std.specs.Prelude.{⊤}
 use Rattle.std.proofs.lemmas.List.{append_assoc, map-append}
@@ -8,7 +8,7 @@ use Rattle.text_definitions.proofs.Readers.{bind_ok}
 use Rattle.text_document_definitions.specs.Symbols.{Symbol, Placed, line_symbols, symbols_of, plain}
 use Rattle.table_definitions.proofs.ReadingLaws.{ok_parts}
 
--- the symbols that are left
+-- the remaining symbols
 abbrev pub left_symbols : Reading → List Placed
 left_symbols c = line_symbols c.current.number c.current.tokens c.current.end (symbols_of c.input_end c.later)
 
@@ -26,13 +26,13 @@ opening_more (x ∷ xs) ys zs e = refl
 pub plain-append : (xs ys : List Placed) → plain (xs ++ ys) ≡ plain xs ++ plain ys
 plain-append xs ys = map-append (λ (s : Placed). s.1) xs ys
 
--- what is taken, and what a reading that shows the same, up to and with the next symbol, gives
+-- the symbols that are read, and the same result from a reading with the same symbols up to and including the next one
 pub record GoesOn {A E : Type 0} (read : Reading → Result (A × Reading) E) (c : Reading) (x : A) (d : Reading) : Type 0 where
   pub front : List Placed
   pub split : left_symbols c ≡ front ++ left_symbols d
   pub same : (other : Reading) (more : List Symbol) → shows other ≡ plain front ++ more → opening more ≡ opening (shows d) → (next : Reading) × (read other ≡ Ok (x, next)) × (shows next ≡ more)
 
--- where a reader stops, one that is shown the same up to and with the symbol there gives nothing either
+-- where a reader fails: it fails for each reading with the same symbols up to and including the one there
 pub record StopsAt {X E : Type 0} (read : Reading → Result X E) (c : Reading) (p : Place) : Type 0 where
   pub front : List Placed
   pub symbol : Symbol
@@ -40,7 +40,7 @@ pub record StopsAt {X E : Type 0} (read : Reading → Result X E) (c : Reading) 
   pub split : left_symbols c ≡ front ++ (p, symbol) ∷ after
   pub same : (other : Reading) (more : List Symbol) → shows other ≡ plain front ++ symbol ∷ more → (x : X) → read other ≢ Ok x
 
--- something holds of each value that a reader gives, with what is left behind it
+-- P holds of each value that a reader returns, with what remains after it
 abbrev pub WhereRead : {A E : Type 0} → (Reading → Result (A × Reading) E) → Reading → (A → Reading → Type 0) → Type 0
 WhereRead {A} read c P = (x : A) (d : Reading) → read c ≡ Ok (x, d) → P x d
 
@@ -107,17 +107,17 @@ module _ {A X E : Type 0} (first : Reading → Result (A × Reading) E) (second 
         h.same other more e b.0 b.1);
   }
 
--- a value, and no symbol is taken
+-- a given value, and no symbol is read
 pub goes_pure : {A E : Type 0} (x : A) (c : Reading) → Goes {A = A} {E = E} (λ d. Ok (x, d)) c
 goes_pure {A} {E} x c y d e =
     let parts : (x ≡ y) × (c ≡ d) = ok_parts (x, c) (y, d) e in
     subst (λ (z : A). GoesOn {A = A} {E = E} (λ d. Ok (x, d)) c z d) parts.0 (subst (λ (r : Reading). GoesOn {A = A} {E = E} (λ d. Ok (x, d)) c x r) parts.1 (record { front = []; split = refl; same = λ other more s o. (other, refl, s) }))
 
--- readers that give the same everywhere
+-- readers with the same results
 pub of_same : {X : Type 0} (P : (Reading → X) → Type 0) (r s : Reading → X) → ((c : Reading) → r c ≡ s c) → P r → P s
 of_same P r s e h = subst P (λ i d. e d i) h
 
--- readers that give no value
+-- readers that return no value
 abbrev pub alone : {E : Type 0} → Result Reading E → Result (⊤ × Reading) E
 alone (Ok d) = Ok (tt, d)
 alone (Err e) = Err e
@@ -138,7 +138,7 @@ module _ {E : Type 0} (move : Reading → Result Reading E) where
   goes_moved {A} g c h n =
       of_same (λ q. Goes q c) (chained moved (λ (u : ⊤). g)) (λ b. move b >>= g) (λ b. alone_bind (move b) g) (goes_chained moved (λ (u : ⊤). g) c h (λ u d e. n d (alone_ok (move c) u d e)))
 
--- readers with another kind of fault
+-- readers with another type of errors
 pub record Lift {X E F : Type 0} (lift : Result X E → Result X F) : Type 0 where
   pub lowered : (r : Result X E) (x : X) → lift r ≡ Ok x → r ≡ Ok x
   pub lifted : (r : Result X E) (x : X) → r ≡ Ok x → lift r ≡ Ok x

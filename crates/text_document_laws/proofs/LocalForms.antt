@@ -1,4 +1,4 @@
--- Numbers and words that have to stand there: their readers see no more than they take and the next symbol.
+-- Numbers and words that are expected: their readers see no more than they read and the next symbol.
 use Rattle.std.proofs.Common.{◌≡◌, ℕ, ℤ, Bool, true, false, List, [], ◌∷◌, Option, Some, None, Result, Ok, Err, refl, sym, ap, ◌∙◌}
 use Rattle.std.specs.Prelude.{⊤, nat_lt, if◌then◌else◌}
 use Rattle.text_definitions.specs.declared.LexKind.{LexKind}
@@ -12,7 +12,7 @@ use Rattle.text_document_laws.proofs.LocalWords.{tested, word_with, goes_word}
 use Rattle.text_document_laws.proofs.LocalLines.{by_end, by_ends, goes_by_end}
 use Rattle.text_document_laws.proofs.Given.{Numbers}
 
--- a number up to max, of which f is made
+-- f of a number up to max
 unfoldable pub number_test : {A : Type 0} → (ℕ → A) → ℕ → Option ℕ → Result A LexKind
 number_test f max None = Err BadWord
 number_test f max (Some n) = if nat_lt max n then Err NumberTooWide else Ok (f n)
@@ -58,7 +58,7 @@ signed_word max c =
     (λ (w : List ℕ × Reading). number_up_to max (decimal_value (magnitude w.0)) w.1 >>= λ (n : ℕ × Reading). Ok (with_sign (is_negative w.0) n.0, n.1))
     (λ w. number_tested (λ n. with_sign (is_negative w.0) n) max (decimal_value (magnitude w.0)) w.1)
 
--- a word that has to stand there
+-- an expected word
 unfoldable pub exact_test : List ℕ → List ℕ → Result ⊤ LexKind
 exact_test wanted w = if same_word w wanted then Ok tt else Err BadWord
 

@@ -1,4 +1,4 @@
--- Readers of one line after another, and of a line to its end, see no more than they take and the next symbol.
+-- Readers of one line after another, and of a line to its end, see no more than they read and the next symbol.
 use Rattle.std.proofs.Common.{◌≡◌, ◌≢◌, ℕ, List, [], ◌∷◌, ◌++◌, Some, Result, Ok, Err, refl, sym, ap, ◌∙◌, subst}
 use Rattle.std.specs.Prelude.{⊤}
 use Rattle.std.proofs.lemmas.List.{append_assoc}
@@ -13,7 +13,7 @@ use Rattle.table_definitions.proofs.LineLaws.{line_found}
 use Rattle.text_document_laws.proofs.Local.{left_symbols, shows, opening, opening_more, plain-append, regrouped, GoesOn, StopsAt, Goes, alone, moved}
 use Rattle.text_document_laws.proofs.LocalWords.{end_there}
 
--- the tokens that are left in a line, and its end
+-- the remaining tokens of a line, and its end
 unfoldable pub rest_of_line : ℕ → List Token → ℕ → List Placed
 rest_of_line n [] end = (record { line = n; column = end }, line_end) ∷ []
 rest_of_line n (t ∷ ts) end = token_symbol n t ∷ rest_of_line n ts end
@@ -26,7 +26,7 @@ line_split n (t ∷ ts) end others = ap (λ (ss : List Placed). token_symbol n t
 tails : (x y : Symbol) (xs ys : List Symbol) → x ∷ xs ≡ y ∷ ys → xs ≡ ys
 tails x y xs ys e = cc
 
--- what shows the rest of a line shows what comes after it
+-- if symbols begin with the rest of a line, what follows it in both is the same
 skipped : (n : ℕ) (ts : List Token) (end m : ℕ) (us : List Token) (last : ℕ) (others : List Placed) (more : List Symbol) → plain (line_symbols m us last others) ≡ plain (rest_of_line n ts end) ++ more → plain others ≡ more
 unfolding line_symbols rest_of_line
 skipped n [] end m [] last others more e = tails line_end line_end (plain others) more e
@@ -43,7 +43,7 @@ no_input_end n [] end others e = absurd cc
 no_input_end n (word column w ∷ ts) end others e = absurd cc
 no_input_end n (stray column ∷ ts) end others e = absurd cc
 
--- where something other than the end of the input is shown behind the line, a line follows
+-- if the next symbol after the line is not the end of the input, a line follows
 pub record Further (other : Reading) (more : List Symbol) : Type 0 where
   pub line : Line
   pub rest : List Line
@@ -94,7 +94,7 @@ unfolding symbols_of
 no_line_more [] other more e x p = absurd cc
 no_line_more (l ∷ ls) other more e x p = no_input_end l.number l.tokens l.end (symbols_of other.input_end ls) (ap opening e)
 
--- it stops where the input ends
+-- the reader of a line fails at the end of the input
 abbrev pub StopsAfterLine : Reading → Place → Type 0
 StopsAfterLine c p = (h : StopsAt (moved need_line_at) c p) × (h.front ≡ rest_here c)
 
@@ -117,11 +117,11 @@ stops_line_in [] c split f e =
     )
 stops_line_in (l ∷ ls) c split f e = absurd cc
 
--- no further line
+-- no line remains
 abbrev pub none_stop : Reading → Result (⊤ × Reading) LexFault
 none_stop c = Ok (tt, c)
 
--- a reader of the next line, where one is left
+-- a reader of the next line, and one for an input of which no line remains
 abbrev pub by_lines : {X E : Type 0} → (Reading → Result X E) → (Reading → Result X E) → List Line → Reading → Result X E
 by_lines stop go [] c = stop c
 by_lines stop go (l ∷ ls) c = go (begun l ls c)
@@ -145,7 +145,7 @@ module _ {X E : Type 0} (stop go : Reading → Result X E) where
         h.same (begun f.line f.rest other) more f.there x (sym (ap (λ (ks : List Line). by_lines stop go ks other) f.lines) ∙ q));
   }
 
--- a reader that goes on to the end of a line
+-- a reader of the rest of a line, and a value if none remains
 abbrev pub by_ends : {A E : Type 0} → A → (Reading → Result (A × Reading) E) → List Token → Reading → Result (A × Reading) E
 by_ends x go [] c = Ok (x, c)
 by_ends x go (t ∷ ts) c = go c

@@ -1,4 +1,4 @@
--- Tables in either form: their readers see no more than they take and the next symbol.
+-- Tables in either form: their readers see no more than they read and the next symbol.
 use Rattle.std.proofs.Common.{◌≡◌, ℕ, zero, suc, ◌^◌, Bool, true, false, List, [], ◌∷◌, Option, Some, None, Result, Ok, Err, refl, ap}
 use Rattle.std.specs.Prelude.{nat_lt, if◌then◌else◌, codes}
 use Rattle.text_definitions.specs.declared.LexKind.{LexKind}
@@ -25,7 +25,7 @@ use Rattle.text_document_laws.proofs.LocalLines.{goes_line}
 use Rattle.text_document_laws.proofs.LocalForms.{goes_number}
 use Rattle.text_document_laws.proofs.Given.{Entry}
 
--- the kinds of fault
+-- errors of the lexer as those of a document
 abbrev pub in_text : LexFault → InputFault
 in_text f = Text (Lex f)
 
@@ -38,7 +38,7 @@ texted_lift {X} = lift_of {X = X} (λ r. texted r) (λ x. refl) (λ f x e. cc)
 pub worded_lift : {X : Type 0} → Lift {X = X} (λ r. worded r)
 worded_lift {X} = lift_of {X = X} (λ r. worded r) (λ x. refl) (λ f x e. cc)
 
--- a reader of the lexer that gives no value, as one with another kind of fault
+-- a reader of the lexer that returns no value, with another type of errors
 pub lexed_alone : (r : Result Reading LexFault) → lexed (alone r) ≡ alone (lexed r)
 lexed_alone (Ok d) = refl
 lexed_alone (Err f) = refl
@@ -129,7 +129,7 @@ goes_rows zero c = goes_pure [] c
 goes_rows (suc n) c =
     goes_chained row_at (λ r d. rows_at n d >>= λ (rs : Rows). Ok (r ∷ rs.0, rs.1)) c (goes_row c) (λ r d e. goes_chained (rows_at n) (λ rs d'. Ok (r ∷ rs, d')) d (goes_rows n d) (λ rs last q. goes_pure (r ∷ rs) last))
 
--- rows that are looked at: what is wrong with them stands at no place of the text
+-- rows that are checked: an error of the gluings has no place in the text
 abbrev pub looked_at : List tables.Row → Reading → Result Rows TextFault
 looked_at rows d = checked (table_fault rows) (rows, d)
 
@@ -172,7 +172,7 @@ any_word c = by_word (word_at c)
     by_word (Ok w) = refl
     by_word (Err f) = refl
 
--- the next word, put to a test, with the faults of a document
+-- the next word, if it passes a test, with the errors of a document
 abbrev pub worded_word : {A : Type 0} → (List ℕ → Result A LexKind) → Reading → Result (A × Reading) InputFault
 worded_word test c = worded (word_with test c)
 

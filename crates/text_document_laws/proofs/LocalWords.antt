@@ -1,4 +1,4 @@
--- The lexer's calls see no more than they take and the next symbol.
+-- The lexer's calls see no more than they read and the next symbol.
 use Rattle.std.proofs.Common.{◌≡◌, ◌≢◌, ℕ, List, [], ◌∷◌, Some, Result, Ok, Err, refl, sym, ap, ◌∙◌, subst}
 use Rattle.std.specs.Prelude.{⊤}
 use Rattle.text_definitions.specs.declared.Place.{Place}
@@ -14,7 +14,7 @@ use Rattle.text_document_laws.proofs.Local.{left_symbols, shows, opening, GoesOn
 abbrev pub as_is : LexFault → LexFault
 as_is f = f
 
--- the first symbol of what is left, and the token or line end that it is
+-- the first of the remaining symbols, and the token or the end of a line that it is
 word_there : (ts : List Token) (c : Reading) (w : List ℕ) (more : List Symbol) → shows (with_tokens ts c) ≡ shown w ∷ more → (column : ℕ) × (rest : List Token) × (ts ≡ word column w ∷ rest) × (shows (with_tokens rest c) ≡ more)
 unfolding line_symbols
 word_there [] c w more e = absurd cc
@@ -36,11 +36,11 @@ end_there [] c e = refl
 end_there (stray column ∷ ts) c e = absurd cc
 end_there (word column v ∷ ts) c e = absurd cc
 
--- a reader stops at the very next symbol
+-- a reader fails at the next symbol
 abbrev pub StopsHere : {X E : Type 0} → (Reading → Result X E) → Reading → Place → Type 0
 StopsHere read c p = (h : StopsAt read c p) × (h.front ≡ [])
 
--- the next word, put to a test
+-- the next word, if it passes a test
 abbrev pub tested : {A : Type 0} → Result A LexKind → Reading → Result (A × Reading) LexFault
 tested (Ok x) c = Ok (x, c)
 tested (Err k) c = Err (word_fault c k)

@@ -1,4 +1,5 @@
--- Move and step lines: their readers see no more than they take and the next symbol, and what stands before a fault can be gone on with.
+-- Move and step lines: their readers see no more than they read and the next symbol, and what comes before an error can
+-- be continued.
 use Rattle.std.proofs.Common.{◌≡◌, ℕ, ◌-◌, ◌^◌, List, [], ◌∷◌, Option, Some, None, Result, Ok, Err, refl, sym, subst}
 use Rattle.std.specs.Prelude.{codes, slice_index}
 use Rattle.text_definitions.specs.declared.LexKind.{LexKind}

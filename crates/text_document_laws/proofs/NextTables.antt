@@ -1,5 +1,5 @@
--- A table in either form is read from the lines that are left if and only if they begin with one; the first fault of
--- its text.
+-- A table in either form is read from the remaining lines if and only if they begin with one; the first error of its
+-- text.
 use Rattle.std.proofs.Common.{◌≡◌, List, ◌++◌, Result, Ok, Err, refl, subst}
 use Rattle.std.specs.Prelude.{⊤}
 use Rattle.text_definitions.specs.declared.LexFault.{LexFault}

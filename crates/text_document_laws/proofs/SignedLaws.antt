@@ -20,7 +20,7 @@ signed_with max (b ∷ w) n h = by_test (b == 45) refl h
     by_test true e h = (w, n, h, inr (ap (λ (x : ℕ). x ∷ w) (eqb-true b 45 e), refl))
     by_test false e h = (b ∷ w, n, h, inl (refl, refl))
 
--- a decimal has no sign in front
+-- a decimal does not begin with a sign
 unsigned : (v : List ℕ) (n : ℕ) → decimal_value v ≡ Some n → is_negative v ≡ false
 unsigned [] n e = absurd cc
 unsigned (b ∷ v) n e = by_test (b == 45) refl
@@ -36,7 +36,7 @@ magnitude_of : (v : List ℕ) → is_negative v ≡ false → magnitude v ≡ v
 magnitude_of [] e = refl
 magnitude_of (b ∷ v) e = ap (λ (t : Bool). if t then v else b ∷ v) e
 
--- a signed decimal that was read, and what is left
+-- a signed decimal that was read, and what remains
 pub record TakesSigned (max : ℕ) (ts : List Token) (c : Reading) (z : ℤ) (d : Reading) : Type 0 where
   pub w : List ℕ
   pub word : TakesWord ts c w d
@@ -60,7 +60,7 @@ signed_read max ts c z d e =
       signed = subst (λ (y : ℤ). IsSigned max (first.0).0 y) parts.0 (signed_with max (first.0).0 (second.0).0 taken.0);
     }
 
--- what a word gives that is a signed decimal
+-- the result of reading a word that is a signed decimal
 abbrev given_signed : ℕ → List ℕ → Reading → Result (ℤ × Reading) LexFault
 given_signed max w c = number_up_to max (decimal_value (magnitude w)) c >>= λ (n : ℕ × Reading). Ok (with_sign (is_negative w) n.0, n.1)
 

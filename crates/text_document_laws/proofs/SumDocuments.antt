@@ -1,4 +1,4 @@
--- A table and blocks of sums are read if and only if their lines are these.
+-- A table and blocks of sums are read if and only if their lines are those of the table and the blocks.
 use Rattle.std.proofs.Common.{◌≡◌, ◌≤◌, ◌+◌, ℕ, List, [], ◌∷◌, ◌++◌, length, Result, Ok, Err, refl, sym, ap, ◌∙◌, subst, arith}
 use Rattle.std.specs.Prelude.{◌↔◌}
 use Rattle.std.proofs.lemmas.List.{length-append}
@@ -17,7 +17,7 @@ use Rattle.text_document_laws.proofs.BlockReading.{BlockRead, block_read, BlockF
 use Rattle.text_document_laws.proofs.Given.{Whole, Blocks, Table}
 use Rattle.basic_lemmas.proofs.Lists.{no_items}
 
--- blocks that were read to the end of the input, where no more lines are left than are counted
+-- the blocks are those of all remaining lines, if at least that many lines are counted
 abbrev AreTo : Reading → List Block → Type 0
 AreTo c blocks = AreBlocks c.later blocks
 
@@ -126,7 +126,7 @@ pub blocks_document_read : (bytes : List ℕ) (rows : List Row) (blocks : List B
 unfolding blocks_document
 blocks_document_read bytes rows blocks = (document_read bytes rows blocks, λ h. blocks_document_found (start_of bytes) rows blocks h)
 
--- how many blocks are allowed for makes no difference, where there are as many as lines
+-- the result does not depend on the number of blocks that are counted, if it is at least the number of lines
 abbrev first_and : Block → Result Blocks LexFault → Result Blocks LexFault
 first_and block read = read >>= λ (bs : Blocks). Ok (block ∷ bs.0, bs.1)
 

@@ -40,14 +40,14 @@ worded_with r x e = texted_with (lexed r) x (lexed_with r x e)
 pub worded_end : ReadsEnd (λ c. worded (no_line_at c))
 worded_end = record { sound = λ c d e. worded_ok (no_line_at c) d e; complete = λ c d e. worded_with (no_line_at c) d e }
 
--- the lines of a table that was read, the last of which is used up
+-- the lines of a table that was read, to the end of the last of them
 pub record TableLines (c : Reading) (rows : List Row) (d : Reading) : Type 0 where
   pub lines : List Line
   pub split : c.later ≡ lines ++ d.later
   pub table_lines : AreTableLines lines rows
   pub at_end : d.current.tokens ≡ []
 
--- the word `tri`, and then as in the one form
+-- a table whose first word is `tri` is read as in this form alone
 tri_of_parts : (c x : Reading) (w : List ℕ) (next : Reading) (t : Table) → need_line_at c ≡ Ok x → word_at x ≡ Ok (w, next) → same_word w (codes "tri") ≡ true → table_at next ≡ Ok t → tri_table_at c ≡ Ok t
 unfolding tri_table_at exactly_at
 tri_of_parts c x w next t e1 e2 e3 e4 =
@@ -106,7 +106,7 @@ table_read c rows d e =
     let b2 : (w : List ℕ × Reading) × (worded (word_at b1.0) ≡ Ok w) × (named_table_at w.0 w.1 ≡ Ok (rows, d)) = bind_ok (worded (word_at b1.0)) (λ (w : List ℕ × Reading). named_table_at w.0 w.1) (rows, d) b1.2 in
     table_by_name c b1.0 (b2.0).0 (b2.0).1 rows d (worded_ok (need_line_at c) b1.0 b1.1) (worded_ok (word_at b1.0) b2.0 b2.1) (same_list (b2.0).0 (codes "tri")) (same_list (b2.0).0 (codes "sig")) refl refl b2.2
 
--- what is in the grammar is read
+-- a table in the grammar is read
 pub record TableFound (c : Reading) (rows : List Row) (rest : List Line) : Type 0 where
   pub left : Reading
   pub read : next_table_at c ≡ Ok (rows, left)

@@ -1,4 +1,4 @@
--- Readers to the end of an input: no further line, and blocks of lines one after another.
+-- Readers to the end of an input: no line remains, and blocks of lines one after another.
 use Rattle.std.proofs.Common.{◌≡◌, ◌≢◌, List, [], ◌∷◌, ◌++◌, Some, Result, Ok, Err, refl, sym, ap, ◌∙◌, subst}
 use Rattle.std.specs.Prelude.{⊤}
 use Rattle.std.proofs.lemmas.List.{append_assoc}
@@ -19,7 +19,7 @@ use Rattle.text_document_laws.proofs.ConeWays.{of_lines}
 use Rattle.text_document_laws.proofs.LeavingCones.{no_lines, cut, cut_shows}
 use Rattle.text_document_laws.proofs.TextReaders.{Read}
 
--- no further line: the fault is at the first symbol behind this one
+-- no line may follow: if one does, the error is at its first symbol
 abbrev pub first_fault : List Token → Reading → LexFault
 first_fault [] c = fault_at c c.current.end ExtraWord
 first_fault (stray column ∷ ts) c = fault_at c column BadByte
@@ -34,7 +34,7 @@ closing c = by_line none_stop refused_line c
 abbrev pub Any : ⊤ → List Symbol → Type 0
 Any u ss = ⊤
 
--- where no line is left, none is left where the same is shown
+-- if no line remains of c, none remains of a reading with the same symbols
 pub none_later : (c o : Reading) → c.later ≡ [] → shows o ≡ shows c → o.later ≡ []
 none_later c o none same = no_lines o.input_end o.later (behind_rest c o (input_end ∷ []) (same ∙ ap (λ (ls : List Line). shows (record c { later = ls })) none ∙ cut_shows c))
 
@@ -53,7 +53,7 @@ alike_closing c o x d e same =
     let n : (c.later ≡ []) × (c ≡ d) = none_closing c x d e in
     (o, closing_none o (none_later c o n.0 same), same ∙ ap (λ (r : Reading). shows r) n.1)
 
--- the symbol behind
+-- the first symbol of the line
 first_symbol : (ts : List Token) (b : Reading) → (symbol : Symbol) × (after : List Placed) × (left_symbols (with_tokens ts b) ≡ ((first_fault ts b).place, symbol) ∷ after) × (symbol ≢ input_end)
 unfolding line_symbols
 first_symbol [] b = (line_end, symbols_of b.input_end b.later, refl, λ e. absurd cc)
@@ -90,7 +90,7 @@ well_closing c f e = by_lines_left c.later refl e
     by_lines_left [] split e = absurd cc
     by_lines_left (l ∷ ls) split e = (let same : first_fault l.tokens (begun l ls c) ≡ f = cc in subst (λ (g : LexFault). OpenAt closing Any c g.place) same (closed_at c l ls split))
 
--- readers that read the same where the same is shown, one after another
+-- readers whose results depend only on the symbols, one after another
 pub alike_chained : {A B E : Type 0} (first : Reading → Result (A × Reading) E) (second : A → Reading → Result (B × Reading) E) → Alike first → ((x : A) → Alike (second x)) → Alike (λ c. first c >>= λ (x : A × Reading). second x.0 x.1)
 alike_chained {A} {B} {E} first second a b c o y d e same =
     let p : (x : A × Reading) × (first c ≡ Ok x) × (second x.0 x.1 ≡ Ok (y, d)) = bind_ok (first c) (λ (x : A × Reading). second x.0 x.1) (y, d) e in
@@ -98,14 +98,14 @@ alike_chained {A} {B} {E} first second a b c o y d e same =
     let m : (next : Reading) × (second (p.0).0 n.0 ≡ Ok (y, next)) × (shows next ≡ shows d) = b (p.0).0 (p.0).1 n.0 y d p.2 n.2 in
     (m.0, ap (λ (r : Result (A × Reading) E). r >>= λ (x : A × Reading). second x.0 x.1) n.1 ∙ m.1, m.2)
 
--- no line is left
+-- no line remains
 abbrev pub AtEnd : ⊤ → List Symbol → Type 0
 AtEnd u ss = (r : Reading) → shows r ≡ ss → r.later ≡ []
 
 abbrev pub nothing : Reading
 nothing = of_lines []
 
--- blocks to the end of the input, at most one for each line that is counted
+-- blocks to the end of the input, at most one for each counted line
 module _ {A : Type 0} (line : Reading → Result (A × Reading) LexFault) where
   unfoldable pub each_from : List Line → Reading → Read
   each_from [] c = Ok (tt, c)
@@ -153,7 +153,7 @@ module _ {A : Type 0} (line : Reading → Result (A × Reading) LexFault) where
     pub from_nothing : (most : List Line) → From (each_from most) AtEnd (shows nothing)
     from_nothing most = record { start = nothing; there = refl; value = tt; next = nothing; reads = each_none most nothing refl; aim = λ r same. none_later nothing r refl same }
 
-    -- a fault of this line, and what stands before it gone on with
+    -- an error in this line, and a continuation of what comes before it
     in_next : (m : Line) (most : List Line) (c : Reading) (l : Line) (ls : List Line) (p : Place) → c.later ≡ l ∷ ls → (h : StopsAt (go_each most) (begun l ls c) p) × Way (go_each most) h.front AtEnd → OpenAt (each_from (m ∷ most)) AtEnd c p
     unfolding each_from
     in_next m most c l ls p split u =
@@ -188,7 +188,7 @@ module _ {A : Type 0} (line : Reading → Result (A × Reading) LexFault) where
               (well_goes as_is line (λ x. each_from most) AtEnd (λ x. alike_each_from most) (begun l ls c) (goes (begun l ls c))
               (well (ThenEach most) nothing refl (λ x. from_nothing most) (begun l ls c)) (λ x d q. others d) f e)
 
-  -- what is read is a row of blocks, and such a row is read
+  -- if what is read is blocks one after another, all remaining lines are; and such lines are read
   module _ (Many : List Line → Type 0) where
     pub each_sound : Many [] → ((b : Reading) (x : A) (d : Reading) → line b ≡ Ok (x, d) → Many d.later → Many (b.current ∷ b.later)) → (most : List Line) (c : Reading) (u : ⊤) (d : Reading) → each_from most c ≡ Ok (u, d) → d.later ≡ [] → Many c.later
     unfolding each_from

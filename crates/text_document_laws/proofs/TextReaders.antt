@@ -1,4 +1,5 @@
--- The text of a table, read without a look at what it means; and it is read so where a document's reader reads it.
+-- Readers of the text of a table that do not check what it means; the readers of documents fail if these do, with the
+-- same errors.
 use Rattle.std.proofs.Common.{◌≡◌, ℕ, zero, suc, ◌<◌, ◌≤◌, Bool, true, false, List, [], ◌∷◌, Option, Some, None, Result, Ok, Err, refl, sym, ap, subst, arith}
 use Rattle.std.specs.Prelude.{⊤, nat_lt, if◌then◌else◌}
 use Rattle.std.proofs.lemmas.Bool.{ltb-true, ltb-false}
@@ -26,12 +27,12 @@ use Rattle.text_document_laws.proofs.Given.{Entry}
 abbrev pub Read : Type 0
 Read = Result (⊤ × Reading) LexFault
 
--- so many words that pass a test, and the end of the line
+-- n words that pass a test, and the end of the line
 unfoldable pub words_at : {A : Type 0} → (List ℕ → Result A LexKind) → ℕ → Reading → Read
 words_at test zero c = moved end_line_at c
 words_at {A} test (suc n) c = word_with test c >>= λ (x : A × Reading). words_at test n x.1
 
--- a line of four entries, and so many of them
+-- a line of four entries, and n such lines
 abbrev pub row_text : Reading → Read
 row_text c = words_at entry_test 4 c
 
@@ -63,7 +64,7 @@ text_at c = word_with name_test c >>= λ (b : Bool × Reading). text_named b.0 b
 abbrev pub next_text : Reading → Read
 next_text c = moved need_line_at c >>= λ (u : ⊤ × Reading). text_at u.1
 
--- a reader gives what another gives, of which a part is kept, and the same faults of the lexer
+-- s returns what `view` makes of the value of r, and the same errors of the lexer
 abbrev pub Copies : {X Y E : Type 0} → (LexFault → E) → (X → Y) → Result X E → Result Y LexFault → Type 0
 Copies lex view (Ok x) s = s ≡ Ok (view x)
 Copies lex view (Err e) s = (f : LexFault) → e ≡ lex f → s ≡ Err f
@@ -73,13 +74,13 @@ pub copy_bind : {X Y Z W E : Type 0} (lex : LexFault → E) (view : X → Y) (ke
 copy_bind {X} {Y} {Z} {W} lex view kept (Ok x) s g h c d = subst (λ (t : Result W LexFault). Copies lex kept (g x) t) (ap (λ (q : Result Y LexFault). q >>= h) (sym c)) (d x)
 copy_bind {X} {Y} lex view kept (Err e) s g h c d = λ f p. ap (λ (q : Result Y LexFault). q >>= h) (c f p)
 
--- what was read is known to what comes after
+-- as `copy_bind`, where the second readers may use that the first returned their argument
 pub copy_known : {X Y Z W E : Type 0} (lex : LexFault → E) (view : X → Y) (kept : Z → W) (r : Result X E) (s : Result Y LexFault) (g : X → Result Z E) (h : Y → Result W LexFault)
     → Copies lex view r s → ((x : X) → r ≡ Ok x → Copies lex kept (g x) (h (view x))) → Copies lex kept (r >>= g) (s >>= h)
 copy_known {X} {Y} {Z} {W} lex view kept (Ok x) s g h c d = subst (λ (t : Result W LexFault). Copies lex kept (g x) t) (ap (λ (q : Result Y LexFault). q >>= h) (sym c)) (d x refl)
 copy_known {X} {Y} lex view kept (Err e) s g h c d = λ f p. ap (λ (q : Result Y LexFault). q >>= h) (c f p)
 
--- only the faults are compared
+-- only the errors are compared
 abbrev pub FaultsAs : {X Y E : Type 0} → (LexFault → E) → Result X E → Result Y LexFault → Type 0
 FaultsAs lex r s = (f : LexFault) → r ≡ Err (lex f) → s ≡ Err f
 
@@ -88,7 +89,7 @@ pub faults_bind : {X Y Z W E : Type 0} (lex : LexFault → E) (view : X → Y) (
 faults_bind {X} {Y} {Z} {W} lex view (Ok x) s g h c d = subst (λ (t : Result W LexFault). FaultsAs lex (g x) t) (ap (λ (q : Result Y LexFault). q >>= h) (sym c)) (d x refl)
 faults_bind {X} {Y} {Z} {W} {E} lex view (Err e) s g h c d = λ f p. (let same : e ≡ lex f = cc in ap (λ (q : Result Y LexFault). q >>= h) (c f same))
 
--- what comes after only looks at the value
+-- as `copy_bind`, where the second reader has no counterpart and changes nothing that is compared
 pub copy_then : {X Y Z E : Type 0} (lex : LexFault → E) (view : X → Y) (kept : Z → Y) (r : Result X E) (s : Result Y LexFault) (g : X → Result Z E)
     → Copies lex view r s → ((x : X) → Copies lex kept (g x) (Ok (view x))) → Copies lex kept (r >>= g) s
 copy_then {X} {Y} lex view kept (Ok x) s g c d = subst (λ (t : Result Y LexFault). Copies lex kept (g x) t) (sym c) (d x)
@@ -164,7 +165,7 @@ copy_rows (suc n) c =
     copy_bind as_is left_only left_only (row_at c) (row_line c) (λ (r : tables.Row × Reading). rows_at n r.1 >>= λ (rs : Rows). Ok (r.0 ∷ rs.0, rs.1)) (λ (x : ⊤ × Reading). rows_text n x.1) (copy_row c)
     (λ r. copy_then as_is left_only left_only (rows_at n r.1) (rows_text n r.1) (λ (rs : Rows). Ok (r.0 ∷ rs.0, rs.1)) (copy_rows n r.1) (λ rs. refl))
 
--- what is wrong with the rows is no fault of the lexer
+-- an error of the rows is no error of the lexer
 copy_checked : (o : Option TableFault) (x : Rows) → Copies Lex left_only (checked o x) (Ok (left_only x))
 copy_checked None x = refl
 copy_checked (Some g) x = λ f p. absurd cc
@@ -176,7 +177,7 @@ copy_counted n c =
     (λ d. copy_then Lex left_only left_only (lexed (rows_at n d)) (rows_text n d) (λ (rows : Rows). looked_at rows.0 rows.1) (copy_lexed left_only (rows_at n d) (rows_text n d) (copy_rows n d))
     (λ rows. copy_checked (table_fault rows.0) rows))
 
--- a number up to the greatest, where one of tetrahedra is wanted
+-- a number up to the greatest of a document, in place of one up to the limit of tetrahedra
 abbrev few_on : ℕ × Reading → Result Rows TextFault
 few_on n = if_few (nat_lt max_tets n.0) n.0 n.1
 

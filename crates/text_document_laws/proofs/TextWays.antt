@@ -1,4 +1,4 @@
--- The text of a table: what stands before a fault can be gone on with to the text of one.
+-- The text of a table: what comes before an error can be continued to such a text.
 use Rattle.std.proofs.Common.{◌≡◌, ℕ, zero, suc, Bool, true, false, List, None, Result, Ok, refl}
 use Rattle.std.specs.Prelude.{codes}
 use Rattle.text_definitions.specs.declared.LexKind.{LexKind}
@@ -10,7 +10,7 @@ use Rattle.text_document_laws.proofs.Chains.{Ends, Opens, ends_word, ends_number
 use Rattle.text_document_laws.proofs.Local.{moved}
 use Rattle.text_definitions.specs.Reading.{end_line_at}
 
--- so many words of which one passes the test, and the end of the line
+-- n words and the end of the line, if one word passes the test
 ends_words : {A : Type 0} (test : List ℕ → Result A LexKind) (w : List ℕ) (x : A) → test w ≡ Ok x → (n : ℕ) → Ends (words_at test n)
 unfolding words_at
 ends_words test w x passes zero = ends_ending

@@ -1,4 +1,5 @@
--- Words that pass a test are read if and only if they stand to the end of a line; and the tests of entries and names.
+-- Words that pass a test are read if and only if they are all words of the rest of a line; and the tests of entries and
+-- names.
 use Rattle.std.proofs.Common.{◌≡◌, ℕ, zero, suc, ◌^◌, ◌<◌, Bool, true, false, List, [], ◌∷◌, length, Option, Some, None, Result, Ok, Err, refl, sym, ap, ◌∙◌, subst}
 use Rattle.std.specs.Prelude.{⊤, nat_lt, if◌then◌else◌, codes}
 use Rattle.std.specs.List.{AllZip, AllByRecursion}
@@ -48,7 +49,7 @@ pub word_put : {A : Type 0} (test : List ℕ → Result A LexKind) (c : Reading)
 word_put {A} test c column w rest x tokens passed =
     ap (λ (ts : List Token). word_with test (with_tokens ts c)) tokens ∙ at_word test column w rest c ∙ ap (λ (r : Result A LexKind). tested r (with_tokens rest (behind column c))) passed
 
--- so many words that pass, to the end of the line
+-- n words that pass, to the end of the line
 module _ {A : Type 0} (test : List ℕ → Result A LexKind) where
   abbrev pub Passing : List ℕ → Type 0
   Passing w = (x : A) × (test w ≡ Ok x)

@@ -1,4 +1,4 @@
--- Numbers to the end of a line: what stands before a fault can be gone on with to such numbers.
+-- Numbers to the end of a line: what comes before an error can be continued to such numbers.
 use Rattle.std.proofs.Common.{◌≡◌, ◌≢◌, ℕ, List, [], ◌∷◌, Result, Ok, Err, refl, sym, ap, ◌∙◌, subst}
 use Rattle.text_definitions.specs.declared.Place.{Place}
 use Rattle.text_definitions.specs.declared.LexFault.{LexFault}

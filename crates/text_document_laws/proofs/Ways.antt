@@ -1,4 +1,5 @@
--- What stands before a fault can be gone on with, to an aim.
+-- What comes before an error can be continued so that a given condition, the aim, holds of the value and of what
+-- remains.
 use Rattle.std.proofs.Common.{◌≡◌, ◌≢◌, ℕ, List, [], ◌∷◌, ◌++◌, Result, Ok, Err, ◌⊎◌, inl, inr, refl, sym, ap, ◌∙◌, subst}
 use Rattle.std.proofs.lemmas.List.{append_assoc}
 use Rattle.text_definitions.specs.declared.Place.{Place}
@@ -10,7 +11,7 @@ use Rattle.table_definitions.proofs.ReadingLaws.{with_tokens}
 use Rattle.text_document_laws.proofs.Local.{left_symbols, shows, opening, opening_more, plain-append, shows_split, GoesOn, StopsAt, Goes, bind_err, stops_late, stops_early, WhereRead}
 use Rattle.text_document_laws.proofs.LocalWords.{as_is}
 
--- readings that can be read with an aim: from somewhere, where certain symbols are shown, and behind certain symbols
+-- readings that `read` reads so that Aim holds: any, one with the symbols ss, and one whose symbols begin with `front`
 pub record Sat {A E : Type 0} (read : Reading → Result (A × Reading) E) (Aim : A → List Symbol → Type 0) : Type 0 where
   pub start : Reading
   pub value : A
@@ -35,19 +36,20 @@ pub record Way {A E : Type 0} (read : Reading → Result (A × Reading) E) (fron
   pub reads : read other ≡ Ok (value, next)
   pub aim : Aim value (shows next)
 
--- where a reader stops, what stands before can be gone on with; and so that the first symbol is the same
+-- if `read` fails, the symbols before the error have a continuation for which Aim holds; and one with the same first
+-- symbol
 abbrev pub Well : {A E : Type 0} → (LexFault → E) → (Reading → Result (A × Reading) E) → (A → List Symbol → Type 0) → Reading → Type 0
 Well lexical read Aim c = (f : LexFault) → read c ≡ Err (lexical f) → (h : StopsAt read c f.place) × Way read h.front Aim
 
 abbrev pub WellOpen : {A E : Type 0} → (LexFault → E) → (Reading → Result (A × Reading) E) → (A → List Symbol → Type 0) → Reading → Type 0
 WellOpen lexical read Aim c = (f : LexFault) → read c ≡ Err (lexical f) → (h : StopsAt read c f.place) × (w : Way read h.front Aim) × (opening (shows w.other) ≡ opening (shows c))
 
--- a reader that does not look at the next symbol
+-- a reader whose result does not depend on the next symbol
 pub record FreeOn {A E : Type 0} (read : Reading → Result (A × Reading) E) (c : Reading) (x : A) (d : Reading) : Type 0 where
   pub goes : GoesOn read c x d
   pub same : (o : Reading) (k : Reading) → shows o ≡ plain goes.front ++ shows k → (next : Reading) × (read o ≡ Ok (x, next)) × (shows next ≡ shows k)
 
--- what is left of a reading behind some symbols, with other symbols in place of what is left
+-- a reading with the first symbols of one reading, and then the symbols of another
 unfoldable pub line_before : Reading → Reading
 line_before k = record k { current = record { number = 0; tokens = []; end = 0 }; later = k.current ∷ k.later }
 
@@ -110,7 +112,7 @@ some_left d e = by_tokens d.current.tokens e
 pub graft : (c : Reading) (front : List Placed) (d : Reading) → left_symbols c ≡ front ++ left_symbols d → (k : Reading) → (o : Reading) × (shows o ≡ plain front ++ shows k)
 graft c front d e k = graft_in front c.current.number c.current.tokens c.current.end c.later c.input_end (left_symbols d) (some_left d) e k
 
--- a reader reads the same where the same is shown
+-- the result of a reader depends on the symbols alone
 abbrev pub Alike : {A E : Type 0} → (Reading → Result (A × Reading) E) → Type 0
 Alike {A} read = (c o : Reading) (x : A) (d : Reading) → read c ≡ Ok (x, d) → shows o ≡ shows c → (next : Reading) × (read o ≡ Ok (x, next)) × (shows next ≡ shows d)
 
@@ -128,7 +130,7 @@ again_from read Aim g ss f c e =
     let n : (next : Reading) × (read c ≡ Ok (f.value, next)) × (shows next ≡ shows f.next) = g f.start c f.value f.next f.reads (e ∙ sym f.there) in
     (f.value, n.0, n.1, subst (λ (ts : List Symbol). Aim f.value ts) (sym n.2) f.aim)
 
--- the second of two readers can be gone on with to the aim
+-- the second of two readers can continue so that Aim holds
 abbrev pub Then : {A B E : Type 0} → (A → Reading → Result (B × Reading) E) → (B → List Symbol → Type 0) → A → List Symbol → Type 0
 Then second Aim x ss = From (second x) Aim ss
 
@@ -190,7 +192,7 @@ module _ {A B E : Type 0} (lexical : LexFault → E) (first : Reading → Result
       by_case (inl p) = early c w1 f p
       by_case (inr (y, p, q)) = late y.0 y.1 (g y.0 y.1 p) (w2 y.0 y.1 p f q)
 
-  -- the first reader may look at the next symbol, which stays the same
+  -- the first reader may depend on the next symbol, which stays the same
   late_open : (c : Reading) (x : A) (d : Reading) (p : Place) → GoesOn first c x d → (h : StopsAt (second x) d p) × (w : Way (second x) h.front Aim) × (opening (shows w.other) ≡ opening (shows d))
       → (h : StopsAt both c p) × (w : Way both h.front Aim) × (opening (shows w.other) ≡ opening (shows c))
   late_open c x d p g u =
@@ -219,7 +221,7 @@ module _ {A B E : Type 0} (lexical : LexFault → E) (first : Reading → Result
           (stops_early first second c f.place u.0, way.0, ap (λ (r : Reading). opening (shows r)) way.1 ∙ u.2)
       by_case (inr (y, p, q)) = late_open c y.0 y.1 f.place (g y.0 y.1 p) (w2 y.0 y.1 p f q)
 
-  -- the first reader takes a symbol, and does not look at the next one
+  -- the first reader reads a symbol, and does not depend on the next one
   pub well_behind : (c : Reading) → WhereRead first c (λ x d. (fr : FreeOn first c x d) × ((ss : List Symbol) → opening (plain fr.goes.front ++ ss) ≡ opening (shows c))) → WellOpen lexical first (Then second Aim) c
       → WhereRead first c (λ x d. Well lexical (second x) Aim d) → WellOpen lexical both Aim c
   well_behind c g w1 w2 f e = by_case (case_of c f e)
@@ -242,7 +244,7 @@ module _ {A B E : Type 0} (lexical : LexFault → E) (first : Reading → Result
 pub from_sat : {A E : Type 0} (read : Reading → Result (A × Reading) E) (Aim : A → List Symbol → Type 0) (s : Sat read Aim) → From read Aim (shows s.start)
 from_sat read Aim s = record { start = s.start; there = refl; value = s.value; next = s.next; reads = s.reads; aim = s.aim }
 
--- what is made of a value
+-- a function of what a reader returns
 module _ {A B : Type 0} (read : Reading → Result (A × Reading) LexFault) (g : A → B) (Aim : B → List Symbol → Type 0) where
   abbrev pub mapped : Reading → Result (B × Reading) LexFault
   mapped c = read c >>= λ (y : A × Reading). Ok (g y.0, y.1)

@@ -1,4 +1,4 @@
--- The lexer's calls: what stands before a fault can be gone on with.
+-- The lexer's calls: what comes before an error can be continued.
 use Rattle.std.proofs.Common.{◌≡◌, ◌≢◌, ℕ, List, [], ◌∷◌, ◌++◌, Some, Result, Ok, Err, refl, sym, ap, ◌∙◌, subst, Bool, arith}
 use Rattle.std.specs.Prelude.{⊤, codes, if◌then◌else◌}
 use Rattle.std.proofs.lemmas.Bool.{le-ltb}
@@ -20,7 +20,7 @@ way_here : {A E : Type 0} (read : Reading → Result (A × Reading) E) (Aim : A 
 way_here read Aim front e s =
     subst (λ (fr : List Placed). Way read fr Aim) (sym e) (record { other = s.start; more = shows s.start; there = refl; value = s.value; next = s.next; reads = s.reads; aim = s.aim })
 
--- a word that is put to a test
+-- a word that passes a test
 module _ {A : Type 0} (test : List ℕ → Result A LexKind) where
   abbrev rd : Reading → Result (A × Reading) LexFault
   rd c = word_with test c
@@ -118,7 +118,7 @@ well_line Aim c k a f e =
     let at_front = subst (λ (fr : List Placed). (w : Way (moved need_line_at) fr Aim) × (opening (shows w.other) ≡ opening (shows c))) (sym h.1) way in
     (h.0, at_front.0, at_front.1)
 
--- a number up to a limit, of which 0 is one
+-- a number up to a limit; 0 is such a number
 pub naught_passes : (max : ℕ) → plain_test max (codes "0") ≡ Ok 0
 unfolding number_test
 naught_passes max = ap (λ (b : Bool). if◌then◌else◌ {A = Result ℕ LexKind} b (Err NumberTooWide) (Ok 0)) (le-ltb max 0 (omega arith))

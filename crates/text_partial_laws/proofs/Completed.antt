@@ -1,5 +1,5 @@
--- First entries of rows that glue soundly so far are those of a table: the faces to which they lead lead back, and all others
--- are left free.
+-- First entries of rows are sound so far if and only if they are those of a table: each face that a given face is glued
+-- to is glued back to it, and all others are boundary faces.
 use Rattle.std.proofs.Common.{◌≡◌, ℕ, ◌<◌, ◌≤◌, Bool, true, false, List, [], length, map, get_or, Option, Some, None, refl, sym, ap, ◌∙◌, subst, arith, ⊎_elim}
 use Rattle.std.specs.Prelude.{not, option_and_then, IsTrue, All, if◌then◌else◌}
 use Rattle.std.specs.List.{slice_index_or}
@@ -20,7 +20,7 @@ use Rattle.table_definitions.proofs.Retained.{of_four}
 use Rattle.text_partial_laws.specs.Partial.{is_given, IsPartialTable, Completes}
 use Rattle.text_partial_laws.specs.Laws.{PartialTablesAreCompleted}
 
--- what is given is in a row
+-- a given entry is in a row
 pub given_face : (rows : List Row) (x : Face) → is_given rows x ≡ true → x.face < length (slice_index_or rows x.tet [])
 given_face rows x h = ltb-true x.face (length (slice_index_or rows x.tet [])) h
 
@@ -33,14 +33,14 @@ given_tet rows x h =
     absurd (omega (arith, none, some)))
     (cases_lt x.tet (length rows))
 
--- what is glued is given
+-- a glued face has a given entry
 pub glued_given : (rows : List Row) (x : Face) (g : Gluing) → glue rows x ≡ Some g → is_given rows x ≡ true
 glued_given rows x g e =
     ⊎_elim (λ (l : x.face < length (slice_index_or rows x.tet [])). lt-ltb x.face (length (slice_index_or rows x.tet [])) l)
     (λ (out : length (slice_index_or rows x.tet []) ≤ x.face). let n : glue rows x ≡ None = get_or_past (slice_index_or rows x.tet []) x.face None out in absurd cc)
     (cases_lt x.face (length (slice_index_or rows x.tet [])))
 
--- a table's first entries glue soundly
+-- the first entries of a table are sound
 module _ (n : ℕ) (rows table : List Row) (c : Completes n rows table) where
   glued_too : (x : Face) (g : Gluing) → glue rows x ≡ Some g → glue table x ≡ Some g
   glued_too x g e = c.agrees x (glued_given rows x g e) ∙ e
@@ -66,7 +66,7 @@ module _ (n : ℕ) (rows table : List Row) (c : Completes n rows table) where
     one_each = only_one;
   })
 
--- the table that completes first entries
+-- the table that completes the first entries
 module _ (rows : List Row) where
   abbrev pub gives_back : Face → Face → Option Gluing
   gives_back y x = option_and_then (leads_to y x) (glue rows x)
@@ -98,7 +98,7 @@ module _ (rows : List Row) where
   pub glue-completed : (n : ℕ) (x : Face) → x.tet < n → x.face < 4 → glue (completed n) x ≡ entry x
   glue-completed n x lt lf = ap (λ (row : Row). get_or row x.face None) (completed_row n x.tet lt) ∙ of_four (λ f. entry (face_at x.tet f)) x.face lf
 
-  -- a face that is given leads to this one
+  -- a given face is glued to y, with the inverse v
   record LeadsTo (y : Face) (v : Gluing) : Type 0 where
     from : Face
     gluing : Gluing
@@ -150,7 +150,7 @@ module _ (rows : List Row) where
     abbrev Good : Face → Gluing → Type 0
     Good y v = IsGood n (completed n) y v
 
-    -- where a given face leads, the completed table leads back
+    -- in the completed table, the other side of a given gluing is glued by its inverse
     answered : (x : Face) (g : Gluing) → glue rows x ≡ Some g → entry (other_side x g) ≡ Some (way_back x g)
     answered x g e = by_test (is_given rows (other_side x g)) refl
       where

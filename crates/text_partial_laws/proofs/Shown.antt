@@ -1,4 +1,4 @@
--- What shows the first entries of rows is gone on with to lines of a table that they begin.
+-- If symbols show the first entries of rows, they can be continued to lines of a table whose entries begin with these.
 use Rattle.std.proofs.Common.{◌≡◌, ℕ, zero, suc, ◌+◌, ◌<◌, ◌≤◌, ◌^◌, List, [], ◌∷◌, ◌++◌, length, map, get_or, Option, Some, None, inl, inr, refl, sym, ap, ◌∙◌, subst, arith, ⊎_elim}
 use Rattle.std.specs.Prelude.{⊤, nat_lt, decimal, if◌then◌else◌}
 use Rattle.std.specs.List.{AllZip, AllByRecursion, range_with_len, slice_index_or}
@@ -59,7 +59,7 @@ entry_is (Some g) h =
     let narrow : g.tet < 2 ^ 32 = p.1 in
     record { tet = decimal g.tet; number = record { value = decimal_value-decimal g.tet (omega (arith, narrow)); up_to = omega (arith, narrow) }; permutes = p.0; spelled = refl }
 
--- lines of rows that show certain symbols first
+-- lines of rows whose symbols begin with ss
 pub record ShowsFirst (table : List Row) (ss : List Symbol) : Type 0 where
   pub lines : List Line
   pub forms : AllZip IsRowLine lines table
@@ -76,7 +76,7 @@ nothing_first (row ∷ table) h =
     let line : Line = line_with (map entry_text row) in
     record { lines = line ∷ s.lines; forms = (row_line (map entry_text row) row (written row (h.0).0) (h.0).1, s.forms); more = plain (lines_front (line ∷ s.lines)); there = refl }
 
--- the first entries of rows begin those of a table
+-- each row of the first list is the beginning of the row at its index of the second
 abbrev pub Begin : List Row → List Row → Type 0
 Begin [] table = ⊤
 Begin (row ∷ rows) [] = ⊥
@@ -134,7 +134,7 @@ rows_first (row ∷ rows) (whole ∷ table) ss b h (ws, z, inr next) =
     let same : whole ≡ row = (b.0).1 ∙ ap (λ (xs : Row). row ++ xs) (none_more row (b.0).0 next.0 long) ∙ append-nil row in
     subst (λ (r : Row). ShowsFirst (r ∷ table) ss) (sym same) (followed row table ws ss (next.1).0 z next.0 (next.1).1 (rows_first rows table (next.1).0 b.1 h.1 (next.1).2))
 
--- the completed table begins so, and can be written
+-- the rows of the completed table begin with the given entries, and can be written
 prefix_of : (row : Row) (other : ℕ → Option Gluing) → length row ≤ 4 → (more : Row) × (map (λ f. if nat_lt f (length row) then slice_index_or row f None else other f) four ≡ row ++ more)
 prefix_of [] other l = (map other four, refl)
 prefix_of (a ∷ []) other l = (other 1 ∷ other 2 ∷ other 3 ∷ [], refl)

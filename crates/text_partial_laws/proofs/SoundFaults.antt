@@ -1,5 +1,5 @@
--- Where what stands before the fault of an input is sound, the fault stands at the first symbol with which no input of the kind
--- goes on.
+-- If what comes before the error of an input is sound, the error is at the first symbol after which no continuation is
+-- an input of the kind.
 use Rattle.std.proofs.Common.{◌≡◌, List, [], ◌∷◌, ◌++◌, inl, inr, refl, sym, ap, ◌∙◌, subst}
 use Rattle.std.specs.Prelude.{codes}
 use Rattle.std.proofs.lemmas.List.{append-nil, append_assoc}
@@ -20,12 +20,12 @@ use Rattle.text_partial_laws.specs.Laws.{SomeTables, SoundFaultsLeaveFirst}
 use Rattle.text_partial_laws.proofs.Shown.{line_with, are_words}
 use Rattle.text_partial_laws.proofs.SoundSymbols.{GoesOn, sound_goes_on, front_shown}
 
--- lines that leave a grammar leave a smaller one
+-- lines that leave a grammar leave each smaller one
 leaves_too : (Larger InGrammar : List Line → Type 0) → ((lines : List Line) → InGrammar lines → Larger lines) → (end : Place) (lines : List Line) (p : Place) → LeavesAt Larger end lines p → LeavesAt InGrammar end lines p
 leaves_too Larger InGrammar within end lines p h =
     record { before = h.before; symbol = h.symbol; after = h.after; stands = h.stands; no_way_on = λ others more e g. h.no_way_on others more e (within others g) }
 
--- a grammar that has each table with certain lines before and behind it
+-- a grammar that contains each table with certain lines before or after it
 module _ (InGrammar : List Line → Type 0) (end : Place) (lines : List Line) (p : Place) (h : LeavesAt InGrammar end lines p) where
   pub sound_first : (rest : List Line) → ((table : List Line) → SomeTable table → InGrammar (table ++ rest)) → IsSound (plain h.before) → FirstLeavesAt InGrammar end lines p
   sound_first rest put sound =
@@ -54,7 +54,7 @@ module _ (InGrammar : List Line → Type 0) (end : Place) (lines : List Line) (p
         way_on = put s.lines g.0 s.are_tables g.3;
       }
 
--- a table alone, and with nothing more behind it
+-- a table alone, with no further line
 alone : (lines : List Line) → SomeTable lines → SomeTable (lines ++ [])
 alone lines h = subst SomeTable (sym (append-nil lines)) h
 
@@ -75,7 +75,7 @@ is_vector = record { ws = []; are_words = are_words (codes "vec" ∷ []); entrie
 one_vector : (lines : List Line) → SomeTable lines → SomeTableAndVector (lines ++ vector_line ∷ [])
 one_vector lines h = (h.0, [], (lines, vector_line ∷ [], refl, h.1, (is_vector, tt)))
 
--- with another table
+-- a table with another table
 some_table : GoesOn []
 some_table = sound_goes_on [] nothing
 
@@ -87,7 +87,7 @@ then_last rows front table t h =
     let whole : front ≡ t.0 = t.2 ∙ ap (λ (ls : List Line). t.0 ++ ls) t.4 ∙ append-nil t.0 in
     (rows, h.0, (front, table, refl, subst (λ (ls : List Line). AreTableLines ls rows) (sym whole) t.3, h.1))
 
--- tables, and one more
+-- tables and one more table
 then_more : (tables : List (List Row)) (front table : List Line) → AreTables front tables → SomeTable table → SomeTables (front ++ table)
 then_more [] front table t h = subst SomeTables (ap (λ (ls : List Line). ls ++ table) (sym t)) (h.0 ∷ [], (table, [], sym (append-nil table), h.1, refl))
 then_more (rows ∷ tables) front table t h =

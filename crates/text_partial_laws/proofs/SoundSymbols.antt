@@ -1,4 +1,4 @@
--- What is sound so far is gone on with to a table.
+-- Symbols that are sound so far can be continued to a table.
 use Rattle.std.proofs.Common.{◌≡◌, ℕ, ◌≤◌, List, [], ◌∷◌, ◌++◌, Some, inl, inr, refl, sym, ap, ◌∙◌, arith}
 use Rattle.std.specs.Prelude.{codes}
 use Rattle.std.proofs.lemmas.List.{append_assoc, append-nil}
@@ -20,11 +20,11 @@ use Rattle.text_partial_laws.proofs.Completed.{completed, completes}
 use Rattle.text_partial_laws.proofs.SymbolsGiven.{shown_is_sound}
 use Rattle.text_partial_laws.proofs.Shown.{line_with, are_words, line_shown, ShowsFirst, rows_first, begins, written_table}
 
--- lines of a table that show these symbols, whatever stands behind them
+-- lines of a table whose symbols begin with ss
 abbrev pub GoesOn : List Symbol → Type 0
 GoesOn ss = (lines : List Line) × (more : List Symbol) × (plain (lines_front lines) ≡ ss ++ more) × SomeTable lines
 
--- rows behind a line `tri N`
+-- rows after a line `tri N`
 with_rows : (w : List ℕ) (n : ℕ) (rows : List Row) (ss : List Symbol) → IsDecimalUpTo max_tets w n → IsPartialTable n rows → ShowRows rows ss → GoesOn (shown (codes "tri") ∷ shown w ∷ line_end ∷ ss)
 with_rows w n rows ss number p shows =
     let c = completes rows n p in
@@ -61,7 +61,7 @@ with_text text rows h = (
   (rows, inr (text, are_words (codes "sig" ∷ text ∷ []), h)),
 )
 
--- fewer symbols
+-- a beginning of the symbols
 shorter : (xs ys : List Symbol) → GoesOn (xs ++ ys) → GoesOn xs
 shorter xs ys (lines, more, there, table) = (lines, ys ++ more, there ∙ append_assoc xs ys more, table)
 
@@ -74,13 +74,13 @@ sound_goes_on ss sig_word = shorter (shown (codes "sig") ∷ []) (shown (codes "
 sound_goes_on ss (sig_text text rows h) = shorter (shown (codes "sig") ∷ shown text ∷ []) (line_end ∷ []) (with_text text rows h)
 sound_goes_on ss (sig_line text rows h) = with_text text rows h
 
--- the symbols of lines with others behind them
+-- the symbols of lines with others after them
 pub front_shown : (end : Place) (ss : List Symbol) (lines rest : List Line) (more : List Symbol) → plain (lines_front lines) ≡ ss ++ more → plain (symbols_of end (lines ++ rest)) ≡ ss ++ (more ++ plain (symbols_of end rest))
 front_shown end ss lines rest more e =
     ap plain (lines_split end lines rest) ∙ plain-append (lines_front lines) (symbols_of end rest) ∙ ap (λ (xs : List Symbol). xs ++ plain (symbols_of end rest)) e
     ∙ append_assoc ss more (plain (symbols_of end rest))
 
--- a symbol stands behind them
+-- after the symbols there is a further one
 some_symbol : (xs : List Symbol) (last : Symbol) → (symbol : Symbol) × (more : List Symbol) × (xs ++ last ∷ [] ≡ symbol ∷ more)
 some_symbol [] last = (last, [], refl)
 some_symbol (x ∷ xs) last = (x, xs ++ last ∷ [], refl)

@@ -1,4 +1,4 @@
--- What lines of a table show first is sound.
+-- The symbols that the lines of a table begin with are sound.
 use Rattle.std.proofs.Common.{◌≡◌, ℕ, zero, suc, ◌+◌, ◌<◌, ◌≤◌, List, [], ◌∷◌, ◌++◌, length, map, get_or, Option, None, ◌⊎◌, inl, inr, refl, sym, ap, ◌∙◌, subst, arith}
 use Rattle.std.specs.Prelude.{codes, true}
 use Rattle.std.specs.List.{AllZip}
@@ -15,7 +15,7 @@ use Rattle.text_partial_laws.specs.Sound.{ShowRows, IsSound, nothing, tri_word, 
 use Rattle.text_partial_laws.proofs.Completed.{given_face, given_tet, partial_of_table}
 use Rattle.text_partial_laws.proofs.Shown.{Begin}
 
--- what a line of words shows
+-- the symbols of a line of words
 words_shown : (n : ℕ) (tokens : List Token) (end : ℕ) (ws : List (List ℕ)) (others : List Placed) → AreWords tokens ws → plain (line_symbols n tokens end others) ≡ map shown ws ++ line_end ∷ plain others
 unfolding line_symbols
 words_shown n [] end [] others a = refl
@@ -39,12 +39,12 @@ no_symbol : (xs : List Symbol) (symbol : Symbol) (more : List Symbol) → [] ≡
 no_symbol [] symbol more e = absurd cc
 no_symbol (x ∷ xs) symbol more e = absurd cc
 
--- the only symbol is none of those before another
+-- there is no symbol before the only one
 before_last : (x : Symbol) (ss : List Symbol) (symbol : Symbol) (more : List Symbol) → x ∷ [] ≡ ss ++ symbol ∷ more → ss ≡ []
 before_last x [] symbol more e = refl
 before_last x (s ∷ ss) symbol more e = absurd (no_symbol ss symbol more (heads x s [] (ss ++ symbol ∷ more) e).1)
 
--- the symbols of a row are cut off, or others follow
+-- the symbols end within a row, or those of other lines follow
 record CutOff (row : Row) (ss : List Symbol) : Type 0 where
   part : Row
   rest : Row
@@ -75,7 +75,7 @@ in_row (w ∷ ws) (x ∷ row) z others (s ∷ ss) symbol more e = by_case (in_ro
     by_case (inl c) = inl (one_more w x row s ss z.0 parts.0 c)
     by_case (inr f) = inr (f.0, ap (λ (y : Symbol). y ∷ ss) (sym parts.0) ∙ ap (λ (xs : List Symbol). shown w ∷ xs) f.1, f.2)
 
--- first entries of rows that are shown
+-- the first entries of rows that the symbols show
 record Given (rows : List Row) (ss : List Symbol) : Type 0 where
   given : List Row
   shows : ShowRows given ss
@@ -97,7 +97,7 @@ rows_given end (l ∷ ls) (row ∷ rows) z ss symbol more e =
         let g : Given rows f.0 = others f.0 f.2 in
         record { given = row ∷ g.given; shows = (h.ws, h.entries, inr (h.four_faces, (f.0, f.1, g.shows))); begin = (([], sym (append-nil row)), g.begin) }
 
--- first entries of a table's rows are completed by the table
+-- a table completes the first entries of its rows
 at_front : (xs ys : Row) (f : ℕ) → f < length xs → get_or (xs ++ ys) f None ≡ get_or xs f None
 at_front [] ys f l = absurd (omega arith)
 at_front (x ∷ xs) ys zero l = refl
@@ -131,14 +131,14 @@ completed_by given rows b table = record { is_table = table; count = refl; many 
         let r : (more : Row) × (get_or rows x.tet [] ≡ get_or given x.tet [] ++ more) = row_given given rows b x.tet (given_tet given x g) in
         ap (λ (row : Row). get_or row x.face None) r.1 ∙ at_front (get_or given x.tet []) r.0 x.face (given_face given x g)
 
--- by the symbols of the first line
+-- the symbols of the first line
 same_three : (a b c s t u : Symbol) (ss : List Symbol) → a ≡ s → b ≡ t → c ≡ u → IsSound (a ∷ b ∷ c ∷ ss) → IsSound (s ∷ t ∷ u ∷ ss)
 same_three a b c s t u ss e f g sound = subst (λ (x : Symbol). IsSound (x ∷ t ∷ u ∷ ss)) e (subst (λ (x : Symbol). IsSound (a ∷ x ∷ u ∷ ss)) f (subst (λ (x : Symbol). IsSound (a ∷ b ∷ x ∷ ss)) g sound))
 
 same_two : (a b s t : Symbol) → a ≡ s → b ≡ t → IsSound (a ∷ b ∷ []) → IsSound (s ∷ t ∷ [])
 same_two a b s t e f sound = subst (λ (x : Symbol). IsSound (x ∷ t ∷ [])) e (subst (λ (x : Symbol). IsSound (a ∷ x ∷ [])) f sound)
 
--- three symbols, and others behind them
+-- three symbols, and others after them
 module _ (a b : Symbol) (others : List Symbol) (one : IsSound (a ∷ [])) (two : IsSound (a ∷ b ∷ [])) (symbol : Symbol) (more : List Symbol) (three : (next : List Symbol) → others ≡ next ++ symbol ∷ more → IsSound (a ∷ b ∷ line_end ∷ next)) where
   by_symbols : (ss : List Symbol) → a ∷ b ∷ line_end ∷ others ≡ ss ++ symbol ∷ more → IsSound ss
   by_symbols [] e = nothing

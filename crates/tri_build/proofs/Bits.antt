@@ -1,4 +1,4 @@
--- The mask of the vertices to which those of a core go.
+-- The mask of the images of a core's vertices.
 use Rattle.std.proofs.Common.{◌≡◌, ℕ, ◌+◌, ◌^◌, ◌<◌, Bool, true, List, refl, sym, subst}
 use Rattle.std.specs.Prelude.{◌&&◌, nat_lt, if◌then◌else◌}
 use Rattle.std.specs.List.{list_all}
@@ -27,7 +27,7 @@ mask_tested q core h c = by_words (λ q. mask_test q core) (on_cores (λ vs. lis
     all : list_all (λ vs. list_all (λ q. mask_test q vs) words) cores ≡ true
     all = unfold mask_test in refl
 
--- it is the mask of a core, which has these vertices
+-- the mask is that of the image of the core
 pub record IsMaskOf (mask : ℕ) (core : List ℕ) : Type 0 where
   pub some : 0 < mask
   pub four : mask < 16

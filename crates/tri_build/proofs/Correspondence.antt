@@ -1,4 +1,4 @@
--- The labels of a step correspond to those of the move back.
+-- The labels of a step, and the corresponding labels of the inverse move.
 use Rattle.std.proofs.Common.{◌≡◌, ℕ, ◌<◌, List, [], ◌∷◌, length, map, refl, ap, ◌∙◌, arith}
 use Rattle.table_definitions.specs.Lists.{below}
 use Rattle.table_definitions.specs.Table.{Row}
@@ -15,7 +15,7 @@ use Rattle.certificate_laws.proofs.BackLabels.{IsSteppedOn, carried_inverse, bac
 use Rattle.tri_build.specs.Steps.{PlayedMove}
 use Rattle.tri_build.specs.Standing.{inverse_label, label_back}
 
--- by the labels of the inverse
+-- the labels of the inverse, as the definitions compute them
 
 pub back_corresponds : (old : List Row) (m : Move) (new now : List Row) (on : Relabelling) → IsSteppedOn old m new now on → Correspond old m now (move_back old m on) on (back_labels old m on)
 back_corresponds old m new now on h = record {

@@ -1,4 +1,4 @@
--- Facets that are found by their tetrahedron.
+-- The facet with a given tetrahedron, if a list has one.
 use Rattle.std.proofs.Common.{◌≡◌, ℕ, Bool, true, false, cond, List, [], ◌∷◌, map, Option, Some, None, refl, sym, ap, ◌∙◌, subst}
 use Rattle.std.specs.Prelude.{◌==◌, ◌||◌, find}
 use Rattle.std.proofs.lemmas.Bool.{eqb-true}
@@ -29,6 +29,6 @@ found_tet (g ∷ fs) t f e = by_test (g.tet == t) refl e (λ q. found_tet fs t f
         ap (λ (x : Facet). x.tet) same ∙ eqb-true g.tet t h
     by_test false h q later = later q
 
--- what can stand for a tetrahedron is told by what is found of it
+-- the condition on the image of a tetrahedron, by the facet that was found for it
 pub as_found : (step : PlayedMove) (back : Back) (on : Relabelling) (t : ℕ) (facets : List Facet) (found : Option Facet) → facets ≡ step.facets → found ≡ find_at t facets → CanStandAt step back on t → CanStandBy step back on t found
 as_found step back on t facets found same e h = subst (CanStandBy step back on t) (sym (e ∙ ap (find_at t) same)) h

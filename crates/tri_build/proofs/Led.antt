@@ -1,4 +1,4 @@
--- The relabelling by which a step is carried back, by what stands for each tetrahedron.
+-- The relabelling that results from the inverse of a step, by the image of each tetrahedron.
 use Rattle.std.proofs.Common.{◌≡◌, ℕ, ◌<◌, false, List, [], ◌∷◌, ◌++◌, length, map, Option, Some, None, refl, sym, ap, ◌∙◌, subst, arith}
 use Rattle.std.specs.Prelude.{slice_index}
 use Rattle.std.proofs.lemmas.List.Elements.{All-from_get_or}
@@ -33,7 +33,7 @@ use Rattle.tri_build.proofs.Correspondence.{back_corresponds, labels_are}
 abbrev stepped_on : (old : List Row) (step : PlayedMove) (now : List Row) (on : Relabelling) → (b : CarriesToNow old step now on) → IsSteppedOn old step.played b.new now on
 stepped_on old step now on b = stepped old step.played b.new now on b.is_step.plays b.relabels b.carries
 
--- the move back can be played
+-- the inverse move can be played
 
 pub back_is : (old : List Row) (step : PlayedMove) (now : List Row) (on : Relabelling) → CarriesToNow old step now on → move_under on (inverse_move step.tets step.played) ≡ move_back old step.played on
 back_is old step now on b = ap (λ n. move_under on (inverse_move n step.played)) b.is_step.tets
@@ -50,7 +50,7 @@ inverse_in old step now on b =
     let same : (inverse_move step.tets step.played).tet ≡ (inverse_move (length old) step.played).tet = ap (λ n. (inverse_move n step.played).tet) b.is_step.tets in
     omega (arith, length-images (length b.new) on b.relabels)
 
--- what it leads to
+-- the table and the relabelling that result from the inverse move
 pub record IsLed (old : List Row) (step : PlayedMove) (now : List Row) (on : Relabelling) (back : Back) : Type 0 where
   pub end : List Row
   pub by : Relabelling
@@ -143,7 +143,7 @@ led old step now on back b k = record {
           permutes = subst (λ (g : Gluing). IsPermutationOfFour g.perm) (stands t lt (Some f) e) (perm_permutes (length old) l.by l.carried.relabels t lt);
         }
 
--- the relabelling that is filled in is that one
+-- the relabelling that is made of the images is this one
 
 pub filled_in : (step : PlayedMove) (back : Back) (on by : Relabelling) (t : ℕ) (images : List ℕ) (perms : List (List ℕ)) → IsImageRelabelling step back on by → t ≡ step.tets
     → images ≡ map (λ u. (stands_at step back on u).tet) (below t) → perms ≡ map (λ u. (stands_at step back on u).perm) (below t) → record { images = images; perms = perms } ≡ by
@@ -151,7 +151,7 @@ filled_in step back on by t images perms s e i p =
     are_of step.tets (stands_at step back on) by images perms s.relabels s.stands
     (i ∙ ap (λ n. map (λ u. (stands_at step back on u).tet) (below n)) e) (p ∙ ap (λ n. map (λ u. (stands_at step back on u).perm) (below n)) e)
 
--- so a step goes back
+-- the step has its inverse move
 
 pub played_is : (old : List Row) (step : PlayedMove) (now : List Row) (on : Relabelling) (back : Back) (m : Move) → CarriesToNow old step now on → IsBack step now on back → m ≡ back.played → m ≡ move_back old step.played on
 played_is old step now on back m b k e = e ∙ k.played ∙ back_is old step now on b

@@ -10,7 +10,7 @@ use Rattle.move_definitions.specs.Certificates.{moves_at, moves_with, is_accepte
 use Rattle.move_definitions.proofs.MoveLists.{moves_more}
 use Rattle.basic_lemmas.proofs.Numbers.{one_on}
 
--- those that pass a test, behind others
+-- those that pass a test are appended
 pub accepted_more : (p : Move → Bool) (cores : List (List ℕ)) (t : ℕ) (so before more : List Move) → so ≡ before ++ filter p (moves_with cores t) → more ≡ so ++ filter p (moves_at t cores)
     → more ≡ before ++ filter p (moves_with cores (t + 1))
 accepted_more p cores t so before more s m =

@@ -1,4 +1,4 @@
--- A making goes on step by step, and its table is made with its certificate.
+-- A making continues step by step, and its table has its certificate.
 use Rattle.std.proofs.Common.{◌≡◌, ℕ, ◌+◌, ◌<◌, ◌≤◌, List, [], ◌∷◌, ◌++◌, length, Some, inl, inr, sym, ap, ◌∙◌, subst, arith}
 use Rattle.std.proofs.lemmas.Fn.{FoldsTo-push}
 use Rattle.std.proofs.lemmas.List.{length-map, length-append, map-append}
@@ -17,7 +17,7 @@ use Rattle.tri_build.specs.Steps.{PlayedMove, IsPlayedStep, AreSteps, moves_of}
 abbrev pub stage : ℕ → List Row → Stage
 stage state table = record { state = state; table = table }
 
--- how far a making has come
+-- the state of a making after some of its steps
 abbrev pub IsMadeSoFar : ℕ → List Row → ℕ → List PlayedMove → ℕ → List Row → Type 0
 IsMadeSoFar seed first most steps state table = MakesSoFar (stage seed first) (moves_of steps) (stage state table) × AreSteps first steps table × (length steps ≤ most)
 
@@ -32,7 +32,7 @@ step_made seed first most steps more state next table new step (so_far, steps_ar
       omega arith,
     )
 
--- it ends where no move can be drawn, and where as many are made
+-- a making ends if no move can be drawn, or if as many as requested are made
 pub none_left : (seed : ℕ) (first : List Row) (most : ℕ) (steps : List PlayedMove) (state : ℕ) (table last : List Row) → IsMadeSoFar seed first most steps state table → candidates table ≡ [] → last ≡ table
     → IsMaking most seed first (moves_of steps) last
 none_left seed first most steps state table last (so_far, steps_are, few) none e =
@@ -44,7 +44,7 @@ all_made seed first most steps state table (so_far, steps_are, few) enough =
     let long : length (moves_of steps) ≡ length steps = length-map steps (λ (s : PlayedMove). s.played) in
     makings_are_done_lem most (stage seed first) (moves_of steps) (stage state table) so_far (omega arith) (inl (omega arith))
 
--- what is made, with the way back
+-- the certificate of a table that is made: the inverse moves, from the last step to the first
 abbrev pub IsWay : List PlayedMove → List Row → List Move → Type 0
 IsWay steps table certificate = (first : List Row) → AreSteps first steps table → (end : List Row) × (by : Relabelling) × AreCarriedBack first (moves_of steps) table certificate end by
 

@@ -1,4 +1,4 @@
--- The vertices of the facet that lacks a label.
+-- The vertices of the new facet that lacks a label, by their labels.
 use Rattle.std.proofs.Common.{◌≡◌, ◌≢◌, ℕ, ◌-◌, ◌<◌, ◌≤◌, Bool, true, false, refl, sym, ap, ◌∙◌, arith}
 use Rattle.std.specs.Prelude.{◌==◌, nat_lt, filter, not, if◌then◌else◌}
 use Rattle.std.specs.List.{list_all}

@@ -1,4 +1,4 @@
--- Steps are carried back one after another, from the last to the first.
+-- The inverse moves of steps, from the last step to the first.
 use Rattle.std.proofs.Common.{◌≡◌, ℕ, List, [], ◌∷◌, ◌++◌, length, refl, sym, ap, ◌∙◌, subst, arith, append_assoc, append-nil}
 use Rattle.std.proofs.lemmas.List.{map-append}
 use Rattle.table_definitions.specs.Table.{Row, IsTable}
@@ -20,7 +20,7 @@ parted first (s ∷ ss) step last (next, h, rest) =
     let later : AreThen next ss step last = parted next ss step last rest in
     record { table = later.table; before = (next, h, later.before); then = later.then }
 
--- how far the way back has come
+-- the state after the inverse moves of the last steps: the steps `left` remain
 pub record IsOnWay (first : List Row) (all : List PlayedMove) (last : List Row) (left : List PlayedMove) (now : List Row) (on : Relabelling) (back : List Move) : Type 0 where
   pub table : List Row
   pub steps : AreSteps first left table
@@ -41,7 +41,7 @@ begun first all last table steps = record {
   carried = (refl, refl, refl, refl);
 }
 
--- the last step that is left
+-- the last step that remains
 pub record IsNext (first : List Row) (all : List PlayedMove) (last : List Row) (left : List PlayedMove) (step : PlayedMove) (now : List Row) (on : Relabelling) (back : List Move) : Type 0 where
   pub old : List Row
   pub before : CarriesToNow old step now on
@@ -66,7 +66,7 @@ next_is first all last left step now on back w = record {
     p : AreThen first left step w.table
     p = parted first left step w.table w.steps
 
--- and where none is left, the way is done
+-- if no step remains, the inverse moves are complete
 pub arrived : (first : List Row) (all : List PlayedMove) (last : List Row) (left : List PlayedMove) (now : List Row) (on : Relabelling) (back : List Move) → left ≡ [] → IsOnWay first all last left now on back
     → (end : List Row) × (by : Relabelling) × AreCarriedBack first (moves_of all) last back end by
 arrived first all last left now on back none w = (now, on, subst (λ (ms : List Move). AreCarriedBack first ms last back now on) moves there)
@@ -80,7 +80,7 @@ arrived first all last left now on back none w = (now, on, subst (λ (ms : List 
     there : AreCarriedBack first w.done last back now on
     there = subst (λ (t : List Row). AreCarriedBack t w.done last back now on) (sym at) w.carried
 
--- as the code goes
+-- the same by the values of the function's variables
 
 pub begun_as : (first : List Row) (all : List PlayedMove) (last now : List Row) (count : ℕ) (on : Relabelling) (back : List Move) → IsTable last → now ≡ last → count ≡ length last → on ≡ staying count → back ≡ [] → AreSteps first all last
     → IsOnWay first all last all now on back

@@ -1,4 +1,4 @@
--- What is read is in the grammar, and what is in the grammar is read.
+-- A step is read if and only if it is in the grammar.
 use Rattle.move_definitions.proofs.MoveReadingLaws.{step_read}
 use Rattle.move_definitions.proofs.MoveFoundLaws.{step_found}
 use Rattle.move_definitions.proofs.steps_are_read.Goals as goal

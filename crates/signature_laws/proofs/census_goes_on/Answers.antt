@@ -1,4 +1,4 @@
--- Signatures tell tables.
+-- Tables have the same signature if and only if they are isomorphic.
 use Rattle.signature_laws.proofs.Uniqueness.{tells_tables}
 use Rattle.signature_definitions.proofs.CensusLaws.{census_goes_on}
 use Rattle.signature_laws.proofs.census_goes_on.Goals as goal

@@ -1,4 +1,4 @@
--- What is read is in the grammar, and what is in the grammar is read.
+-- A table is read if and only if it is in the grammar.
 use Rattle.std.proofs.Common.{◌≡◌, List, ◌++◌, ap, ◌∙◌}
 use Rattle.text_definitions.specs.Text.{Line}
 use Rattle.table_definitions.specs.Table.{Row}

@@ -4,7 +4,7 @@ use Rattle.clap.specs.Simple.{App, new_shape, with_rule}
 use Rattle.command_words.specs.Apps.{option_argument}
 use Rattle.command_words.proofs.program.command.Goals as goal
 
--- the options up to one more
+-- the arguments of the options, with one more
 taken : (options : List (Bor Text)) (i : ℕ) (d : Bor Text) → i < length options
     → map option_argument (take i (texts options)) ++ option_argument (get_or options i d).now ∷ [] ≡ map option_argument (take (i + 1) (texts options))
 taken [] i d lt = absurd (omega (arith, lt))

@@ -1,4 +1,4 @@
--- What is left decides.
+-- The remaining commands decide.
 use Rattle.std.proofs.Common.{◌≡◌, drop, Option}
 use Rattle.command_definitions.specs.Commands.{Command}
 use Rattle.command_words.specs.Apps.{command_among}

@@ -1,4 +1,4 @@
--- The command that the first of the words names.
+-- The command that the first word names.
 use Rattle.std.proofs.Common.{◌≡◌, ◌∙◌, List, [], ◌∷◌, Bor, Some, sym, ap}
 use Rattle.std.specs.Prelude.{slice_get}
 use Rattle.clap.specs.Walk.{Text, texts}

@@ -1,4 +1,4 @@
--- What the command takes is that of the arm.
+-- The options that the command takes are those of the case.
 use Rattle.std.proofs.Common.{◌≡◌, ◌≢◌, ◌∙◌, ℕ, Some, refl, sym, ap}
 use Rattle.cone_definitions.specs.declared.Order.{Order}
 use Rattle.surface_definitions.specs.declared.Coords.{Coords}
@@ -9,7 +9,7 @@ use Rattle.command_words.specs.Apps.{takes_of}
 use Rattle.command_words.specs.Requests.{texts_of}
 use Rattle.command_words.proofs.values.request_with.Goals as goal
 
--- a command without options asks for itself
+-- the request of a command without options
 plain : (r : Request) (v : Values) → ((coords : Coords) → r ≢ Verify coords) → ((coords : Coords) (order : Order) (most : ℕ) → r ≢ Surfaces coords order most)
     → ((order : Order) (most : ℕ) → r ≢ Rays order most) → ((coords : Coords) → r ≢ Describe coords) → ((seed moves : ℕ) → r ≢ Make seed moves)
     → ((seed moves : ℕ) → r ≢ Bulk seed moves) → ((coords : Coords) (most : ℕ) → r ≢ Decompose coords most) → ((coords : Coords) → r ≢ Addup coords)

@@ -1,4 +1,4 @@
--- The number of the tetrahedron fits.
+-- The number of the tetrahedron has 32 bits.
 use Rattle.std.proofs.Common.{◌≤◌, arith}
 use Rattle.move_undo.proofs.Words.{number_within}
 use Rattle.move_undo.proofs.reader.read_kind.Goals as goal

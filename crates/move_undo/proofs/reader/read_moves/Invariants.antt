@@ -1,4 +1,4 @@
--- The moves so far with those that are left are those of the input.
+-- The moves so far, followed by those of the remaining lines, are those of the input.
 use Rattle.std.proofs.Common.{◌≡◌, length}
 use Rattle.move_definitions.specs.MoveText.{move_at}
 use Rattle.text_document_definitions.specs.Documents.{each_line_from}

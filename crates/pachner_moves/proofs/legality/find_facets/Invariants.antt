@@ -1,4 +1,4 @@
--- The facets so far, and that nothing was wrong with them.
+-- The facets so far, none of which has an error.
 use Rattle.std.proofs.Common.{◌≡◌, ◌<◌, ◌≤◌, ℕ, None, length}
 use Rattle.move_definitions.specs.Moves as moves
 use Rattle.move_laws.specs.Faults.{facets_below}

@@ -1,4 +1,4 @@
--- No facet that was looked at is of the tetrahedron.
+-- No facet so far has the tetrahedron.
 use Rattle.std.proofs.Common.{◌≡◌, false, take, map}
 use Rattle.table_definitions.specs.Lists.{has}
 use Rattle.move_definitions.specs.Moves.{Facet}

@@ -11,7 +11,7 @@ not_true : (b : Bool) → not b ≡ true → b ≡ false
 not_true true e = absurd cc
 not_true false e = refl
 
--- a table whose length passes the test keeps the limit
+-- a table whose length passes the test is within the limit
 within : (n : ℕ) (passes : Bool) → passes ≡ not (nat_lt max_tets n) → passes ≡ true → n ≤ max_tets
 within n passes e kept = ltb-false max_tets n (not_true (nat_lt max_tets n) (sym e ∙ kept))
 

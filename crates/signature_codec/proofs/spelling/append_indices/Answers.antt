@@ -1,4 +1,4 @@
--- One index more.
+-- One more index.
 use Rattle.std.proofs.Common.{◌≡◌, ℕ, suc, ◌+◌, ◌<◌, List, [], ◌∷◌, ◌++◌, length, get_or, drop, sym, ap, ◌∙◌, append_assoc, add-one, drop-cons, arith}
 use Rattle.table_definitions.specs.Table.{Gluing}
 use Rattle.table_definitions.specs.Permutation.{index}
@@ -10,7 +10,7 @@ one_index : (gs : List Gluing) (i : ℕ) (g : Gluing) (k : ℕ) → i < length g
 one_index gs i g k inside is e = rw add-one
     (ap indices_text (drop-cons gs i g inside ∙ ap (λ h. h ∷ drop (suc i) gs) (sym is)) ∙ ap (λ h. h ∷ indices_text (drop (suc i) gs)) (sym e))
 
--- what was written goes from what is left to what stands
+-- a character that is appended is no longer one of those that remain
 moved : (t longer whole before left : List ℕ) (k : ℕ) → longer ≡ t ++ k ∷ [] → before ≡ k ∷ left → t ++ before ≡ whole → longer ++ left ≡ whole
 moved t longer whole before left k e split so_far = ap (λ l. l ++ left) e ∙ append_assoc t (k ∷ []) left ∙ ap (λ p. t ++ p) (sym split) ∙ so_far
 

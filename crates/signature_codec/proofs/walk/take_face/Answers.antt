@@ -1,4 +1,4 @@
--- There are no more tetrahedra than rows.
+-- At most as many tetrahedra are seen as there are rows.
 use Rattle.std.proofs.Common.{sym, ap, arith}
 use Rattle.table_definitions.specs.Table.{Gluing}
 use Rattle.signature_codec.proofs.walk.take_face.Goals as goal

@@ -1,4 +1,4 @@
--- The accepted moves of one more tetrahedron.
+-- The accepted moves of one more tetrahedron are appended.
 use Rattle.move_definitions.specs.Certificates.{is_accepted}
 use Rattle.tri_build.proofs.Listed.{accepted_more}
 use Rattle.tri_build.proofs.candidates.append_accepted.Goals as goal

@@ -1,4 +1,4 @@
--- The accepted moves of the tetrahedra so far stand behind those before.
+-- The accepted moves of the tetrahedra so far come after the earlier moves.
 use Rattle.std.proofs.Common.{◌≡◌, ◌++◌}
 use Rattle.std.specs.Prelude.{filter}
 use Rattle.move_definitions.specs.Certificates.{moves_with, is_accepted}

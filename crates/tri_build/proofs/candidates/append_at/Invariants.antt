@@ -1,4 +1,4 @@
--- The accepted moves with the cores so far stand behind those before.
+-- The accepted moves with the cores so far come after the earlier moves.
 use Rattle.std.proofs.Common.{◌≡◌, ◌++◌, take}
 use Rattle.std.specs.Prelude.{filter}
 use Rattle.move_definitions.specs.Certificates.{is_accepted, moves_at}

@@ -1,4 +1,4 @@
--- The accepted 2-3 and 3-2, and where there are none the accepted 1-4.
+-- The accepted moves 2-3 and 3-2, and if there are none the accepted moves 1-4.
 use Rattle.std.proofs.Common.{◌≡◌, ◌≢◌, ℕ, ◌∷◌, [], List, length, ap, ◌∙◌, arith}
 use Rattle.std.proofs.Common.{Vec, Global}
 use Rattle.move_definitions.specs.Moves.{Move}

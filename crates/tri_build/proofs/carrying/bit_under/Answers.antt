@@ -1,4 +1,4 @@
--- A bit of a vertex is at most the last one.
+-- The bit of a vertex is at most 8.
 use Rattle.pachner_moves.proofs.MaskLaws.{bit_low}
 use Rattle.tri_build.proofs.carrying.bit_under.Goals as goal
 

@@ -1,4 +1,4 @@
--- The bits are those of a mask, which tells the vertices.
+-- The bits are those of the mask of the core's image.
 use Rattle.std.proofs.Common.{◌∙◌}
 use Rattle.tri_build.proofs.Bits.{bits_are}
 use Rattle.tri_build.proofs.carrying.core_under.Goals as goal

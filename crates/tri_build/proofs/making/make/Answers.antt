@@ -1,4 +1,4 @@
--- The way back certifies the table that is made.
+-- The inverse moves certify the table that is made.
 use Rattle.tri_build.proofs.SoFar.{certified, few_back}
 use Rattle.tri_build.proofs.making.make.Goals as goal
 

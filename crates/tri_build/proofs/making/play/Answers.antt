@@ -1,4 +1,4 @@
--- Each step goes on, and the making ends.
+-- Each step extends the making, and the making ends.
 use Rattle.std.proofs.Common.{◌<◌, ◌≤◌, length, arith}
 use Rattle.tri_build.proofs.SoFar.{step_made, none_left, all_made}
 use Rattle.tri_build.proofs.making.play.Goals as goal

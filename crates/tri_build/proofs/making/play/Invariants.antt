@@ -1,4 +1,4 @@
--- Each step so far was drawn in its state, and led on.
+-- Each step so far was drawn in its state and played.
 use Rattle.std.proofs.Common.{◌≤◌, ◌-◌, length}
 use Rattle.certificate_definitions.specs.SoFar.{MakesSoFar}
 use Rattle.tri_build.specs.Steps.{AreSteps, moves_of}

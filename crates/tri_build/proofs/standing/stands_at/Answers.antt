@@ -1,4 +1,4 @@
--- What can stand for the tetrahedron is told by the facet that is found.
+-- The condition on the image of the tetrahedron is that of the facet that is found.
 use Rattle.std.proofs.Common.{ap, ◌∙◌, Some, None}
 use Rattle.tri_build.specs.Steps.{PlayedMove}
 use Rattle.tri_build.proofs.Found.{as_found}

@@ -1,4 +1,4 @@
--- The inverse, carried, can be played.
+-- The move that corresponds to the inverse of the step can be played.
 use Rattle.std.proofs.Common.{◌≡◌, Some, None, sym, ap, ◌∙◌}
 use Rattle.move_definitions.specs.Moves.{move_fault}
 use Rattle.certificate_definitions.specs.CarriedMoves.{move_under}

@@ -1,4 +1,4 @@
--- What stands for the tetrahedra, one after another, is the relabelling.
+-- The images of the tetrahedra make up the relabelling.
 use Rattle.std.proofs.Common.{◌≡◌, ap, ◌∙◌, arith}
 use Rattle.table_definitions.specs.Table.{Gluing}
 use Rattle.tri_build.specs.Steps.{PlayedMove}

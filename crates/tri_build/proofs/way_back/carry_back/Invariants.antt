@@ -1,4 +1,4 @@
--- Images and permutations are those of what stands for the tetrahedra so far.
+-- Images and permutations are those of the tetrahedra so far.
 use Rattle.std.proofs.Common.{◌≡◌, map}
 use Rattle.table_definitions.specs.Lists.{below}
 use Rattle.tri_build.specs.Standing.{stands_at}

@@ -1,4 +1,4 @@
--- Each tetrahedron stays.
+-- Each tetrahedron is its own image.
 use Rattle.std.proofs.Common.{◌≡◌, ◌∙◌, length, arith}
 use Rattle.table_definitions.specs.Permutation.{identity}
 use Rattle.certificate_definitions.specs.CarriedBack.{staying}

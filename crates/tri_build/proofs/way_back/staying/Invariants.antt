@@ -1,4 +1,4 @@
--- Each tetrahedron so far stays.
+-- Each tetrahedron so far is its own image.
 use Rattle.std.proofs.Common.{◌≡◌, map}
 use Rattle.table_definitions.specs.Lists.{below}
 use Rattle.table_definitions.specs.Permutation.{identity}

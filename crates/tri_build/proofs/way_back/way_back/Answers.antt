@@ -1,4 +1,4 @@
--- The way back goes from the last step to the first.
+-- The inverse moves are made from the last step to the first.
 use Rattle.std.proofs.Common.{◌≡◌, length, refl, arith}
 use Rattle.tri_build.proofs.Ways.{begun_as, next_as, no_items, arrived}
 use Rattle.tri_build.proofs.way_back.way_back.Goals as goal

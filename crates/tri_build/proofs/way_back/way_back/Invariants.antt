@@ -1,4 +1,4 @@
--- The way back has come to the table behind the steps that are left.
+-- The inverse moves so far result in a relabelling of the table before the steps that are done.
 use Rattle.std.proofs.Common.{List, length}
 use Rattle.table_definitions.specs.Table.{Row}
 use Rattle.tri_build.specs.Steps.{AreSteps}

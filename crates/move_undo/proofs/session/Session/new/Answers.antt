@@ -1,4 +1,4 @@
--- Nothing is kept yet.
+-- There is no record yet.
 use Rattle.std.proofs.Common.{◌≡◌, List, length, ap, arith}
 use Rattle.move_definitions.specs.Moves.{Move}
 use Rattle.move_undo.proofs.RecordLaws.{recorded-begun, first-begun}

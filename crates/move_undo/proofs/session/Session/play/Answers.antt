@@ -1,4 +1,4 @@
--- A move that is accepted is kept, and one that is refused changes nothing.
+-- A move that is accepted is recorded, and one that is refused changes nothing.
 use Rattle.std.proofs.Common.{◌≡◌, ◌≤◌, ◌<◌, ◌+◌, length, refl, ap, arith, ◌∙◌, subst}
 use Rattle.std.specs.Prelude.{List, vec_capacity}
 use Rattle.std.proofs.lemmas.List.{length_push}

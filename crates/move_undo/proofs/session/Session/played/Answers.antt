@@ -1,4 +1,4 @@
--- No more moves are played than are kept.
+-- At most as many moves are played as the session has.
 use Rattle.std.proofs.Common.{◌≤◌, length, arith}
 use Rattle.move_undo.proofs.RecordLaws.{recorded-most}
 use Rattle.move_undo.proofs.session.Session.played.Goals as goal

@@ -1,4 +1,4 @@
--- A played move is one that is kept.
+-- A played move is one of the session's.
 use Rattle.std.proofs.Common.{◌≡◌, ◌≤◌, ◌<◌, length, ap, arith, subst, refl}
 use Rattle.std.specs.Prelude.{slice_get, Some}
 use Rattle.std.proofs.lemmas.Option.{slice_get_read}

@@ -1,4 +1,4 @@
--- The move can be played once more, and there is room for what is kept of it.
+-- The move can be played again, and there is room for its record.
 use Rattle.std.proofs.Common.{◌≡◌, ◌≤◌, ◌<◌, ◌+◌, length, ap, arith, refl, ◌∙◌, subst, sym}
 use Rattle.std.specs.Prelude.{List, [], ◌∷◌, ◌++◌}
 use Rattle.std.proofs.lemmas.List.{length_push}

@@ -1,4 +1,4 @@
--- The records lead to the table.
+-- The recorded moves result in the table.
 use Rattle.std.proofs.Common.{subst}
 use Rattle.move_definitions.specs.Sessions as sessions
 use Rattle.move_undo.proofs.RecordLaws.{recorded-table}

@@ -1,4 +1,4 @@
--- What was kept of the last move takes it back.
+-- The record of the last move undoes it.
 use Rattle.std.proofs.Common.{◌≡◌, ◌≤◌, ◌<◌, ◌+◌, ◌-◌, length, ap, arith, refl, ◌∙◌, subst, sym}
 use Rattle.std.specs.Prelude.{List}
 use Rattle.std.proofs.lemmas.List.{length_push}

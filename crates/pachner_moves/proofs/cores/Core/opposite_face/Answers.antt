@@ -1,4 +1,4 @@
--- The other bits are few enough, and some are left.
+-- The bit of a vertex is at most 8, so the mask of the other vertices is positive.
 use Rattle.std.proofs.Common.{arith}
 use Rattle.pachner_moves.proofs.MaskLaws.{bit_low}
 use Rattle.pachner_moves.proofs.cores.Core.opposite_face.Goals as goal

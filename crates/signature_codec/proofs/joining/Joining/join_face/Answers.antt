@@ -1,4 +1,4 @@
--- A face is joined by the next type, unless it is met.
+-- A face is joined by the next type, unless it was read.
 use Rattle.std.proofs.Common.{◌≡◌, ℕ, ◌+◌, ◌<◌, ◌≤◌, length, drop, false, refl, sym, ap, subst, ◌∙◌, arith}
 use Rattle.std.specs.Prelude.{Result, is_some, Some, None, slice_set, Ok}
 use Rattle.std.specs.Vec.{with_items}

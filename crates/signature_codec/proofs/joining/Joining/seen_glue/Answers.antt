@@ -1,4 +1,4 @@
--- What is read and taken.
+-- The next destination and gluing are used.
 use Rattle.std.proofs.Common.{◌≡◌, ◌<◌, ℕ, true, false, drop, sym, ap, subst, ◌∙◌}
 use Rattle.std.specs.Prelude.{is_some, ◌||◌}
 use Rattle.table_definitions.specs.Table.{same_face}

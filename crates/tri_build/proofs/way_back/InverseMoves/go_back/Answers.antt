@@ -1,4 +1,4 @@
--- The step is carried back by its move back.
+-- The inverse move of the step is played.
 use Rattle.std.proofs.Common.{ap}
 use Rattle.tri_build.specs.Standing.{Back}
 use Rattle.tri_build.proofs.Led.{led, pattern_back, not_refused, gone_back}
