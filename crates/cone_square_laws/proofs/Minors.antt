@@ -1,4 +1,5 @@
--- The product of columns has the minor of all rows as its number for them, so that the minor's square is at most the product of the columns' sums of squares.
+-- The coefficient of the product of columns for all rows is their minor, so the square of the minor is at most the
+-- product of the columns' sums of squares.
 use Rattle.std.proofs.Common.{◌≡◌, ℕ, zero, suc, ◌+◌, ◌-◌, ◌*◌, ◌≤◌, ◌<◌, List, [], ◌∷◌, map, inl, inr, ap, arith, sym, refl, subst, ◌∙◌, mul-le-mul}
 use Rattle.std.proofs.lemmas.Bool.{cases_lt}
 use Rattle.cone_definitions.specs.Rows.{Row}

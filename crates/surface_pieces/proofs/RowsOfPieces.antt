@@ -23,7 +23,7 @@ use Rattle.surface_pieces.specs.Readings.{read_across, read_at, IsReadRow, AreRe
 use Rattle.surface_pieces.specs.Slots.{slots_each, vertex_of_slot}
 use Rattle.surface_pieces.proofs.SlotsOfArcs.{HasSlot, slot_of_arc}
 
--- a number that is there stands at a place
+-- a number that is present is in a slot
 present_place : (row : List (Option ℕ)) (l : ℕ) → Among l (present row) → (s : ℕ) × (s < length row) × (slice_index_or row s None ≡ Some l)
 present_place [] l h = absurd h
 present_place (None ∷ row) l h = let p = present_place row l h in (suc p.0, (let k = p.1 in omega arith), p.2)
@@ -31,7 +31,7 @@ present_place (Some m ∷ row) l (inl e) = (0, omega arith, ap Some (sym e))
 present_place (Some m ∷ row) l (inr h) = let p = present_place row l h in (suc p.0, (let k = p.1 in omega arith), p.2)
 
 module _ (rows : List Row) (coords : Coords) (xs : List ℕ) (p : NormalDisc) where
-  -- what is said of one slot
+  -- what one slot contains
   abbrev pub IsSlot : ℕ → Option Across → Type 0
   IsSlot slot o = IfSome o (IsJoinedAt rows coords xs p (slot % 4) (vertex_of_slot coords p slot)) × IfNone o (HasNoMeeting rows coords xs p (slot % 4) (vertex_of_slot coords p slot))
 
