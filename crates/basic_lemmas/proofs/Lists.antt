@@ -5,7 +5,7 @@ use Rattle.std.proofs.lemmas.Bool.{cases_lt, cases_order}
 use Rattle.std.proofs.lemmas.List.{get_or_past}
 use Rattle.std.specs.List.{AllZip}
 
--- what is found passes the test
+-- an item that is found passes the test
 pub found_passes : {A : Type 0} (p : A → Bool) (xs : List A) (x : A) → find p xs ≡ Some x → p x ≡ true
 found_passes p [] x e = cc
 found_passes {A} p (y ∷ ys) x e = by_test (p y) refl e (λ f. found_passes p ys x f)

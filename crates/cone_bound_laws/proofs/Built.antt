@@ -47,7 +47,7 @@ module _ (columns : ℕ) where
   unfolding built
   entry-built ts i = entry_everywhere columns (at ts) (at_past ts) i
 
-  -- what a linear number gives for it
+  -- the value of a linear function at it
   unfoldable pub sum_of_units : (List ℕ → ℕ) → List (ℕ × ℕ) → ℕ
   sum_of_units f [] = 0
   sum_of_units f (t ∷ ts) = t.0 * f (unit columns t.1) + sum_of_units f ts

@@ -1,4 +1,4 @@
--- What the certificate says of lists of columns.
+-- What the certificate implies for lists of columns.
 use Rattle.std.proofs.Common.{◌≡◌, ℕ, ◌+◌, ◌*◌, ◌<◌, ◌≤◌, inl, inr, List, [], ◌∷◌, All, ℤ, slice_index, Bool, true, false, cond, sym, subst, arith, ap, refl, sum_by, mul-le-mul}
 use Rattle.std.specs.Prelude.{◌==◌}
 use Rattle.std.proofs.lemmas.Bool.{cases_eq, cases_Bool, eq-eqb, ne_eqb}

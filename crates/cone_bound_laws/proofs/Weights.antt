@@ -21,7 +21,7 @@ product rows (c ∷ xs) = factor rows c * product rows xs
 abbrev pub share : Row → Column → ℕ
 share row c = cond c.free 0 (c.plus row + c.minus row)
 
--- each column in turn replaced by its share
+-- the sum of the products in which one column's factor is replaced by its share
 unfoldable pub spread : Row → List Row → List Column → ℕ
 spread row rows [] = 0
 spread row rows (c ∷ xs) = share row c * product rows xs + factor rows c * spread row rows xs
@@ -91,7 +91,7 @@ free_plus row c = cond c.free (c.plus row) 0
 abbrev pub free_minus : Row → Column → ℕ
 free_minus row c = cond c.free (c.minus row) 0
 
--- ---- a cut where the free columns have nothing of the row
+-- ---- a cut by a row that is 0 in the free columns
 
 abbrev pub IsIdle : Row → List Column → Type 0
 IsIdle row xs = (total (free_plus row) xs ≡ 0) × (total (free_minus row) xs ≡ 0)

@@ -66,7 +66,7 @@ one_past e taken others one other some h g = ⊎_elim
     (λ more. let both = one_of_longer e others taken other one some g h more in (sym both.0, sym both.1))
     (cases_lt (length taken) (length others))
 
--- no row is left where all are taken
+-- no row is left if all are taken
 none_left : (e : Enumeration) (all taken : List ℕ) (list : List (List ℕ)) → e.order ≢ Free → IsListed e all list → AreNamed e.order e.system taken →
     length all < length taken → ⊥
 none_left e all taken list some r named less =

@@ -1,4 +1,4 @@
--- What the certificate says of lists of columns.
+-- What the certificate implies for lists of columns.
 use Rattle.std.proofs.Common.{◌≡◌, ℕ, ◌+◌, ◌*◌, ◌<◌, ◌≤◌, List, [], ◌∷◌, Bool, false, sym, arith, ap₂, refl, ◌∙◌, mul-le-mul}
 use Rattle.std.proofs.lemmas.List.Sums.{sum_by-cons}
 use Rattle.cone_definitions.specs.Rows.{Row}

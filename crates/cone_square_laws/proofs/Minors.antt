@@ -39,7 +39,7 @@ no_rows : (c : Vector Row) (x : Form []) → wedge Row c [] x ≡ leaf 0 0
 unfolding wedge
 no_rows c (leaf p m) = refl
 
--- the numbers for all rows
+-- the coefficients for all rows
 pub record HasMinors (rows : List Row) : Type 0 where
   pub up : (cs : List Column) → top Row (wedges Row rows (vectors cs)) ≡ (minor rows).up cs
   pub down : (cs : List Column) → top Row (turned Row (wedges Row rows (vectors cs))) ≡ (minor rows).down cs
@@ -69,7 +69,7 @@ has_minors (row ∷ rows) = let h = has_minors rows in record {
     second : (cs : List Column) → top Row (turned Row (wedges Row (row ∷ rows) (vectors cs))) ≡ top Row (turned Row (with_row Row row rows (vectors cs)))
     second cs = ap (λ x. top Row (turned Row x)) (row_more Row row rows (vectors cs))
 
--- a difference whose square is at most s is at most b, where s is less than the square of b + 1
+-- if s is less than the square of b + 1, a difference whose square is at most s is at most b
 pub root_within : (b s x y : ℕ) → s < (b + 1) * (b + 1) → x * x + y * y ≤ 2 * (x * y) + s → IsWithin b x y
 root_within b s x y less h = record { above = one_side b s x y less h; below = one_side b s y x less (omega arith) }
   where

@@ -75,7 +75,7 @@ rows_on rows xs t new more row h kept r is = subst (AreCrushedBefore rows xs (t 
           subst (λ v. IsCrushedRow rows xs v (slice_index_or (new ++ row ∷ []) (number_kept xs u) [])) is_t (subst (IsCrushedRow rows xs t) (sym found) r))
     ]
 
--- no row of a tetrahedron that is taken out
+-- a tetrahedron that is taken out has no row
 pub rows_same : (rows : List Row) (xs : List ℕ) (t : ℕ) (new : List Row) → AreCrushedBefore rows xs t new → is_removed xs t ≡ true → AreCrushedBefore rows xs (t + 1) new
 rows_same rows xs t new h gone = record {
   length_is = h.length_is ∙ sym (gone_same xs t gone);

@@ -150,7 +150,8 @@ past_limit rows limit size product whole attained is past = elim attained [
       (some.0, some.1, some.2, some.3, subst (λ s. limit < s * whole) (sym some.4) one)
 ]
 
--- the same conclusion if the product itself exceeds the limit, so that some row has a nonzero size
+-- the size of some row times the product exceeds the limit also if the product alone does, since some row has a nonzero
+-- size
 pub past_product : (rows : List Row) (limit size most whole : ℕ) → All (λ row. row_size row ≤ size) rows → (size ≡ 0) ⊎ Any (λ row. row_size row ≡ size) rows →
     (All (λ row. row_size row ≤ 0) rows → whole ≡ 1) → most ≤ whole → limit < most → 1 < most → Any (λ row. limit < row_size row * whole) rows
 past_product rows limit size most whole small attained alone large within two = elim (cases_lt 0 size) [

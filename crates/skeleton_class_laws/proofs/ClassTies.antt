@@ -1,4 +1,4 @@
--- Of each kind, what a table of neighbours joins is the same.
+-- For simplices of each dimension: the table of neighbours joins those, and only those, that the gluings identify.
 use Rattle.std.proofs.Common.{◌≡◌, ◌↔◌, ℕ, ◌*◌, ◌<◌, List, length, Option, Some}
 use Rattle.table_walk_laws.specs.Joined.{IsJoined, neighbours_of}
 use Rattle.table_definitions.specs.Table.{Row, IsTable}

@@ -1,4 +1,4 @@
--- A table of neighbours joins two items if and only if choices of neighbours lead from one to the other.
+-- A table of neighbours joins two items if and only if choices of neighbours reach one from the other.
 use Rattle.std.proofs.Common.{◌≡◌, ◌↔◌, ℕ, zero, suc, ◌+◌, ◌<◌, ◌≤◌, List, [], ◌∷◌, ◌++◌, length, Contains, Option, Some, None, refl, sym, ap, subst, ◌∙◌, arith, inl, inr, length-append}
 use Rattle.std.specs.Prelude.{option_and_then, slice_index}
 use Rattle.std.specs.List.{slice_index_or}
@@ -25,7 +25,7 @@ one_more_row n next table row a e = record {
   ];
 }
 
--- the entry of a row that gives a neighbour
+-- the entry of a row that contains a neighbour
 entry_of : (row : List (Option ℕ)) (y : ℕ) → Contains (present row) y → (f : ℕ) × (f < length row) × (slice_index_or row f None ≡ Some y)
 entry_of [] y c = absurd (let l : c.0 < 0 = c.1 in omega arith)
 entry_of (None ∷ row) y c = let e = entry_of row y c in let l : e.0 < length row = e.1 in let m : suc e.0 < length (None ∷ row) = omega arith in (suc e.0, m, e.2)

@@ -1,4 +1,4 @@
--- Where nothing is taken out, each tetrahedron keeps its number and each face its gluing.
+-- If no tetrahedron is taken out, each tetrahedron keeps its number and each face its gluing.
 use Rattle.std.proofs.Common.{◌≡◌, ℕ, zero, suc, ◌<◌, ◌≤◌, Bool, true, false, List, [], ◌∷◌, length, Option, Some, None, inl, inr, refl, sym, ap, ◌∙◌, arith, nat_lt, ◌⊎◌, option_map}
 use Rattle.std.specs.Prelude.{slice_index}
 use Rattle.std.specs.List.{list_any}
@@ -62,7 +62,7 @@ module _ (rows : List Row) (xs : List ℕ) (quads : HasNoQuads (length rows) xs)
     pub nothing_else : (new : List Row) → IsCrushed rows xs new → new ≡ rows
     nothing_else new c = crushed_once rows xs table new rows c stays_whole
 
--- and only where there are no quads is nothing taken out
+-- if no tetrahedron is taken out, there are no quads
 pub whole_without_quads : (rows : List Row) (xs : List ℕ) → IsCrushed rows xs rows → HasNoQuads (length rows) xs
 whole_without_quads rows xs c t k l m =
     let kept : stays xs t ≡ true = all_rank (stays xs) (length rows) (sym c.length_is) t l in

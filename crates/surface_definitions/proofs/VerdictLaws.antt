@@ -1,4 +1,4 @@
--- The verdict is a solution exactly at the admissible solutions of which no part passes the maximum.
+-- The verdict is `solution` exactly at the admissible solutions of which no part exceeds the maximum.
 use Rattle.std.proofs.Common.{◌≡◌, ℕ, zero, suc, ◌+◌, ◌<◌, ◌≤◌, Bool, true, false, cond, List, [], ◌∷◌, length, Option, Some, None, Err, ◌⊎◌, inl, inr, refl, ap, ◌∙◌, arith, ⊎_elim}
 use Rattle.std.specs.Prelude.{◌==◌, nat_lt, ◌||◌, if◌then◌else◌, All, find, slice_index}
 use Rattle.std.proofs.lemmas.Bool.{eqb-true, eq-eqb, ltb-false, le-ltb, or_parts, or_from, and_cases, and_left, and_right}

@@ -9,7 +9,7 @@ use Rattle.cone_definitions.proofs.Linear.{IsLinear, linear_zero}
 use Rattle.cone_definitions.proofs.Rays.{ray_inside}
 use Rattle.cone_definitions.proofs.Solutions.{Rest, rest_of, Rest-solution}
 
--- of m * F = c * Fv + Fr and m * G = c * Gv + Gr, where G is less than F and Fv at most Gv
+-- if m * F = c * Fv + Fr and m * G = c * Gv + Gr, G is less than F, and Fv is at most Gv, then Gr is less than Fr
 pub rest_less : (m c F Fv Fr G Gv Gr : ℕ) → 1 ≤ m → m * F ≡ c * Fv + 1 * Fr → m * G ≡ c * Gv + 1 * Gr → G < F → Fv ≤ Gv → Gr < Fr
 rest_less m c F Fv Fr G Gv Gr some e f less most =
     let l : G + 1 ≤ F = omega arith in

@@ -73,7 +73,7 @@ module _ (s : Skeleton) (k : IsSkeleton s) (coords : Coords) (xs : List ℕ) (w 
               (in_level (piece_at (tri_column coords u y) q) (record { column = in_width xs (tri_column coords u y) q l; number = l }) e).is))) ∙ sym (ap (λ b. cond b 1 0) (ne_eqb q j off))
         ]
 
-    -- so it is the link of the class
+    -- so the component is the link of the class
     pub level_is_link : component_vector xs components i ≡ link_of s coords c
     level_is_link = same_vectors (component_vector xs components i) (link_of s coords c) widths (λ col. elim (cases_lt col (columns coords n)) [
       | inl l ↦ by_column coords w.triangles n (λ col. slice_index (component_vector xs components i) col ≡ slice_index (link_of s coords c) col) at_triangle at_other col l

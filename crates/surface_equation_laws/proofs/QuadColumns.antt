@@ -46,7 +46,7 @@ module _ (N : List ℕ → ℕ) (m : ℕ → ℕ) (few : (w : List ℕ) (e : ℕ
   on_fourth (suc (suc zero)) l = omega (arith, few (0 ∷ 1 ∷ 2 ∷ 3 ∷ []) 0 refl refl, few (0 ∷ 2 ∷ 1 ∷ 3 ∷ []) 1 refl refl, few (1 ∷ 3 ∷ 0 ∷ 2 ∷ []) 4 refl refl, few (2 ∷ 3 ∷ 0 ∷ 1 ∷ []) 5 refl refl)
   on_fourth (suc (suc (suc q))) l = absurd (omega arith)
 
--- the edges that the quad of a column meets, each counted where it is of class r
+-- the number of edges of class r that the quad of a column meets
 abbrev pub met : List ℕ → ℕ → ℕ → ℕ
 met classes c r = sum_by (λ e. one_if (slice_index classes (6 * (c / 3) + e) == r)) (meeting (c % 3))
 

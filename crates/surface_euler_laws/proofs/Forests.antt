@@ -1,4 +1,4 @@
--- A forest grows by items with one end in it and one outside, and where none is left by a root in a new part.
+-- A forest grows by items with one end in it and one outside, and if there is none, by a root in a new component.
 use Rattle.std.proofs.Common.{◌≡◌, ◌≢◌, ℕ, zero, suc, ◌+◌, ◌<◌, ◌≤◌, Bool, true, false, List, [], ◌∷◌, length, map, Option, Some, None, ◌⊎◌, inl, inr, refl, sym, ap, ◌∙◌, subst, arith}
 use Rattle.std.specs.Prelude.{◌==◌, ⊤}
 use Rattle.std.proofs.lemmas.Bool.{cases_Bool, eq-eqb, or_left, or_right}
@@ -10,7 +10,7 @@ use Rattle.table_definitions.proofs.DistinctLists.{AreApart, apart_below, apart_
 use Rattle.table_definitions.proofs.Listed.{has_among, below-among, map-among}
 use Rattle.table_definitions.proofs.TableLaws.{Among, Among-below}
 
--- a forest is a list of steps, the last first: an item and the thing that it adds to those before, or a new root
+-- a forest is a list of steps, the last one first: an item and the node that it adds to those before, or a new root
 abbrev pub nodes : List (Option ℕ × ℕ) → List ℕ
 nodes [] = []
 nodes (s ∷ steps) = s.1 ∷ nodes steps
@@ -141,7 +141,8 @@ module _ (n e : ℕ) (from to part : ℕ → ℕ) (used : ℕ → Bool) where
         let l : length (below n) ≤ length ns = apart_short (below n) ns (apart_below n) (λ x a. has_among ns x (h x (below-among x n a))) in
         omega (arith, length-range_with_len 0 n)
 
-    -- a forest that is smaller has a step more: where no item leads out of it, what is outside is in a new part
+    -- a forest that does not contain all nodes has one more step: if no item leaves it, a node outside is in a new
+    -- component
     next : (steps : List (Option ℕ × ℕ)) → IsGrown steps → length steps < n → (s : Option ℕ × ℕ) × IsGrown (s ∷ steps)
     next steps g l = elim (all_or_one (λ y. has (nodes steps) y ≡ true) (λ y. has (nodes steps) y ≡ false) (λ y. cases_Bool (has (nodes steps) y)) n) [
       | inl all ↦ absurd (let m = all_in (nodes steps) all in let k = length-nodes steps in omega arith)

@@ -1,5 +1,5 @@
--- How often the surface meets an edge: the arcs of a face around one end of it, and those around the other. The number
--- is the same along the whole edge class.
+-- How often the surface meets an edge: the arcs of a face around one end of the edge, and those around the other. The
+-- number is the same along the whole edge class.
 use Rattle.std.proofs.Common.{◌≡◌, ◌≢◌, ℕ, zero, suc, ◌+◌, ◌/◌, ◌%◌, ◌<◌, true, false, List, [], ◌∷◌, length, map, Some, ◌⊎◌, inl, inr, refl, sym, ap, ◌∙◌, subst, arith}
 use Rattle.std.specs.Prelude.{slice_index}
 use Rattle.table_definitions.specs.Lists.{has}

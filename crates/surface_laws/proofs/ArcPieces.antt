@@ -19,7 +19,7 @@ use Rattle.surface_laws.proofs.ComponentCounts.{belongs, in_column, component_co
 use Rattle.surface_laws.proofs.Counting.{sum_by_same, below_sum, sum_back}
 use Rattle.table_definitions.proofs.Listed.{below-among}
 
--- a place in a nonempty column is in range
+-- a column that has a piece is in range
 pub in_width : (xs : List ℕ) (c k : ℕ) → k < slice_index xs c → c < length xs
 in_width xs c k l = elim (cases_lt c (length xs)) [
   | inl inside ↦ inside

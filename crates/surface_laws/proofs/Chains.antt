@@ -212,7 +212,7 @@ module _ (rows : List Row) (xs : List ℕ) (table : IsTable rows) where
   starts x None e = e
   starts x (Some g) e = (g, e, refl, table.permutes x g e, refl)
 
-  -- the chain of a kept face, over fewer tetrahedra than there are faces
+  -- the chain of a kept face, through fewer tetrahedra than there are faces
   pub record HasChain (x : Face) : Type 0 where
     pub count : ℕ
     pub few : count < 4 * length rows

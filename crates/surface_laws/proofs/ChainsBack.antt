@@ -143,7 +143,7 @@ unturned : (o : Option Gluing) → ((k : Gluing) → o ≡ Some k → IsPermutat
 unturned None h = refl
 unturned (Some k) h = ap (λ p. Some (gluing_to k.tet p)) (compose-identity k.perm (h k refl))
 
--- where a chain ends at a kept face
+-- a chain that ends at a kept face, and the chain back from there
 pub record IsReadBack (rows : List Row) (xs : List ℕ) (x : Face) (e : Gluing) : Type 0 where
   pub permutes : IsPermutationOfFour e.perm
   pub kept_there : IsKeptFace rows xs (other_side x e)

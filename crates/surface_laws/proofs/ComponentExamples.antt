@@ -53,7 +53,7 @@ two_answer = (
   },
 )
 
--- all signs the same, and those of the triangles alone
+-- all signs true, and those of the triangles alone
 all_true : ℕ → Bool
 all_true i = true
 

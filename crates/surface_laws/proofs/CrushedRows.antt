@@ -21,7 +21,7 @@ abbrev pub stays : List ℕ → ℕ → Bool
 stays xs t = not (is_removed xs t)
 
 module _ (rows : List Row) (xs : List ℕ) (table : IsTable rows) where
-  -- a face of the crushed table, by the kept face that it was
+  -- a face of the crushed table, and the kept face of which it is the image
   record ComesFrom (t f : ℕ) : Type 0 where
     was : ℕ
     kept : IsKeptFace rows xs (face_at was f)
@@ -40,7 +40,7 @@ module _ (rows : List Row) (xs : List ℕ) (table : IsTable rows) where
   glue_from new h t f c =
       ap (λ u. glue new (face_at u f)) (sym c.number) ∙ h.glued (face_at c.was f) c.end (c.kept).in_range (c.kept).face (c.kept).kept c.chain
 
-  -- so two lists of crushed rows agree everywhere
+  -- so two crushed tables have the same rows
   same_rows : (a b : List Row) → IsCrushed rows xs a → IsCrushed rows xs b → (t : ℕ) → t < length a → slice_index_or a t [] ≡ slice_index_or b t []
   same_rows a b f g t l =
       let lb : t < length b = omega (arith, f.length_is, g.length_is) in

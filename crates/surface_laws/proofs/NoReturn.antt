@@ -1,4 +1,4 @@
--- No chain leads from a face back to it: read from both ends, it would meet itself in one gluing or in one tetrahedron.
+-- No chain returns to its first face: read from both ends, it would meet itself in one gluing or in one tetrahedron.
 use Rattle.std.proofs.Common.{◌≡◌, ℕ, zero, suc, ◌<◌, true, List, Option, Some, None, refl, sym, ap, ◌∙◌, subst}
 use Rattle.std.specs.Prelude.{◌==◌}
 use Rattle.std.proofs.lemmas.Bool.{and_from, eq-eqb}

@@ -51,7 +51,7 @@ meets_by rows coords xs a g t e =
       glued = e;
     }
 
--- whether an arc is one of p, and what passes for the piece across the gluing
+-- whether an arc is one of piece p, and the piece across its gluing passes the test `rest`
 abbrev pub step_passes : List Row → Coords → List ℕ → NormalDisc → Arc → Option Gluing → (NormalDisc → Bool) → Bool
 step_passes rows coords xs p a None rest = false
 step_passes rows coords xs p a (Some g) rest = is_there rows coords xs a && (same_piece (disc_of coords xs a) p && rest (disc_of coords xs (arc_across g a)))

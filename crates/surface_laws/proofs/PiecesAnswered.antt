@@ -1,4 +1,4 @@
--- Something is answered of the pieces of each surface.
+-- The pieces of each surface have an answer.
 use Rattle.std.proofs.Common.{ℕ, ◌<◌, ◌↔◌, Bool, true, false, List, [], ◌∷◌, ◌⊎◌, inl, inr, Result, Ok, Err, IsTrue, refl}
 use Rattle.std.specs.Prelude.{sum}
 use Rattle.std.specs.List.{AllZip}

@@ -62,7 +62,7 @@ module _ (rows : List Row) (coords : Coords) (ys : List ℕ) (table : IsTable ro
           (λ v cv. let r : IsInRange y v = in_range y v cy cv in
           zero_row (matching coords y.0 y.1 v) ys (columns coords (length rows)) r.left r.right (h y v (contains_among y (glued_pairs rows) cy) (contains_among v (others (y.0).face) cv))))
 
-  -- and at a solution each equation holds, read from either side
+  -- at a solution each equation holds, read from either side
   pub solved : IsSolution (columns coords (length rows)) (matching_rows coords rows) ys → (x : Face) (g : Gluing) (v : ℕ) → glue rows x ≡ Some g → v < 4 → (v ≡ x.face → ⊥) → Holds (matching coords x g v) ys
   unfolding matching_equations
   solved s x g v e lv off = matched rows coords ys table (λ t w. ⊤) (λ x g v e lv off c. tt) at_pairs x g v e lv off tt

@@ -1,4 +1,4 @@
--- Heights are spread from one vertex of a class along chains; where any heights exist these are heights too, so that a
+-- Numbers are spread from one vertex of a class along chains; if any heights exist, these numbers are heights, so a
 -- lift exists or does not.
 use Rattle.std.proofs.Common.{◌≡◌, ℕ, zero, suc, ◌+◌, ◌*◌, ◌/◌, ◌%◌, ◌-◌, ◌<◌, ◌≤◌, List, [], ◌∷◌, length, get_or, Option, Some, None, ◌⊎◌, inl, inr, Result, Ok, Err, refl, sym, ap, ◌∙◌, subst, arith}
 use Rattle.std.specs.Prelude.{slice_index, sum_by, sum, option_and_then}
@@ -144,7 +144,7 @@ module _ (s : Skeleton) (k : IsSkeleton s) (xs : List ℕ) (width : length xs �
     unfolding height
     height_forced h a j lj cj = spread_from (height j) (spread j).0 (spread j).1 all_down (h start) (h j) (down_within j lj) refl (spread_forced h a j lj cj)
 
-    -- so these are heights where any are
+    -- so these numbers are heights if there are any heights
     heights_if_any : (h : ℕ → ℕ) → AreHeights s xs c h → AreHeights s xs c height
     heights_if_any h a x g v e lv off ch =
         let i : IsGlued s.rows x g = glued_is s.rows x g k.table e in

@@ -70,7 +70,7 @@ module _ (s : Skeleton) (k : IsSkeleton s) (c : ℕ) (directions : List ℕ) (co
     first_joined : IsJoined s.rows (pair t a b) (directed (vertex_of t a b))
     first_joined = subst (λ p. IsJoined s.rows p (directed (vertex_of t a b))) (pair_is t a b la lb ne) first.same
 
-    -- it is counted where the tail is of the class
+    -- it is counted if its first vertex is of the class
     first_counted : is_vertex (vertex_of t a b) ≡ at_vertex t a
     unfolding is_vertex
     first_counted =
@@ -153,7 +153,7 @@ module _ (s : Skeleton) (k : IsSkeleton s) (c : ℕ) (directions : List ℕ) (co
     other_below : other < 12 * n
     other_below = (first t b a lt lb la back).below
 
-    -- a directed edge counts for the class where it is one of its edge
+    -- a directed edge counts for the class of its edge
     term : ℕ → ℕ
     term i = one_if (edge_class i == e) * is_vertex i
 

@@ -32,7 +32,7 @@ beyond s k = triangle_of (mate s.rows k)
 abbrev pub quads : List ℕ → Corner → ℕ
 quads xs k = slice_index xs (quad_column Quad k.tet (keeping k.a k.c))
 
--- heights fit at a side
+-- the equation of the heights holds at the side of a flag
 abbrev pub IsLevel : Skeleton → List ℕ → (ℕ → ℕ) → Corner → Type 0
 IsLevel s xs h k = h (triangle_of k) + quads xs k ≡ h (beyond s k) + quads xs (mate s.rows k)
 
@@ -56,7 +56,7 @@ module _ (s : Skeleton) (c : ℕ) (z : IsVertexClass s c) where
     | inr e ↦ ap triangle_of (sym (mate-turn s.rows (flag_of k.tet k.a k.c))) ∙ ap (beyond s) (sym e)
   ]
 
-  -- what is carried over each side is so of all triangles of the class
+  -- what is preserved across each side holds of all triangles of the class, if it holds of one
   module _ (P : ℕ → Type 0) (carried_over : (k : Corner) → IsFlag s c z k → P (triangle_of k) → P (beyond s k)) where
     record IsSo (p : Place) : Type 0 where
       v : ℕ

@@ -59,7 +59,7 @@ module _ (s : Skeleton) (c : ℕ) (z : IsVertexClass s c) where
   four_flags k m h g (inl e) = inl (same_side k m h g e)
   four_flags k m h g (inr e) = inr (same_side k (mate s.rows m) h (mate_in s c z m g) e)
 
-  -- heights fit at an edge, whatever the flag
+  -- the equation of the heights at an edge holds at each of its flags, or at none
   level_turn : (xs : List ℕ) (h : ℕ → ℕ) (m : Corner) → IsLevel s xs h m → IsLevel s xs h (turn m)
   level_turn xs h m e = e ∙ ap (λ (l : Corner). h (triangle_of l) + quads xs l) (sym (mate-turn s.rows m))
 

@@ -20,7 +20,7 @@ module _ (n : ℕ) (Same : ℕ → ℕ → Type 0) where
       let inside : slice_index one i.0 < k = a.in_range i.0 i.1 in
       omega (arith, same, i.2)
 
-  -- two numberings of the same classes have as many
+  -- two numberings of the same classes have equally many
   pub counts_agree : (one other : List ℕ) (k m : ℕ) → IsNumbering n Same one k → IsNumbering n Same other m → k ≡ m
   counts_agree one other k m a b = elim (cases_order k m) [
     | inl e ↦ e
@@ -28,7 +28,7 @@ module _ (n : ℕ) (Same : ℕ → ℕ → Type 0) where
     | inr (inr more) ↦ absurd (no_more other one m k b a more)
   ]
 
-  -- and are the same
+  -- two numberings of the same classes are equal
   pub numberings_same : (one other : List ℕ) (k m : ℕ) → IsNumbering n Same one k → IsNumbering n Same other m → one ≡ other
   numberings_same one other k m a b =
       ext_get_or 0 one other (a.one_each ∙ sym b.one_each) (λ i l. let h : i < n = omega (arith, a.one_each) in numberings_agree n Same one other k m a b i h)

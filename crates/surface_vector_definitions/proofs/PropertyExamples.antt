@@ -29,7 +29,7 @@ on_sphere : (of_sphere (1 ∷ 1 ∷ 0 ∷ 0 ∷ 1 ∷ 0 ∷ 0 ∷ []) ≡ Ok (re
 unfolding computed of_sphere
 on_sphere = (refl, refl, refl)
 
--- one tetrahedron that is glued nowhere: the zero vector, a triangle, and a limit of which only a later sum passes
+-- one tetrahedron without gluings: the zero vector, a triangle, and a limit that only a later sum exceeds
 of_one : ℕ → List ℕ → Result Properties PropertyFault
 of_one max xs = answer max (skeleton_of (row free free free free ∷ [])) Standard xs
 

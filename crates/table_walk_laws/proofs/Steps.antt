@@ -1,4 +1,4 @@
--- After how many steps a walk is where.
+-- The number that a walk reaches after a number of steps.
 use Rattle.std.proofs.Common.{◌≡◌, ℕ, zero, suc, ◌+◌, ◌-◌, ◌<◌, inl, inr, Option, Some, None, refl, sym, ap, ◌∙◌, arith}
 use Rattle.std.specs.Prelude.{option_and_then}
 use Rattle.std.proofs.lemmas.Bool.{cases_order}
@@ -47,7 +47,7 @@ module _ (step : ℕ → Option ℕ) where
     after_below start (suc k) x l e = let b = after_before start k x e in
         h.within b.0 x (after_below start k b.0 l b.1) b.2
 
-    -- where the walks from two sources meet, they have been the same
+    -- if the walks from two sources meet, the sources are equal, and so are the numbers of steps
     pub meet : (a b i j x : ℕ) → IsSource n step a → IsSource n step b → after step a i ≡ Some x → after step b j ≡ Some x → (a ≡ b) × (i ≡ j)
     meet a b zero zero x p q e f = let s : a ≡ b = cc in (s, refl)
     meet a b zero (suc j) x p q e f = let c = after_before b j x f in
