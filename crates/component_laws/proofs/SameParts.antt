@@ -100,7 +100,7 @@ module _ (first second : List Row) (by : Relabelling) (tf : IsTable first) (ts :
       s : StandsAt h.parts t
       s = stands_at first tf h.parts h.in_order.are_parts t l
 
-  -- ---- and back
+  -- ---- the inverse
 
   back_place : (b : ℕ) → (b < count) ⊎ (count ≤ b) → ℕ
   back_place b (inl l) = (order_holds count h.other_order other_permutes b l).0

@@ -17,7 +17,7 @@ use Rattle.cone_square_laws.proofs.Minors.{vector, vectors}
 abbrev pub none_free : ℕ → Bool
 none_free = λ _. false
 
--- the column with the squares of what it has
+-- the column with the squares of its entries
 unfoldable pub squared : Column → Column
 squared c = record { plus = λ row. (c.plus row + c.minus row) * (c.plus row + c.minus row); minus = λ row. 0; free = false }
 

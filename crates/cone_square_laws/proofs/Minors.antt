@@ -9,7 +9,7 @@ use Rattle.cone_square_laws.proofs.Algebra.{Form, leaf, Vector, turned, wedge, w
 use Rattle.cone_square_laws.proofs.Products.{unit, wedges, top, squares_product, hadamard}
 use Rattle.cone_square_laws.proofs.Linear.{IsLinear, linear_next, linear_mixed, linear_top, linear_turned, with_row, row_more}
 
--- a column's numbers in the rows
+-- a column's entries in the rows
 abbrev pub vector : Column → Vector Row
 vector c = record { plus = c.plus; minus = c.minus }
 
@@ -17,7 +17,7 @@ abbrev pub vectors : List Column → List (Vector Row)
 vectors cs = map vector cs
 
 module _ (row : Row) (rows : List Row) where
-  -- a linear number of the choices with the row is its cut by the row
+  -- a linear function of the choices with the row is its cut by the row
   linear_cut : (n : Form rows → ℕ) → IsLinear rows n → (f g : List Column → ℕ) → ((cs : List Column) → n (wedges Row rows (vectors cs)) ≡ f cs) →
       ((cs : List Column) → n (turned Row (wedges Row rows (vectors cs))) ≡ g cs) → (cs : List Column) → n (with_row Row row rows (vectors cs)) ≡ cut row f g cs
   unfolding with_row cut wedges

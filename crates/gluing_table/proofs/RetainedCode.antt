@@ -14,7 +14,7 @@ use Rattle.table_definitions.proofs.Retained.{IsKeptAs, kept_at, kept_by, as_man
 use Rattle.table_definitions.proofs.Faces.{face_at}
 use Rattle.gluing_table.proofs.FirstBack.{back_by_rows}
 
--- no fewer pass below a greater number
+-- below a greater number at least as many pass
 rank-le : (p : ℕ → Bool) (n m : ℕ) → n ≤ m → rank p n ≤ rank p m
 rank-le p n zero l = let e : n ≡ 0 = omega arith in let f : rank p n ≡ rank p 0 = ap (rank p) e in omega arith
 rank-le p n (suc m) l = by_size (cases_lt m n) (rank-le p n m)
@@ -70,7 +70,7 @@ glued_on rows r y o g new e stays is same =
     let mk : ℕ → List ℕ → Option Gluing = λ t p. Some (record { tet = t; perm = p }) in
     ap (λ t. mk t new.perm) is ∙ ap (λ p. mk (number_of_kept rows r g.tet) p) same ∙ sym k ∙ ap (kept_gluing rows r y) e
 
--- the new number of a retained row, from the results of the calls, is below 2^32
+-- the numbers and gluings of retained rows, from the results of the calls
 
 pub closed_fits : (rows : List Row) (r : Replacement) → IsTable rows → CanReplace rows r → (x : Face) (g : Gluing) (tet closed : ℕ) → Some g ≡ glue rows x → tet ≡ g.tet → closed ≡ rank_without r.removed tet
     → closed + length r.fresh < 2 ^ 32

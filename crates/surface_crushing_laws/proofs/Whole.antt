@@ -26,7 +26,7 @@ each_of_three p h =
     let third = or_parts (p 2) (list_any p []) second.1 in
     below_suc (λ k. p k ≡ false) 2 (below_suc (λ k. p k ≡ false) 1 (below_suc (λ k. p k ≡ false) 0 (λ j l. absurd (omega arith)) first.0) second.0) third.0
 
--- all numbers pass if and only if as many pass
+-- all numbers below n pass a test if and only if n of them do
 all_rank : (p : ℕ → Bool) (n : ℕ) → rank p n ≡ n → (t : ℕ) → t < n → p t ≡ true
 all_rank p zero e t l = absurd (omega arith)
 all_rank p (suc n) e t l = by_last (true_or_false (p n)) (all_rank p n) t l
@@ -43,7 +43,7 @@ module _ (rows : List Row) (xs : List ℕ) (quads : HasNoQuads (length rows) xs)
   same_number t l = rank_all (stays xs) t (λ u m. not_from_false (is_removed xs u) (none_removed u (omega arith)))
 
   module _ (table : IsTable rows) where
-    -- what a face is glued by is what its chain ends at, and keeps its number
+    -- the end of the chain of a face is the face's gluing, and its tetrahedron keeps its number
     same_gluing : (x : Face) (n : ℕ) (o end : Option Gluing) → glue rows x ≡ o → ChainEnds rows xs x n o end → o ≡ option_map (renumbered xs) end
     same_gluing x zero None end e h = sym (ap (option_map (renumbered xs)) h)
     same_gluing x zero (Some g) end e h =

@@ -1,4 +1,4 @@
--- The component of a level is the link of its class.
+-- The component of the triangles with a given index is the link of their class.
 use Rattle.std.proofs.Common.{◌≡◌, ℕ, ◌%◌, ◌<◌, ◌≤◌, cond, ap₂, List, length, inl, inr, refl, sym, ap, ◌∙◌, subst₂, arith}
 use Rattle.std.specs.Prelude.{◌==◌, slice_index}
 use Rattle.std.proofs.lemmas.Bool.{cases_lt, cases_eq, eq-eqb, ne_eqb}
@@ -36,7 +36,7 @@ module _ (s : Skeleton) (k : IsSkeleton s) (coords : Coords) (xs : List ℕ) (w 
     found : (p : NormalDisc) → IsPieceOf xs p → IsFound xs p
     found p h = piece_found xs p h
 
-    -- each triangle of the level is in it, and nothing else
+    -- the component has each triangle with the index of the level, and no other piece
     level_in : (u y : ℕ) → IsOfClass s c u y → of_piece (level u y) ≡ i
     level_in u y m =
         let a : IsFound xs (level t v) = found (level t v) (level_there s k coords xs w c j deep t v here) in

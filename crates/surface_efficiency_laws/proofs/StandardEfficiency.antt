@@ -57,7 +57,7 @@ module _ (s : Skeleton) (k : IsSkeleton s) where
         | inr high ↦ others-link n s.vertices.classes c Octagon (10 * t + j) tt (omega arith) (omega arith) ∙ sym (others-link n s.vertices.classes c Standard (7 * t + j) tt (omega arith) (omega arith))
       ]
 
-  -- the standard vector is determined
+  -- the standard vector is unique
   one_standard : (ys zs xs : List ℕ) → AreSame n ys xs → AreSame n zs xs → ys ≡ zs
   one_standard ys zs xs same other = ext_get_or 0 ys zs (same.standard ∙ sym other.standard) (λ i l. let li : i < 7 * n = omega (arith, same.standard) in
       at_standard n ys xs same i li ∙ sym (at_standard n zs xs other i li))

@@ -32,7 +32,7 @@ use Rattle.surface_equation_laws.proofs.QuadColumns.{quad_columns_are_few}
 use Rattle.basic_lemmas.proofs.Truths.{one_if}
 use Rattle.skeleton_class_laws.specs.Rounds.{corner_word}
 
--- positive and negative parts with what they are differences of
+-- the positive and negative parts of a difference a - b
 balanced : (z : ℤ) (a b : ℕ) → z ≡ pos a -ℤ pos b → positive_coefficient z + b ≡ negative_coefficient z + a
 balanced (pos k) a b e = omega (arith, ints)
 balanced (negsuc k) a b e = omega (arith, ints)
@@ -88,7 +88,7 @@ module _ (rows : List Row) (quad_rows : List EquationRow) (table : IsTable rows)
       let e = m.2 in
       omega arith
 
-  -- the equation of which a row is
+  -- the equation that a row represents
   record IsEquationRow (row : EquationRow) : Type 0 where
     equation : Equation
     low_left : (l : ℕ) → Among l equation.left → l < columns Quad (length rows)

@@ -54,7 +54,7 @@ module _ (n e : ℕ) (from to part : ℕ → ℕ) (used : ℕ → Bool) where
     pub new : has ns y ≡ false
     pub ends : ((from a ≡ y) × (has ns (to a) ≡ true)) ⊎ ((to a ≡ y) × (has ns (from a) ≡ true))
 
-  -- a new root y, in a part that has none
+  -- a new root y, in a component that has none
   pub record IsRoot (steps : List (Option ℕ × ℕ)) (y : ℕ) : Type 0 where
     pub inside : y < n
     pub alone : (x : ℕ) → Among x (roots steps) → part x ≢ part y
@@ -64,7 +64,7 @@ module _ (n e : ℕ) (from to part : ℕ → ℕ) (used : ℕ → Bool) where
   IsGrown ((None, y) ∷ steps) = IsRoot steps y × IsGrown steps
   IsGrown ((Some a, y) ∷ steps) = IsStep (nodes steps) a y × IsGrown steps
 
-  -- both ends of its items are in it
+  -- both ends of the forest's items are in the forest
   ends_in : (steps : List (Option ℕ × ℕ)) → IsGrown steps → (a : ℕ) → Among a (items steps) → (has (nodes steps) (from a) ≡ true) × (has (nodes steps) (to a) ≡ true)
   ends_in [] g a h = absurd h
   ends_in ((None, y) ∷ steps) g a h =
@@ -82,7 +82,7 @@ module _ (n e : ℕ) (from to part : ℕ → ℕ) (used : ℕ → Bool) where
       by_end (inl h) = (new_in (from b) h.0, has_more y (to b) (nodes steps) h.1)
       by_end (inr h) = (has_more y (from b) (nodes steps) h.1, new_in (to b) h.0)
 
-  -- an item with an end outside is none of its items
+  -- an item with an end outside is not in the forest
   pub off_items : (steps : List (Option ℕ × ℕ)) → IsGrown steps → (a y : ℕ) → (from a ≡ y) ⊎ (to a ≡ y) → has (nodes steps) y ≡ false → Among a (items steps) → ⊥
   off_items steps g a y end new h = by_end end
     where
@@ -115,7 +115,7 @@ module _ (n e : ℕ) (from to part : ℕ → ℕ) (used : ℕ → Bool) where
   parts_apart ((None, y) ∷ steps) g = ((λ h. let m = map-among part (part y) (roots steps) h in (g.0).alone m.0 m.1 (sym m.2)), parts_apart steps g.1)
   parts_apart ((Some a, y) ∷ steps) g = parts_apart steps g.1
 
-  -- the items that may be used join what is in one part
+  -- the items that may be used join the nodes of each component
   abbrev pub JoinParts : Type 0
   JoinParts = (h : ℕ → Bool) → ((a : ℕ) → a < e → used a ≡ true → h (from a) ≡ h (to a)) → (x y : ℕ) → x < n → y < n → part x ≡ part y → h x ≡ h y
 

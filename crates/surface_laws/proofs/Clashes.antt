@@ -1,4 +1,4 @@
--- Of any two columns that clash one is 0 in an admissible vector, and that is all.
+-- A vector is admissible if and only if one of any two clashing columns is 0 in it.
 use Rattle.std.proofs.Common.{◌≡◌, ◌≢◌, ℕ, ◌/◌, ◌%◌, ◌<◌, ◌≤◌, true, List, ◌⊎◌, inl, inr, slice_index, sym, arith}
 use Rattle.std.specs.Prelude.{◌==◌, ◌&&◌, nat_lt}
 use Rattle.std.proofs.lemmas.Bool.{cases_lt, ltb-true, lt-ltb, eq-eqb, le-leb, and_parts, and_from, or_right, eqb-true, leb-true, or_cases, or_left}

@@ -1,4 +1,4 @@
--- Sums over ranges, over made lists and over pairs.
+-- Sums over ranges, over images of lists, and over pairs.
 use Rattle.std.proofs.Common.{◌≡◌, ℕ, zero, suc, ◌+◌, ◌-◌, ◌<◌, ◌≤◌, List, [], ◌∷◌, ◌++◌, length, get_or, map, flat_map, inl, inr, refl, sym, ap, ◌∙◌, arith}
 use Rattle.std.specs.Prelude.{sum_by}
 use Rattle.std.specs.List.{range_with_len}
@@ -70,8 +70,7 @@ range_places G f d (p ∷ ps) a h =
 pub over_places : {A : Type 0} (G : A → ℕ) (f : ℕ → ℕ) (d : A) (ps : List A) → ((i : ℕ) → i < length ps → f i ≡ G (get_or ps i d)) → sum_by f (below (length ps)) ≡ sum_by G ps
 over_places G f d ps h = range_places G f d ps 0 (λ i l. let e : 0 + i ≡ i = omega arith in ap f e ∙ h i l)
 
--- a sum over the numbers below m + n
--- the last term of a sum over numbers, and what each term is at most
+-- the last term of a sum over numbers; each term is at most the sum; a sum over the numbers below m + n
 pub last_term : (f : ℕ → ℕ) (n : ℕ) → sum_by f (below (suc n)) ≡ sum_by f (below n) + f n
 last_term f n =
     let e : sum_by f (below n ++ n ∷ []) ≡ sum_by f (below n) + sum_by f (n ∷ []) = sum_by-append f (below n) (n ∷ []) in

@@ -16,7 +16,7 @@ use Rattle.surface_laws.proofs.ComponentsFound.{components_found}
 use Rattle.surface_laws.proofs.Signs.{signs_decided}
 use Rattle.surface_laws.proofs.SignedSteps.{sides_back, stays_oriented, orientation_back}
 
--- the truth value of what is decided
+-- the truth value of a proposition that is decided
 record IsToldBy (P : Type 0) : Type 0 where
   truth : Bool
   is : IsTrue truth ↔ P

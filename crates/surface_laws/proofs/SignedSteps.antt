@@ -108,7 +108,8 @@ module _ (rows : List Row) (coords : Coords) (xs : List ℕ) (s : IsSurface rows
           let step : Contains (signed p) q = of_step p q (record { arc = a; gluing = g; meets = m; one = sym r.0; other = ap (λ i. 2 * piece (arc_across g a) + turned_if (stays a g) i) r.1 }) in
           (numbered.together p q lp lq).1 (q ∷ [], (step, refl))
 
-      -- along a chain of arcs the class of a piece with a sign is that of the last piece with some sign
+      -- along a chain of arcs, the class of the first piece with a sign is that of the last piece with one of the two
+      -- signs
       class_along : (arcs : List Arc) (p q : NormalDisc) (k : ℕ) → k < 2 → ArcsLead rows coords xs p arcs q
           → (class_of (2 * disc_number xs p + k) ≡ class_of (2 * disc_number xs q + 0)) ⊎ (class_of (2 * disc_number xs p + k) ≡ class_of (2 * disc_number xs q + 1))
       class_along [] p q zero l e = inl (ap (λ (u : NormalDisc). class_of (2 * disc_number xs u + 0)) e)
@@ -120,7 +121,7 @@ module _ (rows : List Row) (coords : Coords) (xs : List ℕ) (s : IsSurface rows
           elim (class_along arcs next q (turned_if (stays a g) k) (turned_low (stays a g) k l) h) [ inl f ↦ inl (here ∙ f) | inr f ↦ inr (here ∙ f) ]
 
       module _ (components : List ℕ) (count : ℕ) (are : AreComponents rows coords xs components count) (i : ℕ) where
-        -- signs that there are make each piece free
+        -- if there are signs, no piece is joined to itself with the other sign
         abbrev value : (ℕ → Bool) → ℕ → Bool
         value sign k = says (k % 2) (sign (k / 2))
 

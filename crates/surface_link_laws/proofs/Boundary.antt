@@ -24,7 +24,7 @@ use Rattle.surface_quad_laws.specs.LinkLaws.{vertex_link}
 use Rattle.surface_quad_laws.proofs.VertexLinks.{member}
 use Rattle.surface_link_laws.proofs.Triangles.{arcs_in-link}
 
--- of a positive sum one term is positive, and a term makes it so
+-- a sum is positive if and only if one of its terms is
 positive_term : (f : ℕ → ℕ) (xs : List ℕ) → 0 < sum_by f xs → (x : ℕ) × Among x xs × (0 < f x)
 positive_term f [] l = absurd (omega arith)
 positive_term f (x ∷ xs) l = elim (cases_lt 0 (f x)) [

@@ -78,7 +78,7 @@ module _ (s : Skeleton) (k : IsSkeleton s) (c : ℕ) (directions : List ℕ) (co
         let same : least directions (slice_index directions (vertex_of t a b)) ≡ vertex_of t a b = ap (least directions) first.same_class in
         (λ j. one_if (eq-eqb (least directions (slice_index directions i)) i same j && (one_tail i t a b la first_joined j == c)))
 
-    -- a least directed edge that is joined to it is it
+    -- a directed edge that is joined to it, and is the least of its class, is this vertex
     told : (i : ℕ) → i < 12 * n → is_least directions i ≡ true → IsJoined s.rows (directed i) (pair t a b) → i ≡ vertex_of t a b
     told i l e j =
         let d : ℕ = direction_number t a b in
@@ -140,7 +140,7 @@ module _ (s : Skeleton) (k : IsSkeleton s) (c : ℕ) (directions : List ℕ) (co
     back : b ≢ a
     back q = ne (sym q)
 
-    -- its two vertices of the link
+    -- the two vertices of the link on the edge
     abbrev one : ℕ
     one = vertex_of t a b
 

@@ -1,4 +1,4 @@
--- Rows of what pieces are joined to, and those of numbers that are read off from them.
+-- For each piece, a row of what it is joined to, and the rows of numbers that are read from these.
 use Rattle.std.proofs.Common.{◌≡◌, ℕ, suc, ◌+◌, ◌*◌, ◌%◌, ◌<◌, ◌≤◌, inl, inr, List, [], ◌∷◌, length, Option, Some, None, IfSome, IfNone, set, ◌++◌, refl, sym, ap, ◌∙◌, subst, arith}
 use Rattle.std.specs.List.{slice_index_or}
 use Rattle.std.proofs.lemmas.Bool.{cases_eq}
@@ -103,7 +103,7 @@ pub numbers_low : (kind : SearchKind) (n : ℕ) → numbers kind n ≤ 2 * n
 numbers_low Pieces n = omega arith
 numbers_low (Signed signs) n = omega arith
 
--- the rows that are read off list what the pieces are joined to
+-- the rows that are read list what the pieces are joined to
 pub rows_read : (rows : List Row) (coords : Coords) (xs : List ℕ) → IsSurface rows coords xs → (kind : SearchKind) (joined : List (List (Option Across))) (listed : List (List (Option ℕ)))
     → AreJoined rows coords xs joined → AreReadRows kind joined listed → AreRows kind rows coords xs listed
 rows_read rows coords xs s kind joined listed j r = record {

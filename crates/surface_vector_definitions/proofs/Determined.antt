@@ -1,4 +1,4 @@
--- The components of a vector are determined.
+-- The components of a vector are unique.
 use Rattle.std.proofs.Common.{◌≡◌, ℕ, ◌<◌, ◌↔◌, Bool, true, false, List, [], ◌∷◌, length, inl, inr, Result, Ok, Err, IsTrue, refl, sym, ap, ◌∙◌, subst, arith, ext_get_or}
 use Rattle.std.specs.Prelude.{slice_index}
 use Rattle.std.specs.List.{AllZip}
@@ -33,7 +33,7 @@ module _ (n : ℕ) (Same : ℕ → ℕ → Type 0) where
   numberings_same one other k m a b =
       ext_get_or 0 one other (a.one_each ∙ sym b.one_each) (λ i l. let h : i < n = omega (arith, a.one_each) in numberings_agree n Same one other k m a b i h)
 
--- a truth value that is true if and only if P holds is determined
+-- a truth value that is true if and only if P holds is unique
 one_truth : (a b : Bool) (P : Type 0) → IsTrue a ↔ P → IsTrue b ↔ P → a ≡ b
 one_truth true true P f g = refl
 one_truth true false P f g = absurd (false≢true (g.1 (f.0 refl)))

@@ -206,7 +206,7 @@ module _ (neighbours : ℕ → List ℕ) where
   new_start_is_apart marked turn closed start x new p = false_from_ne_true (slice_index_or marked x false)
       (λ m. false≢true (sym new ∙ closed_holds_joined x marked m closed start ((joins_like_equals neighbours).back turn start x p)))
 
--- one number less is unmarked
+-- after a mark, one number fewer is unmarked
 unmarked_set : (marked : List Bool) (y : ℕ) → y < length marked → slice_index_or marked y false ≡ false → suc (count_by not (set marked y true)) ≡ count_by not marked
 unmarked_set marked y l new = let f : Bool → ℕ = λ b. cond (not b) 1 0 in
     let a : count_by not (set marked y true) + f (slice_index_or marked y false) ≡ count_by not marked + 0 = sum_by-set f marked y true false l in

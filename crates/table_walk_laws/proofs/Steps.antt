@@ -28,12 +28,12 @@ module _ (step : ℕ → Option ℕ) where
   after_none start i (suc j) e = let z : suc j + i ≡ suc (j + i) = omega arith in
       ap (after step start) z ∙ ap (option_and_then step) (after_none start i j e)
 
-  -- a walk that has ended is nowhere later
+  -- after its end a walk reaches no number
   pub after_end : (start i j x : ℕ) → after step start i ≡ Some x → step x ≡ None → i < j → after step start j ≡ None
   after_end start i j x e stops less = let z : j ≡ (j - suc i) + suc i = omega arith in
       ap (after step start) z ∙ after_none start (suc i) (j - suc i) (ap (option_and_then step) e ∙ stops)
 
-  -- what ends the walk ends it for good
+  -- a walk has one end
   pub one_end_lem : (start x y : ℕ) → Reaches step start x → Reaches step start y → step x ≡ None → step y ≡ None → x ≡ y
   one_end_lem start x y p q ex ey = elim (cases_order p.0 q.0) [
     | inl e ↦ let f : after step start p.0 ≡ Some y = ap (after step start) e ∙ q.1 in let g : Some x ≡ Some y = sym p.1 ∙ f in cc
