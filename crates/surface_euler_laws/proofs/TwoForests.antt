@@ -1,4 +1,4 @@
--- A forest of polygons and a forest of points that use different arcs: this bounds the number of arcs from below.
+-- A forest of polygons and a forest of points have no arc in common: this bounds the number of arcs from below.
 use Rattle.std.proofs.Common.{◌≡◌, ◌≢◌, ℕ, ◌+◌, ◌*◌, ◌<◌, ◌≤◌, Bool, true, false, not, List, [], ◌∷◌, ◌++◌, length, Option, Some, None, inl, inr, refl, sym, ap, ◌∙◌, subst, arith}
 use Rattle.std.proofs.lemmas.Bool.{cases_Bool, cases_eq}
 use Rattle.std.proofs.lemmas.List.{length-append}
