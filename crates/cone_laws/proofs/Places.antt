@@ -47,7 +47,8 @@ module _ (columns : ℕ) (rows : List Row) (pairs : List Clash) (rays : List (Li
     ]
   ]
 
-  -- a union that exceeds a bound, if the bound holds for all unions without a third solution
+  -- if a bound holds for a union without a third solution, and the union exceeds it, there is a third ray inside the
+  -- union
   third_past : (most : ℕ) → (HasNoThird columns rows (ray_at rays i) (ray_at rays j) → union_size columns (ray_at rays i) (ray_at rays j) ≤ most) →
       most < union_size columns (ray_at rays i) (ray_at rays j) → HasThirdPlace rays i j
   third_past most bound large = elim (all_or_one IsFirstOrSecond IsThird third_or_not (length rays)) [
