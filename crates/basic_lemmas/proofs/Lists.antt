@@ -5,7 +5,7 @@ use Rattle.std.proofs.lemmas.Bool.{cases_lt, cases_order}
 use Rattle.std.proofs.lemmas.List.{get_or_past}
 use Rattle.std.specs.List.{AllZip}
 
--- what is found passes the test
+-- an item that is found passes the test
 pub found_passes : {A : Type 0} (p : A → Bool) (xs : List A) (x : A) → find p xs ≡ Some x → p x ≡ true
 found_passes p [] x e = cc
 found_passes {A} p (y ∷ ys) x e = by_test (p y) refl e (λ f. found_passes p ys x f)
@@ -14,7 +14,7 @@ found_passes {A} p (y ∷ ys) x e = by_test (p y) refl e (λ f. found_passes p y
     by_test true t f later = let is : y ≡ x = cc in ap p (sym is) ∙ t
     by_test false t f later = later f
 
--- what has no items, and no first ones
+-- a list of length 0 is empty, and so are the first 0 items of any list
 pub no_items : {A : Type 0} (xs : List A) → length xs ≤ 0 → xs ≡ []
 no_items [] h = refl
 no_items (x ∷ xs) h = absurd (omega arith)
@@ -23,7 +23,7 @@ pub take_none : {A : Type 0} (xs : List A) → take zero xs ≡ []
 take_none [] = refl
 take_none (x ∷ xs) = refl
 
--- in a list of different items each stands at one place
+-- in a list of different items each is at one index
 pub one_place : {A : Type 0} (xs : List A) → AllPairs (λ x y. x ≢ y) xs → (i j : ℕ) (d : A) → i < length xs → j < length xs → get_or xs i d ≡ get_or xs j d → i ≡ j
 one_place xs apart i j d i_in j_in same = elim (cases_order i j) [
   | inl e ↦ e
@@ -31,7 +31,7 @@ one_place xs apart i j d i_in j_in same = elim (cases_order i j) [
   | inr (inr more) ↦ absurd (apart j i d more i_in (sym same))
 ]
 
--- an entry of the first ones, but the last of them
+-- the first i + 1 entries and the first i entries agree except at index i
 pub take_other : (x : List ℕ) (i column : ℕ) → column ≢ i → get_or (take (i + 1) x) column 0 ≡ get_or (take i x) column 0
 take_other x i column other =
     ⊎_elim (λ h. get_or-take (i + 1) x column 0 (omega arith) ∙ sym (get_or-take i x column 0 h))

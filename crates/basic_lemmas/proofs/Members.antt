@@ -1,4 +1,4 @@
--- What lists of numbers have in them; ascending lists are known by it.
+-- The members of lists of numbers; an ascending list is determined by them.
 use Rattle.std.proofs.Common.{◌≡◌, ℕ, zero, suc, ◌<◌, ◌⊎◌, inl, inr, List, [], ◌∷◌, length, AllPairs, Contains, slice_index_or, subst, sym, ap₂, refl, arith, slice_index, ◌∙◌}
 use Rattle.std.proofs.lemmas.List.{get_or_default}
 

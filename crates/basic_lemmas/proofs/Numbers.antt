@@ -22,12 +22,12 @@ compared_back a b ne = elim (cases_order a b) [
   | inr (inr more) ↦ let f : nat_lt a b ≡ false = le-ltb a b (omega arith) in lt-ltb b a more ∙ sym (ap not f)
 ]
 
--- which of two different numbers one of them equals
+-- a number that is one of two different numbers equals exactly one of them
 pub equals_one_of_two : (a b first : ℕ) → (a ≡ b → ⊥) → (first ≡ a) ⊎ (first ≡ b) → (b == first) ≡ not (a == first)
 equals_one_of_two a b first apart (inl e) = ne_eqb b first (λ f. apart (sym e ∙ sym f)) ∙ sym (ap not (eq-eqb a first (sym e)))
 equals_one_of_two a b first apart (inr e) = eq-eqb b first (sym e) ∙ sym (ap not (ne_eqb a first (λ f. apart (f ∙ e))))
 
--- one number more of a range
+-- one more number of a range
 pub range_more : (a n : ℕ) → range_with_len a (suc n) ≡ range_with_len a n ++ (a + n) ∷ []
 range_more a zero = let e : a ≡ a + 0 = omega arith in ap (λ k. k ∷ []) e
 range_more a (suc n) = let e : a + 1 + n ≡ a + suc n = omega arith in ap (λ (xs : List ℕ). a ∷ xs) (range_more (a + 1) n ∙ ap (λ k. range_with_len (a + 1) n ++ k ∷ []) e)

@@ -9,7 +9,7 @@ pub none_or_some : {A : Type 0} (o : Option A) → (o ≡ None) ⊎ ((x : A) × 
 none_or_some None = inl refl
 none_or_some (Some x) = inr (x, refl)
 
--- what one of two options is
+-- the first of two options that has a value
 
 pub one_or_other : {A : Type 0} (o p : Option A) (x : A) → option_or o p ≡ Some x → (o ≡ Some x) ⊎ (p ≡ Some x)
 one_or_other None p x e = inr e

@@ -2,7 +2,7 @@
 use Rattle.std.proofs.Common.{◌≡◌, ◌≤◌, ℕ, Bool, true, false, cond, ◌⊎◌, inl, inr, refl, sym, arith}
 use Rattle.std.specs.Prelude.{not, if◌then◌else◌, IsTrue}
 
--- 1 where a truth value is true
+-- 1 if a truth value is true, and else 0
 abbrev pub one_if : Bool → ℕ
 one_if b = cond b 1 0
 
@@ -23,7 +23,7 @@ pub not_itself : (b : Bool) → b ≡ not b → ⊥
 not_itself true e = cc
 not_itself false e = cc
 
--- what is true in the same cases is the same
+-- truth values that are true in the same cases are equal
 pub same_truth : (a b : Bool) → (IsTrue a → IsTrue b) → (IsTrue b → IsTrue a) → a ≡ b
 same_truth true b f g = sym (f refl)
 same_truth false true f g = g refl

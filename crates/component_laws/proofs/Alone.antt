@@ -1,4 +1,4 @@
--- A table has one list of parts; a connected one has itself as its only part.
+-- A table has one list of components; a connected one has itself as its only component.
 use Rattle.std.proofs.Common.{◌≡◌, ℕ, zero, suc, ◌<◌, ◌≤◌, ◌↔◌, List, [], ◌∷◌, length, map, Contains, Option, Some, None, option_map, slice_index, slice_index_or, codes, IsPermutation, subst, subst₂, sym, ap, refl, ◌∙◌, arith, ext_get_or}
 use Rattle.std.specs.List.{AllZip}
 use Rattle.std.proofs.lemmas.List.{get_or-map, length-map}
@@ -18,7 +18,7 @@ use Rattle.component_definitions.specs.ComponentSignature.{component_text, IsCom
 use Rattle.component_laws.proofs.Numbers.{place_at, place_of, entry_of}
 use Rattle.component_laws.proofs.Members.{part_at, numbers_at, no_part, part_is, stands_at, member_of, member_below, first_member, first_least, joined_member, glued_member, joins, length-part, glue-part}
 
--- ---- one list of parts
+-- ---- one list of components
 
 module _ (rows : List Row) (table : IsTable rows) where
   same_part : (p q : Part) → IsPart rows p → IsPart rows q → first_of p ≡ first_of q → p ≡ q
@@ -72,7 +72,7 @@ module _ (rows : List Row) (table : IsTable rows) where
       long : length P ≡ length Q
       long = sym (firsts_long P) ∙ ap length same ∙ firsts_long Q
 
-  -- ---- a part is connected
+  -- ---- a component is connected
 
   module _ (part : Part) (h : IsPart rows part) where
     place : ℕ → ℕ

@@ -1,4 +1,4 @@
--- A relabelling carries the parts of a table to the parts of the other.
+-- An isomorphism maps the components of a table to the components of the other.
 use Rattle.std.proofs.Common.{◌≡◌, ℕ, ◌<◌, ◌≤◌, ◌⊎◌, inl, inr, List, [], length, Contains, Option, Some, None, option_map, slice_index, slice_index_or, subst, sym, ap, ap₂, refl, ◌∙◌, arith, le_antisymm}
 use Rattle.std.proofs.lemmas.Bool.{cases_lt}
 use Rattle.basic_lemmas.proofs.Members.{contains_at}
@@ -44,7 +44,7 @@ module _ (first second : List Row) (by : Relabelling) (tf : IsTable first) (ts :
       home : (v : ℕ) → v < length first → slice_index (inverted (length first) by).images (slice_index by.images v) ≡ v
       home v m = ap (λ (g : Gluing). g.tet) (inverted_stands (length first) by r v m)
 
-  -- a part of the first table and a part of the second that holds the image of one of its tetrahedra
+  -- a component of the first table, and the component of the second that contains the image of one of its tetrahedra
   module _ (p q : Part) (hp : IsPart first p) (hq : IsPart second q) (t : ℕ) (in_p : Contains p.numbers t) (in_q : Contains q.numbers (to t)) where
     pub goes : (u : ℕ) → Contains p.numbers u → Contains q.numbers (to u)
     goes u m = joined_member second ts q hq (to t) (to u) in_q (joined_there t u (between u m)) (to_below u (member_below first tf p hp u m))
@@ -55,7 +55,7 @@ module _ (first second : List Row) (by : Relabelling) (tf : IsTable first) (ts :
     pub comes : (u : ℕ) → u < length first → Contains q.numbers (to u) → Contains p.numbers u
     comes u l m = joined_member first tf p hp t u in_p (joined_here t u (member_below first tf p hp t in_p) l (joins second ts q hq (to t) (to u) in_q m)) l
 
-    -- ---- as long
+    -- ---- both components have the same size
 
     there : ℕ → ℕ
     there k = place_in q.numbers (to (slice_index p.numbers k))
@@ -72,7 +72,7 @@ module _ (first second : List Row) (by : Relabelling) (tf : IsTable first) (ts :
         (to_apart (slice_index p.numbers k) (slice_index p.numbers n) (member_below first tf p hp (slice_index p.numbers k) (entry_p k lk)) (member_below first tf p hp (slice_index p.numbers n) (entry_p n ln))
         (sym (there_is k lk).1 ∙ ap (slice_index q.numbers) e ∙ (there_is n ln).1))
 
-    -- the number in p of what goes to the number in q
+    -- the index in p of the tetrahedron that maps to the one with a given index in q
     module _ where
       entry_q : (k : ℕ) → k < length q.numbers → Contains q.numbers (slice_index q.numbers k)
       entry_q k l = contains_at q.numbers k (slice_index q.numbers k) l refl
@@ -105,7 +105,7 @@ module _ (first second : List Row) (by : Relabelling) (tf : IsTable first) (ts :
     as_long : length q.numbers ≡ length p.numbers
     as_long = le_antisymm (fits (length q.numbers) (length p.numbers) back (λ k l. (back_is k l).0) back_apart) (fits (length p.numbers) (length q.numbers) there (λ k l. (there_is k l).0) there_apart)
 
-    -- ---- the relabelling of the part
+    -- ---- the relabelling of the component
 
     stand : ℕ → Gluing
     stand k = record { tet = there k; perm = slice_index_or by.perms (slice_index p.numbers k) [] }
@@ -159,7 +159,7 @@ module _ (first second : List Row) (by : Relabelling) (tf : IsTable first) (ts :
       glued = λ x l lf. part_glued x (subst (λ n. x.tet < n) (length-part first tf p hp) l) lf;
     }
 
-  -- ---- all parts
+  -- ---- all components
 
   module _ (P Q : List Part) (p : AreParts first P) (q : AreParts second Q) where
     first_at : (i : ℕ) → i < length P → Contains (numbers_at P i) (first_of (part_at P i))

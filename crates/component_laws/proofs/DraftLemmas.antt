@@ -1,4 +1,4 @@
--- What is written part by part is a relabelling.
+-- What is written component by component is a relabelling.
 use Rattle.std.proofs.Common.{◌≡◌, ℕ, ◌<◌, ◌≤◌, ◌⊎◌, inl, inr, List, [], length, map, slice_index, slice_index_or, subst, sym, ap, ap₂, refl, ◌∙◌, arith}
 use Rattle.std.proofs.lemmas.Bool.{cases_lt}
 use Rattle.std.proofs.lemmas.List.{ext_get_or}
@@ -22,7 +22,7 @@ use Rattle.component_laws.proofs.MatchLemmas.{part_in, is_part, there, second_si
 
 module _ (n : ℕ) (P : List Part) (E : List Entry) (Q : List Part) (F : List Entry) (m : AreMatched n P E Q F) where
   module _ (by : Relabelling) (images : length by.images ≡ n) (perms : length by.perms ≡ n) (w : AreWritten P (numbers_of E) Q (numbers_of F) (length E) by) where
-    -- the relabelling of the part at place i
+    -- the relabelling of the component at index i of the order
     chosen : (i : ℕ) → (i < length E) ⊎ (length E ≤ i) → Relabelling
     chosen i (inl l) = (w i l).0
     chosen i (inr past) = record { images = []; perms = [] }
@@ -39,7 +39,7 @@ module _ (n : ℕ) (P : List Part) (E : List Entry) (Q : List Part) (F : List En
     unfolding by_at
     by_at_is i l = chosen_is i (cases_lt i (length E)) l
 
-    -- the place in the order at which a tetrahedron's part stands, and its place in the part
+    -- the index of a tetrahedron's component in the order, and the tetrahedron's index in the component
     record Goes (t : ℕ) : Type 0 where
       i : ℕ
       in_order : i < length E
@@ -87,7 +87,7 @@ module _ (n : ℕ) (P : List Part) (E : List Entry) (Q : List Part) (F : List En
         (member_of m.second m.second_table Q m.are_others (stand g.i g.k).tet (stands_there g.i g.k g.in_order g.in_numbers)) in
         subst (λ j. (relabelled_place by t).tet < j) (second_size n P E Q F m) (subst (λ (x : Gluing). x.tet < length m.second) (sym (stands t g)) b)
 
-    -- from one place of the order
+    -- two tetrahedra of the component at one index of the order
     same_place : (i j k l : ℕ) → i ≡ j → i < length E → k < length (part_in P E i).numbers → l < length (part_in P E j).numbers → slice_index (by_at i).images k ≡ slice_index (by_at j).images l → k ≡ l
     same_place i j k l e li lk ll same = images_apart (length (part_in P E i).rows) (by_at i) (by_at_is i li).0.relabels.0 k l (row_below i k li lk)
         (row_below i l li (subst (λ a. l < length (part_in P E a).numbers) (sym e) ll)) (same ∙ ap (λ a. slice_index (by_at a).images l) (sym e))

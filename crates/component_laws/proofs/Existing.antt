@@ -1,4 +1,4 @@
--- Each table has a list of parts.
+-- Each table has a list of components.
 use Rattle.std.proofs.Common.{◌≡◌, ℕ, zero, suc, ◌+◌, ◌<◌, ◌≤◌, ◌⊎◌, inl, inr, ◌↔◌, List, [], ◌∷◌, ◌++◌, length, All, AllPairs, Contains, slice_index, slice_index_or, subst, sym, ap, refl, ◌∙◌, arith}
 use Rattle.std.proofs.lemmas.Bool.{cases_lt, cases_eq}
 use Rattle.std.proofs.lemmas.List.{get_or_default, get_or_append_left, length_push}
@@ -58,7 +58,7 @@ module _ (rows : List Row) (table : IsTable rows) where
         }
       ]
 
-  -- ---- the part whose least tetrahedron is k
+  -- ---- the component whose least tetrahedron is k
 
   module _ (k : ℕ) (l : k < length rows) (first : (u : ℕ) → u < k → SameComponent rows u k → ⊥) where
     all : Joined k (length rows)
@@ -97,7 +97,7 @@ module _ (rows : List Row) (table : IsTable rows) where
     unfolding part
     part_holds = k_in
 
-  -- ---- the parts whose least tetrahedron is below k
+  -- ---- the components whose least tetrahedron is below k
 
   record UpTo (k : ℕ) : Type 0 where
     parts : List Part
@@ -109,7 +109,7 @@ module _ (rows : List Row) (table : IsTable rows) where
   part_of : (k : ℕ) (before : UpTo k) (p : Part) → Contains before.parts p → IsPart rows p
   part_of k before p c = All-contains (IsPart rows) before.parts p before.each c
 
-  -- k lies in a part that is there
+  -- k is in a component of the list
   keep : (k : ℕ) → k < length rows → (before : UpTo k) (u : ℕ) → u < k → SameComponent rows u k → UpTo (suc k)
   keep k l before u less j = record {
     parts = before.parts;
@@ -123,7 +123,7 @@ module _ (rows : List Row) (table : IsTable rows) where
     ];
   }
 
-  -- or it is the least tetrahedron of a new one
+  -- k is the least tetrahedron of a new component
   add : (k : ℕ) → k < length rows → UpTo k → ((u : ℕ) → u < k → SameComponent rows u k → ⊥) → UpTo (suc k)
   add k l before first = record {
     parts = before.parts ++ new ∷ [];

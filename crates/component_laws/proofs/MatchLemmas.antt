@@ -1,4 +1,4 @@
--- Parts that stand at one place of two orders have one signature, so one can be relabelled to the other.
+-- Components at the same index of two orders have the same signature, so they are isomorphic.
 use Rattle.std.proofs.Common.{◌≡◌, ℕ, ◌<◌, ◌≤◌, List, [], length, slice_index, slice_index_or, IsPermutation, subst, sym, ap, refl, ◌∙◌, arith}
 use Rattle.std.proofs.lemmas.List.{length-map}
 use Rattle.std.proofs.lemmas.List.Sorted.{IsPermutation-sym, IsPermutation-trans}
@@ -39,7 +39,7 @@ module _ (rows : List Row) (parts : List Part) (entries : List Entry) (table : I
   abbrev pub signed : IsComponentSignature rows (component_text (texts_of entries))
   signed = signs parts entries o rows (component_text (texts_of entries)) h refl
 
--- other signatures tell that there is no relabelling
+-- if the signatures differ, the tables are not isomorphic
 pub differ : (first second : List Row) (P Q : List Part) (E F : List Entry) → IsTable first → IsTable second → AreParts first P → AreParts second Q → AreInOrder P E → AreInOrder Q F
     → (texts_of E ≡ texts_of F → ⊥) → AreIsomorphic first second → ⊥
 differ first second P Q E F tf ts p q o o' other r =

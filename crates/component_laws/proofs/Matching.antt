@@ -1,4 +1,5 @@
--- Where the parts of one table are matched with different parts of another, each to be relabelled to it, the whole table can be relabelled.
+-- If the components of one table are matched with different components of another, each isomorphic to its match, the
+-- tables are isomorphic.
 use Rattle.std.proofs.Common.{◌≡◌, ℕ, ◌<◌, ◌≤◌, ◌⊎◌, inl, inr, List, [], length, Contains, Option, Some, None, option_map, slice_index, slice_index_or, subst, sym, ap, ap₂, refl, ◌∙◌, arith, le_antisymm}
 use Rattle.std.proofs.lemmas.Bool.{cases_lt}
 use Rattle.basic_lemmas.proofs.Members.{contains_at}
@@ -13,7 +14,7 @@ use Rattle.component_definitions.specs.Parts.{Part, place_in, renumbered, IsPart
 use Rattle.component_laws.proofs.Numbers.{place_of, fits}
 use Rattle.component_laws.proofs.Members.{part_at, numbers_at, StandsAt, part_is, stands_at, one_place, member_of, member_below, glued_member, length-part, glue-part}
 
--- each part goes to a part of its own, by a relabelling
+-- each component is matched with a different one, by a relabelling
 pub record Matches (P Q : List Part) : Type 0 where
   pub to : ℕ → ℕ
   pub in_range : (i : ℕ) → i < length P → to i < length Q
@@ -22,7 +23,7 @@ pub record Matches (P Q : List Part) : Type 0 where
   pub relabels : (i : ℕ) → i < length P → IsRelabelling (length (part_at P i).rows) (by i)
   pub carries : (i : ℕ) → i < length P → Carries (by i) (part_at P i).rows (part_at Q (to i)).rows
 
--- the same with no relabelling chosen
+-- each component is matched with a different one that is isomorphic to it
 pub record IsMatching (P Q : List Part) : Type 0 where
   pub to : ℕ → ℕ
   pub in_range : (i : ℕ) → i < length P → to i < length Q
@@ -63,7 +64,7 @@ module _ (first second : List Row) (P Q : List Part) (tf : IsTable first) (ts : 
   rows_q : (i : ℕ) → i < length P → length (numbers_at Q (m.to i)) ≡ length (part_at P i).rows
   rows_q i l = sym (length-part second ts (part_at Q (m.to i)) (part_q i l)) ∙ (m.carries i l).same_length
 
-  -- what stands for place k of part i
+  -- the image of tetrahedron k of component i
   abbrev pub stand : ℕ → ℕ → Gluing
   stand i k = record { tet = slice_index (numbers_at Q (m.to i)) (slice_index (m.by i).images k); perm = slice_index_or (m.by i).perms k [] }
 
@@ -73,7 +74,7 @@ module _ (first second : List Row) (P Q : List Part) (tf : IsTable first) (ts : 
   image_below : (i k : ℕ) → i < length P → k < length (numbers_at P i) → slice_index (m.by i).images k < length (numbers_at Q (m.to i))
   image_below i k l lk = subst (λ n. slice_index (m.by i).images k < n) (sym (rows_q i l)) (image_in_range (length (part_at P i).rows) (m.by i) (m.relabels i l) k (row_below i k l lk))
 
-  -- it stands in the part to which part i goes
+  -- this image is in the component that is matched with component i
   stand_at : (i k : ℕ) → i < length P → k < length (numbers_at P i) → StandsAt Q (stand i k).tet
   stand_at i k l lk = record { i = m.to i; in_parts = m.in_range i l; k = slice_index (m.by i).images k; in_numbers = image_below i k l lk; is = refl }
 
@@ -105,7 +106,7 @@ module _ (first second : List Row) (P Q : List Part) (tf : IsTable first) (ts : 
       places : a.k ≡ b.k
       places = same_place a.i b.i a.k b.k parts a.in_parts a.in_numbers b.in_numbers both.1
 
-  -- ---- what stands for a tetrahedron
+  -- ---- the image of a tetrahedron
 
   chosen : (t : ℕ) → (t < length first) ⊎ (length first ≤ t) → Gluing
   chosen t (inl l) = let s = stands_at first tf P p t l in stand s.i s.k
@@ -139,7 +140,7 @@ module _ (first second : List Row) (P Q : List Part) (tf : IsTable first) (ts : 
 
   -- ---- the gluings
 
-  -- what stands for a gluing of part i, in its part and in the whole
+  -- the image of a gluing of component i, within the component and in the whole table
   in_part : (i k : ℕ) → Gluing → Gluing
   in_part i k g = gluing_under (relabelled_place (m.by i) k) (relabelled_place (m.by i) (place_in (numbers_at P i) g.tet)) (renumbered (numbers_at P i) g)
 
@@ -156,7 +157,7 @@ module _ (first second : List Row) (P Q : List Part) (tf : IsTable first) (ts : 
       twice None = refl
       twice (Some g) = refl
 
-  -- both glued: the gluing of the second table is the one that stands for that of the first
+  -- if both faces are glued, the gluing of the second table is the image of that of the first
   both_glued : (i k f : ℕ) (g h : Gluing) → i < length P → k < length (numbers_at P i) → glue first (face_at (slice_index (numbers_at P i) k) f) ≡ Some g →
       glue second (face_at (stand i k).tet (image (stand i k).perm f)) ≡ Some h → renumbered (numbers_at Q (m.to i)) h ≡ in_part i k g → h ≡ gluing_under (stand i k) (stand_for g.tet) g
   unfolding in_part stand_at
@@ -226,6 +227,6 @@ module _ (first second : List Row) (P Q : List Part) (tf : IsTable first) (ts : 
   pub matched_relabels : length second ≤ length first → AreIsomorphic first second
   matched_relabels back = let c = matched_carries back in (made (length first) stand_for, c.0, c.1)
 
--- parts that are matched both ways
+-- the matched tables are isomorphic
 pub matched_tables : (first second : List Row) (P Q : List Part) → IsTable first → IsTable second → AreParts first P → AreParts second Q → IsMatching P Q → IsMatching Q P → AreIsomorphic first second
 matched_tables first second P Q tf ts p q there back = matched_relabels first second P Q tf ts p q (matches P Q there) (matched_fits second first Q P ts tf q p (matches Q P back))

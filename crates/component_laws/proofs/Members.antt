@@ -1,4 +1,4 @@
--- The members of parts: closed under gluings and joins, and in one part each.
+-- The members of components: closed under gluings and joins, and each in one component.
 use Rattle.std.proofs.Common.{◌≡◌, ℕ, ◌<◌, ◌≤◌, inl, inr, true, List, [], length, Contains, Option, Some, None, option_map, slice_index, slice_index_or, subst, sym, ap, refl, ◌∙◌, arith}
 use Rattle.std.specs.Prelude.{not}
 use Rattle.std.proofs.lemmas.Bool.{cases_order, cases_eq}
@@ -27,7 +27,7 @@ module _ (rows : List Row) (table : IsTable rows) (part : Part) (h : IsPart rows
   pub joined_member : (t u : ℕ) → Contains part.numbers t → SameComponent rows t u → u < length rows → Contains part.numbers u
   joined_member t u c j l = (h.members u).1 (l, joined_trans rows (whole (first_of part)) (whole t) (whole u) ((h.members t).0 c).1 j)
 
-  -- two members of a part are joined
+  -- two members of a component are joined
   pub joins : (t u : ℕ) → Contains part.numbers t → Contains part.numbers u → SameComponent rows t u
   joins t u a b = joined_trans rows (whole t) (whole (first_of part)) (whole u) (joins_back rows (first_of part) t table ((h.members t).0 a).1) ((h.members u).0 b).1
 
@@ -46,7 +46,7 @@ module _ (rows : List Row) (table : IsTable rows) (part : Part) (h : IsPart rows
   pub glue-part : (k f : ℕ) → k < length part.numbers → glue part.rows (record { tet = k; face = f }) ≡ option_map (renumbered part.numbers) (glue rows (record { tet = slice_index part.numbers k; face = f }))
   glue-part k f l = ap (λ (all : List Row). glue all (record { tet = k; face = f })) h.renumbers ∙ glue-rows_of rows part.numbers k f l
 
-  -- ---- a part is a table
+  -- ---- a component is a table
 
   few : length part.numbers ≤ length rows
   few = fits (length part.numbers) (length rows) (slice_index part.numbers) (λ i l. member_below (slice_index part.numbers i) (contains_at part.numbers i (slice_index part.numbers i) l refl))
@@ -109,7 +109,7 @@ module _ (rows : List Row) (table : IsTable rows) (part : Part) (h : IsPart rows
     leads_back = λ x g' e. part_back x.tet x.face g' e;
   }
 
--- ---- one part for each tetrahedron
+-- ---- one component for each tetrahedron
 
 abbrev pub no_part : Part
 no_part = record { rows = []; numbers = [] }
@@ -120,7 +120,7 @@ part_at parts i = slice_index_or parts i no_part
 abbrev pub numbers_at : List Part → ℕ → List ℕ
 numbers_at parts i = (part_at parts i).numbers
 
--- the part in which a tetrahedron stands, and its place there
+-- the component of a tetrahedron, and the tetrahedron's index in it
 pub record StandsAt (parts : List Part) (t : ℕ) : Type 0 where
   pub i : ℕ
   pub in_parts : i < length parts
@@ -143,7 +143,7 @@ module _ (rows : List Row) (table : IsTable rows) (parts : List Part) (h : ArePa
   pub member_of : (t : ℕ) (s : StandsAt parts t) → Contains (numbers_at parts s.i) t
   member_of t s = contains_at (numbers_at parts s.i) s.k t s.in_numbers s.is
 
-  -- a part that holds a member of another holds its first tetrahedron
+  -- a component that shares a member with another contains the first tetrahedron of the other
   lower : (i j t : ℕ) → i < length parts → j < length parts → Contains (numbers_at parts i) t → Contains (numbers_at parts j) t → first_of (part_at parts i) ≤ first_of (part_at parts j)
   lower i j t li lj ci cj = let p = part_is i li in let q = part_is j lj in
       first_least rows table (part_at parts i) p (first_of (part_at parts j))

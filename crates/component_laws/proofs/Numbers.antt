@@ -1,4 +1,4 @@
--- Ascending numbers, their places, and rows renumbered by them.
+-- Ascending numbers, their indices, and rows that are renumbered by them.
 use Rattle.std.proofs.Common.{◌≡◌, ℕ, ◌<◌, ◌≤◌, inl, inr, true, List, [], length, map, get_or, Contains, None, option_map, slice_index, slice_index_or, subst, sym, ap, refl, ◌∙◌, arith}
 use Rattle.std.specs.Prelude.{◌==◌, nat_eq}
 use Rattle.std.specs.List.{IsDistinct, list_any}
@@ -16,7 +16,7 @@ use Rattle.table_definitions.specs.Table.{Row, glue}
 use Rattle.table_definitions.proofs.Bijections.{IsDistinct-from_before}
 use Rattle.component_definitions.specs.Parts.{place_in, renumbered, rows_of}
 
--- a number stands at one place
+-- a number occurs at one index
 pub stands_once : (numbers : List ℕ) → Ascends numbers → (i j : ℕ) → i < length numbers → j < length numbers → slice_index numbers i ≡ slice_index numbers j → i ≡ j
 stands_once numbers h i j li lj e = elim (cases_order i j) [
   | inl same ↦ same
@@ -24,7 +24,7 @@ stands_once numbers h i j li lj e = elim (cases_order i j) [
   | inr (inr more) ↦ let l : slice_index numbers j < slice_index numbers i = h j i 0 more li in absurd (omega arith)
 ]
 
--- and is found there
+-- the search for a number finds this index
 pub place_at : (numbers : List ℕ) → Ascends numbers → (k : ℕ) → k < length numbers → place_in numbers (slice_index numbers k) ≡ k
 place_at numbers h k l = position_or_len_is (λ u. u == slice_index numbers k) numbers k 0 (omega arith) (λ i less. less_unequal (slice_index numbers i) (slice_index numbers k) (h i k 0 less l))
     (λ _. eq-eqb (slice_index numbers k) (slice_index numbers k) refl)
@@ -38,7 +38,7 @@ place_of numbers h t c = (subst (λ k. k < length numbers) (sym same) c.1, ap (s
     same : place_in numbers t ≡ c.0
     same = ap (place_in numbers) (sym (entry_of numbers t c)) ∙ place_at numbers h c.0 c.1
 
--- what f gives below n is below m and differs: so n is at most m
+-- if f is injective below n, with values below m, n is at most m
 pub fits : (n m : ℕ) (f : ℕ → ℕ) → ((i : ℕ) → i < n → f i < m) → ((i j : ℕ) → i < n → j < n → f i ≡ f j → i ≡ j) → n ≤ m
 fits n m f small apart = let l : length (map f (below n)) ≤ m = length-le_from_distinct_below (map f (below n)) m distinct bounded in omega (arith, l, long)
   where

@@ -1,4 +1,4 @@
--- What is answered of two tables part by part is one relabelling.
+-- The relabelling that is returned for two tables, component by component, is unique.
 use Rattle.std.proofs.Common.{◌≡◌, ℕ, suc, ◌<◌, inl, inr, true, List, [], ◌∷◌, length, Contains, IsPermutation, slice_index, slice_index_or, subst, subst₂, sym, ap, ap₂, refl, ◌∙◌, arith, ext_get_or}
 use Rattle.std.specs.List.{AllZip}
 use Rattle.std.proofs.lemmas.Bool.{false≢true}
@@ -56,7 +56,7 @@ module _ (R : ℕ → ℕ → Type 0) (asymmetric : (x y : ℕ) → R x y → R 
   same_order (x ∷ xs) (y ∷ ys) hx hy into back = let e : x ≡ y = same_heads x y xs ys hx hy into back in
       ap₂ (λ z zs. z ∷ zs) e (same_order xs ys (tail_in_order x xs hx) (tail_in_order y ys hy) (tail_within x y xs ys e hx into) (tail_within y x ys xs (sym e) hy back))
 
--- ---- the order of parts
+-- ---- the order of components
 
 not_both : (x y : List ℕ) → is_list_before x y ≡ true → is_list_before y x ≡ true → ⊥
 not_both x y a b = false≢true (sym (not_before_itself x) ∙ before_before x y x a b)

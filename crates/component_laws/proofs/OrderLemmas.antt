@@ -1,4 +1,5 @@
--- The signatures of parts in order are those of the component signature, and their numbers the order of the parts.
+-- The signatures of components in order are those of the component signature, and their numbers are the order of the
+-- components.
 use Rattle.std.proofs.Common.{◌≡◌, ℕ, zero, suc, ◌<◌, ◌≤◌, inl, inr, Bool, true, false, List, [], ◌∷◌, length, All, IsPermutation, slice_index, slice_index_or, subst, subst₂, sym, ap, refl, ◌∙◌, arith, nat_cmp, is_lt}
 use Rattle.std.specs.declared.cmp.Ordering.{Ordering}
 use Rattle.std.specs.declared.cmp.Ordering.TheVariants.{Less, Equal, Greater}
@@ -26,7 +27,7 @@ use Rattle.component_laws.specs.Ordered.{Entry, texts_of, numbers_of, compared, 
 pub before_is : (xs ys : List ℕ) → is_lt (slice_cmp nat_cmp xs ys) ≡ is_list_before xs ys
 before_is xs ys = same_from_slice_cmp nat_cmp is_lt is_list_before refl (λ _ _. refl) (λ _ _. refl) (λ x y xs ys o h. grind (arith, nat_tests)) xs ys (slice_cmp nat_cmp xs ys) refl
 
--- not before, by the first test or by both
+-- the order is not before, by the first comparison or by both
 first_not : (a b : Ordering) → is_lt (ordering_then a b) ≡ false → is_lt a ≡ false
 first_not Less b e = e
 first_not Equal b e = refl
@@ -48,7 +49,7 @@ module _ (parts : List Part) (entries : List Entry) (o : AreInOrder parts entrie
   abbrev at : List Entry → ℕ → Entry
   at es i = slice_index_or es i (record { text = []; number = 0 })
 
-  -- a later one is not before an earlier one
+  -- a later entry is not before an earlier one
   later : (i j : ℕ) → i ≤ j → j < length entries → is_lt (compared (at entries j) (at entries i)) ≡ false
   later i j l m = sorted_far (λ x y. is_lt (compared x y)) (ranks_by (then_total (on_total (λ (e : Entry). e.text) nat_list_cmp_total) (on_total (λ (e : Entry). e.number) nat_cmp_total)) (λ (e : Entry). e)) entries o.sorted i j (record { text = []; number = 0 }) l m
 
@@ -71,7 +72,7 @@ module _ (parts : List Part) (entries : List Entry) (o : AreInOrder parts entrie
   made_number : (i : ℕ) → i < length o.made → (at o.made i).number ≡ i
   made_number i l = sym (number_at_map o.made i) ∙ ap (λ (ns : List ℕ). slice_index ns i) o.are_signed.numbers ∙ get_or-range_with_len 0 (length parts) i 0 (omega (arith, made_long)) ∙ omega arith
 
-  -- the text of each stands at its number among those of all parts
+  -- the text of each entry is the one with the entry's number among the texts of all components
   at_number : All (λ (e : Entry). slice_index_or (texts_of o.made) e.number [] ≡ e.text) entries
   at_number = All-permutation (λ (e : Entry). slice_index_or (texts_of o.made) e.number [] ≡ e.text) o.made entries o.same
       (λ i d l. subst (λ (e : Entry). slice_index_or (texts_of o.made) e.number [] ≡ e.text) (get_or_same o.made i (record { text = []; number = 0 }) d l)
@@ -106,7 +107,7 @@ module _ (parts : List Part) (entries : List Entry) (o : AreInOrder parts entrie
   abbrev pub signs : (rows : List Row) (text : List ℕ) → AreParts rows parts → text ≡ component_text (texts_of entries) → IsComponentSignature rows text
   signs rows text h e = record { parts = parts; are_parts = h; signatures = texts_of o.made; of_parts = of_parts; ordered = texts_of entries; same = same_texts; in_order = texts_in_order; joined = e }
 
-  -- ---- the order of the parts
+  -- ---- the order of the components
 
   pub permutes : IsPermutation (numbers_of entries) (below (length parts))
   permutes = subst (IsPermutation (numbers_of entries)) o.are_signed.numbers (IsPermutation-sym (numbers_of o.made) (numbers_of entries) (IsPermutation-map (λ (e : Entry). e.number) o.made entries o.same))
@@ -121,7 +122,7 @@ module _ (parts : List Part) (entries : List Entry) (o : AreInOrder parts entrie
   number_below i l = permutation_below (length parts) (numbers_of entries) permutes i (omega (arith, numbers_long))
 
   module _ (rows : List Row) (h : AreParts rows parts) where
-    -- of one text, by the least tetrahedron
+    -- entries with the same text are in the order of their least tetrahedra
     tied : (i j : ℕ) → i < j → j < length entries → (at entries i).text ≡ (at entries j).text → first_of (part_at parts (slice_index (numbers_of entries) i)) < first_of (part_at parts (slice_index (numbers_of entries) j))
     tied i j less l same = h.ascending (slice_index (numbers_of entries) i) (slice_index (numbers_of entries) j) (record { rows = []; numbers = [] }) rises (number_below j l)
       where

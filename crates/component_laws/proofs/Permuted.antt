@@ -1,4 +1,5 @@
--- Lists with the same elements: one is the other's entries in another order; and two of them that are in order are equal.
+-- Lists with the same elements: one has the entries of the other in another order; two such lists that are sorted are
+-- equal.
 use Rattle.std.proofs.Common.{◌≡◌, ◌≢◌, ℕ, zero, suc, ◌<◌, ◌≤◌, inl, inr, Bool, false, List, [], ◌∷◌, length, map, swap, slice_set, slice_index_or, get_or, AllPairs, Contains, IsPermutation, subst, sym, ap, ap₂, refl, ◌∙◌, arith, ext_get_or}
 use Rattle.std.specs.Prelude.{slice_index, ◌-◌, if◌then◌else◌, ◌==◌}
 use Rattle.std.proofs.Common.{subst₂}
@@ -37,7 +38,7 @@ map-swap f [] i j = refl
 map-swap f (d ∷ ys) i j = map-set f (slice_set (d ∷ ys) i (slice_index_or (d ∷ ys) j d)) j (slice_index_or (d ∷ ys) i d)
     ∙ ap₂ (λ zs z. slice_set zs j z) (map-set f (d ∷ ys) i (slice_index_or (d ∷ ys) j d) ∙ ap (slice_set (map f (d ∷ ys)) i) (sym (entry-map f (d ∷ ys) j d))) (sym (entry-map f (d ∷ ys) i d))
 
--- the numbers of xs's entries in the order of ys
+-- the indices of the entries of xs in the order of ys
 pub record Reorders (xs ys : Texts) : Type 0 where
   pub order : List ℕ
   pub permutes : IsPermutation (below (length xs)) order
@@ -63,7 +64,7 @@ reorders_more xs l i j li lj r = record {
 pub reordered : (xs ys : Texts) → IsPermutation xs ys → Reorders xs ys
 reordered xs ys p = IsPermutation-keeps xs (Reorders xs) (record { order = below (length xs); permutes = IsPermutation-refl (below (length xs)); is = sym (map-below xs) }) (reorders_more xs) ys p
 
--- so entry i of ys is an entry of xs of its own
+-- entry i of ys is an entry of xs, different ones for different i
 pub record TakenFrom (xs ys : Texts) : Type 0 where
   pub to : ℕ → ℕ
   pub in_range : (i : ℕ) → i < length ys → to i < length xs
@@ -91,7 +92,7 @@ taken_from xs ys p = record {
     back : IsPermutation r.order (below (length xs))
     back = IsPermutation-sym (below (length xs)) r.order r.permutes
 
--- and back: where each entry is an entry of the other list of its own, both ways
+-- if the entries of ys are different entries of xs, and as many, the lists have the same elements
 pub permuted_from : (xs ys : Texts) → TakenFrom xs ys → length xs ≤ length ys → IsPermutation xs ys
 permuted_from xs ys t l = subst₂ IsPermutation (map-below xs) there (IsPermutation-map (text_at xs) (below (length xs)) places (IsPermutation-sym places (below (length xs))
     (onto (length xs) places (long ∙ same_length) (λ k m. let k' : k < length ys = subst (λ n. k < n) (sym same_length) m in subst (λ v. v < length xs) (sym (at k k')) (t.in_range k k'))
@@ -119,7 +120,7 @@ permuted_from xs ys t l = subst₂ IsPermutation (map-below xs) there (IsPermuta
 abbrev pub InOrder : Texts → Type 0
 InOrder texts = AllPairs (λ text later. is_list_before later text ≡ false) texts
 
--- the head is not after any element
+-- no element is before the head
 head_first : (x y : List ℕ) (xs : Texts) → InOrder (x ∷ xs) → Contains (x ∷ xs) y → is_list_before y x ≡ false
 head_first x y xs h c = go c.0 c.1 c.2
   where
@@ -133,7 +134,7 @@ tail_in_order x xs h i j d less l = h (suc i) (suc j) d (omega arith) (omega ari
 head_in : (x : List ℕ) (xs : Texts) → Contains (x ∷ xs) x
 head_in x xs = (0, omega arith, refl)
 
--- without a common head
+-- the lists without their common head
 module _ (x : List ℕ) (xs ys : Texts) (t : TakenFrom (x ∷ xs) (x ∷ ys)) where
   abbrev moved : ℕ → ℕ → ℕ
   moved first n = if n == 0 then first - 1 else n - 1

@@ -1,4 +1,4 @@
--- What is answered of two tables part by part carries the one to the other.
+-- What is returned for two tables component by component is an isomorphism from the one to the other.
 use Rattle.std.proofs.Common.{◌≡◌, ℕ, ◌<◌, ◌≤◌, ◌⊎◌, inl, inr, List, [], length, IsPermutation, slice_index, subst, sym, ap, ◌∙◌, arith}
 use Rattle.std.proofs.lemmas.Bool.{cases_lt, cases_order}
 use Rattle.std.proofs.lemmas.List.{get_or_default}
@@ -42,7 +42,7 @@ module _ (first second : List Row) (by : Relabelling) (tf : IsTable first) (ts :
   pub count_second : length h.others ≡ count
   count_second = sym h.as_many
 
-  -- where part a stands in the order, and the part at that place of the other table
+  -- the index of component a in the order, and the component at that index of the other table's order
   place : (a : ℕ) → (a < count) ⊎ (count ≤ a) → ℕ
   place a (inl l) = (order_holds count h.order h.in_order.permutes a l).0
   place a (inr past) = 0
@@ -100,7 +100,7 @@ module _ (first second : List Row) (by : Relabelling) (tf : IsTable first) (ts :
       s : StandsAt h.parts t
       s = stands_at first tf h.parts h.in_order.are_parts t l
 
-  -- ---- and back
+  -- ---- the inverse
 
   back_place : (b : ℕ) → (b < count) ⊎ (count ≤ b) → ℕ
   back_place b (inl l) = (order_holds count h.other_order other_permutes b l).0

@@ -1,4 +1,4 @@
--- Two tables have one component signature if and only if a relabelling carries one to the other.
+-- Two tables have the same component signature if and only if they are isomorphic.
 use Rattle.std.proofs.Common.{◌≡◌, ℕ, zero, suc, ◌<◌, ◌↔◌, List, [], ◌∷◌, length, All, IsPermutation, subst, sym, ap, ◌∙◌, arith}
 use Rattle.std.specs.List.{AllZip}
 use Rattle.std.proofs.lemmas.List.Elements.{All-from_get_or, All-head, All-tail}
@@ -46,7 +46,7 @@ module _ (rows : List Row) (text : List ℕ) (table : IsTable rows) (a : IsCompo
       let m : i < length a.parts = subst (λ n. i < n) long l in signature_plain (text_at a.signatures i) (part_at a.parts i).rows (some_rows i m) (signature_at i m))))
 
 module _ (first second : List Row) (text other : List ℕ) (tf : IsTable first) (ts : IsTable second) (a : IsComponentSignature first text) (b : IsComponentSignature second other) where
-  -- parts with one signature are matched
+  -- components with the same signature are matched
   pub matching_from : TakenFrom b.signatures a.signatures → IsMatching a.parts b.parts
   matching_from t = record {
     to = t.to;
@@ -62,7 +62,7 @@ module _ (first second : List Row) (text other : List ℕ) (tf : IsTable first) 
       in_range : (i : ℕ) → i < length a.parts → t.to i < length b.parts
       in_range i l = subst (λ n. t.to i < n) (long second other ts b) (t.in_range i (at i l))
 
-  -- and matched parts have one signature
+  -- matched components have the same signature
   pub taken_by : IsMatching a.parts b.parts → TakenFrom b.signatures a.signatures
   taken_by m = record {
     to = m.to;
@@ -110,7 +110,7 @@ component_signatures_tell first second text other tf ts a b = (same_text_relabel
 
 -- ---- one component signature
 
--- a table with a signature can be relabelled to itself
+-- a table with a signature is isomorphic to itself
 itself : (rows : List Row) (text : List ℕ) → IsTable rows → IsSignature rows text → AreIsomorphic rows rows
 itself rows text table s = relabels_on rows s.found.0 rows table s.found.1 (relabels_back rows s.found.0 table s.found.1)
 

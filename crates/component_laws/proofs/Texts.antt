@@ -1,4 +1,5 @@
--- Component texts tell their signatures apart: no signature holds a full stop, and none of a nonempty table begins with an a.
+-- Joined component texts determine the signatures of the components: no signature contains a full stop, and none of a
+-- nonempty table begins with an a.
 use Rattle.std.proofs.Common.{◌≡◌, ◌≢◌, ℕ, ◌<◌, ◌≤◌, inl, inr, Bool, true, false, List, [], ◌∷◌, ◌++◌, length, map, codes, subst, sym, ap, ap₂, refl, ◌∙◌, arith}
 use Rattle.std.specs.Prelude.{nat_lt, ◌==◌, ◌||◌, not, if◌then◌else◌}
 use Rattle.std.proofs.lemmas.Bool.{cases_lt}
@@ -15,7 +16,7 @@ abbrev pub HasNoStop : List ℕ → Type 0
 HasNoStop [] = Unit {0}
 HasNoStop (b ∷ text) = (b ≢ 46) × HasNoStop text
 
--- the text of a part: no full stop, and it begins with something other than an a
+-- the signature of a component: it contains no full stop, and does not begin with an a
 pub record IsPlain (text : List ℕ) : Type 0 where
   pub no_stop : HasNoStop text
   pub head : ℕ
@@ -45,7 +46,7 @@ no_stop_in : (vs : List ℕ) → HasNoStop (map character vs)
 no_stop_in [] = tt
 no_stop_in (v ∷ vs) = (no_stop_at v, no_stop_in vs)
 
--- from 1 to 63 no value is an a
+-- no value from 1 to 63 is written as an a
 later_character : (v : ℕ) → 0 < v → v < 64 → character v ≢ 97
 later_character v some l = not_equal (character v) 97 (first_or (v == 0) (not (character v == 97)) (zero_no v some) (list_all-below (λ u. (u == 0) || not (character u == 97)) 64 refl v l))
   where
@@ -114,7 +115,7 @@ rest_same : (x y : ℕ) (xs ys : List ℕ) → x ∷ xs ≡ y ∷ ys → xs ≡ 
 unfolding tail_of
 rest_same x y xs ys e = ap tail_of e
 
--- what stands before the first full stop
+-- the text before the first full stop
 same_front : (s t more others : List ℕ) → HasNoStop s → HasNoStop t → s ++ 46 ∷ more ≡ t ++ 46 ∷ others → (s ≡ t) × (more ≡ others)
 same_front [] [] more others a b e = (refl, rest_same 46 46 more others e)
 same_front [] (y ∷ t) more others a b e = absurd (b.0 (sym (first_same 46 y more (t ++ 46 ∷ others) e)))
@@ -125,7 +126,7 @@ same_front (x ∷ s) (y ∷ t) more others a b e = let r = same_front s t more o
 no_nil : (x : ℕ) (xs : List ℕ) → [] ≡ x ∷ xs → ⊥
 no_nil x xs e = let z : 0 ≡ length (x ∷ xs) = ap length e in absurd (omega arith)
 
--- a text without a full stop is not one with it
+-- a text without a full stop is not one that has a full stop
 no_front : (s t more : List ℕ) → HasNoStop s → s ≡ t ++ 46 ∷ more → ⊥
 no_front [] [] more a e = no_nil 46 more e
 no_front [] (y ∷ t) more a e = no_nil y (t ++ 46 ∷ more) e

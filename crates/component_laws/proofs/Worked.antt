@@ -64,7 +64,7 @@ same_relabels = (same, record { images = IsPermutation-refl (0 ∷ []); perms = 
     permutes zero d l = refl
     permutes (suc k) d l = absurd (omega arith)
 
--- a table that it can be relabelled to is the same
+-- a table that is isomorphic to it is equal to it
 only_one : (new : List Row) → AreIsomorphic one new → new ≡ one
 only_one new r = ext_get_or [] new one r.2.same_length (λ k l. row_at k (subst (λ n. k < n) r.2.same_length l))
   where

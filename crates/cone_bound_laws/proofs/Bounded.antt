@@ -1,4 +1,5 @@
--- A minor is at most the product of the weights of its columns; free columns, in which each row has at most one 1 and one -1, count as 1.
+-- A minor is at most the product of the weights of its columns; free columns, in which each row has at most one 1 and
+-- one -1, count as 1.
 use Rattle.std.proofs.Common.{◌≡◌, ℕ, ◌+◌, ◌*◌, ◌≤◌, List, [], ◌∷◌, ◌++◌, ap, arith, sym, subst, refl, Bool, true, false, cond, ◌⊎◌, inl, inr, ◌∙◌}
 use Rattle.std.proofs.lemmas.Bool.{cases_eq}
 use Rattle.cone_definitions.specs.Rows.{Row}
@@ -11,7 +12,7 @@ unfoldable pub GraphLike : List Column → List Row → Type 0
 GraphLike xs [] = Unit {0}
 GraphLike xs (row ∷ rows) = (total (free_plus row) xs ≤ 1) × (total (free_minus row) xs ≤ 1) × GraphLike xs rows
 
--- no more of each row than other columns have
+-- columns that have at most as much of each row as others
 pub fewer : (rows : List Row) (xs ys : List Column) → ((row : Row) → total (free_plus row) ys ≤ total (free_plus row) xs) → ((row : Row) → total (free_minus row) ys ≤ total (free_minus row) xs) →
     GraphLike xs rows → GraphLike ys rows
 unfolding GraphLike
@@ -68,7 +69,7 @@ is_free a b = refl
 
 -- ---- the cases
 
--- p and m are 0 or 1
+-- the numbers p and m are 0 or 1
 once_within : (p m x y b : ℕ) → p ≤ 1 → m ≤ 1 → IsWithin b x y → IsWithin b (p * x + m * y) (p * y + m * x)
 once_within p m x y b hp hm h = elim (cases_eq p 0) [
   | inl zp ↦ elim (cases_eq m 0) [
@@ -94,21 +95,21 @@ abbrev Bound : List Row → Type 0
 Bound rows = (xs : List Column) → GraphLike xs rows → At (product rows xs) rows xs
 
 module _ (row : Row) (rows : List Row) (bound : Bound rows) where
-  -- at a free column, other forms behind it
+  -- the minors of columns with one or two free columns before them
   behind_free : (a : Column) → a.free ≡ true → (xs : List Column) → GraphLike (a ∷ xs) rows → At (product rows xs) rows (a ∷ xs)
   behind_free a fa xs h = subst (λ n. At n rows (a ∷ xs)) (free_product rows a xs fa) (bound (a ∷ xs) h)
 
   behind_two : (a b : Column) → a.free ≡ true → b.free ≡ true → (xs : List Column) → GraphLike (a ∷ b ∷ xs) rows → At (product rows xs) rows (a ∷ b ∷ xs)
   behind_two a b fa fb xs h = subst (λ n. At n rows (a ∷ b ∷ xs)) (free_product rows a (b ∷ xs) fa ∙ free_product rows b xs fb) (bound (a ∷ b ∷ xs) h)
 
-  -- no free column has anything of the row
+  -- the row is 0 in each free column
   none_owns : (xs : List Column) → GraphLike xs rows → IsIdle row xs → At (product (row ∷ rows) xs) (row ∷ rows) xs
   unfolding minor
   none_owns xs h idle = let s : IsWithin (1 * spread row rows xs) (cut row (minor rows).up (minor rows).down xs) (cut row (minor rows).down (minor rows).up xs) =
       spread_bounds xs row rows 1 (minor rows).up (minor rows).down idle (λ ys sub. one_times (product rows ys) ((minor rows).up ys) ((minor rows).down ys) (bound ys (GraphLike-sub rows xs ys sub h))) in
       record { above = omega (arith, s.above, product_more row rows xs); below = omega (arith, s.below, product_more row rows xs) }
 
-  -- the one column at the front
+  -- the first column is the only free one that is not 0 in the row
   one_owns : (a : Column) (xs : List Column) → a.free ≡ true → a.plus row ≤ 1 → a.minus row ≤ 1 → GraphLike (a ∷ xs) rows → IsIdle row xs → At (product (row ∷ rows) xs) (row ∷ rows) (a ∷ xs)
   unfolding minor cut
   one_owns a xs fa p m h idle =
@@ -126,7 +127,7 @@ module _ (row : Row) (rows : List Row) (bound : Bound rows) where
   both_like a b xs fa fb h = fewer rows (a ∷ b ∷ xs) (both a b ∷ xs)
       (λ r. omega (arith, plus_of r a fa, plus_of r b fb)) (λ r. omega (arith, minus_of r a fa, minus_of r b fb)) h
 
-  -- 1 in the first column and -1 in the second: they are joined
+  -- the row is 1 in the first column and -1 in the second: their sum replaces them
   two_own : (a b : Column) (xs : List Column) → a.free ≡ true → b.free ≡ true → a.plus row ≡ 1 → a.minus row ≡ 0 → b.plus row ≡ 0 → b.minus row ≡ 1 →
       GraphLike (a ∷ b ∷ xs) rows → IsIdle row xs → At (product (row ∷ rows) xs) (row ∷ rows) (a ∷ b ∷ xs)
   unfolding minor cut
@@ -142,7 +143,7 @@ module _ (row : Row) (rows : List Row) (bound : Bound rows) where
         below = rw (pa, ma, pb, mb) (omega (arith, s.below, joined.above, joined.below, e, product_more row rows xs));
       }
 
--- ---- the columns found and brought to the front
+-- ---- these columns are found and moved to the front
 
 rest_is_zero : (g : Column → ℕ) (before : List Column) (c : Column) (after : List Column) → 1 ≤ g c → total g (before ++ c ∷ after) ≤ 1 → total g (before ++ after) ≡ 0
 rest_is_zero g before c after some most = omega (arith, total-inside g before c after)
@@ -206,7 +207,7 @@ module _ (row : Row) (rows : List Row) (bound : Bound rows) where
   abbrev Goal : List Column → Type 0
   Goal xs = At (product (row ∷ rows) xs) (row ∷ rows) xs
 
-  -- only a -1
+  -- a -1 alone
   found_minus : (xs : List Column) → Owner (free_minus row) xs → total (free_plus row) xs ≡ 0 → GraphLike xs (row ∷ rows) → Goal xs
   found_minus xs o z h = subst (λ ys. total (free_plus row) ys ≡ 0 → GraphLike ys (row ∷ rows) → Goal ys) o.is (inside o.before o.column o.after o.some) z h
     where

@@ -11,7 +11,7 @@ use Rattle.cone_bound_laws.proofs.Forms.{Column, behind, cut}
 use Rattle.cone_bound_laws.proofs.Minors.{IsWithin}
 use Rattle.cone_bound_laws.proofs.Weights.{Sub, skip, keep, all_of, flip}
 
--- a column of the rows: what they have at its unit vector
+-- a column of the rows: their values at its unit vector
 unfoldable pub column_of : ℕ → (ℕ → Bool) → ℕ → Column
 column_of columns free j = record { plus = λ row. plus_part row (unit columns j); minus = λ row. minus_part row (unit columns j); free = free j }
 
@@ -47,7 +47,7 @@ module _ (columns : ℕ) where
   unfolding built
   entry-built ts i = entry_everywhere columns (at ts) (at_past ts) i
 
-  -- what a linear number gives for it
+  -- the value of a linear function at it
   unfoldable pub sum_of_units : (List ℕ → ℕ) → List (ℕ × ℕ) → ℕ
   sum_of_units f [] = 0
   sum_of_units f (t ∷ ts) = t.0 * f (unit columns t.1) + sum_of_units f ts

@@ -1,4 +1,4 @@
--- The columns of a solution's whole support have no minor but 0 of rows that are 0 at it.
+-- The columns of a solution's whole support have minor 0 in rows that are 0 at the solution.
 use Rattle.std.proofs.Common.{◌≡◌, ◌≢◌, ℕ, ◌+◌, ◌*◌, ◌<◌, inl, inr, List, [], ◌∷◌, ◌++◌, map, length, slice_index, Bool, ap, sym, subst, refl, arith, append_assoc, ◌∙◌}
 use Rattle.std.specs.List.{AllByRecursion}
 use Rattle.std.proofs.lemmas.Bool.{cases_eq, cases_lt}
@@ -44,7 +44,7 @@ module _ (columns : ℕ) (free : ℕ → Bool) (x : List ℕ) (width : length x 
       same j js l a = let z : slice_index (unit columns j) j ≡ 1 = entry-unit_same columns j l in
           let f : slice_index x j * slice_index (unit columns j) j ≡ slice_index x j = rw z (omega arith) in omega (arith, f, at_apart j js a)
 
-  -- columns off which it is 0 make it up
+  -- if the vector is 0 off the columns, it is the sum of its multiples of their unit vectors
   x_is : (js : List ℕ) → Distinct js → ((i : ℕ) → Apart i js → slice_index x i ≡ 0) → x ≡ built columns (weights js)
   x_is js d h = same_vectors x (built columns (weights js)) (width ∙ sym (length-built columns (weights js))) (λ i. elim (cases_lt i columns) [
     | inl l ↦ sym (entry-built columns (weights js) i ∙ at_is i js l d (h i))
@@ -70,7 +70,7 @@ module _ (columns : ℕ) (free : ℕ → Bool) (x : List ℕ) (width : length x 
     related js e rows h.1,
   )
 
-  -- a column that stands behind as well
+  -- a column that occurs again further on
   fronts_repeat : (rows : List Row) (js : List ℕ) (before xs : List Column) → before ++ columns_of columns free js ≡ xs → in_front (minor rows).up (fronts js) xs ≡ in_front (minor rows).down (fronts js) xs
   unfolding in_front fronts
   fronts_repeat rows [] before xs e = refl

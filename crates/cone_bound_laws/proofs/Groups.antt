@@ -1,4 +1,5 @@
--- The caps of columns in groups, of which no two of the list share one, have no greater product than those of all groups.
+-- If no two columns of a list that are not free are in the same group, the product of the caps of their groups is at
+-- most that of all groups.
 use Rattle.std.proofs.Common.{◌≡◌, ◌≢◌, ℕ, zero, suc, ◌*◌, ◌<◌, ◌≤◌, inl, inr, List, [], ◌∷◌, Bool, true, false, cond, sym, subst, arith, ap, ap₂, refl, true≢false, ◌∙◌, mul-le-mul, mul-le-mul_left}
 use Rattle.std.specs.Prelude.{◌==◌}
 use Rattle.cone_bound_laws.specs.Caps.{caps_product}
@@ -17,7 +18,7 @@ unfoldable pub GroupsBelow : (ℕ → Bool) → (ℕ → ℕ) → ℕ → List �
 GroupsBelow free group n [] = Unit {0}
 GroupsBelow free group n (j ∷ js) = (free j ≡ false → group j < n) × GroupsBelow free group n js
 
--- the product of the caps of those that are not free
+-- the product of the caps of the columns that are not free
 unfoldable pub bound_product : (ℕ → Bool) → (ℕ → ℕ) → (ℕ → ℕ) → List ℕ → ℕ
 bound_product free group cap [] = 1
 bound_product free group cap (j ∷ js) = cond (free j) 1 (cap (group j)) * bound_product free group cap js

@@ -1,4 +1,4 @@
--- What the certificate says of lists of columns.
+-- What the certificate implies for lists of columns.
 use Rattle.std.proofs.Common.{◌≡◌, ℕ, ◌+◌, ◌*◌, ◌<◌, ◌≤◌, inl, inr, List, [], ◌∷◌, All, ℤ, slice_index, Bool, true, false, cond, sym, subst, arith, ap, refl, sum_by, mul-le-mul}
 use Rattle.std.specs.Prelude.{◌==◌}
 use Rattle.std.proofs.lemmas.Bool.{cases_eq, cases_Bool, eq-eqb, ne_eqb}
@@ -46,7 +46,7 @@ module _ (columns : ℕ) where
   weight_is free j l [] = refl
   weight_is free j l (row ∷ rows) = omega (arith, parts_at_unit j l row, sum_by-cons (row_weight j) row rows, weight_is free j l rows)
 
-  -- ---- what a row has in the free columns of a list
+  -- ---- the entries of a row in the free columns of a list
 
   -- k times the entries at column t of the unit vectors of the free columns
   single : (ℕ → Bool) → ℕ → ℕ → List ℕ → ℕ

@@ -3,12 +3,12 @@ use Rattle.std.proofs.Common.{◌≡◌, ℕ, ◌+◌, ◌*◌, ◌≤◌, List,
 use Rattle.cone_definitions.specs.Rows.{Row}
 use Rattle.cone_bound_laws.proofs.Forms.{Column, behind, both, cut, mixed_cut, zero_cut, cuts_exchanged, cut_twice}
 
--- two functions on lists of columns, which stand for their difference
+-- two functions on lists of columns, which represent their difference
 pub record Form : Type 0 where
   pub up : List Column → ℕ
   pub down : List Column → ℕ
 
--- 1 at no columns, and 0 at others
+-- 1 for no columns, and 0 for others
 unfoldable pub one : List Column → ℕ
 one [] = 1
 one (c ∷ rest) = 0
@@ -20,7 +20,7 @@ unfoldable pub minor : List Row → Form
 minor [] = record { up = one; down = none }
 minor (row ∷ rows) = record { up = cut row (minor rows).up (minor rows).down; down = cut row (minor rows).down (minor rows).up }
 
--- ---- a row that stands twice
+-- ---- a row that occurs twice
 
 pub repeated_row : (before : List Row) (row : Row) (after : List Row) (xs : List Column) →
     (minor (row ∷ before ++ row ∷ after)).up xs ≡ (minor (row ∷ before ++ row ∷ after)).down xs
@@ -35,7 +35,7 @@ repeated_row (other ∷ before) row after xs =
 
 -- ---- two columns exchanged
 
--- the sign changes where two neighbours are exchanged
+-- the sign changes if two neighbours are exchanged
 abbrev pub Swaps : (List Column → ℕ) → (List Column → ℕ) → Type 0
 Swaps f f_down = (before : List Column) (c d : Column) (after : List Column) →
     f (before ++ c ∷ d ∷ after) + f (before ++ d ∷ c ∷ after) ≡ f_down (before ++ c ∷ d ∷ after) + f_down (before ++ d ∷ c ∷ after)
@@ -43,7 +43,7 @@ Swaps f f_down = (before : List Column) (c d : Column) (after : List Column) →
 pub Swaps-behind : (f f_down : List Column → ℕ) (c : Column) → Swaps f f_down → Swaps (behind c f) (behind c f_down)
 Swaps-behind f f_down c h before d e after = h (c ∷ before) d e after
 
--- two forms that add up to 0 have cuts that do
+-- if two forms add up to 0, so do their cuts
 opposite_cuts : (row : Row) (f f_down g g_down : List Column → ℕ) → ((xs : List Column) → f xs + g xs ≡ f_down xs + g_down xs) →
     (xs : List Column) → cut row f f_down xs + cut row g g_down xs ≡ cut row f_down f xs + cut row g_down g xs
 opposite_cuts row f f_down g g_down e xs = omega (
@@ -72,7 +72,7 @@ minor_swaps [] [] c d after = omega arith
 minor_swaps [] (a ∷ before) c d after = omega arith
 minor_swaps (row ∷ rows) before c d after = cut_swaps before row (minor rows).up (minor rows).down (minor_swaps rows) c d after
 
--- ---- a column that stands twice
+-- ---- a column that occurs twice
 
 pub repeated_column : (between : List Column) (f f_down : List Column → ℕ) → Swaps f f_down → (c : Column) (after : List Column) →
     f (c ∷ between ++ c ∷ after) ≡ f_down (c ∷ between ++ c ∷ after)
@@ -88,7 +88,7 @@ pub record IsWithin (b x y : ℕ) : Type 0 where
   pub above : x ≤ y + b
   pub below : y ≤ x + b
 
--- a column is brought to the front
+-- a column is moved to the front
 pub from_front : (before : List Column) (f f_down : List Column → ℕ) → Swaps f f_down → (b : ℕ) (c : Column) (after : List Column) →
     IsWithin b (f (c ∷ before ++ after)) (f_down (c ∷ before ++ after)) → IsWithin b (f (before ++ c ∷ after)) (f_down (before ++ c ∷ after))
 from_front [] f f_down h b c after w = w

@@ -1,4 +1,5 @@
--- A signed solution inside the support of a primitive extreme one is a multiple of it, so none of the ray's entries is greater.
+-- A signed solution inside the support of a primitive extreme ray is a multiple of it, so none of the ray's entries is
+-- greater in magnitude.
 use Rattle.std.proofs.Common.{◌≡◌, ◌≢◌, ℕ, ◌+◌, ◌*◌, ◌≤◌, inl, inr, List, length, slice_index, All, ap, sym, arith, ◌∙◌, mul-le-mul_left}
 use Rattle.std.proofs.lemmas.Bool.{cases_order}
 use Rattle.cone_definitions.specs.Vectors.{IsInside}

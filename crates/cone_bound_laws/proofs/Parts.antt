@@ -1,4 +1,4 @@
--- Rows parted into those that are taken and those that are left.
+-- Rows divided into those that are taken and those that are left.
 use Rattle.std.proofs.Common.{◌≡◌, ◌≢◌, ℕ, ◌+◌, ◌≤◌, ◌⊎◌, inl, inr, List, [], ◌∷◌, ◌++◌, ap, subst, refl, arith, append_assoc}
 use Rattle.std.specs.List.{AllByRecursion}
 use Rattle.std.proofs.lemmas.Bool.{cases_eq}
@@ -56,7 +56,7 @@ GraphLike-taken rows taken left xs h g = back taken (h.each (λ row. (total (fre
     back [] k = tt
     back (r ∷ rs) k = (k.0.0, k.0.1, back rs k.1)
 
--- ---- the rows that are taken have no minor of one column more
+-- ---- with one of the taken rows added again, the minors are 0
 
 repeats_from : (before rows : List Row) (xs : List Column) → AllByRecursion (λ row. (minor (row ∷ before ++ rows)).up xs ≡ (minor (row ∷ before ++ rows)).down xs) rows
 repeats_from before [] xs = tt

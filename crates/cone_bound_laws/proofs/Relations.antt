@@ -1,10 +1,11 @@
--- Where multiples of columns add up to 0 in each row, so do the multiples of minors with each of them in front.
+-- If multiples of columns add up to 0 in each row, so do the same multiples of the minors with each of these columns at
+-- the front.
 use Rattle.std.proofs.Common.{◌≡◌, ℕ, ◌+◌, ◌*◌, List, [], ◌∷◌, ap, arith, sym, refl, ◌∙◌}
 use Rattle.cone_definitions.specs.Rows.{Row}
 use Rattle.cone_bound_laws.proofs.Forms.{Column, behind, cut, zero_cut}
 use Rattle.cone_bound_laws.proofs.Minors.{minor, one}
 
--- the cut of a sum
+-- the cut of a linear combination
 cut_sum : (row : Row) (k : ℕ) (f f_down g g_down : List Column → ℕ) (xs : List Column) →
     cut row (λ ys. k * f ys + g ys) (λ ys. k * f_down ys + g_down ys) xs ≡ k * cut row f f_down xs + cut row g g_down xs
 unfolding cut
@@ -26,7 +27,7 @@ unfoldable pub minus_sum : Row → List (ℕ × Column) → ℕ
 minus_sum row [] = 0
 minus_sum row (t ∷ ts) = t.0 * t.1.minus row + minus_sum row ts
 
--- the form with each of them in front
+-- the sum of the multiples of the form, with each of the columns at the front
 unfoldable pub in_front : (List Column → ℕ) → List (ℕ × Column) → List Column → ℕ
 in_front f [] xs = 0
 in_front f (t ∷ ts) xs = t.0 * f (t.1 ∷ xs) + in_front f ts xs

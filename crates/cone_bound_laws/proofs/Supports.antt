@@ -45,7 +45,7 @@ support_below (suc n) x = let s = support_below n x in elim (cases_eq (slice_ind
   }
 ]
 
--- each is apart from others
+-- each differs from all others
 abbrev EachApart : List ℕ → List ℕ → Type 0
 EachApart js done = AllByRecursion (λ j. Apart j done) js
 

@@ -1,5 +1,5 @@
--- The columns of a ray's support are taken one by one, each with a row that gives a minor other than 0, until no row does: then the minors are a
--- multiple of the ray.
+-- The columns of a ray's support are added one by one, each with a row for which the minor is not 0, until there is no
+-- such row: then the minors are a multiple of the ray.
 use Rattle.std.proofs.Common.{◌≡◌, ◌≢◌, ℕ, ◌≤◌, ◌<◌, inl, inr, List, [], ◌∷◌, ◌++◌, slice_index, Bool, sym, subst, arith, ◌∙◌}
 use Rattle.std.specs.List.{AllByRecursion}
 use Rattle.std.proofs.lemmas.Bool.{cases_lt}
@@ -15,12 +15,12 @@ use Rattle.cone_bound_laws.proofs.Multiples.{entries_at_most}
 use Rattle.cone_bound_laws.proofs.Parts.{every_mapped, Parts, one_taken, repeats, search_row}
 use Rattle.cone_bound_laws.proofs.Ends.{OfSupport, no_whole_minor}
 
--- columns still to be taken, each apart from those that are
+-- columns still to be added, which differ from each other and from those that are done
 unfoldable pub Fresh : List ℕ → List ℕ → Type 0
 Fresh [] done = Unit {0}
 Fresh (c ∷ rest) done = Apart c done × Fresh rest (c ∷ done)
 
--- a column at which the vector is 0 is none of its support
+-- a column at which the vector is 0 is not in its support
 apart_from_support : (x : List ℕ) (j : ℕ) (js : List ℕ) → slice_index x j ≡ 0 → OfSupport x js → Apart j js
 apart_from_support x j [] z h = tt
 apart_from_support x j (i ∷ js) z h = (λ e. h.0 (subst (λ k. slice_index x k ≡ 0) e z), apart_from_support x j js z h.1)
@@ -39,7 +39,7 @@ module _ (columns : ℕ) (free : ℕ → Bool) (rows : List Row) (x : List ℕ) 
   zeros : AllByRecursion (λ row. IsZeroAt row x) rows
   zeros = recursion_from_All (λ row. IsZeroAt row x) rows hx.extreme.solution.zero
 
-  -- no row gives a minor with one column more: the minors are a multiple of the ray
+  -- if no row gives a nonzero minor with one more column, the minors are a multiple of the ray
   ended : (c : ℕ) (done : List ℕ) (taken left : List Row) → Parts rows taken left → (minor taken).up (columns_of columns free done) ≢ (minor taken).down (columns_of columns free done) →
       Distinct (c ∷ done) → OfSupport x (c ∷ done) →
       AllByRecursion (λ row. cut row (minor taken).up (minor taken).down (columns_of columns free (c ∷ done)) ≡ cut row (minor taken).down (minor taken).up (columns_of columns free (c ∷ done))) left →

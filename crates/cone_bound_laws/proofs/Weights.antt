@@ -1,4 +1,4 @@
--- The weights of columns over rows, their products, and what one cut more adds.
+-- The weights of columns over rows, their products, and what one more cut adds.
 use Rattle.std.proofs.Common.{◌≡◌, ℕ, ◌+◌, ◌*◌, ◌≤◌, List, [], ◌∷◌, ◌++◌, ap, arith, subst, refl, Bool, true, false, cond, mul-le-mul_left}
 use Rattle.cone_definitions.specs.Rows.{Row}
 use Rattle.cone_bound_laws.proofs.Forms.{Column, behind, cut}
@@ -17,11 +17,11 @@ unfoldable pub product : List Row → List Column → ℕ
 product rows [] = 1
 product rows (c ∷ xs) = factor rows c * product rows xs
 
--- what one row has in a column that is not free
+-- the magnitude of a row in a column that is not free, and 0 in a free one
 abbrev pub share : Row → Column → ℕ
 share row c = cond c.free 0 (c.plus row + c.minus row)
 
--- each column in turn replaced by its share
+-- the sum of the products in which one column's factor is replaced by its share
 unfoldable pub spread : Row → List Row → List Column → ℕ
 spread row rows [] = 0
 spread row rows (c ∷ xs) = share row c * product rows xs + factor rows c * spread row rows xs
@@ -37,7 +37,7 @@ factor_more row rows c = by c.free
 more_of_product : (s f p q r : ℕ) → p + q ≤ r → f * p + (s * p + f * q) ≤ (s + f) * r
 more_of_product s f p q r h = omega (arith, mul-le-mul_left (s + f) h)
 
--- one row more makes the product greater by the spread at least
+-- one more row increases the product by at least the spread
 pub product_more : (row : Row) (rows : List Row) (xs : List Column) → product rows xs + spread row rows xs ≤ product (row ∷ rows) xs
 unfolding product spread
 product_more row rows [] = omega arith
@@ -84,14 +84,14 @@ unfolding total
 total-inside g [] c after = omega arith
 total-inside g (d ∷ before) c after = omega (arith, total-inside g before c after)
 
--- what a row has in the free columns
+-- the parts of a row in the free columns
 abbrev pub free_plus : Row → Column → ℕ
 free_plus row c = cond c.free (c.plus row) 0
 
 abbrev pub free_minus : Row → Column → ℕ
 free_minus row c = cond c.free (c.minus row) 0
 
--- ---- a cut where the free columns have nothing of the row
+-- ---- a cut by a row that is 0 in the free columns
 
 abbrev pub IsIdle : Row → List Column → Type 0
 IsIdle row xs = (total (free_plus row) xs ≡ 0) × (total (free_minus row) xs ≡ 0)

@@ -1,4 +1,4 @@
--- How a loop reads the rows of a cone: what is read so far, before what a reader gives of the rest.
+-- How a loop reads the rows of a cone: the values so far, before those of the rest.
 use Rattle.std.proofs.Common.{ap₂, ◌≡◌, ℕ, zero, suc, ℤ, pos, negsuc, ◌+◌, ◌-◌, ◌<◌, ◌≤◌, true, false, cond, Bool, not, filter, List, [], ◌∷◌, ◌++◌, map, refl, sym, ap, ◌∙◌, subst, append_assoc, append-nil, arith, Option, Some, None, Result, Ok, Err, replicate}
 use Rattle.std.specs.Prelude.{nat_lt, unsigned_abs, codes}
 use Rattle.std.specs.List.{enumerate_from}
@@ -39,7 +39,7 @@ signed_abs true zero = refl
 signed_abs true (suc n) = refl
 signed_abs false n = refl
 
--- and so is a signed number's magnitude
+-- the magnitude of a signed number is within the limit
 pub signed_at-within : (max : ℕ) (c : Reading) (x : ℤ × Reading) → signed_at max c ≡ Ok x → unsigned_abs x.0 ≤ max
 unfolding signed_at
 signed_at-within max c x e =

@@ -17,7 +17,7 @@ best_one beats xs d n p q h k = elim (cases_order p q) [
   | inr (inr more) ↦ absurd (false≢true (sym (k.1 p d h.0) ∙ h.2 q d more))
 ]
 
--- the position that an order names is one
+-- the position that an order names is unique
 named_one : (order : Order) (system : System) (left : List ℕ) (p q : ℕ) → order ≢ Free → IsNamed order system left p → IsNamed order system left q → p ≡ q
 named_one Given system left p q some h k = best_one (prefers Given system) left 0 (length left) p q h k
 named_one Short system left p q some h k = best_one (prefers Short system) left 0 (length left) p q h k

@@ -36,7 +36,7 @@ large_longer limit columns rows pairs n k named less within h = record {
 pub length-in_order : (rows : List Row) (taken : List ℕ) → length (in_order rows taken) ≡ length taken
 length-in_order rows taken = length-map taken (λ k. slice_index_or rows k [])
 
--- what is named is named in a longer list of rows that the order names
+-- what exceeds the limit in the rows that an order names exceeds it in a longer list of them
 large_in_longer : (e : Enumeration) (taken others : List ℕ) (one : Named) → e.order ≢ Free → (h : IsPastLimit e taken one) → AreNamed e.order e.system others →
     length taken ≤ length others → IsLarge e.limit e.system.columns (in_order e.system.rows others) e.pairs h.step one
 large_in_longer e taken others one some h named less =
@@ -66,7 +66,7 @@ one_past e taken others one other some h g = ⊎_elim
     (λ more. let both = one_of_longer e others taken other one some g h more in (sym both.0, sym both.1))
     (cases_lt (length taken) (length others))
 
--- no row is left where all are taken
+-- no row is left if all are taken
 none_left : (e : Enumeration) (all taken : List ℕ) (list : List (List ℕ)) → e.order ≢ Free → IsListed e all list → AreNamed e.order e.system taken →
     length all < length taken → ⊥
 none_left e all taken list some r named less =
@@ -79,7 +79,7 @@ none_left e all taken list some r named less =
     m.1 (subst (λ (xs : List ℕ). Contains xs z) same
     (Contains-permutation (range_with_len 0 (length e.system.rows)) all z r.all (z, omega arith, get_or-range_with_len 0 (length e.system.rows) z z below ∙ zero-add z)))
 
--- what is listed does not exceed the limit
+-- if the enumeration has a list, nothing exceeds the limit
 pub none_past : (e : Enumeration) (all taken : List ℕ) (list : List (List ℕ)) (kind : Named) → e.order ≢ Free → IsListed e all list → ¬ IsPastLimit e taken kind
 none_past e all taken list kind some r h = ⊎_elim
     (λ less. none_left e all taken list some r h.named less)

@@ -1,4 +1,4 @@
--- What follows for a step from the vertex surfaces of the rows before in any order, place by place.
+-- What the vertex surfaces of the rows before, in any order, say of a step, index by index.
 use Rattle.std.proofs.Common.{◌≡◌, ℕ, ◌<◌, ◌⊎◌, inl, inr, List, [], length, get_or, subst, sym, ap, ◌∙◌}
 use Rattle.std.proofs.lemmas.List.{get_or_default}
 use Rattle.basic_lemmas.proofs.Lists.{one_place}
@@ -9,7 +9,7 @@ use Rattle.cone_definitions.specs.Elimination.{Step, IsRay, IsPair}
 use Rattle.cone_definitions.proofs.Lexicographic.{before_irreflexive}
 use Rattle.cone_definitions.specs.Unordered.{HasSurfaces}
 
--- an ascending list is one
+-- an ascending list is such a list
 pub without_order : (columns : ℕ) (rows : List Row) (pairs : List Clash) (rays : List (List ℕ)) → IsSurfaceList columns rows pairs rays → HasSurfaces columns rows pairs rays
 without_order columns rows pairs rays h = record {
   apart = λ i j d less within same. before_irreflexive (get_or rays i d) (subst (IsBefore (get_or rays i d)) (sym same) (h.ascending i j d less within));
@@ -21,11 +21,11 @@ module _ (step : Step) (rays : List (List ℕ)) (h : HasSurfaces step.columns st
   pub place_of : (x : List ℕ) → IsRay step x → (k : ℕ) × (k < length rays) × (ray_at rays k ≡ x)
   place_of x r = let c = h.complete x r in (c.0, c.1, get_or_default rays c.0 [] x c.1 ∙ c.2)
 
-  -- a ray stands at one place
+  -- a ray is at one index
   pub place_is_one : (i k : ℕ) → i < length rays → k < length rays → ray_at rays k ≡ ray_at rays i → k ≡ i
   place_is_one i k i_in k_in same = one_place rays h.apart k i [] k_in i_in same
 
-  -- in the union of a pair at two places lies no ray of a third place
+  -- the union of a pair at two indices contains no ray at a third index
   pub pair_third_place : (i j : ℕ) → i < length rays → j < length rays → IsPair step (ray_at rays i) (ray_at rays j) →
       (k : ℕ) → k < length rays → IsInsideUnion (ray_at rays k) (ray_at rays i) (ray_at rays j) → (k ≡ i) ⊎ (k ≡ j)
   pair_third_place i j li lj p k lk inside = elim (p.no_third (ray_at rays k) (h.vertex_surfaces k [] lk) inside) [
@@ -33,7 +33,7 @@ module _ (step : Step) (rays : List (List ℕ)) (h : HasSurfaces step.columns st
     | inr e ↦ inr (place_is_one j k lj lk e)
   ]
 
-  -- and where none does, the two are a pair
+  -- if no third ray is in the union, the two are a pair
   pub pair_from_places : (i j : ℕ) → i < length rays → j < length rays → IsPositiveAt step.row (ray_at rays i) → IsNegativeAt step.row (ray_at rays j) →
       IsAdmissibleUnion step.pairs (ray_at rays i) (ray_at rays j) →
       ((k : ℕ) → k < length rays → IsInsideUnion (ray_at rays k) (ray_at rays i) (ray_at rays j) → (k ≡ i) ⊎ (k ≡ j)) → IsPair step (ray_at rays i) (ray_at rays j)

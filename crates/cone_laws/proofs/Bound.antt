@@ -39,7 +39,7 @@ sums_are c d k x some e = mul_cancel x (c + d) (k + k) (omega arith) (omega arit
 same_sums : (c d k x : ℕ) → c + d ≡ k + k → c * x + d * x ≡ k * (x + x)
 same_sums c d k x e = omega (arith, ap (λ n. n * x) e)
 
--- u and w are the same: a column of both
+-- if u and w are equal: a column of both
 settled_same : (u : List ℕ) (a : ℕ) → slice_index u a ≢ 0 → IsSettled u u a a
 unfolding IsSettled
 settled_same u a some c d k e f j = same_sums c d k (slice_index u j) (sums_are c d k (slice_index u a) some e)

@@ -131,7 +131,7 @@ module _ (columns : ℕ) (rows : List Row) (pairs : List Clash) (lists : ℕ →
   cuts_sharp : (k : ℕ) → is_flat (slice_index_or rows k []) (lists k) ≡ false → cuts_before rows lists (suc k) ≡ cuts_before rows lists k + 1
   cuts_sharp k e = omega (arith, count_next (λ i. not (is_flat (slice_index_or rows i []) (lists i))) k, ap (λ b. cond {A = ℕ} (not b) 1 0) e)
 
-  -- the list of a step, for the rows before and for as many rows as cut
+  -- the list of a step, for the rows before it and for the rows among them that cut
   abbrev HasLists : ℕ → Type 0
   HasLists k = IsSurfaceList columns (take k rows) pairs (lists k) × IsListOfFew columns pairs (cuts_before rows lists k) (lists k)
 

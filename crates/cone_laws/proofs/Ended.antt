@@ -13,7 +13,7 @@ use Rattle.cone_definitions.proofs.Existence.{surface_list_exists_lem, named_or_
 use Rattle.cone_definitions.proofs.PastLimit.{take_shorter, step_same, length-in_order}
 use Rattle.cone_laws.proofs.Taken.{some_rows_taken}
 
--- the first turns
+-- the first rows that an order names
 named_fewer : (order : Order) (system : System) (taken : List ℕ) (n : ℕ) → n ≤ length taken → AreNamed order system taken → AreNamed order system (take n taken)
 named_fewer order system taken n within h k l =
     let size : length (take n taken) ≡ n = length-take-le n taken within in

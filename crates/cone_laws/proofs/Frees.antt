@@ -1,4 +1,4 @@
--- Signed solutions of rows, one for each column but for at most one column a row.
+-- Signed solutions of rows, one for each column except for at most one column for each row.
 use Rattle.std.proofs.Common.{◌≡◌, ◌≢◌, ℕ, ◌+◌, ◌*◌, ◌<◌, ◌≤◌, ◌⊎◌, inl, inr, Bool, true, false, not, ◌&&◌, List, [], ◌∷◌, length, slice_index, slice_index_or, All, sym, ap, refl, ◌∙◌, arith, true≢false}
 use lib.Dec.{eqb}
 use Rattle.std.specs.List.{count_by, range_with_len}
@@ -12,7 +12,7 @@ use Rattle.cone_definitions.proofs.Units.{length-unit, entry-unit_same, entry-un
 use Rattle.cone_laws.proofs.Counts.{count_but_one}
 use Rattle.cone_laws.proofs.Mixed.{IsBalanced, more_at, mixed, mixed_balanced, mixed_keeps, length-mixed, entry-mixed, mixed_equal, mixed_apart}
 
--- each row is 0 at p - m, which is 0 at the columns that are not of the start
+-- each row is 0 at p - m, which is 0 at the columns outside `start`
 pub record IsDifference (columns : ℕ) (rows : List Row) (start : ℕ → Bool) (p m : List ℕ) : Type 0 where
   pub p_width : length p ≡ columns
   pub m_width : length m ≡ columns
@@ -119,7 +119,7 @@ module _ (columns : ℕ) (rows : List Row) (start : ℕ → Bool) (row : Row) wh
       other = F.other;
     }
 
-    -- or it is not at one, which is mixed into the others
+    -- the row is not 0 at one of them, which is mixed into the others
     module _ (q : ℕ) (q_free : F.free q ≡ true) (differ : more_of q ≢ less_of q) where
       new_p : ℕ → List ℕ
       new_p c = mixed columns (more_at row (F.p c) (F.m c)) (more_at row (F.m c) (F.p c)) (more_at row (F.p q) (F.m q)) (more_at row (F.m q) (F.p q)) (F.p c) (F.m c) (F.p q) (F.m q)

@@ -1,4 +1,4 @@
--- The rows that are left, one row on.
+-- The rows that are left after one more row is taken.
 use Rattle.std.proofs.Common.{◌≡◌, ◌≢◌, ℕ, ◌<◌, ⊎_elim, List, [], ◌∷◌, ◌++◌, Contains, length, get_or, zero-add, zero, suc, subst, subst₂, sym, ◌∙◌, arith}
 use Rattle.std.specs.List.{range_with_len, remove}
 use Rattle.std.specs.List.Sorted.{IsPermutation}
@@ -10,7 +10,7 @@ use Rattle.std.proofs.lemmas.List.Sorted.{IsPermutation-remove, IsPermutation-sy
 use Rattle.cone_definitions.specs.Orders.{AreLeft}
 use Rattle.cone_laws.proofs.DistinctLemmas.{apart_permutation}
 
--- with no row taken all rows are left
+-- if no row is taken, all rows are left
 pub left_none : (count : ℕ) → AreLeft count [] (range_with_len 0 count)
 left_none count = record {
   ascending = λ i j d less within. let n = length-range_with_len 0 count in
@@ -63,7 +63,7 @@ left_more count taken left position number h within is = record {
 pub taken_row : (count : ℕ) (taken left : List ℕ) (position number : ℕ) → AreLeft count taken left → position < length left → number ≡ get_or left position number → number < count
 taken_row count taken left position number h within value = ((h.members number).0 (subst (Contains left) (sym value) (Contains-get_or left position number within))).0
 
--- with no row left all are taken
+-- if no row is left, all are taken
 pub all_taken : (count : ℕ) (taken left : List ℕ) → length left ≡ 0 → IsPermutation (range_with_len 0 count) (taken ++ left) → IsPermutation (range_with_len 0 count) taken
 all_taken count taken [] none h = subst (IsPermutation (range_with_len 0 count)) (append-nil taken) h
 all_taken count taken (number ∷ left) none h = absurd (omega arith)

@@ -18,7 +18,7 @@ out_of_union : (u w : List ℕ) (j : ℕ) → is_in_union u w j ≡ false → (s
 out_of_union u w j h = let p = or_parts _ _ h in let a : slice_index u j ≤ 0 = ltb-false 0 (slice_index u j) p.0 in let b : slice_index w j ≤ 0 = ltb-false 0 (slice_index w j) p.1 in
     (omega arith, omega arith)
 
--- what a weight gives over a row that does not meet the union, at a vector inside it
+-- a weighted sum over a row that does not meet the union is 0 at a vector inside the union
 weight_zero : (weight : ℕ × ℤ → ℕ) (u w x : List ℕ) → IsInsideUnion x u w → (row : Row) → meets_union u w row ≡ false → sum_by (λ term. weight term * slice_index x term.0) row ≡ 0
 weight_zero weight u w x inside [] h = omega arith
 weight_zero weight u w x inside (term ∷ row) h = let p = or_parts _ _ h in let o = out_of_union u w term.0 p.0 in

@@ -1,4 +1,4 @@
--- The bound at the places of a surface list.
+-- The bound, by the indices of a surface list.
 use Rattle.std.proofs.Common.{◌≡◌, ◌≢◌, ℕ, ◌+◌, ◌<◌, ◌≤◌, ◌⊎◌, inl, inr, List, [], length, subst, sym, ap, ◌∙◌, arith}
 use Rattle.std.proofs.lemmas.Bool.{cases_eq}
 use Rattle.cone_definitions.specs.Vectors.{IsInsideUnion, ray_at}
@@ -17,7 +17,7 @@ use Rattle.cone_laws.proofs.Meeting.{meeting_bound}
 
 module _ (columns : ℕ) (rows : List Row) (pairs : List Clash) (rays : List (List ℕ)) (h : IsSurfaceList columns rows pairs rays)
     (i j : ℕ) (i_in : i < length rays) (j_in : j < length rays) (clear : IsAdmissibleUnion pairs (ray_at rays i) (ray_at rays j)) where
-  -- a step after these rows, whatever its row
+  -- a step after these rows, with any row
   step : Step
   step = record { columns = columns; pairs = pairs; before = rows; row = [] }
 
@@ -47,7 +47,8 @@ module _ (columns : ℕ) (rows : List Row) (pairs : List Clash) (rays : List (Li
     ]
   ]
 
-  -- a union past a bound that holds where there is no third solution
+  -- if a bound holds for a union without a third solution, and the union exceeds it, there is a third ray inside the
+  -- union
   third_past : (most : ℕ) → (HasNoThird columns rows (ray_at rays i) (ray_at rays j) → union_size columns (ray_at rays i) (ray_at rays j) ≤ most) →
       most < union_size columns (ray_at rays i) (ray_at rays j) → HasThirdPlace rays i j
   third_past most bound large = elim (all_or_one IsFirstOrSecond IsThird third_or_not (length rays)) [

@@ -1,4 +1,5 @@
--- With no third ray inside the union of two, each solution inside it has a positive multiple that is a sum of multiples of the two.
+-- If the union of two rays contains no third ray, each solution inside it has a positive multiple that is a sum of
+-- multiples of the two.
 use Rattle.std.proofs.Common.{◌≡◌, ℕ, zero, suc, ◌+◌, ◌*◌, ◌<◌, ◌≤◌, ◌⊎◌, inl, inr, List, slice_index, subst, ap, arith}
 use Rattle.std.proofs.lemmas.Bool.{cases_eq}
 use Rattle.cone_definitions.specs.Vectors.{IsInsideUnion}

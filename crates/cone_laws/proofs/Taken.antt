@@ -1,4 +1,4 @@
--- All rows can be taken, each as an order names it.
+-- All rows can be taken, one after another as an order names them.
 use Rattle.std.proofs.Common.{◌≡◌, ℕ, zero, suc, ◌<◌, ◌≤◌, ⊎_elim, inl, inr, List, [], ◌∷◌, ◌++◌, length, get_or, slice_index, sym, refl, subst₂, ◌∙◌, arith}
 use Rattle.std.specs.List.{range_with_len, remove, IsFirstBest}
 use Rattle.std.specs.List.Sorted.{IsPermutation}
@@ -18,14 +18,14 @@ first_best : (order : Order) (system : System) (left : List ℕ) → 0 < length 
 first_best order system [] l = absurd (omega arith)
 first_best order system (x ∷ xs) l = let b = IsFirstBest-from_best_of (prefers_order order system) x xs in (b.0, b.1)
 
--- where rows are left, one of them is named
+-- if rows are left, the order names one of them
 some_position : (order : Order) (system : System) (left : List ℕ) → 0 < length left → (p : ℕ) × (p < length left) × IsNamed order system left p
 some_position Given system left l = let b = first_best Given system left l in (b.0, b.1.0, b.1)
 some_position Short system left l = let b = first_best Short system left l in (b.0, b.1.0, b.1)
 some_position Zeros system left l = let b = first_best Zeros system left l in (b.0, b.1.0, b.1)
 some_position Free system left l = (0, l, l)
 
--- the turns so far and one more
+-- the rows named so far and one more
 pub named_more : (order : Order) (system : System) (taken : List ℕ) (number : ℕ) → AreNamed order system taken → IsNamedTurn order system taken number
     → AreNamed order system (taken ++ number ∷ [])
 named_more order system taken number h turn k less = ⊎_elim

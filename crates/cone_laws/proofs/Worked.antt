@@ -1,4 +1,4 @@
--- A pair with the most columns that one row lets a pair have, and two rays with one column more.
+-- A pair with the greatest number of columns that one row allows for a pair, and two rays with one more column.
 use Rattle.std.proofs.Common.{◌≡◌, ℕ, zero, suc, ◌+◌, ◌<◌, ◌≤◌, ◌⊎◌, inl, inr, [], ◌∷◌, refl, arith, lit<}
 use Rattle.cone_definitions.specs.Vectors.{IsInsideUnion, ray_at}
 use Rattle.cone_definitions.specs.Elimination.{step_at}

@@ -1,5 +1,5 @@
--- Forms over rows: a number for each choice of rows, as two parts that stand for their difference. A vector times a form, with signs that
--- alternate, takes one row more; a form contracted with a vector takes one less.
+-- Forms over rows: a number for each choice of rows, as two parts of which it is the difference. The product of a
+-- vector and a form, with alternating signs, takes one row more; a form contracted with a vector takes one row less.
 use Rattle.std.proofs.Common.{◌≡◌, ℕ, ◌+◌, ◌*◌, List, [], ◌∷◌, ap, ap₂, arith, sym, refl, ◌∙◌}
 
 -- a form: by the first row, the choices without it and those with it
@@ -29,7 +29,7 @@ module _ (R : Type 0) where
   none [] = leaf 0 0
   none (row ∷ rows) = fork (none rows) (none rows)
 
-  -- what products have of one sign
+  -- the part of the inner product in which the signs agree
   unfoldable pub dot : {rows : List R} → Form rows → Form rows → ℕ
   dot (leaf p m) (leaf q n) = p * q + m * n
   dot (fork x y) (fork z w) = dot x z + dot y w

@@ -1,4 +1,4 @@
--- What the certificate says of lists of columns.
+-- What the certificate implies for lists of columns.
 use Rattle.std.proofs.Common.{◌≡◌, ℕ, ◌+◌, ◌*◌, ◌<◌, ◌≤◌, List, [], ◌∷◌, Bool, false, sym, arith, ap₂, refl, ◌∙◌, mul-le-mul}
 use Rattle.std.proofs.lemmas.List.Sums.{sum_by-cons}
 use Rattle.cone_definitions.specs.Rows.{Row}
@@ -17,7 +17,7 @@ use Rattle.cone_square_laws.proofs.Minors.{vector, vectors}
 abbrev pub none_free : ℕ → Bool
 none_free = λ _. false
 
--- the column with the squares of what it has
+-- the column with the squares of its entries
 unfoldable pub squared : Column → Column
 squared c = record { plus = λ row. (c.plus row + c.minus row) * (c.plus row + c.minus row); minus = λ row. 0; free = false }
 

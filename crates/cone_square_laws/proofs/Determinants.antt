@@ -1,4 +1,4 @@
--- The product of a matrix's columns has the determinant as its number for all rows.
+-- The coefficient of the product of a matrix's columns for all rows is the determinant.
 use Rattle.std.proofs.Common.{◌≡◌, ℕ, ◌+◌, ◌*◌, ◌≤◌, List, [], ◌∷◌, map, ℤ, pos, negsuc, ◌+ℤ◌, ◌-ℤ◌, ◌*ℤ◌, unsigned_abs, ap, ap₂, arith, sym, refl, subst, ◌∙◌, sum_by}
 use Rattle.std.proofs.lemmas.Int.{ints}
 use borrow.Author.Differences.{up, down}
@@ -25,7 +25,7 @@ entry_times (negsuc n) f g a b c d h k = let e : a + down f ≡ up f + b = omega
     let i : (n + 1) * (a + down f) ≡ (n + 1) * (up f + b) = ap (λ j. (n + 1) * j) e in omega (arith, ints, i)
 
 module _ (row : MatrixRow) (rows : List MatrixRow) where
-  -- a linear number of the choices with the row is its expansion by the row
+  -- a linear function of the choices with the row is its expansion by the row
   linear_expansion : (n : Form rows → ℕ) → IsLinear rows n → (f : List ℕ → ℤ) →
       ((cs : List ℕ) → pos (n (wedges MatrixRow rows (all_columns cs))) ≡ f cs +ℤ pos (n (turned MatrixRow (wedges MatrixRow rows (all_columns cs))))) →
       (cs : List ℕ) → pos (n (with_row MatrixRow row rows (all_columns cs))) ≡ expansion row f cs +ℤ pos (n (turned MatrixRow (with_row MatrixRow row rows (all_columns cs))))
@@ -61,7 +61,7 @@ no_rows : (c : Vector MatrixRow) (x : Form []) → wedge MatrixRow c [] x ≡ le
 unfolding wedge
 no_rows c (leaf p m) = refl
 
--- the number for all rows
+-- the coefficient for all rows
 determinant_is : (rows : List MatrixRow) (cs : List ℕ) →
     pos (top MatrixRow (wedges MatrixRow rows (all_columns cs))) ≡ determinant rows cs +ℤ pos (top MatrixRow (turned MatrixRow (wedges MatrixRow rows (all_columns cs))))
 unfolding determinant top wedges unit turned

@@ -1,4 +1,4 @@
--- Linear numbers of forms, and the choices with the first row.
+-- Linear functions of forms, and the choices with the first row.
 use Rattle.std.proofs.Common.{◌≡◌, ℕ, ◌+◌, ◌*◌, List, [], ◌∷◌, ap, ap₂, arith, refl, ◌∙◌}
 use Rattle.cone_square_laws.proofs.Algebra.{Form, leaf, fork, Vector, turned, plus, times, none, mixed, wedge, turned-plus, turned-times}
 use Rattle.cone_square_laws.proofs.Products.{unit, wedges, top}
@@ -51,7 +51,7 @@ module _ (R : Type 0) where
   wedge-none c (row ∷ rows) = ap₂ (λ i j. fork i j) (wedge-none c rows)
       (ap (λ z. mixed R (c.plus row) (c.minus row) (none R rows) z) (ap (turned R) (wedge-none c rows) ∙ turned-none rows) ∙ mixed-none rows (c.plus row) (c.minus row))
 
-  -- ---- linear numbers
+  -- ---- linear functions
 
   pub linear_turned : (rows : List R) (f : Form rows → ℕ) → IsLinear rows f → IsLinear rows (λ x. f (turned R x))
   linear_turned rows f h = record {
@@ -90,7 +90,7 @@ module _ (R : Type 0) where
   unfolding mixed
   linear_mixed rows f h p m x z = omega (arith, h.adds (plus R (times R p x) (times R m (turned R x))) z, h.adds (times R p x) (times R m (turned R x)), h.scales p x, h.scales m (turned R x))
 
-  -- ---- products over one row more
+  -- ---- products over one more row
 
   -- the choices with this row
   unfoldable pub with_row : R → (rows : List R) → List (Vector R) → Form rows

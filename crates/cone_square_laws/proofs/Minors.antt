@@ -1,4 +1,5 @@
--- The product of columns has the minor of all rows as its number for them, so that the minor's square is at most the product of the columns' sums of squares.
+-- The coefficient of the product of columns for all rows is their minor, so the square of the minor is at most the
+-- product of the columns' sums of squares.
 use Rattle.std.proofs.Common.{◌≡◌, ℕ, zero, suc, ◌+◌, ◌-◌, ◌*◌, ◌≤◌, ◌<◌, List, [], ◌∷◌, map, inl, inr, ap, arith, sym, refl, subst, ◌∙◌, mul-le-mul}
 use Rattle.std.proofs.lemmas.Bool.{cases_lt}
 use Rattle.cone_definitions.specs.Rows.{Row}
@@ -8,7 +9,7 @@ use Rattle.cone_square_laws.proofs.Algebra.{Form, leaf, Vector, turned, wedge, w
 use Rattle.cone_square_laws.proofs.Products.{unit, wedges, top, squares_product, hadamard}
 use Rattle.cone_square_laws.proofs.Linear.{IsLinear, linear_next, linear_mixed, linear_top, linear_turned, with_row, row_more}
 
--- a column's numbers in the rows
+-- a column's entries in the rows
 abbrev pub vector : Column → Vector Row
 vector c = record { plus = c.plus; minus = c.minus }
 
@@ -16,7 +17,7 @@ abbrev pub vectors : List Column → List (Vector Row)
 vectors cs = map vector cs
 
 module _ (row : Row) (rows : List Row) where
-  -- a linear number of the choices with the row is its cut by the row
+  -- a linear function of the choices with the row is its cut by the row
   linear_cut : (n : Form rows → ℕ) → IsLinear rows n → (f g : List Column → ℕ) → ((cs : List Column) → n (wedges Row rows (vectors cs)) ≡ f cs) →
       ((cs : List Column) → n (turned Row (wedges Row rows (vectors cs))) ≡ g cs) → (cs : List Column) → n (with_row Row row rows (vectors cs)) ≡ cut row f g cs
   unfolding with_row cut wedges
@@ -38,7 +39,7 @@ no_rows : (c : Vector Row) (x : Form []) → wedge Row c [] x ≡ leaf 0 0
 unfolding wedge
 no_rows c (leaf p m) = refl
 
--- the numbers for all rows
+-- the coefficients for all rows
 pub record HasMinors (rows : List Row) : Type 0 where
   pub up : (cs : List Column) → top Row (wedges Row rows (vectors cs)) ≡ (minor rows).up cs
   pub down : (cs : List Column) → top Row (turned Row (wedges Row rows (vectors cs))) ≡ (minor rows).down cs
@@ -68,7 +69,7 @@ has_minors (row ∷ rows) = let h = has_minors rows in record {
     second : (cs : List Column) → top Row (turned Row (wedges Row (row ∷ rows) (vectors cs))) ≡ top Row (turned Row (with_row Row row rows (vectors cs)))
     second cs = ap (λ x. top Row (turned Row x)) (row_more Row row rows (vectors cs))
 
--- a difference whose square is at most s is at most b, where s is less than the square of b + 1
+-- if s is less than the square of b + 1, a difference whose square is at most s is at most b
 pub root_within : (b s x y : ℕ) → s < (b + 1) * (b + 1) → x * x + y * y ≤ 2 * (x * y) + s → IsWithin b x y
 root_within b s x y less h = record { above = one_side b s x y less h; below = one_side b s y x less (omega arith) }
   where

@@ -1,9 +1,10 @@
--- Vectors times one another: the square of the product's number for all rows is at most the product of the vectors' sums of squares.
+-- Products of vectors: the square of the product's coefficient for all rows is at most the product of the vectors' sums
+-- of squares.
 use Rattle.std.proofs.Common.{◌≡◌, ℕ, ◌+◌, ◌-◌, ◌*◌, ◌≤◌, inl, inr, List, [], ◌∷◌, arith, refl, subst, mul-le-mul}
 use Rattle.std.proofs.lemmas.Bool.{cases_lt}
 use Rattle.cone_square_laws.proofs.Algebra.{Form, leaf, fork, Vector, turned, none, dot, wedge, contracted, dot-none, square_sum, cross_sum, norms}
 
--- ---- plain numbers
+-- ---- natural numbers
 
 square_above : (p d : ℕ) → 2 * (p * (p + d)) ≤ p * p + (p + d) * (p + d)
 square_above p d = omega arith
@@ -14,12 +15,12 @@ two_squares p m = elim (cases_lt p m) [
   | inr l ↦ let e : m + (p - m) ≡ p = omega arith in let h : 2 * (p * m) ≤ p * p + m * m = subst (λ n. 2 * (n * m) ≤ n * n + m * m) e (let s = square_above m (p - m) in omega (arith, s)) in h
 ]
 
--- what is at most a, times what is at most q
+-- a product of one factor that is at most s and one that is at most q is at most s q
 norm_bounded : (n k a r s q c w v : ℕ) → n + v + ((c + a) * k + c * (k + r)) ≡ w + v + ((c + a) * (k + r) + c * k) → a ≤ s → r ≤ q → n ≤ w + s * q
 norm_bounded n k a r s q c w v e ha hr = omega (arith, e, mul-le-mul ha hr)
 
 module _ (R : Type 0) where
-  -- the sum of squares, each part taken as positive
+  -- the sum of squares, if both parts of each number are added
   unfoldable pub squares : Vector R → List R → ℕ
   squares c [] = 0
   squares c (row ∷ rows) = (c.plus row + c.minus row) * (c.plus row + c.minus row) + squares c rows
@@ -85,7 +86,7 @@ module _ (R : Type 0) where
   wedges_bounded rows [] = unit_bounded rows
   wedges_bounded rows (c ∷ cs) = wedge_bounded c rows (wedges rows cs) (squares_product rows cs) (wedges_bounded rows cs)
 
-  -- ---- the number for all rows
+  -- ---- the coefficient for all rows
 
   unfoldable pub top : {rows : List R} → Form rows → ℕ
   top (leaf p m) = p

@@ -1,4 +1,4 @@
--- The numbers of a step where no entry of a ray passes b.
+-- The numbers of a step, if no entry of a ray exceeds b.
 use Rattle.std.proofs.Common.{◌≡◌, ℕ, ◌+◌, ◌*◌, ◌/◌, ◌≤◌, List, [], ◌∷◌, ℤ, length, slice_index, sym, arith, ap, refl, ◌∙◌, sum_by, div-le_self, mul-le-mul_left, mul-le-mul_right, mul-le-mul}
 use Rattle.std.proofs.lemmas.List.Sums.{sum_by-cons}
 use Rattle.cone_definitions.specs.Vectors.{multiple}

@@ -13,7 +13,7 @@ map-same : (n a : ℕ) → map (λ (_ : ℕ). identity) (range_with_len a n) ≡
 map-same zero a = refl
 map-same (suc n) a = ap (λ ps. identity ∷ ps) (map-same n (a + 1))
 
--- the tetrahedron t goes to f t
+-- tetrahedron t maps to f t, and its vertices keep their numbers
 abbrev pub by_numbers : ℕ → (ℕ → ℕ) → Relabelling
 by_numbers n f = record { images = map f (below n); perms = replicate n identity }
 
@@ -24,7 +24,7 @@ plain_is_made : (n : ℕ) (f : ℕ → ℕ) → made n (stands_plain f) ≡ by_n
 unfolding made stands_plain
 plain_is_made n f = ap (λ ps. record { images = map f (below n); perms = ps }) (map-same n 0)
 
--- the gluing to the number that stands there
+-- the gluing to the image of its tetrahedron
 abbrev pub moved_to : (ℕ → ℕ) → Gluing → Gluing
 moved_to f g = record { tet = f g.tet; perm = g.perm }
 

@@ -64,7 +64,7 @@ above_below n t s l k = elim (cases_sheet s k) [
   | inr o ↦ subst (λ a. above n t a < 2 * n) (sym o) (let e : above n t 1 ≡ n + t = above_one n t in omega arith)
 ]
 
--- what lies over different tetrahedra or on different sheets differs
+-- tetrahedra of the cover over different tetrahedra, or on different sheets, are different
 pub above_apart : (n t u s r : ℕ) → t < n → u < n → s ≤ 1 → r ≤ 1 → above n t s ≡ above n u r → (t ≡ u) × (s ≡ r)
 above_apart n t u s r lt lu ls lr e = (sym (over_above n t s lt ls) ∙ ap (over n) e ∙ over_above n u r lu lr, sym (sheet_above n t s lt ls) ∙ ap (sheet n) e ∙ sheet_above n u r lu lr)
 
@@ -74,7 +74,7 @@ other_small s = omega arith
 pub other_other : (s : ℕ) → s ≤ 1 → other_sheet (other_sheet s) ≡ s
 other_other s l = omega arith
 
--- ---- sheets behind gluings
+-- ---- sheets across gluings
 
 pub behind_small : (g : Gluing) (s : ℕ) → s ≤ 1 → sheet_across g s ≤ 1
 behind_small g s l = by_parity (is_odd g.perm)
@@ -90,7 +90,7 @@ behind_other g s l = by_parity (is_odd g.perm)
     by_parity true = refl
     by_parity false = refl
 
--- the way back leads to the first sheet
+-- the inverse gluing returns to the first sheet
 pub behind_back : (g : Gluing) (t s : ℕ) → IsPermutationOfFour g.perm → s ≤ 1 → sheet_across (record { tet = t; perm = inverse g.perm }) (sheet_across g s) ≡ s
 behind_back g t s h l = ap (λ b. if b then sheet_across g s else other_sheet (sheet_across g s)) (is_odd-inverse g.perm h) ∙ by_parity (is_odd g.perm)
   where

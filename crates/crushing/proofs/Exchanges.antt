@@ -1,4 +1,4 @@
--- The exchange of two vertices is a permutation, image by image.
+-- The transposition of two vertices is a permutation, image by image.
 use Rattle.std.proofs.Common.{◌≡◌, ℕ, ◌<◌, List, subst, sym}
 use Rattle.table_definitions.specs.Permutation.{IsPermutationOfFour}
 use Rattle.surface_definitions.specs.Crushing.{exchange}

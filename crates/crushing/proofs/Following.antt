@@ -1,4 +1,4 @@
--- A crush chain that is followed: what is ahead of it, and where it ends.
+-- A crush chain that is followed: its further tetrahedra, and where it ends.
 use Rattle.std.proofs.Common.{◌≡◌, ℕ, zero, suc, ◌*◌, ◌<◌, ◌≤◌, Bool, true, false, not, List, length, Option, Some, None, option_map, IsTrue, refl, sym, ap, ◌∙◌, subst, subst₂, arith}
 use Rattle.std.specs.Prelude.{if◌then◌else◌}
 use Rattle.std.specs.List.{position_or_len}
@@ -30,7 +30,7 @@ ahead_is rows xs x (suc fuel) (suc n) None end l h = absurd h
 ahead_is rows xs x (suc fuel) (suc n) (Some g) end l h =
     ap (λ b. if b then suc (ahead fuel rows xs x (passed rows xs x g)) else 0) h.0 ∙ ap suc (ahead_is rows xs x fuel n (passed rows xs x g) end (omega arith) h.1)
 
--- the chain from x, which has come by o, has an end, and any chain from x has it
+-- the chain from x that has come by o has an end, and this is the end of each chain from x
 pub record IsFollowed (rows : List Row) (xs : List ℕ) (x : Face) (o : Option Gluing) : Type 0 where
   pub end : Option Gluing
   pub left : ℕ
@@ -40,7 +40,7 @@ pub record IsFollowed (rows : List Row) (xs : List ℕ) (x : Face) (o : Option G
   pub only : (other : Option Gluing) → CrushesTo rows xs x other → other ≡ end
   pub in_range : (g : Gluing) → o ≡ Some g → g.tet < length rows
 
--- what is ahead
+-- the number of further tetrahedra
 abbrev pub left_of : List Row → List ℕ → Face → Option Gluing → ℕ
 left_of rows xs x o = ahead (4 * length rows) rows xs x o
 
@@ -98,7 +98,7 @@ follow_steps rows xs x g table f gone = go f.left refl f.ends
         } in
         record { next = next; fewer = omega (arith, e, left_is rows xs x (Some g) f, left_is rows xs x (passed rows xs x g) next) }
 
--- a chain that has come to a tetrahedron that stays, or to no face, is at its end
+-- a chain that has reached a tetrahedron that stays, or a boundary face, is at its end
 pub ends_kept : (rows : List Row) (xs : List ℕ) (x : Face) (g : Gluing) (f : IsFollowed rows xs x (Some g)) → is_removed xs g.tet ≡ false → f.end ≡ Some g
 ends_kept rows xs x g f kept = go f.left f.ends
   where
@@ -113,7 +113,7 @@ ends_free rows xs x f = go f.left f.ends
     go zero h = h
     go (suc n) h = absurd h
 
--- so what is reached is the only end
+-- if so, what it has reached is the only end
 pub only_end : (rows : List Row) (xs : List ℕ) (x : Face) (o end : Option Gluing) (f : IsFollowed rows xs x o) → f.end ≡ end → (other : Option Gluing) → CrushesTo rows xs x other → other ≡ end
 only_end rows xs x o end f e other c = f.only other c ∙ e
 
@@ -126,12 +126,12 @@ only_kept rows xs x o v g f is same kept =
 pub only_free : (rows : List Row) (xs : List ℕ) (x : Face) (o : Option Gluing) → IsFollowed rows xs x o → o ≡ None → (other : Option Gluing) → CrushesTo rows xs x other → other ≡ None
 only_free rows xs x o f is = let at : IsFollowed rows xs x None = subst (IsFollowed rows xs x) is f in only_end rows xs x None None at (ends_free rows xs x at)
 
--- from what is reached a turn of the loop leads to p
+-- one pass of the loop continues from o to p
 pub record IsTurn (rows : List Row) (xs : List ℕ) (x : Face) (o p : Option Gluing) : Type 0 where
   pub next : IsFollowed rows xs x p
   pub fewer : left_of rows xs x p < left_of rows xs x o
 
--- a turn at a tetrahedron with quads of type k: v is the gluing g as it is read
+-- a pass at a tetrahedron with quads of type k: v is the gluing g as it is read
 pub turns : (rows : List Row) (xs : List ℕ) (x : Face) (o p : Option Gluing) (v g : Gluing) (k : ℕ) → IsTable rows → IsFollowed rows xs x o → o ≡ Some g → v ≡ g
     → is_removed xs v.tet ≡ true → k ≡ position_or_len (has_quad xs v.tet) three → ((ys : List ℕ) → k ≡ position_or_len (has_quad ys g.tet) three → p ≡ passed rows ys x g) → IsTurn rows xs x o p
 turns rows xs x o p v g k table f is same gone first pass =

@@ -26,7 +26,7 @@ gone_same xs t gone = one_more xs t ∙ ap (λ b. number_kept xs t + one_if (not
 pub kept_fit : (xs : List ℕ) (t : ℕ) → number_kept xs t ≤ t
 kept_fit xs t = rank_fits (stays xs) t
 
--- the numbers go on
+-- one more number of the crushed table
 pub numbers_on : (xs numbers more : List ℕ) (t kept : ℕ) → AreNewNumbers xs numbers t → kept ≡ number_kept xs t → more ≡ numbers ++ kept ∷ [] → AreNewNumbers xs more (t + 1)
 numbers_on xs numbers more t kept h e is = subst (λ ms. AreNewNumbers xs ms (t + 1)) (sym is) (record { length_is = length-append numbers (kept ∷ []) ∙ ap (λ n. n + 1) h.length_is; each = each })
   where
@@ -37,7 +37,7 @@ numbers_on xs numbers more t kept h e is = subst (λ ms. AreNewNumbers xs ms (t 
           ap (λ i. slice_index_or (numbers ++ kept ∷ []) i 0) last ∙ get_or-append_seam numbers kept [] 0 ∙ e ∙ ap (number_kept xs) is_t)
     ]
 
--- what is reached is renumbered by the list
+-- the tetrahedron that is reached is renumbered by the list
 pub end_renumbered : (xs numbers : List ℕ) (n : ℕ) (v g : Gluing) (end : Option Gluing) → AreNewNumbers xs numbers n → v ≡ g → g.tet < n → end ≡ Some g
     → (let o : Option Gluing = Some (record { tet = slice_index_or numbers v.tet 0; perm = v.perm }) in o ≡ option_map (renumbered xs) end)
 end_renumbered xs numbers n v g end h same l e =
@@ -59,7 +59,7 @@ row_is rows xs t a b c d ea eb ec ed = record { four_faces = refl; glued = glued
     glued (suc (suc (suc zero))) end l h = ed end h
     glued (suc (suc (suc (suc f)))) end l h = absurd (omega arith)
 
--- a row more
+-- one more row
 pub rows_on : (rows : List Row) (xs : List ℕ) (t : ℕ) (new more : List Row) (row : Row) → AreCrushedBefore rows xs t new → is_removed xs t ≡ false → IsCrushedRow rows xs t row
     → more ≡ new ++ row ∷ [] → AreCrushedBefore rows xs (t + 1) more
 rows_on rows xs t new more row h kept r is = subst (AreCrushedBefore rows xs (t + 1)) (sym is) (record { length_is = length-append new (row ∷ []) ∙ ap (λ n. n + 1) h.length_is ∙ sym (kept_more xs t kept); each = each })
@@ -75,7 +75,7 @@ rows_on rows xs t new more row h kept r is = subst (AreCrushedBefore rows xs (t 
           subst (λ v. IsCrushedRow rows xs v (slice_index_or (new ++ row ∷ []) (number_kept xs u) [])) is_t (subst (IsCrushedRow rows xs t) (sym found) r))
     ]
 
--- no row of a tetrahedron that is taken out
+-- a tetrahedron that is taken out has no row
 pub rows_same : (rows : List Row) (xs : List ℕ) (t : ℕ) (new : List Row) → AreCrushedBefore rows xs t new → is_removed xs t ≡ true → AreCrushedBefore rows xs (t + 1) new
 rows_same rows xs t new h gone = record {
   length_is = h.length_is ∙ sym (gone_same xs t gone);

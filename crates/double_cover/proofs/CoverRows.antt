@@ -7,7 +7,7 @@ use Rattle.table_definitions.proofs.ListFacts.{four_made}
 use Rattle.cover_definitions.specs.Cover.{over, sheet, lifted, cover_row, cover, face_below}
 use Rattle.cover_laws.proofs.Sheets.{over_below}
 
--- what a face of the cover is glued by
+-- the gluing of a face of the cover
 abbrev pub glued_over : List Row → ℕ → ℕ → Option Gluing
 glued_over rows u f = option_map (lifted (length rows) (sheet (length rows) u)) (glue rows (face_below (length rows) (record { tet = u; face = f })))
 

@@ -1,4 +1,4 @@
--- Relabellings by a list of images that keep all vertices: the exchange and the split.
+-- Relabellings by a list of images that keep the numbers of all vertices: the deck transformation and the split.
 use Rattle.std.proofs.Common.{◌≡◌, ℕ, ◌*◌, Bool, List, length, map, replicate, sym, ap, ◌∙◌, subst}
 use Rattle.std.proofs.lemmas.List.FromFn.{length-map-range_with_len}
 use Rattle.table_definitions.specs.Lists.{below}
@@ -24,7 +24,7 @@ relabels : (m : ℕ) (f : ℕ → ℕ) (images : List ℕ) → images ≡ map f 
 relabels m f images e h =
     subst (λ k. IsRelabelling k (by_list images)) (sym (length-images m f images e)) (subst (IsRelabelling m) (sym (same_relabelling m f images e)) h)
 
--- ---- the exchange
+-- ---- the deck transformation
 
 abbrev pub exchanged : ℕ → ℕ → ℕ
 exchanged n u = above n (over n u) (other_sheet (sheet n u))

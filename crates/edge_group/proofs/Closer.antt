@@ -1,4 +1,5 @@
--- The tree face of a tetrahedron is the least of the faces behind its own that lie closer to tetrahedron 0.
+-- The tree face of a tetrahedron is the least of the faces that are glued to its own and belong to a tetrahedron closer
+-- to tetrahedron 0.
 use Rattle.std.proofs.Common.{◌≡◌, ℕ, ◌+◌, ◌<◌, ◌⊎◌, inl, inr, false, List, length, Option, Some, None, subst, sym, ap, ◌∙◌, arith}
 use Rattle.std.specs.Prelude.{nat_lt, ◌==◌, ◌||◌, ◌&&◌}
 use Rattle.std.proofs.lemmas.Bool.{cases_lt, cases_eq}
@@ -22,13 +23,13 @@ not_before_on x y z d e = go x.tet y.tet z.tet x.face y.face z.face d e
     go : (r s t f g h : ℕ) → (nat_lt r s || ((r == s) && nat_lt f g)) ≡ false → (nat_lt s t || ((s == t) && nat_lt g h)) ≡ false → (nat_lt r t || ((r == t) && nat_lt f h)) ≡ false
     go r s t f g h d e = grind arith
 
--- ---- the lesser of two
+-- ---- the smaller of two faces
 
 module _ (rows : List Row) where
   one_closer : (x y z : Face) → IsCloser rows x y → IsCloser rows x z → y ≡ z
   one_closer x y z h k = let w : Some h.gluing ≡ Some k.gluing = sym h.glued ∙ k.glued in let same : h.gluing ≡ k.gluing = cc in sym h.other ∙ ap (other_side x) same ∙ k.other
 
-  -- ---- one face of a tetrahedron more
+  -- ---- one more face of a tetrahedron
 
   not_after : (t f : ℕ) (least closer : Option Face) (x : Face) → IsLeastCloser rows t f least → IsCloserFace rows (face_at t f) closer → IsNotAfter least x → IsNotAfter closer x
       → (i : ℕ) (y : Face) → i < f + 1 → IsCloser rows (face_at t i) y → is_face_before y x ≡ false
@@ -57,7 +58,7 @@ module _ (rows : List Row) where
   least_more t f least closer (Some x) h k m = (leads_from t f least closer x h k m.0, not_after t f least closer x h k m.1 m.2)
 
 module _ (rows : List Row) (table : IsTable rows) where
-  -- ---- the face behind one
+  -- ---- the face across a gluing
 
   pub closer_none : (marks : List (Option ℕ)) (x : Face) (g : Gluing) → AreDistances rows marks → glue rows x ≡ Some g → (IsOneLess (mark_of marks g.tet) (mark_of marks x.tet) → ⊥) → (y : Face) → IsCloser rows x y → ⊥
   closer_none marks x g a e never y h =
@@ -70,7 +71,7 @@ module _ (rows : List Row) (table : IsTable rows) where
         (a.told x.tet (h.leads.distance + 1) (glued_tet rows x g e)).1 h.leads.there,
       )
 
-  -- ---- each face that leads closer is behind one of the four
+  -- ---- each face of a closer tetrahedron that is glued to t is glued to one of the four faces of t
 
   record Behind (t : ℕ) (x : Face) : Type 0 where
     face : ℕ

@@ -1,4 +1,4 @@
--- How marks grow over faces: nothing, one tetrahedron, and one set of faces after another.
+-- How marks are added across faces: none, one tetrahedron, and those across one set of faces after another.
 use Rattle.std.proofs.Common.{◌≡◌, ℕ, ◌+◌, ◌<◌, ◌≤◌, ◌⊎◌, inl, inr, true, false, List, [], ◌∷◌, ◌++◌, length, Option, Some, None, count_by, set, take, Contains, subst, sym, ap, refl, ◌∙◌, arith, append-nil, append_assoc, length-append}
 use Rattle.std.specs.Prelude.{is_none, is_some, cond, slice_index}
 use Rattle.std.proofs.lemmas.Bool.{cases_lt, cases_eq}
@@ -12,7 +12,7 @@ use Rattle.table_definitions.proofs.TableLaws.{glued_face}
 use Rattle.table_definitions.proofs.Faces.{face_at}
 use Rattle.edge_group.specs.Searches.{mark_of, unmarked, IsGrown, HasGrown, IsFace, IsFaceBelow, IsFaceOf, IsFaceOfSome}
 
--- a mark that would stay is no mark
+-- marks are retained, so a tetrahedron without a mark had none before
 unmarked_before : (old new : List (Option ℕ)) (t : ℕ) → ((j : ℕ) → mark_of old t ≡ Some j → mark_of new t ≡ Some j) → mark_of new t ≡ None → mark_of old t ≡ None
 unmarked_before old new t kept none = elim (none_or_some (mark_of old t)) [
   | inl e ↦ e
@@ -20,7 +20,7 @@ unmarked_before old new t kept none = elim (none_or_some (mark_of old t)) [
 ]
 
 module _ (rows : List Row) where
-  -- ---- a set in which no face leads to a tetrahedron without a mark
+  -- ---- if each tetrahedron across a set of faces has a mark, none is added
   pub nothing_grown : (P : Face → Type 0) (d : ℕ) (marks : List (Option ℕ)) → ((x : Face) (g : Gluing) → P x → glue rows x ≡ Some g → (j : ℕ) × (mark_of marks g.tet ≡ Some j)) → IsGrown rows P d marks marks []
   nothing_grown P d marks all = record {
     one_each = refl;
@@ -31,7 +31,7 @@ module _ (rows : List Row) where
     count = omega arith;
   }
 
-  -- ---- one face that leads to one
+  -- ---- one face that is glued to a tetrahedron without a mark
   pub one_grown : (x : Face) (g : Gluing) (d : ℕ) (old new : List (Option ℕ)) → glue rows x ≡ Some g → g.tet < length old → mark_of old g.tet ≡ None → new ≡ set old g.tet (Some d) → IsGrown rows (IsFace x) d old new (g.tet ∷ [])
   one_grown x g d old new glued l none e = record {
     one_each = ap length e ∙ length-set old g.tet (Some d);
@@ -61,7 +61,7 @@ module _ (rows : List Row) where
           let a : count_by is_none (set old g.tet (Some d)) + f (mark_of old g.tet) ≡ count_by is_none old + 0 = sum_by-set f old g.tet (Some d) None l in
           let b : f (mark_of old g.tet) ≡ 1 = ap f none in omega arith
 
-  -- ---- one set after another
+  -- ---- two sets, one after the other
   pub grown_on : (P Q : Face → Type 0) (d : ℕ) (old mid new : List (Option ℕ)) (first then : List ℕ) → IsGrown rows P d old mid first → IsGrown rows Q d mid new then → IsGrown rows (λ x. P x ⊎ Q x) d old new (first ++ then)
   grown_on P Q d old mid new first then a b = record {
     one_each = b.one_each ∙ a.one_each;
@@ -81,7 +81,7 @@ module _ (rows : List Row) where
     count = let c : unmarked mid + length first ≡ unmarked old = a.count in let e : unmarked new + length then ≡ unmarked mid = b.count in omega (arith, length-append first then);
   }
 
-  -- ---- the same by another set with the same glued faces
+  -- ---- another set with the same glued faces
   pub grown_as : (P Q : Face → Type 0) (d : ℕ) (old new : List (Option ℕ)) (added : List ℕ) → ((x : Face) → P x → Q x) → ((x : Face) (g : Gluing) → glue rows x ≡ Some g → Q x → P x)
       → IsGrown rows P d old new added → IsGrown rows Q d old new added
   grown_as P Q d old new added into back a = record {
@@ -93,7 +93,7 @@ module _ (rows : List Row) where
     count = a.count;
   }
 
-  -- ---- with a list that had something before
+  -- ---- additions to a list that is not empty
   pub has_nothing : (P : Face → Type 0) (d : ℕ) (marks : List (Option ℕ)) (pending : List ℕ) → ((x : Face) (g : Gluing) → P x → glue rows x ≡ Some g → (j : ℕ) × (mark_of marks g.tet ≡ Some j)) → HasGrown rows P d marks marks pending pending
   has_nothing P d marks pending all = record { added = []; appended = sym (append-nil pending); grown = nothing_grown P d marks all }
 
@@ -105,7 +105,7 @@ module _ (rows : List Row) where
     grown = grown_as (λ x. P x ⊎ Q x) R d old new (a.added ++ b.added) into back (grown_on P Q d old mid new a.added b.added a.grown b.grown);
   }
 
-  -- ---- one face, as the code meets it
+  -- ---- one face, as the code reads it
   some_of : {A : Type 0} (o : Option A) → true ≡ is_some o → (x : A) × (o ≡ Some x)
   some_of None e = absurd (let z : false ≡ true = sym e in cc)
   some_of (Some x) e = (x, refl)

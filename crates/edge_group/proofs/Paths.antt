@@ -1,4 +1,4 @@
--- On the way along a path of tree faces.
+-- The way along a path of tree faces.
 use Rattle.std.proofs.Common.{◌≡◌, ℕ, ◌+◌, ◌<◌, Bool, true, false, not, List, [], ◌∷◌, length, Option, Some, None, subst, sym, ap, refl, ◌∙◌, arith}
 use Rattle.std.specs.Bool.{beq}
 use Rattle.table_definitions.specs.Table.{Row, Face, IsTable, glue}
@@ -8,11 +8,11 @@ use Rattle.presentation_laws.proofs.Parity.{differs, differs_assoc, differs_fals
 use Rattle.edge_group.specs.Searches.{mark_of, AreDistances}
 use Rattle.edge_group.specs.Turns.{IsPathOdd}
 
--- each path to t goes on to the end, with an odd number of even gluings more, or not
+-- each path to t extends to a path to `end`, and `odd` says whether this adds an odd number of even gluings
 abbrev pub IsPathOn : List Row → ℕ → ℕ → Bool → Type 0
 IsPathOn rows end t odd = (xs : List Face) → IsTreePath rows t xs → (ys : List Face) × IsTreePath rows end ys × (is_odd_number (evens rows ys) ≡ differs odd (is_odd_number (evens rows xs)))
 
--- a distance, where there is one
+-- a distance, and 0 if there is none
 abbrev pub distance_or : Option ℕ → ℕ
 distance_or None = 0
 distance_or (Some d) = d
@@ -36,7 +36,7 @@ module _ (rows : List Row) where
   pub path_ends : (end t : ℕ) (odd : Bool) → t ≡ 0 → IsPathOn rows end t odd → IsPathOdd rows end odd
   path_ends end t odd z on = let p = on [] z in record { path = p.0; is_path = p.1; told = sym (p.2 ∙ differs_false odd) }
 
-  -- the distance falls
+  -- the distance decreases
   pub path_falls : (marks : List (Option ℕ)) (t : ℕ) (x : Face) → IsTable rows → AreDistances rows marks → IsTreeFace rows t x → distance_or (mark_of marks x.tet) < distance_or (mark_of marks t)
   path_falls marks t x table a h =
       let here : mark_of marks x.tet ≡ Some h.leads.distance = (a.told x.tet h.leads.distance (glued_tet rows x h.leads.gluing h.leads.glued)).1 h.leads.here in

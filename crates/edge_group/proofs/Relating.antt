@@ -1,4 +1,4 @@
--- The number of a generator, letters, inner edges, and lists that go along side by side.
+-- The index of a generator, letters, internal edges, and lists whose items correspond.
 use Rattle.std.proofs.Common.{◌≡◌, ℕ, ◌+◌, ◌<◌, ◌≤◌, inl, inr, Bool, true, false, cond, not, List, [], ◌∷◌, ◌++◌, length, filter, filter_map, take, Option, Some, None, All, MatchBool, slice_index, subst, subst₂, sym, ap, refl, ◌∙◌, arith}
 use Rattle.std.specs.Prelude.{◌==◌, option_map, if◌then◌else◌}
 use Rattle.std.specs.List.{slice_index_or, AllPairs, AllZip, cons_option, position_or_len}
@@ -21,7 +21,7 @@ use Rattle.skeleton_definitions.specs.Skeleton.{Skeleton, IsAround}
 use Rattle.presentation_definitions.specs.declared.Letter.{Letter}
 use Rattle.presentation_laws.specs.Classes.{generator_number, LeavesInRange}
 
--- ---- the number of a generator
+-- ---- the index of a generator
 
 pub ascending_le : (xs : List ℕ) → AllPairs (λ c d. c < d) xs → (i j : ℕ) → i ≤ j → j < length xs → slice_index xs i ≤ slice_index xs j
 ascending_le xs h i j le l = elim (cases_lt i j) [
@@ -59,7 +59,7 @@ number_missing xs c i low high = ap (λ (b : Bool). if◌then◌else◌ {A = Opt
 -- ---- letters
 
 module _ (s : Skeleton) where
-  -- ---- the corners of a walk are left through faces of tetrahedra
+  -- ---- the walk leaves each corner through a face of a tetrahedron
 
   leaves : (h : IsTable s.rows) (k l : Corner) → step s.rows k ≡ Some l → LeavesInRange s.rows k
   leaves h k l e = cases (glue s.rows (left_through k)) refl
@@ -83,7 +83,7 @@ module _ (s : Skeleton) where
       by_boundary true e = subst (All (LeavesInRange s.rows)) (sym e) (All-nil (LeavesInRange s.rows))
       by_boundary false w = walk_leaves h (first_corner (least s.edges.classes c)) corners w
 
--- ---- inner edges
+-- ---- internal edges
 
 edges_more : (rows : List Row) (classes : List ℕ) (c : ℕ) (b : Bool) → is_boundary_edge rows classes c ≡ b → internal_edges rows classes (c + 1) ≡ internal_edges rows classes c ++ cond (not b) (c ∷ []) []
 edges_more rows classes c b e =
@@ -96,13 +96,13 @@ edge_passes rows classes c e = edges_more rows classes c true e ∙ append-nil (
 pub edge_grows : (rows : List Row) (classes : List ℕ) (c : ℕ) → is_boundary_edge rows classes c ≡ false → internal_edges rows classes (c + 1) ≡ internal_edges rows classes c ++ c ∷ []
 edge_grows rows classes c e = edges_more rows classes c false e
 
--- ---- lists side by side
+-- ---- lists whose items correspond
 
--- one more of a list whose items so far go along with another
+-- one more item of a list, whose first items correspond to those of another
 pub zip_taken : {B : Type 0} (R : ℕ → B → Type 0) (xs : List ℕ) (i : ℕ) (ys new : List B) (y : B) → i < length xs → new ≡ ys ++ y ∷ [] → R (slice_index xs i) y → AllZip R (take i xs) ys → AllZip R (take (i + 1) xs) new
 zip_taken R xs i ys new y l e r h = subst₂ (AllZip R) (sym (take_more xs i 0 l)) (sym e) (zip_more R (take i xs) ys (slice_index xs i) y h r)
 
--- ---- letters so far
+-- ---- the letters of the first items
 
 pub letter_added : {X : Type 0} (h : X → Option Letter) (xs : List X) (i : ℕ) (d : X) (before new : List Letter) (letter : Letter) → i < length xs → h (slice_index_or xs i d) ≡ Some letter → before ≡ filter_map h (take i xs) → new ≡ before ++ letter ∷ []
     → new ≡ filter_map h (take (i + 1) xs)

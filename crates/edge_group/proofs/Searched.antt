@@ -15,7 +15,7 @@ use Rattle.presentation_laws.proofs.Levels.{Level, LastStep, level_more, level_l
 use Rattle.edge_group.specs.Searches.{mark_of, unmarked, IsBehind, IsGrown, IsFaceOfSome, IsSearched, AreDistances}
 
 module _ (rows : List Row) (table : IsTable rows) where
-  -- before a tetrahedron at distance m + 1 stands one at distance m
+  -- a tetrahedron at distance m + 1 is across a face of one at distance m
   record Before (m t : ℕ) : Type 0 where
     face : Face
     gluing : Gluing
@@ -36,12 +36,12 @@ module _ (rows : List Row) (table : IsTable rows) where
       same = let a : near.0 ≤ m = distance_least rows s.from near.0 m near.1 s.level in
           let b : suc m ≤ suc near.0 = distance_least rows t (suc m) (suc near.0) h (subst (Level rows (suc near.0)) s.to (level_more rows near.0 s.from s.face s.gluing (distance_level rows s.from near.0 near.1) s.glued)) in omega arith
 
-  -- so each lower distance has a tetrahedron
+  -- for each smaller distance there is a tetrahedron
   lower : (k d t : ℕ) → t < length rows → IsDistance rows t (k + d) → (u : ℕ) × (u < length rows) × IsDistance rows u d
   lower zero d t l h = (t, l, subst (IsDistance rows t) (omega arith) h)
   lower (suc k) d t l h = let b = before (k + d) t (subst (IsDistance rows t) (omega arith) h) in lower k d b.face.tet (glued_tet rows b.face b.gluing b.glued) b.distance
 
-  -- ---- one level more
+  -- ---- one more level
 
   module _ (d : ℕ) (old new : List (Option ℕ)) (level next : List ℕ) (h : IsSearched rows d old level) (g : IsGrown rows (IsFaceOfSome level) (d + 1) old new next) where
     fresh_distance : (t : ℕ) → Contains next t → (t < length rows) × IsDistance rows t (d + 1)
@@ -157,7 +157,7 @@ module _ (rows : List Row) (table : IsTable rows) where
       let m : unmarked marks ≡ count_by is_none (set all 0 (Some 0)) = ap unmarked e in
       omega arith
 
-  -- ---- the tetrahedra of a level are in range, and the turns are few
+  -- ---- the tetrahedra of a level are in range, and there are at most as many levels as tetrahedra
 
   pub level_inside : (d : ℕ) (marks : List (Option ℕ)) (level : List ℕ) → IsSearched rows d marks level → All (λ t. t < length rows) level
   level_inside d marks level h = λ k e l. ((h.at_level (slice_index_or level k e)).0 (Contains-get_or level k e l)).0

@@ -46,7 +46,7 @@ module _ (row : List (Option ℕ)) (i : ℕ) (inside : i < length row) (before a
       work = λ k l. ap₂ work_left ea (ap (drop k) el) ∙ h.work k l;
     }
 
--- the row of x in a table, whatever stands for a row that is missing
+-- the row of x in a table, whatever the default for a missing row is
 module _ (table : List (List (Option ℕ))) (x : ℕ) (row : List (Option ℕ)) (inside : x < length table) (is : row ≡ slice_index_or table x row) where
   same : neighbours_of table x ≡ present row
   same = ap present (sym (is ∙ sym (get_or_default table x [] row inside)))
@@ -54,7 +54,7 @@ module _ (table : List (List (Option ℕ))) (x : ℕ) (row : List (Option ℕ)) 
   pub row_below : (marked : List Bool) → HasNeighboursBelow (length table) (neighbours_of table) → length marked ≡ length table → (y : ℕ) → Contains (present row) y → y < length marked
   row_below marked below size y c = let l : y < length table = below x y inside (subst (λ ys. Contains ys y) (sym same) c) in omega arith
 
-  -- where it is marked, its turn is over
+  -- after its neighbours are marked, the step of x is finished
   pub turn_over : (first before after : List Bool) (pending longer : List ℕ) (k : ℕ) → IsRowMarked (present row) (present row) before after pending longer → k ≤ length pending →
       IsSearchStep (neighbours_of table) first x [] before (drop k pending) → IsSearch (neighbours_of table) first after (drop k longer)
   turn_over first before after pending longer k h l t =

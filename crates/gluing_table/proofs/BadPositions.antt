@@ -1,4 +1,4 @@
--- Positions of a list of numbers that are looked at in turn.
+-- Positions of a list of numbers, read one after another.
 use Rattle.std.proofs.Common.{◌≡◌, ℕ, ◌+◌, ◌<◌, ◌≤◌, Bool, true, false, List, length, get_or, set, replicate, take, refl, ap, ◌∙◌, arith, length-take-le, get_or-take}
 use Rattle.std.proofs.lemmas.Grind.{common_steps}
 use Rattle.std.proofs.lemmas.List.{length-replicate, length-set}
@@ -13,7 +13,7 @@ good_small images k h = grind arith
 good_new : (images : List ℕ) (k : ℕ) → is_bad_at images k ≡ false → has (take k images) (get_or images k 0) ≡ false
 good_new images k h = grind arith
 
--- where no position is bad, the images are a bijection
+-- if no position is bad, the images are a bijection
 pub no_bad : (images : List ℕ) → ((k : ℕ) → k < length images → is_bad_at images k ≡ false) → IsPermutation images (below (length images))
 no_bad images good = onto (length images) images refl (λ k l. good_small images k (good k l)) (IsDistinct-from_before images apart)
   where

@@ -1,4 +1,4 @@
--- The first that gives something, and fresh rows by their numbers.
+-- The first value of a function that is not `None`, and new rows by their numbers.
 use Rattle.std.proofs.Common.{◌≡◌, ℕ, zero, suc, ◌<◌, ◌≤◌, true, false, List, [], ◌∷◌, length, get_or, map, Option, Some, None, refl, sym, ap, ◌∙◌, arith}
 use Rattle.std.specs.Prelude.{◌==◌, option_and_then, is_some, if◌then◌else◌}
 use Rattle.std.specs.List.{slice_index_or, position_or_len, flat_map}
@@ -48,7 +48,7 @@ fresh_missing xs removed i u l none =
     ap (λ b. if◌then◌else◌ {A = Option Row} b (Some (fresh_row (record { removed = removed; fresh = xs }) u)) None)
     (sym (has-none (numbers_of xs) u (λ k m. none k (omega (arith, length-numbers_of xs)))))
 
--- the first that gives something
+-- the first value that is not `None`
 
 pub first_at : {B : Type 0} (f : ℕ → Option B) (n i : ℕ) (o : Option B) → i < n → ((k : ℕ) → k < i → f k ≡ None) → o ≡ f i → true ≡ is_some o → o ≡ first_some f (below n)
 first_at f n i None l before is some = absurd cc

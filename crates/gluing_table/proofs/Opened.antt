@@ -1,4 +1,4 @@
--- Numbers that are opened up over those that are gone.
+-- Numbers of the rows that are left, raised above those of removed rows.
 use Rattle.std.proofs.Common.{◌≡◌, ℕ, zero, suc, ◌+◌, ◌<◌, ◌≤◌, Bool, true, false, cond, List, [], ◌∷◌, ◌++◌, length, get_or, take, refl, sym, ap, ◌∙◌, arith, inl, inr, length-take-le, get_or-take}
 use Rattle.std.specs.Prelude.{◌⊎◌, ◌==◌, ◌||◌, nat_lt, ◌≢◌}
 use Rattle.std.proofs.lemmas.List.{take_more, take_all, get_or-map, length-map}
@@ -13,7 +13,7 @@ use Rattle.table_definitions.proofs.Ranks.{count_whole}
 use Rattle.basic_lemmas.proofs.Truths.{one_if}
 use Rattle.basic_lemmas.proofs.Members.{Ascends}
 
--- the number is opened up over the first i that are gone
+-- the number of a row, raised above those of the first i removed rows
 pub record IsOpened (gone : List ℕ) (i place number : ℕ) : Type 0 where
   pub value : number ≡ place + gone_before (take i gone) number
   pub free : has (take i gone) number ≡ false
@@ -42,7 +42,7 @@ opened_none gone place = record { value = (let z : gone_before (take 0 gone) pla
 pub opened_fits : (gone : List ℕ) (i place number : ℕ) → i ≤ length gone → IsOpened gone i place number → number ≤ place + i
 opened_fits gone i place number l h = omega (arith, h.value, count_by-le-length (λ u. nat_lt u number) (take i gone), length-take-le i gone l)
 
--- the next that is gone is not above the number
+-- the next removed row has at most this number
 pub opened_more : (gone : List ℕ) (i place number taken : ℕ) → Ascends gone → i < length gone → taken ≡ get_or gone i 0 → IsOpened gone i place number → taken ≤ number → IsOpened gone (i + 1) place (number + 1)
 opened_more gone i place number taken up l is h le = record {
   value = omega (arith, first, later, h.value);
@@ -74,7 +74,7 @@ opened_more gone i place number taken up l is h le = record {
         (λ k m. lt-ltb (get_or (take (i + 1) gone) k 0) (number + 1) (let b = below (i + 1) k (omega arith) (rw (← many (i + 1) (omega arith)) m) in omega arith))
         ∙ many (i + 1) (omega arith)
 
--- it is above the number
+-- the next removed row has a greater number
 pub opened_same : (gone : List ℕ) (i place number taken : ℕ) → i < length gone → taken ≡ get_or gone i 0 → IsOpened gone i place number → number < taken → IsOpened gone (i + 1) place number
 opened_same gone i place number taken l is h lt = record {
   value = omega (arith, h.value, ap (λ (xs : List ℕ). gone_before xs number) pushed, gone_before-push (take i gone) (get_or gone i 0) number, none);

@@ -1,4 +1,4 @@
--- What the calls give for the rows that are kept.
+-- The results of the calls for the rows that are retained.
 use Rattle.std.proofs.Common.{◌≡◌, ℕ, zero, suc, ◌+◌, ◌^◌, ◌<◌, ◌≤◌, Bool, true, false, cond, List, [], ◌∷◌, ◌++◌, map, length, Option, Some, None, refl, sym, ap, ◌∙◌, arith, inl, inr}
 use Rattle.std.specs.Prelude.{◌⊎◌, not, if◌then◌else◌}
 use Rattle.std.proofs.lemmas.Bool.{cases_lt}
@@ -14,7 +14,7 @@ use Rattle.table_definitions.proofs.Retained.{IsKeptAs, kept_at, kept_by, as_man
 use Rattle.table_definitions.proofs.Faces.{face_at}
 use Rattle.gluing_table.proofs.FirstBack.{back_by_rows}
 
--- no fewer pass below a greater number
+-- below a greater number at least as many pass
 rank-le : (p : ℕ → Bool) (n m : ℕ) → n ≤ m → rank p n ≤ rank p m
 rank-le p n zero l = let e : n ≡ 0 = omega arith in let f : rank p n ≡ rank p 0 = ap (rank p) e in omega arith
 rank-le p n (suc m) l = by_size (cases_lt m n) (rank-le p n m)
@@ -36,7 +36,7 @@ few_removed rows r table can = omega (arith, fewer_removed rows r can, table.few
 pub few_fresh : (rows : List Row) (r : Replacement) → CanReplace rows r → length r.fresh ≤ 1000
 few_fresh rows r can = omega (arith, can.few)
 
--- the number that is opened up over the fresh ones is that of a row that is kept
+-- raised above the numbers of the new rows, the rank of a retained row is its new number
 pub number_opened : (rows : List Row) (r : Replacement) → CanReplace rows r → (t closed u : ℕ) → t < length rows → has r.removed t ≡ false → closed ≡ rank_without r.removed t
     → has (fresh_numbers r) u ≡ false → u ≡ closed + gone_before (fresh_numbers r) u → u ≡ number_of_kept rows r t
 number_opened rows r can t closed u lt st is free value =
@@ -46,7 +46,7 @@ number_opened rows r can t closed u lt st is free value =
     let lu : u < replaced_length rows r = below_by_rank (stays (fresh_numbers r)) (replaced_length rows r) u (omega (arith, as_many rows r can)) in
     sym (kept_by rows r can t u lt st lu free (sym (a ∙ b))).number
 
--- and the one that is opened up over those that are taken out is the old number of a row that is kept
+-- raised above the numbers of the removed rows, the rank of a retained row is its old number
 pub place_opened : (rows : List Row) (r : Replacement) → CanReplace rows r → (u closed t : ℕ) → u < replaced_length rows r → has (fresh_numbers r) u ≡ false → closed ≡ rank_without (fresh_numbers r) u
     → has r.removed t ≡ false → t ≡ closed + gone_before r.removed t → IsKeptAs rows r t u
 place_opened rows r can u closed t lu free is st value =
@@ -56,7 +56,7 @@ place_opened rows r can u closed t lu free is st value =
     let lt : t < length rows = below_by_rank (stays r.removed) (length rows) t (omega (arith, as_many rows r can)) in
     kept_by rows r can t u lt st lu free (a ∙ b)
 
--- the gluings of kept rows
+-- the gluings of retained rows
 pub glued_back : (rows : List Row) (r : Replacement) → CanReplace rows r → (y : Face) (o : Option Gluing) (g : Gluing) (back : Option Gluing) → Some g ≡ o → true ≡ has r.removed g.tet → back ≡ first_some (row_back y) r.fresh
     → back ≡ kept_gluing rows r y o
 glued_back rows r can y o g back e gone is =
@@ -70,7 +70,7 @@ glued_on rows r y o g new e stays is same =
     let mk : ℕ → List ℕ → Option Gluing = λ t p. Some (record { tet = t; perm = p }) in
     ap (λ t. mk t new.perm) is ∙ ap (λ p. mk (number_of_kept rows r g.tet) p) same ∙ sym k ∙ ap (kept_gluing rows r y) e
 
--- the same, by what the calls give
+-- the numbers and gluings of retained rows, from the results of the calls
 
 pub closed_fits : (rows : List Row) (r : Replacement) → IsTable rows → CanReplace rows r → (x : Face) (g : Gluing) (tet closed : ℕ) → Some g ≡ glue rows x → tet ≡ g.tet → closed ≡ rank_without r.removed tet
     → closed + length r.fresh < 2 ^ 32

@@ -8,7 +8,7 @@ use Rattle.table_definitions.specs.Table.{Row, IsTable, table_fault}
 use Rattle.table_definitions.specs.TableText.{row_at, rows_at, lexed, checked, counted_rows_at}
 use Rattle.table_definitions.proofs.TableLaws.{table_fault-IsTable}
 
--- the rows so far, before those that a reading gives
+-- the rows so far, before those of a reading
 abbrev pub with_rows : List Row → Result (List Row × Reading) LexFault → Result (List Row × Reading) LexFault
 with_rows front read = read >>= λ others. Ok (front ++ others.0, others.1)
 

@@ -1,4 +1,4 @@
--- The rows of the faces of a table, one face more at a time.
+-- The rows of the faces of a table, one more face at a time.
 use Rattle.std.proofs.Common.{◌≡◌, ◌≢◌, ℕ, ◌+◌, Bool, true, false, cond, ℤ, not, List, [], ◌∷◌, ◌++◌, length, map, filter, Option, Some, None, refl, sym, ap, ◌∙◌, append_assoc, append-nil}
 use Rattle.std.specs.List.{cons_option, filter_map, flat_map}
 use Rattle.std.specs.Prelude.{◌==◌, if◌then◌else◌}
@@ -18,7 +18,7 @@ use Rattle.surface_definitions.proofs.Ranges.{filter-more, flat_map-more}
 abbrev pub Rows : Type 0
 Rows = List (List (ℕ × ℤ))
 
--- the rows round the vertices below v
+-- the rows for the vertices below v
 abbrev pub glued_before : Coords → ℕ → Face → Gluing → ℕ → Rows
 glued_before coords n x g v = map (row_of n) (map (matching coords x g) (filter (λ w. not (w == x.face)) (below v)))
 
@@ -59,7 +59,7 @@ pub face_rows-boundary : (coords : Coords) (rows : List Row) (n : ℕ) (x : Face
 unfolding face_rows
 face_rows-boundary coords rows n x e = ap (rows_if_lesser coords n x) (sym e)
 
--- one face more, one tetrahedron more
+-- one more face, or one more tetrahedron
 pub appended_more : (f : ℕ → Rows) (k : ℕ) (old now new : Rows) → now ≡ old ++ flat_map f (below k) → new ≡ now ++ f k → new ≡ old ++ flat_map f (below (k + 1))
 appended_more f k old now new e g = g ∙ ap (λ r. r ++ f k) e ∙ append_assoc old (flat_map f (below k)) (f k) ∙ ap (λ r. old ++ r) (sym (flat_map-more f k))
 

@@ -17,7 +17,7 @@ use Rattle.surface_definitions.proofs.Ranges.{quiet, filter_map-more}
 abbrev pub NoneBefore : List ℕ → ℕ → ℕ → Type 0
 NoneBefore xs from next = (i : ℕ) → i < length xs → from ≤ slice_index xs i → next ≤ slice_index xs i
 
--- a number at no place stands in the list no times
+-- a number that is at no index does not occur in the list
 pub absent : (xs : List ℕ) (k : ℕ) → ((i : ℕ) → i < length xs → slice_index xs i ≢ k) → times_in xs k ≡ 0
 absent [] k no_place = refl
 absent (x ∷ xs) k no_place =
@@ -36,7 +36,7 @@ no_term left right c e f = ap (λ b. if b then None else Some (c, coefficient (e
 absent_between : (xs : List ℕ) (from next k : ℕ) → NoneBefore xs from next → from ≤ k → k < next → times_in xs k ≡ 0
 absent_between xs from next k before low high = absent xs k (λ i l e. let far : from ≤ slice_index xs i → next ≤ slice_index xs i = before i l in absurd (omega arith))
 
--- no terms come between a column and the next one
+-- there are no terms between a column and the next one
 pub quiet_between : (left right : List ℕ) (from first second : ℕ) → from ≤ second → second ≤ first → NoneBefore left from first → NoneBefore right from second
     → filter_map (term_of (equation_of left right)) (below second) ≡ filter_map (term_of (equation_of left right)) (below from)
 quiet_between left right from first second low high l r =
@@ -45,7 +45,7 @@ quiet_between left right from first second low high l r =
     ∙ quiet (term_of (equation_of left right)) from (second - from)
     (λ k a b. no_term left right k (absent_between left from first k l a (omega arith)) (absent_between right from second k r a (omega arith)))
 
--- the terms with one column more, up to the next
+-- the terms with one more column, up to the next
 pub terms_on : (left right : List ℕ) (column first second : ℕ) (old new : List (ℕ × ℤ)) → old ≡ filter_map (term_of (equation_of left right)) (below column)
     → new ≡ old ++ option_to_list (term_of (equation_of left right) column) → column + 1 ≤ second → second ≤ first → NoneBefore left (column + 1) first → NoneBefore right (column + 1) second
     → new ≡ filter_map (term_of (equation_of left right)) (below second)
@@ -53,7 +53,7 @@ terms_on left right column first second old new e f low high l r =
     let h : ℕ → Option (ℕ × ℤ) = term_of (equation_of left right) in
     f ∙ ap (λ ts. ts ++ option_to_list (h column)) e ∙ sym (filter_map-more h column) ∙ sym (quiet_between left right (column + 1) first second low high l r)
 
--- what holds of the terms of the columns from a on
+-- the terms of the n columns from a onwards
 record AreTerms (a n : ℕ) (terms : List (ℕ × ℤ)) : Type 0 where
   low : All (λ term. a ≤ term.0) terms
   high : All (λ term. term.0 < a + n) terms
@@ -108,7 +108,7 @@ row_is_sparse e n l r = let t : AreTerms 0 n (row_of n e) = are_terms e 0 n l r 
 pub row_in_range : (e : Equation) (n : ℕ) → length e.left ≤ 1000000 → length e.right ≤ 1000000 → IsInRange n (row_of n e)
 row_in_range e n l r = let t : AreTerms 0 n (row_of n e) = are_terms e 0 n l r in λ k d h. let m = t.high k d h in omega (arith, m)
 
--- before the first column that comes there are no terms
+-- there are no terms before the first column that occurs
 pub first_terms : (left right : List ℕ) (first second : ℕ) → second ≤ first → NoneBefore left 0 first → NoneBefore right 0 second
     → [] ≡ filter_map (term_of (equation_of left right)) (below second)
 first_terms left right first second high l r = sym (quiet_between left right 0 first second (omega arith) high l r)

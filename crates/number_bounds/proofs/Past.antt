@@ -1,4 +1,4 @@
--- What passes a bound: a row, a column, the product of the sums of squares, or the numbers that they lead to.
+-- What exceeds a bound: a row, a column, the product of the sums of squares, or the bounds that follow from them.
 use Rattle.std.proofs.Common.{◌≡◌, ℕ, zero, suc, ◌+◌, ◌*◌, ◌<◌, ◌≤◌, ℤ, pos, Bool, true, false, Option, None, Some, IfNone, ◌⊎◌, inl, inr, List, [], ◌∷◌, take, length, get_or, max, refl, ap, ap₂, sym, subst, ◌∙◌, arith}
 use Rattle.std.specs.Prelude.{◌==◌, ◌↔◌, nat_le, unsigned_abs, if◌then◌else◌, IsTrue, IsFalse}
 use Rattle.std.specs.List.{All, AllPairs, Any}
@@ -18,12 +18,12 @@ use Rattle.number_bounds.specs.Squares.{AreSquares}
 use Rattle.number_bounds.proofs.Tallies.{magnitude_is, own, row_square, row_square_is}
 use Rattle.number_bounds.proofs.ColumnCaps.{product_more, some_cap}
 
--- what holds anyway holds where there is nothing
+-- what holds in any case holds if there is nothing
 pub if_none : {A : Type 0} (o : Option A) {P : Type 0} → P → IfNone o P
 if_none None p = p
 if_none (Some x) p = tt
 
--- a test that fails
+-- a number that is not below the bound reaches it
 pub reached : (n most : ℕ) → (n < most → ⊥) → most ≤ n
 reached n most fails = elim (cases_lt n most) [ inl less ↦ absurd (fails less) | inr more ↦ more ]
 
@@ -36,7 +36,7 @@ is_within most n limit is = (λ yes. grind (arith, nat_tests), λ within. grind 
 pub is_past : (n limit most : ℕ) → limit < most → most ≤ n → IsTrue false ↔ (n ≤ limit)
 is_past n limit most small past = (λ no. absurd (false≢true no), λ within. absurd (omega arith))
 
--- what the terms so far and the next one reach, the row does
+-- if the terms so far and the next one reach the bound, the row does
 pub size_past : (row : Row) (i old n most : ℕ) → i < length row → old ≡ row_size (take i row) → n ≡ unsigned_abs (get_or row i (0, pos 0)).1 → most ≤ old + n → most ≤ row_size row
 size_past row i old n most l so_far one past =
     let whole = sum_by_more_le (λ (term : ℕ × ℤ). magnitude term.1) row i (0, pos 0) l in
@@ -62,11 +62,11 @@ column_past rows i j most row old lent l same so_far is past =
     let b : row_weight j row * row_weight j row ≡ row_weight j (get_or rows i []) * row_weight j (get_or rows i []) = ap (λ r. row_weight j r * row_weight j r) same in
     omega (arith, whole, a, b, past)
 
--- what holds at a place of the rows holds of some row
+-- what holds at an index of the rows holds of some row
 pub any_at : (P : Row → Type 0) (rows : List Row) (k : ℕ) → k < length rows → P (get_or rows k []) → Any P rows
 any_at P rows k l p = (k, get_or rows k [], l, sym (get_or_default rows k [] (get_or rows k []) l), p)
 
--- one row more: the greatest size is the one before or the new row's
+-- one more row: the greatest size is the one before or the new row's
 pub attained_more : (rows : List Row) (i old new size : ℕ) (row : Row) → (old ≡ 0) ⊎ ((k : ℕ) × (k < i) × (row_size (get_or rows k []) ≡ old)) → new ≡ max size old →
     size ≡ row_size row → row ≡ get_or rows i [] → (new ≡ 0) ⊎ ((k : ℕ) × (k < i + 1) × (row_size (get_or rows k []) ≡ new))
 attained_more rows i old new size row before greater is same =
@@ -88,7 +88,7 @@ attained_all rows i greatest before within = elim before [
   | inr some ↦ inr (any_at (λ row. row_size row ≡ greatest) rows some.0 (omega (arith, some.1, within)) some.2)
 ]
 
--- the product of more caps is greater
+-- the product of more caps is at least as great
 pub caps_up : (cap : ℕ → ℕ) (some : (g : ℕ) → 1 ≤ cap g) (n m : ℕ) → n ≤ m → caps_product cap n ≤ caps_product cap m
 unfolding caps_product
 caps_up cap some n zero l = let e : n ≡ 0 = omega arith in rw e (omega arith)
@@ -100,7 +100,7 @@ caps_up cap some n (suc m) l = elim (cases_lt m n) [
       omega (arith, before, step)
 ]
 
--- what the sums so far and the next one reach, all do
+-- if the product so far and the next factor reach the bound, the whole product does
 pub product_past : (squares : List ℕ) (i old factor most : ℕ) → i < length squares → old ≡ caps_product (cap_by squares) i → factor ≡ cap_by squares i → most ≤ old * factor →
     most ≤ caps_product (cap_by squares) (length squares)
 product_past squares i old factor most l so_far one past =
@@ -108,11 +108,11 @@ product_past squares i old factor most l so_far one past =
     let up = caps_up (cap_by squares) (some_cap squares) (i + 1) (length squares) (omega arith) in
     omega (arith, here, up, past)
 
--- the product that is made is that of the columns
+-- the computed product is that of the columns
 pub squares_are : (system : System) (squares : List ℕ) → AreSquares system squares → caps_product (cap_by squares) (length squares) ≡ squares_product system
 squares_are system squares summed = λ i. caps_product (λ column. max (summed.each column i) 1) (summed.count i)
 
--- where no row has a size no column has a weight, and the product is 1
+-- if no row has a nonzero size, no column has a weight, and the product is 1
 pub ones : (cap : ℕ → ℕ) (n : ℕ) → ((g : ℕ) → cap g ≡ 1) → caps_product cap n ≡ 1
 unfolding caps_product
 ones cap zero one = refl
@@ -133,11 +133,11 @@ no_square (row ∷ rows) j none =
 pub no_product : (system : System) → All (λ row. row_size row ≤ 0) system.rows → squares_product system ≡ 1
 no_product system none = ones (λ column. max (sum_of_squares system.rows column) 1) system.columns (λ j. ap (λ w. max w 1) (no_square system.rows j none))
 
--- a large product, taken once at least, is large
+-- a positive multiple of a product that exceeds the limit exceeds the limit
 pub large_past : (size product limit : ℕ) → 1 ≤ size → limit < product → limit < size * product
 large_past size product limit some past = let more : 1 * product ≤ size * product = mul-le 1 product size product some (omega arith) in omega (arith, more, past)
 
--- the greatest size times a product exceeds the limit: then the numbers of some row do
+-- if the greatest size times a product exceeds the limit, the size of some row does
 pub past_limit : (rows : List Row) (limit size product whole : ℕ) → (size ≡ 0) ⊎ Any (λ row. row_size row ≡ size) rows → product ≡ whole → limit < size * product →
     Any (λ row. limit < row_size row * whole) rows
 past_limit rows limit size product whole attained is past = elim attained [
@@ -147,7 +147,8 @@ past_limit rows limit size product whole attained is past = elim attained [
       (some.0, some.1, some.2, some.3, subst (λ s. limit < s * whole) (sym some.4) one)
 ]
 
--- the same where the product has no room, so that some row has a size
+-- the size of some row times the product exceeds the limit also if the product alone does, since some row has a nonzero
+-- size
 pub past_product : (rows : List Row) (limit size most whole : ℕ) → All (λ row. row_size row ≤ size) rows → (size ≡ 0) ⊎ Any (λ row. row_size row ≡ size) rows →
     (All (λ row. row_size row ≤ 0) rows → whole ≡ 1) → most ≤ whole → limit < most → 1 < most → Any (λ row. limit < row_size row * whole) rows
 past_product rows limit size most whole small attained alone large within two = elim (cases_lt 0 size) [

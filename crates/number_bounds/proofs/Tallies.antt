@@ -1,4 +1,4 @@
--- Sums of squares and sizes, one term or one row more.
+-- Sums of squares and of sizes, with one more term or row.
 use Rattle.std.proofs.Common.{◌≡◌, ◌≢◌, ℕ, zero, suc, ◌+◌, ◌*◌, ◌<◌, ◌≤◌, ℤ, pos, negsuc, inl, inr, List, [], ◌∷◌, take, length, get_or, slice_index_or, slice_set, refl, All, ap, ap₂, sym, subst, ◌∙◌, arith}
 use Rattle.std.specs.Prelude.{◌==◌, unsigned_abs, if◌then◌else◌}
 use Rattle.std.proofs.lemmas.Bool.{cases_eq}
@@ -36,7 +36,7 @@ own column j n e = grind (arith, nat_tests)
 other : (column j n : ℕ) → j ≢ column → (if column == j then n else 0) ≡ 0
 other column j n ne = grind (arith, nat_tests)
 
--- the squares of a row in one column, each by itself
+-- the squares of a row's entries in one column, added
 abbrev pub row_square : ℕ → Row → ℕ
 row_square column row = sum_by (λ term. if term.0 == column then magnitude term.1 * magnitude term.1 else 0) row
 
@@ -49,7 +49,7 @@ no_weight_after j (term ∷ row) h =
       omega (arith, sum_by-cons (λ (t : ℕ × ℤ). if t.0 == j then magnitude t.1 * magnitude t.1 else 0) term row, other term.0 j (magnitude term.1 * magnitude term.1) (omega arith), rest.1),
     )
 
--- where each column stands once, they are the square of the weight
+-- if each column occurs once, their sum is the square of the weight
 pub row_square_is : (j : ℕ) (row : Row) → AllPairs (λ (one other : ℕ × ℤ). one.0 < other.0) row → row_square j row ≡ row_weight j row * row_weight j row
 row_square_is j [] h = refl
 row_square_is j (term ∷ row) h =

@@ -38,7 +38,7 @@ bounded system limit squares size product whole summed small is most = record {
   most = subst (λ p. size * p ≤ limit) (subst (λ n. product ≡ caps_product (triple_cap squares) (n / 3)) summed.count is) most;
 }
 
--- what the groups so far and the next one reach, all do
+-- if the product of the groups so far and the next one reaches the bound, that of all groups does
 pub product_past : (squares : List ℕ) (i old factor most : ℕ) → i < length squares / 3 → old ≡ caps_product (triple_cap squares) i → factor ≡ triple_cap squares i → most ≤ old * factor →
     most ≤ caps_product (triple_cap squares) (length squares / 3)
 product_past squares i old factor most l so_far one past =

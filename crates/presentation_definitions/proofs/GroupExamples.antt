@@ -11,7 +11,7 @@ plain g = record { generator = g; inverse = false }
 abbrev turned : ℕ → Letter
 turned g = record { generator = g; inverse = true }
 
--- the figure eight: face classes 1 to 3, which do not turn, and 2 -1 3 1 -3 and 1 2 -3 -2
+-- the figure eight: face classes 1 to 3, which do not reverse orientation, and the relators 2 -1 3 1 -3 and 1 2 -3 -2
 eight_group : presentation_of (skeleton_of figure_eight) ≡ record {
   generators = 1 ∷ 2 ∷ 3 ∷ [];
   turning = false ∷ false ∷ false ∷ [];
@@ -21,7 +21,7 @@ eight_group : presentation_of (skeleton_of figure_eight) ≡ record {
 unfolding computed
 eight_group = refl
 
--- 0:1203 0:2013 0:0231 0:0312: face classes 0 and 1, which turn, and 2 -1 -2 1 1 2
+-- 0:1203 0:2013 0:0231 0:0312: face classes 0 and 1, which reverse orientation, and the relator 2 -1 -2 1 1 2
 id_group : presentation_of (skeleton_of table_id) ≡ record {
   generators = 0 ∷ 1 ∷ [];
   turning = true ∷ true ∷ [];

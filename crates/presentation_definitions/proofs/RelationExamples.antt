@@ -1,4 +1,4 @@
--- The relations of trees are met by a table of the examples.
+-- A table of the examples fulfils the relations of trees.
 use Rattle.std.proofs.Common.{◌≡◌, ℕ, ◌≤◌, false, List, [], ◌∷◌, length, Some, refl, ap, arith}
 use Rattle.table_definitions.specs.Table.{Face, is_face_before}
 use Rattle.table_definitions.specs.Places.{Place, whole}
@@ -6,7 +6,8 @@ use Rattle.table_definitions.proofs.Tables.{figure_eight}
 use Rattle.skeleton_definitions.proofs.Computed.{computed}
 use Rattle.presentation_definitions.specs.Trees.{LeadsTo, IsDistance, IsTreeFace, IsTreePath, evens}
 
--- the figure eight: tetrahedron 0 has distance 0, tetrahedron 1 has distance 1, and its tree face is face 0 of tetrahedron 0
+-- the figure eight: tetrahedron 0 has distance 0, tetrahedron 1 has distance 1, and its tree face is face 0 of
+-- tetrahedron 0
 near : IsDistance figure_eight 0 0
 near = record { crossed = []; led = refl; long = refl; least = λ other led. omega arith }
 

@@ -76,7 +76,7 @@ module _ (s : Skeleton) (h : IsSkeleton s) where
     some_generators : (generators : List ℕ) × AreGenerators s generators
     some_generators = let all = generators_below s.faces.count in (all.0, all_generators s s.faces.count all.0 refl all.1)
 
-    -- ---- whether they turn
+    -- ---- whether they reverse orientation
 
     some_turning : (c : ℕ) → c < s.faces.count → degree s.faces.classes c ≡ 2 → (b : Bool) × IsTurning s c b
     some_turning c l two = by_glue (glue s.rows (face_of (least s.faces.classes c))) refl

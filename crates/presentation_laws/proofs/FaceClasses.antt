@@ -64,7 +64,7 @@ module _ (rows : List Row) (table : IsTable rows) (classes : List ℕ) (count : 
     pub y_below : face_number (other_side x g) < 4 * length rows
     y_below = number_below (length rows) (other_side x g) (table.in_range x g e) y_small
 
-    -- what is in one class with the face
+    -- the faces in one class with the face
     pub same_class : (k : ℕ) → k < 4 * length rows → slice_index classes k ≡ class_of x → (face_of k ≡ x) ⊎ (face_of k ≡ other_side x g)
     unfolding class_of
     same_class k l same = elim ((h.together (face_number x) k x_below l).0 (sym same)) [

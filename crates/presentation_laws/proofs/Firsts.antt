@@ -69,11 +69,11 @@ module _ (s : Skeleton) (h : IsSkeleton s) where
           | inr w ↦ let z : None ≡ Some w.0 = sym e ∙ w.1 in cc
         ]
 
--- the number of a face that was made of a number
+-- the number of a face that was read from a number
 pub face_number_of : (x : Face) (t f n : ℕ) → t ≡ x.tet → f ≡ x.face → x ≡ face_of n → 4 * t + f ≡ n
 face_number_of x t f n a b e = let c : x.tet ≡ n / 4 = ap (λ (y : Face). y.tet) e in let d : x.face ≡ n % 4 = ap (λ (y : Face). y.face) e in omega arith
 
--- whether the least face of a class is glued tells whether the class is a generator, where it holds no tree face
+-- a class without a tree face is a generator if and only if its least face is glued
 pub generator_is : (s : Skeleton) (h : IsSkeleton s) (c : ℕ) (l : c < s.faces.count) (o : Option Gluing) (b : Bool) → o ≡ glue s.rows (face_of (least s.faces.classes c)) → b ≡ is_some o → ¬ HoldsTreeFace s c
     → IsTrue b ↔ IsGenerator s c
 generator_is s h c l None b e f never = (λ t. absurd (let z : false ≡ true = sym f ∙ t in cc), λ g. absurd (let one : degree s.faces.classes c ≡ 1 = unglued_one s h c l (sym e) in let two : degree s.faces.classes c ≡ 2 = g.0 in omega arith))
@@ -87,6 +87,6 @@ generator_glued s h c l two = cases (glue s.rows (face_of (least s.faces.classes
     cases None e = absurd (let one : degree s.faces.classes c ≡ 1 = unglued_one s h c l e in omega arith)
     cases (Some g) e = search rules
 
--- what is answered of a generator by its place
+-- the class at an index of the list of generators is a generator
 pub generator_at : (s : Skeleton) (generators : List ℕ) (i : ℕ) → AreGenerators s generators → i < length generators → (slice_index generators i < s.faces.count) × IsGenerator s (slice_index generators i)
 generator_at s generators i a l = let m = (a.members (slice_index generators i)).0 (Contains-get_or generators i 0 l) in (m.0, (m.1, m.2))

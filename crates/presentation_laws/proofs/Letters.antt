@@ -1,4 +1,4 @@
--- The letter of a face turns exactly as the face does; a face without a letter does not turn.
+-- The letter of a face reverses orientation if and only if the face does; a face without a letter does not.
 use Rattle.std.proofs.Common.{◌≡◌, ℕ, zero, suc, ◌+◌, ◌*◌, ◌<◌, ◌⊎◌, inl, inr, Bool, true, false, not, List, [], ◌∷◌, length, Option, Some, None, slice_index, slice_index_or, subst, sym, ap, ap₂, ◌∙◌, arith}
 use Rattle.std.specs.Prelude.{◌==◌, if◌then◌else◌}
 use Rattle.std.specs.List.{position_or_len, AllZip}
@@ -33,13 +33,13 @@ module _ (s : Skeleton) (h : IsSkeleton s) (connected : IsConnected s.rows) wher
   abbrev class_at : Face → ℕ
   class_at x = slice_index s.faces.classes (face_number x)
 
-  -- the two faces of a class turn alike
+  -- the two faces of a class both reverse orientation, or neither does
   both_turn : (x y : Face) (g k : Gluing) → glue s.rows x ≡ Some g → glue s.rows y ≡ Some k → (y ≡ x) ⊎ (y ≡ other_side x g) → turn_of y.tet k ≡ turn_of x.tet g
   both_turn x y g k e d (inl same) = let z : Some k ≡ Some g = sym d ∙ ap (glue s.rows) same ∙ e in let w : k ≡ g = cc in ap₂ (λ (a : Face) (b : Gluing). turn_of a.tet b) same w
   both_turn x y g k e d (inr same) = let z : Some k ≡ Some (way_back x g) = sym d ∙ ap (glue s.rows) same ∙ h.table.leads_back x g e in let w : k ≡ way_back x g = cc in
       ap₂ (λ (a : Face) (b : Gluing). turn_of a.tet b) same w ∙ turn_back s.rows h.table connected x g e
 
-  -- a face whose class holds a tree face does not turn
+  -- a face whose class contains a tree face does not reverse orientation
   held_turns_not : (x : Face) (g : Gluing) → glue s.rows x ≡ Some g → HoldsTreeFace s (class_at x) → turn_of x.tet g ≡ false
   unfolding class_of
   held_turns_not x g e w =
@@ -52,7 +52,7 @@ module _ (s : Skeleton) (h : IsSkeleton s) (connected : IsConnected s.rows) wher
       sym (both_turn x y g tree.leads.gluing e tree.leads.glued which) ∙ tree_turn s.rows h.table connected w.0 y tree.leads.gluing tree tree.leads.glued
 
   module _ (p : Presentation) (ip : IsPresentation s p) where
-    -- a face that turns has a generator
+    -- a face that reverses orientation has a generator
     turning_has : (x : Face) (g : Gluing) → glue s.rows x ≡ Some g → turn_of x.tet g ≡ true → has p.generators (class_at x) ≡ true
     unfolding class_of
     turning_has x g e t = contains_has p.generators (class_at x) ((ip.generators.members (class_at x)).1 (
@@ -64,7 +64,7 @@ module _ (s : Skeleton) (h : IsSkeleton s) (connected : IsConnected s.rows) wher
     place : Face → ℕ
     place x = position_or_len (λ c. c == class_at x) p.generators
 
-    -- the generator of a face turns as the face
+    -- the generator of a face reverses orientation if and only if the face does
     generator_turns : (x : Face) (g : Gluing) → glue s.rows x ≡ Some g → has p.generators (class_at x) ≡ true → slice_index_or p.turning (place x) false ≡ turn_of x.tet g
     unfolding class_of place
     generator_turns x g e k = b.odd ∙ turn_is s.rows h.table connected x0 b.gluing b.forth b.back b.glued b.forth_path b.back_path ∙ both_turn x x0 g b.gluing e b.glued which
@@ -88,7 +88,7 @@ module _ (s : Skeleton) (h : IsSkeleton s) (connected : IsConnected s.rows) wher
     abbrev letter_if : Bool → Face → Option Letter
     letter_if b x = if b then Some (record { generator = position_or_len (λ c. c == class_at x) p.generators + 1; inverse = not (is_least s.faces.classes (face_number x)) }) else None
 
-    -- a face with a letter turns as the letter, and one without does not turn
+    -- a face with a letter reverses orientation if and only if the letter does, and one without a letter does not
     pub record TurnsAs (o : Option Letter) (b : Bool) : Type 0 where
       pub none : o ≡ None → b ≡ false
       pub some : (letter : Letter) → o ≡ Some letter → turns p letter ≡ b

@@ -12,7 +12,7 @@ use Rattle.presentation_definitions.specs.Trees.{LeadsTo, IsDistance}
 
 -- ---- levels
 
--- a list of so many gluings leads to t
+-- a list of k gluings reaches t
 pub record Level (rows : List Row) (k t : ℕ) : Type 0 where
   pub crossed : List ℕ
   pub long : length crossed ≡ k
@@ -94,7 +94,7 @@ module _ (rows : List Row) where
       go [] l e = let z : Some (whole 0) ≡ Some (whole t) = e in let same : whole 0 ≡ whole t = cc in ap (λ (p : Place). p.tet) (sym same)
       go (f ∷ fs) l e = absurd (omega arith)
 
-  -- a face of u leads to t, where u is at level k
+  -- a face of u is glued to t, where u is at level k
   record Through (k u t : ℕ) : Type 0 where
     face : ℕ
     gluing : Gluing
@@ -115,7 +115,7 @@ module _ (rows : List Row) where
   pub leads_to_or_not : (u f t : ℕ) → ((g : Gluing) × (glue rows (face_at u f) ≡ Some g) × (g.tet ≡ t)) ⊎ (((g : Gluing) × (glue rows (face_at u f) ≡ Some g) × (g.tet ≡ t)) → ⊥)
   leads_to_or_not u f t = elim (leads_or_not u f t) [ inl h ↦ inl h | inr never ↦ inr (λ h. never h.0 h.1 h.2) ]
 
-  -- whether a face leads on from a level
+  -- whether a face of a tetrahedron of level k is glued to t
   module _ (table : IsTable rows) where
     through : (k u t : ℕ) → Level rows k u ⊎ (Level rows k u → ⊥) → Through k u t ⊎ (Through k u t → ⊥)
     through k u t (inr never) = inr (λ h. never h.level)

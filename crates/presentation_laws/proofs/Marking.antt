@@ -1,4 +1,4 @@
--- The face classes that hold tree faces, and the generators, class by class.
+-- The face classes that contain tree faces, and the generators, class by class.
 use Rattle.std.proofs.Common.{◌≡◌, ℕ, ◌+◌, ◌<◌, inl, inr, Bool, true, false, List, [], ◌∷◌, ◌++◌, length, set, Option, Some, None, Contains, slice_index, subst, sym, ap, refl, ◌∙◌, arith}
 use Rattle.std.specs.Prelude.{◌↔◌}
 use Rattle.std.specs.List.{slice_index_or}
@@ -105,7 +105,7 @@ module _ (s : Skeleton) where
     );
   }
 
--- ---- what a tree tells at a place
+-- ---- what the tree says of a tetrahedron
 
 pub tree_face_is : (rows : List Row) (tree : List (Option Face)) (t : ℕ) (d : Option Face) (x : Face) → IsTree rows tree → t < length tree → slice_index_or tree t d ≡ Some x → IsTreeFace rows t x
 tree_face_is rows tree t d x h l e = subst (IsTreeFaceAt rows t) (get_or_default tree t None d l ∙ e) (h.told t (subst (λ n. t < n) h.one_each l))
@@ -116,7 +116,7 @@ tree_root_is rows tree t d h l e = subst (IsTreeFaceAt rows t) (get_or_default t
 pub tree_face_inside : (rows : List Row) (t : ℕ) (x : Face) → IsTable rows → IsTreeFace rows t x → (x.tet < length rows) × (x.face < 4)
 tree_face_inside rows t x table h = (glued_tet rows x h.leads.gluing h.leads.glued, glued_face rows x h.leads.gluing table.four_faces h.leads.glued)
 
--- the tree has nothing at tetrahedron 0 alone
+-- the tree has no face at tetrahedron 0, and only there
 pub only_root : (rows : List Row) (tree : List (Option Face)) (t : ℕ) → IsTree rows tree → t < length tree → (slice_index_or tree t None ≡ None) ↔ (t ≡ 0)
 only_root rows tree t h l = (tree_root_is rows tree t None h l, λ z. cases (slice_index_or tree t None) refl z)
   where

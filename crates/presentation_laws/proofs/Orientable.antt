@@ -1,4 +1,4 @@
--- No generator turns if and only if the table is orientable.
+-- No generator reverses orientation if and only if the table is orientable.
 use Rattle.std.proofs.Common.{◌≡◌, ℕ, ◌-◌, ◌<◌, inl, inr, ◌↔◌, Bool, true, false, not, List, [], ◌∷◌, length, map, Option, Some, None, All, if◌then◌else◌, subst, sym, ap, ap₂, refl, ◌∙◌, arith}
 use Rattle.std.specs.List.{slice_index_or}
 use Rattle.std.proofs.lemmas.Bool.{cases_lt}
@@ -21,7 +21,7 @@ use Rattle.presentation_laws.proofs.TreeLaws.{path_of}
 use Rattle.presentation_laws.proofs.Parity.{differs, differs_self, odd_more, sign, sign_is, turn, turn_is}
 use Rattle.presentation_laws.proofs.Letters.{TurnsAs, letter_turns, zip_at}
 
--- a gluing that does not turn agrees with the signs
+-- a gluing that does not reverse orientation agrees with the signs
 agrees : (odd here there : Bool) → differs here (differs (not odd) there) ≡ false → there ≡ (if odd then here else not here)
 agrees true true true e = refl
 agrees true true false e = sym e
@@ -32,7 +32,7 @@ agrees false true false e = refl
 agrees false false true e = refl
 agrees false false false e = sym e
 
--- and one that agrees does not turn
+-- a gluing that agrees with the signs does not reverse orientation
 never_turns : (odd start here : Bool) → differs (differs start here) (differs (not odd) (differs start (if odd then here else not here))) ≡ false
 never_turns true true true = refl
 never_turns true true false = refl
@@ -59,7 +59,7 @@ module _ (s : Skeleton) (h : IsSkeleton s) (connected : IsConnected s.rows) (p :
   abbrev turn_of : ℕ → Gluing → Bool
   turn_of t g = turn s.rows h.table connected t g
 
-  -- ---- where none turns, the signs of the paths are signs
+  -- ---- if no generator reverses orientation, the signs of the tree paths are signs of the tetrahedra
 
   module _ (none : All (λ turning. turning ≡ false) p.turning) where
     turns_false : (letter : Letter) → turns p letter ≡ false
@@ -89,7 +89,7 @@ module _ (s : Skeleton) (h : IsSkeleton s) (connected : IsConnected s.rows) (p :
         at : (t : ℕ) → t < n → sign_of (map sign_at (below n)) t ≡ sign_at t
         at t l = get_or-map-range_with_len sign_at 0 n t t false l (omega arith)
 
-  -- ---- where there are signs, none turns
+  -- ---- if there are signs, no generator reverses orientation
 
   module _ (signs : List Bool) (agree : AreSigns s.rows signs) where
     path_sign : (t : ℕ) (xs : List Face) → IsTreePath s.rows t xs → is_odd_number (evens s.rows xs) ≡ differs (sign_of signs 0) (sign_of signs t)

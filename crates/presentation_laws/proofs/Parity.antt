@@ -1,4 +1,4 @@
--- Signs of tetrahedra by the even gluings on their tree paths, and whether a face turns.
+-- Signs of tetrahedra by the even gluings on their tree paths, and the faces that reverse orientation.
 use Rattle.std.proofs.Common.{◌≡◌, ℕ, ◌+◌, ◌%◌, ◌<◌, ◌≤◌, ◌⊎◌, inl, inr, Bool, true, false, not, List, [], ◌∷◌, length, Some, count_by, subst, sym, ap, ap₂, refl, ◌∙◌, arith}
 use Rattle.std.specs.Prelude.{◌==◌, cond}
 use Rattle.std.proofs.lemmas.List.Sums.{sum_by-cons}
@@ -32,7 +32,7 @@ pub differs_false : (a : Bool) → differs a false ≡ a
 differs_false true = refl
 differs_false false = refl
 
--- the same in the middle twice
+-- the same truth value on both sides of a difference cancels
 pub differs_middle : (a b c : Bool) → differs (differs a b) (differs b c) ≡ differs a c
 differs_middle true true true = refl
 differs_middle true true false = refl
@@ -90,11 +90,12 @@ module _ (rows : List Row) (table : IsTable rows) (connected : IsConnected rows)
   unfolding sign
   sign_is t xs l h = chosen_is t (cases_lt t (length rows)) xs l h
 
-  -- whether a gluing from t turns: an odd number of even gluings to t, across, and back
+  -- whether a gluing from t reverses orientation: an odd number of even gluings on the tree path to t, across the
+  -- gluing, and back
   unfoldable pub turn : ℕ → Gluing → Bool
   turn t g = differs (sign t) (differs (not (is_odd g.perm)) (sign g.tet))
 
-  -- the numbers of a path to t and of one to the tetrahedron behind
+  -- the numbers of even gluings of a path to t and of one to the tetrahedron across the face
   pub turn_is : (x : Face) (g : Gluing) (xs ys : List Face) → glue rows x ≡ Some g → IsTreePath rows x.tet xs → IsTreePath rows g.tet ys →
       is_odd_number (evens rows xs + evens rows (x ∷ []) + evens rows ys) ≡ turn x.tet g
   unfolding turn
@@ -107,7 +108,7 @@ module _ (rows : List Row) (table : IsTable rows) (connected : IsConnected rows)
       across : is_odd_number (evens rows (x ∷ [])) ≡ not (is_odd g.perm)
       across = odd_more (λ y. is_even_gluing (glue rows y)) x [] ∙ differs_false (is_even_gluing (glue rows x)) ∙ ap is_even_gluing e
 
-  -- a tree face does not turn
+  -- a tree face does not reverse orientation
   pub tree_turn : (t : ℕ) (x : Face) (g : Gluing) → IsTreeFace rows t x → glue rows x ≡ Some g → turn x.tet g ≡ false
   unfolding turn
   tree_turn t x g h e = ap (λ c. differs (sign x.tet) (differs (not (is_odd g.perm)) c)) there ∙ ap (differs (sign x.tet)) (sym (differs_assoc (not (is_odd g.perm)) (not (is_odd g.perm)) (sign x.tet)) ∙ ap (λ c. differs c (sign x.tet)) (differs_self (not (is_odd g.perm)))) ∙ differs_self (sign x.tet)
@@ -123,7 +124,7 @@ module _ (rows : List Row) (table : IsTable rows) (connected : IsConnected rows)
           ∙ odd_more (λ y. is_even_gluing (glue rows y)) x w.0
           ∙ ap₂ differs (ap is_even_gluing e) (sym (sign_is x.tet w.0 (glued_tet rows x g e) w.1))
 
-  -- the way back turns as the way forth
+  -- the inverse gluing reverses orientation if and only if the gluing does
   pub turn_back : (x : Face) (g : Gluing) → glue rows x ≡ Some g → turn g.tet (way_back x g) ≡ turn x.tet g
   unfolding turn
   turn_back x g e = ap (λ b. differs (sign g.tet) (differs (not b) (sign x.tet))) (is_odd-inverse g.perm (table.permutes x g e))

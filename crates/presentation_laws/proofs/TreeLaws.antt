@@ -63,7 +63,7 @@ module _ (rows : List Row) where
       ap₂ (λ z zs. z ∷ zs) same (one_path y.tet xs ys (subst (λ (z : Face). IsTreePath rows z.tet xs) same a.1) b.1)
 
   module _ (table : IsTable rows) where
-    -- a face that leads to t from level d, where t is at distance d + 1
+    -- if t is at distance d + 1, a face of level d that is glued to t is one of a tetrahedron with a distance one less
     closer : (t u f d : ℕ) (g : Gluing) → IsDistance rows t (d + 1) → Level rows d u → glue rows (face_at u f) ≡ Some g → g.tet ≡ t → LeadsCloser rows t (face_at u f)
     closer t u f d g there level e to = record { gluing = g; glued = e; to = to; distance = d; here = subst (IsDistance rows u) same found.1; there = there }
       where
@@ -74,7 +74,7 @@ module _ (rows : List Row) where
         same = let a : found.0 ≤ d = distance_least rows u found.0 d found.1 level in
             let b : d + 1 ≤ suc found.0 = distance_least rows t (d + 1) (suc found.0) there (subst (Level rows (suc found.0)) to (level_more rows found.0 u f g (distance_level rows u found.0 found.1) e)) in omega arith
 
-    -- at distance d + 1 such a face is one that leads to t from level d
+    -- the faces of level d that are glued to t
     Near : ℕ → ℕ → ℕ → ℕ → Type 0
     Near t d u f = Level rows d u × ((g : Gluing) × (glue rows (face_at u f) ≡ Some g) × (g.tet ≡ t))
 

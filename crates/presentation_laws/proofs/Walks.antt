@@ -1,4 +1,4 @@
--- Round an edge the faces turn an even number of times.
+-- An even number of the faces around an edge reverse orientation.
 use Rattle.std.proofs.Common.{◌≡◌, ℕ, ◌%◌, ◌<◌, Bool, true, false, not, List, [], ◌∷◌, filter, filter_map, Option, Some, None, option_map, count_by, MatchBool, if◌then◌else◌, subst, sym, ap, ap₂, refl, ◌∙◌, arith}
 use Rattle.std.specs.List.{cons_option, slice_index_or, All}
 use Rattle.std.proofs.lemmas.Slice.Zip.{AllZip-long}
@@ -55,7 +55,7 @@ module _ (s : Skeleton) (h : IsSkeleton s) (connected : IsConnected s.rows) wher
   abbrev turn_of : ℕ → Gluing → Bool
   turn_of t g = turn s.rows h.table connected t g
 
-  -- whether the face through which the walk leaves a corner turns
+  -- whether the face through which the walk leaves a corner reverses orientation
   abbrev turn_glued : ℕ → Option Gluing → Bool
   turn_glued t None = false
   turn_glued t (Some g) = turn_of t g
@@ -67,7 +67,7 @@ module _ (s : Skeleton) (h : IsSkeleton s) (connected : IsConnected s.rows) wher
   total [] = false
   total (k ∷ ks) = differs (turn_at k) (total ks)
 
-  -- what is answered of a corner
+  -- the sign of a corner: that of its tetrahedron, changed if its permutation is odd
   abbrev mark : Corner → Bool
   mark k = differs (sign_at k.tet) (is_odd (corner_word k))
 
@@ -118,13 +118,13 @@ module _ (s : Skeleton) (h : IsSkeleton s) (connected : IsConnected s.rows) wher
   walk_turns first k (l ∷ ls) hk w = let t = step_turns k l hk (steps k l w.0) in
       ap₂ differs t.0 (walk_turns first l ls t.1 w.2) ∙ differs_middle (mark k) (mark l) (mark first)
 
-  -- ---- the letters of a walk
+  -- ---- the letters of a tour
 
   module _ (p : Presentation) (ip : IsPresentation s p) where
     abbrev letter_at : Corner → Option Letter
     letter_at k = letter_of s p.generators (face_number (left_through k))
 
-    -- each corner of the walk leaves through a glued face
+    -- each corner of the tour is left through a glued face
     AllGlued : List Corner → Type 0
     AllGlued [] = Unit {0}
     AllGlued (k ∷ ks) = ((g : Gluing) × (glue s.rows (left_through k) ≡ Some g)) × AllGlued ks

@@ -12,7 +12,7 @@ use Rattle.quad_condition.specs.Bits.{IsOfEither, word_of_either, word_ahead, Ha
 set_at : (words : List ℕ) (k i : ℕ) → i < 64 → bit_at (get_or words k 0) i ≡ 1 → bit_of words (64 * k + i) ≡ true
 set_at words k i h e = bit_of-column words k i h ∙ eq-eqb (bit_at (get_or words k 0) i) 1 e
 
--- the words of either
+-- the words of the union of both supports
 either_one : (m n x y : ℕ) → m < 2 → n < 2 → max m n ≡ 1 → (m ≡ 1) ⊎ (n ≡ 1)
 either_one m n x y p q e = ⊎_elim (λ h. inl h) (λ h. inr (omega arith)) (cases_eq m 1)
 
@@ -78,7 +78,7 @@ ahead_high here next d i fits some few below h =
     ∙ zero_max (bit_at (here / 2 ^ d) i) (bit_at (next * 2 ^ (64 - d) % 2 ^ 64) i) (shifted_right here d i ∙ bit_at_above here 64 (i + d) fits h)
     ∙ kept_below (next * 2 ^ (64 - d)) i below ∙ shifted_high next (64 - d) i (omega arith) ∙ ap (bit_at next) e
 
--- the bit ahead is that of the column ahead
+-- the bit d places further is that of the column d further
 ahead_column : (a b : List ℕ) (k i d : ℕ) → word_of_either a b k < 2 ^ 64 → 1 ≤ d → d < 64 → i < 64 → bit_at (word_ahead (word_of_either a b k) (word_of_either a b (k + 1)) d) i ≡ 1
     → IsOfEither a b ((64 * k + i) + d)
 ahead_column a b k i d fits some few below e =
@@ -104,7 +104,7 @@ column_ahead a b column d fits some few h =
     ∙ ap (bit_at (word_of_either a b (column / 64 + 1))) (sym bit) ∙ ap (λ k. bit_at (word_of_either a b k) ((column + d) % 64)) (sym word) ∙ bit_of_either a b (column + d) h)
     (cases_lt (column % 64 + d) 64)
 
--- pairs ahead, word by word
+-- pairs of columns d apart, word by word
 abbrev pub pair_word : List ℕ → List ℕ → List ℕ → ℕ → ℕ → ℕ
 pair_word mask a b d k = bit_and (bit_and (get_or mask k 0) (word_of_either a b k)) (word_ahead (word_of_either a b k) (word_of_either a b (k + 1)) d)
 
@@ -176,7 +176,7 @@ pub none_two : (mask a b : List ℕ) → ((k : ℕ) → k < length mask → mark
 none_two mask a b none h =
     nonzero_word (marked_word mask a b (h.first / 64)) (h.first % 64) (none (h.first / 64) (within_words mask h.first h.first_in.marked)) (at_marked mask a b h.first h.first_in)
 
--- two in the first word that is not 0, or one there and one behind it
+-- two marked columns in the first word that is not 0, or one there and one in a later word
 pub two_in_word : (mask a b : List ℕ) (k : ℕ) → HasTwoBits (marked_word mask a b k) → HasTwo mask a b
 two_in_word mask a b k h = record {
   first = 64 * k + h.first;
@@ -266,7 +266,7 @@ no_two_bits word t below none h =
         let zero_bit : bit_at power i ≡ 0 = kept_below (1 * 2 ^ t) i l ∙ ap (λ n. bit_at n i) e ∙ bit_at-pow_other t i other in
         no_common_bit word (bit_not w64 power) i none set (bit_at_not w64 power i (omega arith) l ∙ ap (λ n. 1 - n) zero_bit)
 
--- whether another bit than the lowest is set
+-- whether a bit other than the lowest one is set
 pub two_bits_iff : (word : ℕ) → 0 < word → word < 2 ^ 64 → IsTrue (not (eqb (bit_and word (bit_not w64 (1 * 2 ^ trailing_zeros w64 word % 2 ^ 64))) 0)) ↔ HasTwoBits word
 two_bits_iff word some fits =
     let t : ℕ = trailing_zeros w64 word in
@@ -276,7 +276,7 @@ two_bits_iff word some fits =
       (λ h. ap not (ne_eqb rest 0 (λ z. no_two_bits word t f.0 z h))),
     )
 
--- a fact of each number below k and of k
+-- a fact of each number below k, and of k
 pub below_and_at : (P : ℕ → Type 0) (k : ℕ) → ((j : ℕ) → j < k → P j) → P k → (j : ℕ) → j < k + 1 → P j
 below_and_at P k below at j h = ⊎_elim (λ l. below j l) (λ l. let e : k ≡ j = omega arith in subst P e at) (cases_lt j k)
 

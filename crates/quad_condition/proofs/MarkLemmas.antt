@@ -20,7 +20,7 @@ use Rattle.quad_condition.proofs.Pairs.{Pairs, IsPrefix, prefix_by, pairs_prefix
 use Rattle.surface_definitions.proofs.Ranges.{flat_map-more}
 use Rattle.surface_definitions.proofs.ClashPairs.{all_of_pairs}
 
--- one column more
+-- one more column
 below_other : (k column : ℕ) → k ≢ column → nat_lt k (column + 1) ≡ nat_lt k column
 below_other k column other = go (cases_order k column)
   where
@@ -73,7 +73,7 @@ pair_of_all P coords n h c e less within clashes =
     let last : All P (partners_before coords c e ++ (c, e) ∷ []) = subst (All P) (partners_more coords c e ∙ ap (λ b. partners_before coords c e ++ cond b ((c, e) ∷ []) []) is) cut in
     all_suffix P (partners_before coords c e) ((c, e) ∷ []) last 0 (c, e) (omega arith)
 
--- what a mark says of a column
+-- what the mark of a column says
 record IsAt (coords : Coords) (n least distance column : ℕ) : Type 0 where
   within : column < columns coords n
   low : least ≤ column % columns_each coords
@@ -92,7 +92,7 @@ at_is_marked coords n least distance column words marks h =
     marks.bits column ∙ and_from (nat_lt column (columns coords n)) (is_marked coords least distance column) (lt-ltb column (columns coords n) h.within)
     (and_from (nat_le least place) (nat_lt (place + distance) (columns_each coords)) (le-leb least place h.low) (lt-ltb (place + distance) (columns_each coords) h.room))
 
--- two places of one tetrahedron
+-- two columns of one tetrahedron
 record IsPairOfOne (coords : Coords) (n c e : ℕ) : Type 0 where
   within : e < columns coords n
   same : c / columns_each coords ≡ e / columns_each coords
@@ -236,7 +236,7 @@ free_of_clashes coords n near mask sa sb a b marks p q no_near no_two =
           };
         })
 
--- an element is the same under each default
+-- an entry within the list is the same for each default
 pub any_default : {X : Type 0} (xs : List X) (k : ℕ) (x : X) → k < length xs → x ≡ get_or xs k x → (d : X) → x ≡ get_or xs k d
 any_default [] k x l e d = absurd (omega arith)
 any_default (y ∷ ys) zero x l e d = e
@@ -262,11 +262,11 @@ are_clashes coords n =
     all_of_pairs (λ pair. (pair.0 < columns coords n) × (pair.1 < columns coords n) × (pair.0 ≢ pair.1)) coords n
     (λ c e less within clashes. let low : c < columns coords n = omega arith in let apart : c ≢ e = λ same. omega arith in (low, within, apart))
 
--- the places of a tetrahedron behind its triangles
+-- each tetrahedron has columns after those of its triangles
 pub some_quads : (coords : Coords) → triangles_each coords + 1 ≤ columns_each coords
 some_quads coords = omega arith
 
--- the mask of one distance more
+-- the masks with one more distance
 pub marks_more : (coords : Coords) (n least distance : ℕ) (near new : List (Vec ℕ Global)) (mask : Vec ℕ Global) → new ≡ near ++ mask ∷ [] → least ≡ triangles_each coords → length near + 1 ≡ distance → AreMarks coords n least distance mask.items
     → ((k : ℕ) (d : Vec ℕ Global) → k < length near → AreMarks coords n (triangles_each coords) (k + 1) (get_or near k d).items)
     → (k : ℕ) (d : Vec ℕ Global) → k < length new → AreMarks coords n (triangles_each coords) (k + 1) (get_or new k d).items

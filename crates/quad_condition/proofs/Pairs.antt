@@ -1,4 +1,4 @@
--- The clashing pairs, one column more at a time, and the first of them that is nonzero in both places.
+-- The clashing pairs, one more column at a time, and the first pair of which both columns are nonzero.
 use Rattle.std.proofs.Common.{◌≡◌, ◌≢◌, ℕ, zero, suc, ◌+◌, ◌-◌, ◌<◌, ◌≤◌, Bool, true, false, cond, List, [], ◌∷◌, ◌++◌, map, filter, Some, None, refl, sym, ap, ◌∙◌, arith, add-zero, append_assoc, append-nil}
 use Rattle.std.specs.List.{flat_map, find}
 use Rattle.std.specs.Option.{option_or}
@@ -167,7 +167,7 @@ found_pair x coords n first second none here within =
 pub found_no_pair : (x : List ℕ) (coords : Coords) (n last : ℕ) → find (both_nonzero x) (pairs_before coords n last) ≡ None → last ≡ columns coords n → None ≡ find (both_nonzero x) (clash_list coords n)
 found_no_pair x coords n last none e = sym (ap (find (both_nonzero x)) (sym (all_pairs coords n) ∙ ap (pairs_before coords n) (sym e)) ∙ none)
 
--- a column more of a list of pairs
+-- one more column of a list of pairs
 pub pushed : (coords : Coords) (first second : ℕ) (old now new : Pairs) → first < second → clash_test coords first second ≡ true → now ≡ old ++ partners_before coords first second
     → new ≡ now ++ (first, second) ∷ [] → new ≡ old ++ partners_before coords first (second + 1)
 pushed coords first second old now new less clashes e f =

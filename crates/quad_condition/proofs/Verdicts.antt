@@ -1,4 +1,4 @@
--- The verdict, by what the calls on a system of rows answer.
+-- The verdict, by the results of the calls on a system of rows.
 use Rattle.std.proofs.Common.{◌≡◌, ◌≢◌, ℕ, ℤ, List, length, Option, sym}
 use Rattle.std.specs.List.{All, find}
 use Rattle.std.specs.Prelude.{Err}

@@ -1,4 +1,4 @@
--- What a crossing says of the two vertices.
+-- What is known of the two vertices of a crossing.
 use Rattle.std.proofs.Common.{◌≡◌, ◌≢◌, ℕ, zero, suc, ◌+◌, ◌*◌, ◌/◌, ◌%◌, ◌<◌, ◌≤◌, Bool, true, false, List, [], ◌∷◌, length, Option, Some, None, option_map, refl, sym, ap, ◌∙◌, subst, arith}
 use Rattle.std.specs.Prelude.{slice_index, ◌==◌, if◌then◌else◌}
 use Rattle.std.proofs.lemmas.Bool.{or_parts, eqb-false}
@@ -68,7 +68,7 @@ crossed_to s k xs i f other up down li x =
           ∙ ap (λ n. h (vertex_number g.tet w) + n) (sym x.down_is) ∙ ap (λ n. h n + down) (sym x.other_is);
     }
 
--- no vertex is met where the face is not at the vertex, or is free
+-- no vertex is reached across the face opposite the vertex, or across a boundary face
 pub crossed_none : (rows : List Row) (i f : ℕ) → (i % 4 ≢ f → glue rows (record { tet = i / 4; face = f }) ≡ None) → crossed_vertex rows i f ≡ None
 unfolding crossed_vertex
 crossed_none rows i f free = go (has (i % 4 ∷ []) f) refl
@@ -77,7 +77,7 @@ crossed_none rows i f free = go (has (i % 4 ∷ []) f) refl
     go true e = refl
     go false e = ap (λ o. option_map vertex_at (option_map (λ g. carried g (one_vertex (i / 4) (i % 4))) o)) (free (eqb-false (i % 4) f (or_parts (i % 4 == f) false e).0))
 
--- the tetrahedron behind a face
+-- the tetrahedron across a face
 pub record IsBehind (rows : List Row) (g : Gluing) : Type 0 where
   pub in_range : g.tet < length rows
   pub few : length rows ≤ 1000

@@ -6,7 +6,7 @@ use Rattle.std.proofs.lemmas.List.{get_or-set_same, get_or-set_other, length-set
 use Rattle.skeleton_definitions.specs.Skeleton.{Skeleton, IsSkeleton}
 use Rattle.quad_lift.specs.Agreements.{IsLeastHeight, AreLeastHeights}
 
--- the greatest height that there can be
+-- the greatest height, 2^128 - 1
 abbrev pub most : ℕ
 most = 340282366920938463463374607431768211455
 
@@ -33,7 +33,7 @@ module _ (s : Skeleton) (heights : List ℕ) where
   later : (n c low : ℕ) → IsReached s heights n c low → IsReached s heights (n + 1) c low
   later n c low r = record { member = r.member; within = (let l = r.within in omega arith); in_class = r.in_class; reached = r.reached }
 
-  -- a height that is not less
+  -- the height of vertex n is at least the least height so far
   pub lows_stay : (n : ℕ) (lows : List ℕ) → AreLowsBefore s heights n lows → slice_index lows (class_of n) ≤ slice_index heights n → AreLowsBefore s heights (n + 1) lows
   lows_stay n lows b l = record {
     one_each = b.one_each;
@@ -44,7 +44,7 @@ module _ (s : Skeleton) (heights : List ℕ) where
     got = λ c m. elim (b.got c m) [ inl none ↦ inl none | inr r ↦ inr (later n c (slice_index lows c) r) ];
   }
 
-  -- a lesser height
+  -- the height of vertex n is smaller
   pub lows_fall : (n : ℕ) (lows : List ℕ) → AreLowsBefore s heights n lows → class_of n < s.vertices.count → slice_index heights n < slice_index lows (class_of n)
       → AreLowsBefore s heights (n + 1) (set lows (class_of n) (slice_index heights n))
   lows_fall n lows b inside l = record {

@@ -5,7 +5,7 @@ use Rattle.std.proofs.lemmas.Bool.{cases_lt}
 use Rattle.skeleton_definitions.specs.Skeleton.{Skeleton}
 use Rattle.quad_lift.specs.Agreements.{AgreesRound, IsLeastWrong}
 
--- the same of the vertices before n
+-- the least class with a vertex before n at which heights and quads do not agree
 pub record IsLeastWrongBefore (s : Skeleton) (xs heights : List ℕ) (n least : ℕ) : Type 0 where
   pub within : least ≤ s.vertices.count
   pub before : (i : ℕ) → i < n → slice_index s.vertices.classes i < least → AgreesRound s xs heights i
@@ -25,7 +25,7 @@ module _ (s : Skeleton) (xs heights : List ℕ) (n : ℕ) where
   earlier : (least : ℕ) → IsLeastWrongBefore s xs heights n least → least < s.vertices.count → (i : ℕ) × (i < n + 1) × (class_of i ≡ least) × (AgreesRound s xs heights i → ⊥)
   earlier least b l = (let r : (i : ℕ) × (i < n) × (class_of i ≡ least) × (AgreesRound s xs heights i → ⊥) = b.wrong l in (r.0, (let m : r.0 < n = r.1 in omega arith), r.2, r.3))
 
-  -- a vertex of a class that is not less, or at which they agree
+  -- vertex n is of a class that is not smaller, or heights and quads agree there
   pub wrong_stays : (least : ℕ) → IsLeastWrongBefore s xs heights n least → (class_of n < least → AgreesRound s xs heights n) → IsLeastWrongBefore s xs heights (n + 1) least
   wrong_stays least b here = record {
     within = b.within;
@@ -36,7 +36,7 @@ module _ (s : Skeleton) (xs heights : List ℕ) (n : ℕ) where
     wrong = earlier least b;
   }
 
-  -- a vertex of a lesser class at which they do not
+  -- vertex n is of a smaller class, and heights and quads do not agree there
   pub wrong_falls : (least class : ℕ) → IsLeastWrongBefore s xs heights n least → class ≡ class_of n → class < least → (AgreesRound s xs heights n → ⊥) → IsLeastWrongBefore s xs heights (n + 1) class
   wrong_falls least class b e l out = record {
     within = omega (arith, b.within);

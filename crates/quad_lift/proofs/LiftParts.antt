@@ -28,7 +28,7 @@ module _ (s : Skeleton) (k : IsSkeleton s) (xs : List ℕ) (w : length xs ≡ 3 
   abbrev class_of : ℕ → ℕ
   class_of i = slice_index s.vertices.classes i
 
-  -- heights that agree round each vertex of a class are heights of it
+  -- heights that agree around each vertex of a class are heights of the class
   pub agreed : (c : ℕ) → ((i : ℕ) → i < 4 * length s.rows → class_of i ≡ c → AgreesRound s xs heights i) → AreHeights s xs c (slice_index heights)
   agreed c all x g v e lv off ch =
       let into : IsGlued s.rows x g = glued_is s.rows x g k.table e in
@@ -46,7 +46,7 @@ module _ (s : Skeleton) (k : IsSkeleton s) (xs : List ℕ) (w : length xs ≡ 3 
         down_is = λ j. slice_index xs (quad_column Quad g.tet (keeping (image g.perm (sym m j)) (image g.perm x.face)));
       })
 
-  -- where any heights of the class exist they agree
+  -- if the class has any heights, the computed ones agree
   heights_agree : (h : ℕ → ℕ) (i : ℕ) → i < 4 * length s.rows → AreHeights s xs (class_of i) h → AgreesRound s xs heights i
   heights_agree h i li b f lf other up down x =
       let t : IsCrossedTo s xs i f other up down = crossed_to s k xs i f other up down li x in
@@ -98,7 +98,7 @@ surface_over s k xs w ys f =
       projects = projects;
     }
 
--- the quads of one tetrahedron more
+-- the quads of one more tetrahedron
 pub project_more : (ys : List ℕ) (t : ℕ) (before one two more : List ℕ) (a b c : ℕ) → before ≡ projected t ys → one ≡ before ++ a ∷ [] → two ≡ one ++ b ∷ [] → more ≡ two ++ c ∷ []
     → a ≡ slice_index ys (7 * t + 4) → b ≡ slice_index ys (7 * t + 5) → c ≡ slice_index ys (7 * t + 6) → more ≡ projected (t + 1) ys
 project_more ys t before one two more a b c h e f g ea eb ec =

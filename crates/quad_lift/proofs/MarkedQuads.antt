@@ -1,4 +1,4 @@
--- The quads beside the marked vertices, added, are at most four times all quads.
+-- The quads of the tetrahedra of the marked vertices, added, are at most four times all quads.
 use Rattle.std.proofs.Common.{◌≡◌, ℕ, zero, suc, ◌+◌, ◌*◌, ◌/◌, ◌<◌, ◌≤◌, ◌⊎◌, Bool, true, false, List, [], ◌∷◌, ◌++◌, length, take, set, inl, inr, refl, sym, ap, ◌∙◌, subst, arith}
 use Rattle.std.specs.Prelude.{sum, sum_by, if◌then◌else◌}
 use Rattle.std.specs.List.{slice_index_or}
@@ -26,7 +26,7 @@ quads-zero : (xs : List ℕ) (marked : List Bool) → marked_quads xs marked 0 �
 unfolding marked_quads
 quads-zero xs marked = refl
 
--- a vertex that is marked adds the quads beside it
+-- marking a vertex adds the quads of its tetrahedron
 module _ (xs : List ℕ) (marked : List Bool) (j : ℕ) (inside : j < length marked) (free : slice_index_or marked j false ≡ false) where
   other_term : (i : ℕ) → (i ≡ j → ⊥) → term xs (set marked j true) i ≡ term xs marked i
   other_term i off = ap (λ b. if b then quads_beside xs i else 0) (get_or-set_other marked j i true false off)
@@ -54,7 +54,7 @@ module _ (xs : List ℕ) (marked : List Bool) (j : ℕ) (inside : j < length mar
           let old : term xs marked n ≡ 0 = ap (term xs marked) same ∙ old_term in
           omega (arith, same_before n m, quads-suc xs (set marked j true) n, quads-suc xs marked n, new, old)
 
--- at most all quads are added for a vertex
+-- a vertex adds at most the quads of its tetrahedron
 at_most : (xs : List ℕ) (marked : List Bool) (i : ℕ) → term xs marked i ≤ quads_beside xs i
 at_most xs marked i = go (slice_index_or marked i false)
   where

@@ -1,4 +1,4 @@
--- The turn of a vertex, face by face.
+-- The step of the search at a vertex, face by face.
 use Rattle.std.proofs.Common.{◌≡◌, ◌≢◌, ℕ, ◌+◌, ◌/◌, ◌%◌, ◌<◌, ◌≤◌, Bool, true, false, List, [], ◌∷◌, ◌++◌, length, set, Option, Some, None, refl, ◌∙◌}
 use Rattle.std.specs.List.{slice_index_or}
 use Rattle.table_walk_laws.specs.Search.{IsMarked, IsSearchStep, IsSearch}

@@ -1,4 +1,4 @@
--- Heights go on from vertex to vertex, and begin anew in a class that has none.
+-- Heights are spread from vertex to vertex, from a new start in each class that has none.
 use Rattle.std.proofs.Common.{◌≡◌, ℕ, ◌+◌, ◌-◌, ◌*◌, ◌/◌, ◌%◌, ◌<◌, ◌≤◌, ◌⊎◌, Bool, true, false, List, [], ◌∷◌, length, set, Option, Some, None, inl, inr, refl, sym, ap, ◌∙◌, subst, arith}
 use Rattle.std.specs.Prelude.{sum, slice_index, option_and_then, Contains}
 use Rattle.std.specs.List.{slice_index_or}
@@ -144,7 +144,7 @@ module _ (s : Skeleton) (k : IsSkeleton s) (xs : List ℕ) (w : length xs ≡ 3 
       (omega (arith, a.low i m, x.down_few, add))
       (omega (arith, a.high i m, x.up_few, add))
 
--- a class that has no marked vertex begins anew
+-- a new start in a class that has no marked vertex
 pub spread_root : (s : Skeleton) (k : IsSkeleton s) (xs : List ℕ) (w : length xs ≡ 3 * length s.rows) (marked : List Bool) (heights : List ℕ) → AreSpread s xs marked heights
     → IsClosed (vertices_round s.rows) marked → (r : ℕ) → r < 4 * length s.rows → slice_index_or marked r false ≡ false → (start : ℕ) → start ≡ 4 * sum xs → AreSpread s xs (set marked r true) (set heights r start)
 spread_root s k xs w marked heights a closed r lr free start e =
@@ -167,7 +167,7 @@ none_spread s xs marked heights lm lh none = record {
   high = λ i m. absurd (false≢true (sym (none i) ∙ m));
 }
 
--- what a crossing from a marked vertex says
+-- what is known of a crossing from a marked vertex
 pub met : (s : Skeleton) (k : IsSkeleton s) (xs : List ℕ) (marked : List Bool) (heights : List ℕ) → AreSpread s xs marked heights → (i f other up down : ℕ) → IsMarked marked i
     → IsCrossing s xs i f other up down → IsCrossedTo s xs i f other up down
 met s k xs marked heights a i f other up down m x = crossed_to s k xs i f other up down (omega (arith, marked_below marked i m, a.one_mark)) x
@@ -183,7 +183,7 @@ module _ (s : Skeleton) (k : IsSkeleton s) (xs heights : List ℕ) (a : AreAllSp
   pub fits_there : slice_index heights other + down ≤ 8 * sum xs
   fits_there = omega (arith, a.high other other_inside, (crossed_to s k xs i f other up down l x).down_few)
 
--- where all vertices are marked heights are spread to all
+-- if all vertices are marked, heights are spread to all
 pub all_spread : (s : Skeleton) (xs : List ℕ) → length xs ≡ 3 * length s.rows → (marked : List Bool) (heights : List ℕ) → AreSpread s xs marked heights
     → ((i : ℕ) → i < 4 * length s.rows → IsMarked marked i) → AreAllSpread s xs heights
 all_spread s xs w marked heights a all = record {

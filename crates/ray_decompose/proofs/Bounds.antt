@@ -1,4 +1,4 @@
--- A turn of the sum: what is computed fits, and where it leads.
+-- A step of the decomposition: its numbers are within the limit, and the state after it.
 use Rattle.std.proofs.Common.{◌≡◌, ◌≢◌, ℕ, suc, ◌+◌, ◌*◌, ◌<◌, ◌≤◌, inl, inr, List, [], ◌∷◌, ◌++◌, map, length, slice_index, slice_index_or, All, subst, subst₂, sym, ap, refl, ◌∙◌, arith}
 use Rattle.std.proofs.Math.Nat.{mul-le-mul_left}
 use Rattle.std.proofs.lemmas.Bool.{cases_eq}
@@ -14,11 +14,11 @@ use Rattle.sum_laws.proofs.Turns.{IsReached, led_reached, listed_ray, turn_small
 use Rattle.sum_laws.proofs.Runs.{ray_inside_rest, few_turns}
 use Rattle.ray_decompose.specs.Sums.{IsFirstLarge}
 
--- no listed vector before this place lies inside r
+-- no listed vector before this index is inside r
 abbrev pub NoneBefore : List (List ℕ) → List ℕ → ℕ → Type 0
 NoneBefore list r place = (k : ℕ) → k < place → IsInside (slice_index_or list k []) r → ⊥
 
--- what is computed in a turn is within the limit, and nothing gets negative
+-- the numbers of a step are within the limit, and no difference is negative
 pub record Fits (limit p q : ℕ) (v : List ℕ) (s : State) : Type 0 where
   pub times : q * s.times ≤ limit
   pub counts : All (λ (term : Term). q * term.count ≤ limit) s.terms
@@ -95,7 +95,7 @@ module _ (columns : ℕ) (rows : List Row) (list : List (List ℕ)) (x : List �
             (turn_smaller columns rows list x h s (taken_out s p q (slice_index_or list i [])) reached turn_at).inside))
       ]
 
--- a turn at a place of the list, as the code comes to it
+-- a step at an index of the list, as the code reaches it
 pub record Turn (columns : ℕ) (rows : List Row) (list : List (List ℕ)) (x : List ℕ) (limit times : ℕ) (terms : List Term) (rest : List ℕ) (i p q : ℕ) : Type 0 where
   pub rays : HasRays columns rows list x
   pub led : ReachesState limit list x (length terms) (record { times = times; terms = terms; rest = rest })
@@ -104,7 +104,7 @@ pub record Turn (columns : ℕ) (rows : List Row) (list : List (List ℕ)) (x : 
   pub inside : IsInside (slice_index_or list i []) rest
   pub fraction : IsLeastFraction rest (slice_index_or list i []) p q
 
--- the vector at a place, as it was read
+-- the vector at an index, as it was read
 pub at_place : (list : List (List ℕ)) (i : ℕ) (item v : List ℕ) → i < length list → item ≡ slice_index_or list i item → v ≡ item → v ≡ slice_index_or list i []
 at_place list i item v l is e = e ∙ is ∙ get_or_default list i item [] l
 
@@ -143,7 +143,7 @@ module _ (columns : ℕ) (rows : List Row) (list : List (List ℕ)) (x : List �
     first = h.first;
   })
 
-  -- where the turn leads
+  -- the state after the step
   pub goes_on : (times' : ℕ) (terms' : List Term) (rest' : List ℕ) → IsWithinTimes limit x (q * times) → times' ≡ q * times →
       terms' ≡ map (repeated q) terms ++ record { count = p; vector = slice_index_or list i [] } ∷ [] → rest' ≡ difference (multiple q rest) (multiple p (slice_index_or list i [])) →
       record { led : ReachesState limit list x (length terms') (record { times = times'; terms = terms'; rest = rest' }); none : NoneBefore list rest' (i + 1) }
@@ -157,11 +157,11 @@ module _ (columns : ℕ) (rows : List Row) (list : List (List ℕ)) (x : List �
       longer : suc (length terms) ≡ length terms'
       longer = sym (ap length are ∙ length_push (map (repeated q) terms) (record { count = p; vector = slice_index_or list i [] }) ∙ (let e : length (map (repeated q) terms) ≡ length terms = length-map terms (repeated q) in omega arith))
 
--- within the limit, and so within a number's range
+-- counts within the limit are within the range of the code's numbers
 pub counts_fit : (terms lent : List Term) (q limit most : ℕ) → lent ≡ terms → All (λ (term : Term). q * term.count ≤ limit) terms → limit < most → All (λ (term : Term). q * term.count < most) lent
 counts_fit terms lent q limit most e h l k d m = let n : q * (slice_index_or lent k d).count ≤ limit = subst (λ ts. All (λ (term : Term). q * term.count ≤ limit) ts) (sym e) h k d m in omega arith
 
--- one place more, whose vector is not inside
+-- one more index, whose vector is not inside the rest
 pub none_there : (list : List (List ℕ)) (rest : List ℕ) (i : ℕ) → NoneBefore list rest i → (IsInside (slice_index_or list i []) rest → ⊥) → NoneBefore list rest (i + 1)
 none_there list rest i none out k b c = elim (cases_eq k i) [
   | inl e ↦ out (subst (λ n. IsInside (slice_index_or list n []) rest) e c)

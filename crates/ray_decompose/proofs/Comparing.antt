@@ -1,4 +1,5 @@
--- Fractions are compared by their whole parts, and where these are equal by what remains; and the least of some.
+-- Fractions are compared by their whole parts, and if these are equal by the remainders; and the least fraction of a
+-- list.
 use Rattle.std.proofs.Common.{◌≡◌, ◌≢◌, ℕ, suc, ◌+◌, ◌*◌, ◌/◌, ◌%◌, ◌<◌, ◌≤◌, ◌↔◌, IsTrue, nat_lt, List, slice_index, inl, inr, ap, arith, le_of_lt}
 use Rattle.std.proofs.Math.Nat.{div-add-mod, mod-lt, mul-le-mul_left, mul-le-mul_right, le_of_mul-le-mul_left}
 use Rattle.std.proofs.lemmas.Bool.{cases_order, cases_lt}
@@ -74,7 +75,7 @@ no_first_rest b d r s z = rw z (omega arith)
 pub no_second_rest : (b d r s : ℕ) → 1 ≤ d → r ≢ 0 → s ≡ 0 → d * r ≤ b * s → ⊥
 no_second_rest b d r s some n z l = let m : d * 1 ≤ d * r = mul-le-mul_left d (omega arith) in let w : b * s ≡ 0 = rw z (omega arith) in omega arith
 
--- ---- the least of some
+-- ---- the least fraction of a list
 
 not_zero : (a b vk vn : ℕ) → vn ≡ 0 → a * vn ≤ b * vk
 not_zero a b vk vn z = rw z (omega arith)
@@ -85,7 +86,7 @@ ratio_trans xk vk xn vn xj vj some less least =
     let q : vn * (xk * vj) ≤ vn * (xj * vk) = mul-le-mul_left vn least in
     le_of_mul-le-mul_left {k = vk} (omega arith) (omega arith)
 
--- the column kept is least with one column more
+-- the least column so far is the least with one more column
 pub kept_least : (r v : List ℕ) (n k : ℕ) → IsLeastColumn r v n k → slice_index r k * slice_index v n ≤ slice_index r n * slice_index v k → IsLeastColumn r v (n + 1) k
 kept_least r v n k h here = record {
   in_range = let l : k < n = h.in_range in omega arith;

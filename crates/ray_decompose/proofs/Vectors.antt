@@ -32,11 +32,11 @@ is_repeated new old times same h = ext_get_or d new (map (repeated times) old) (
         old_vector : List ℕ
         old_vector = map (λ (t : Term). 0) old
 
--- what was lent and written stands in its place again
+-- what was taken out and changed is put back in its position
 pub refilled : {A : Type 0} (n : ℕ) (xs ys : List A) → length xs ≡ n → take n (xs ++ drop (length xs) ys) ≡ xs
 refilled n xs ys same = take-append-le n xs (drop (length xs) ys) (omega arith) ∙ take_all n xs (omega arith)
 
--- ---- no entry up to a place, taken so many times, exceeds the limit
+-- ---- no entry before an index, multiplied by `times`, exceeds the limit
 
 pub within_more : (x : List ℕ) (times limit i : ℕ) → ((k : ℕ) → k < i → times * slice_index x k ≤ limit) → (limit < times * slice_index x i → ⊥) → (k : ℕ) → k < i + 1 →
     times * slice_index x k ≤ limit
@@ -54,7 +54,7 @@ within_all x times limit i before past k = elim (cases_lt k i) [
   | inr h ↦ let none : slice_index x k ≡ 0 = get_or_past x k 0 (omega arith) in rw none (omega arith)
 ]
 
--- ---- a term more
+-- ---- one more term
 
 pub term_pushed : (new kept terms : List Term) (count : ℕ) (copy ray : List ℕ) → new ≡ kept ++ record { count = count; vector = copy } ∷ [] → kept ≡ terms → copy ≡ ray →
     new ≡ terms ++ record { count = count; vector = ray } ∷ []

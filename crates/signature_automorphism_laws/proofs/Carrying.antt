@@ -1,4 +1,4 @@
--- A text belongs to a start if and only if it belongs to the start to which an automorphism carries it.
+-- A text belongs to a start if and only if it belongs to the image of the start under an automorphism.
 use Rattle.std.proofs.Common.{◌≡◌, ℕ, ◌<◌, List, [], length, ap, ◌∙◌}
 use Rattle.std.specs.Prelude.{slice_index}
 use Rattle.std.specs.List.{slice_index_or}
@@ -32,7 +32,7 @@ module _ (rows : List Row) (by : Relabelling) (start : Start) (table : IsTable r
   abbrev back : Relabelling
   back = inverted n by
 
-  -- the walk from the start gives one from the carried start, by way back
+  -- the traversal from the start, after the inverse of the automorphism, is the traversal from the start's image
   pub walked_on : (to : Relabelling) (new : List Row) → IsWalked rows start to new → IsWalked rows (carried_start by start) (after n to back) new
   walked_on to new w =
       let home = inverted_stands n by auto.0 start.tet in_range in
@@ -51,7 +51,7 @@ module _ (rows : List Row) (by : Relabelling) (start : Start) (table : IsTable r
         ordered = w.ordered;
       }
 
-  -- the walk from the carried start gives one from the start
+  -- the traversal from the image of the start, after the automorphism, is the traversal from the start
   pub walked_before : IsPermutationOfFour start.perm → (to : Relabelling) (new : List Row) → IsWalked rows (carried_start by start) to new → IsWalked rows start (after n to by) new
   walked_before hp to new w =
       let to_tet : slice_index to.images u ≡ 0 = ap (λ (g : Gluing). g.tet) w.begins in

@@ -17,7 +17,7 @@ use Rattle.signature_laws.proofs.Uniqueness.{before_before}
 use Rattle.signature_automorphism_laws.specs.Automorphisms.{IsAutomorphism, carried_start, carried_number, HasNoLesserText, MarkedHaveNoLesserText}
 use Rattle.signature_automorphism_laws.proofs.Carrying.{text_before}
 
--- the carried start of a number, and its number
+-- the image of the start with a given number, and its number
 module _ (rows : List Row) (by : Relabelling) (auto : IsAutomorphism rows by) (i : ℕ) (low : i < 24 * length rows) where
   pub tet_below : i / 24 < length rows
   tet_below = omega arith
@@ -39,7 +39,7 @@ module _ (rows : List Row) (by : Relabelling) (auto : IsAutomorphism rows by) (i
       let b = index_below (carried_start by (numbered_start i)).perm carried_permutes in
       omega (arith, a, b)
 
-  -- a carried start has no lesser text if the start has none
+  -- if a start has no smaller text, its image has none
   pub carried_has_no_lesser : (text : List ℕ) → IsTable rows → HasNoLesserText rows text (numbered_start i) → HasNoLesserText rows text (numbered_start (carried_number by i))
   carried_has_no_lesser text table h other t =
       h other (text_before rows by (numbered_start i) table auto tet_below word_permutes other (subst (λ (s : Start). IsTextFrom rows s other) carried_is t))

@@ -1,4 +1,4 @@
--- If one text belongs to two starts, an automorphism carries the first to the second.
+-- If one text belongs to two starts, an automorphism maps the first to the second.
 use Rattle.std.proofs.Common.{◌≡◌, ℕ, ◌<◌, List, [], length, sym, ap, ◌∙◌, subst}
 use Rattle.std.specs.Prelude.{slice_index}
 use Rattle.std.specs.List.{slice_index_or}
@@ -20,7 +20,7 @@ use Rattle.signature_automorphism_laws.specs.Automorphisms.{IsAutomorphism, carr
 pub one_spelled : (text : List ℕ) (new other : List Row) → Spells text new → Spells text other → new ≡ other
 one_spelled text new other a b = ok_same new other (sym (spelled_read text new a) ∙ spelled_read text other b)
 
--- two walks to one table give an automorphism
+-- two traversals with the same resulting table determine an automorphism
 module _ (rows new : List Row) (start other : Start) (first second : Relabelling) (table : IsTable rows) (w : IsWalked rows start first new) (w' : IsWalked rows other second new) where
   abbrev n : ℕ
   n = length rows

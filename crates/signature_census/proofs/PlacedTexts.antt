@@ -1,4 +1,4 @@
--- A text that is put into a set of texts has its place there.
+-- A text that is put into a set of texts has an index there.
 use Rattle.std.proofs.Common.{◌≡◌, ℕ, ◌<◌, ◌≤◌, Bool, true, false, List, [], ◌∷◌, ◌++◌, length, get_or, refl, sym, ap, ◌∙◌, arith, inl, inr, ⊎_elim, Vec, nat_eq}
 use Rattle.std.specs.Prelude.{if◌then◌else◌}
 use Rattle.std.specs.List.{list_any, position_or_len}
@@ -19,11 +19,11 @@ module _ (text : Vec ℕ Global) (before : List (Vec ℕ Global)) where
   abbrev at : ℕ → Vec ℕ Global
   at k = get_or before k text
 
-  -- what is answered of a text by its place in the set
+  -- the text at an index of the set
   text_at : (k : ℕ) → k < length before → signature_in (texts_of before) k ≡ (at k).items
   text_at k h = get_or-map (λ (v : Vec ℕ Global). v.items) before k text [] h
 
-  -- no text is the same where none is found
+  -- if no text was found, each differs from this one
   differs : list_any (is_same text) before ≡ false → (k : ℕ) → k < length before → is_same text (at k) ≡ false
   differs none k h = by (is_same text (at k)) refl
     where
@@ -31,7 +31,7 @@ module _ (text : Vec ℕ Global) (before : List (Vec ℕ Global)) where
       by true e = absurd (false≢true (sym none ∙ list_any_at (is_same text) before k text h e))
       by false e = e
 
-  -- one that is found stands at the first place
+  -- a text that is found is at the first such index
   found_place : list_any (is_same text) before ≡ true → position_or_len (is_same text) before < length before
   found_place any =
       let some = Any-from_list_any (is_same text) before any in

@@ -1,4 +1,4 @@
--- A census of tables goes on to one of these and a further table.
+-- A census of tables extends to one of these tables and a further one.
 use Rattle.std.proofs.Common.{◌≡◌, ℕ, ◌+◌, ◌<◌, ◌≤◌, ◌↔◌, inl, inr, ⊎_elim, ◌⊎◌, List, [], ◌∷◌, ◌++◌, length, length-append, refl, sym, ap, ◌∙◌, subst, arith}
 use Rattle.std.specs.Prelude.{slice_index}
 use Rattle.std.proofs.Math.ListN.{get_or-append}
@@ -23,7 +23,7 @@ empty_census = record {
   signed = λ k h. absurd (omega arith);
 }
 
--- what is known of the tables of a list, of one more, and of its signature's place
+-- what is known of the tables of a list, of one more table, and of the index of its signature
 pub record Step (tables : List (List Row)) (a : List Row) (classes : List ℕ) (before : List (List ℕ)) (text : List ℕ) (class : ℕ) (now : List (List ℕ)) : Type 0 where
   pub are_tables : (k : ℕ) → k < length tables → IsTable (table_in tables k)
   pub table : IsTable a
@@ -68,7 +68,7 @@ module _ (tell : (a b : List Row) (s t : List ℕ) → IsTable a → IsTable b �
         sym m.2 ∙ (numbers.together m.0 n.0 m.1 n.1).1
         ((tell (table_in tables m.0) (table_in tables n.0) (text_of m.0) (text_of n.0) (s.are_tables m.0 m.1) (s.are_tables n.0 n.1) (s.census.signed m.0 m.1) (s.census.signed n.0 n.1)).0 same) ∙ n.2
 
-    -- the class of an earlier table is that of the new one if and only if their signatures are equal
+    -- an earlier table is in the class of the new one if and only if their signatures are equal
     by_signature : (i : ℕ) → i < length tables → (slice_index classes i ≡ class) ↔ (text_of i ≡ text)
     by_signature i h = ⊎_elim (λ (k : IsOldClass before text class now). known k) (λ (f : IsNewClass before text class now). fresh f) s.placed
       where
@@ -96,7 +96,7 @@ module _ (tell : (a b : List Row) (s t : List ℕ) → IsTable a → IsTable b �
     to_itself : (class ≡ class) ↔ AreIsomorphic a a
     to_itself = ((λ e. (tell a a text text s.table s.table s.signature s.signature).0 refl), (λ r. refl))
 
-    -- classes and tables, at their places in the longer lists
+    -- classes and tables, at their indices in the longer lists
     at_places : (i j c d : ℕ) (one other : List Row) → slice_index numbered i ≡ c → slice_index numbered j ≡ d → table_in more i ≡ one → table_in more j ≡ other
         → (c ≡ d) ↔ AreIsomorphic one other → (slice_index numbered i ≡ slice_index numbered j) ↔ AreRelabelled more i j
     at_places i j c d one other ec ed e f h = ((λ same. back (h.0 (sym ec ∙ same ∙ ed))), (λ r. ec ∙ h.1 (forth r) ∙ sym ed))
@@ -124,12 +124,12 @@ module _ (tell : (a b : List Row) (s t : List ℕ) → IsTable a → IsTable b �
     one_more : length more ≡ length tables + 1
     one_more = length-append tables (a ∷ [])
 
-    -- the place of the new signature is one of the signatures
+    -- the index of the new signature is in range
     class_in_range : class < length now
     class_in_range = ⊎_elim (λ (k : IsOldClass before text class now). rw k.kept k.in_range)
         (λ (f : IsNewClass before text class now). rw f.appended (let last = f.last in omega (arith, length-append before (text ∷ [])))) s.placed
 
-    -- the signatures so far stay
+    -- the earlier signatures remain
     at_least : length before ≤ length now
     at_least = ⊎_elim (λ (k : IsOldClass before text class now). rw k.kept (omega arith))
         (λ (f : IsNewClass before text class now). rw f.appended (omega (arith, length-append before (text ∷ [])))) s.placed

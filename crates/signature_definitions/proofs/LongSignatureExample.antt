@@ -18,7 +18,7 @@ up t = if nat_lt t 62 then by (t + 1) 0 else free
 down : ℕ → Option Gluing
 down t = if nat_lt 0 t then by (t - 1) 0 else free
 
--- tetrahedra t and t + 1 are glued along face 0 where t is even and along face 1 where t is odd
+-- tetrahedra t and t + 1 are glued along face 0 if t is even, and along face 1 if t is odd
 chain : List Row
 chain = map (λ t. if t % 2 == 0 then row (up t) (down t) free free else row (down t) (up t) free free) (below 63)
 

@@ -1,4 +1,4 @@
--- The relation of spelling is met by a table of the examples.
+-- A table of the examples fulfils the relation of spelling.
 use Rattle.std.proofs.Common.{refl}
 use Rattle.std.specs.Prelude.{codes}
 use Rattle.signature_definitions.specs.Spelling.{Spells}

@@ -42,7 +42,7 @@ long_faults : (signature_table (codes "-") ≡ Err (Short 1)) × (signature_tabl
 unfolding computed
 long_faults = (refl, refl, refl, refl, refl, refl, refl, refl, refl)
 
--- the table to which a relabelling carries one tetrahedron
+-- the image of a table of one tetrahedron under a relabelling
 carried_face : Relabelling → List Row → Face → Face → Option (Option Gluing)
 carried_face by rows y x =
     if same_face (face_under (relabelled_place by x.tet) x) y then Some (option_map (λ g. gluing_under (relabelled_place by x.tet) (relabelled_place by g.tet) g) (glue rows x)) else None

@@ -1,4 +1,4 @@
--- Counts and marks, one thing after the other.
+-- Counts and marks, one item after another.
 use Rattle.std.proofs.Common.{◌≡◌, ◌≢◌, ◌⊎◌, inl, inr, ℕ, zero, suc, ◌+◌, ◌<◌, Bool, true, false, List, length, take, set, replicate, refl, sym, ap, ◌∙◌, arith, subst}
 use Rattle.std.specs.Prelude.{◌==◌, ◌&&◌, ◌||◌, not, slice_index, map}
 use Rattle.std.specs.List.{slice_index_or, list_any, list_all, range_with_len}

@@ -1,4 +1,4 @@
--- The walk round each edge class exists.
+-- Each edge class has a tour around it.
 use Rattle.std.proofs.Common.{◌≡◌, ℕ, suc, ◌*◌, ◌<◌, Bool, true, false, List, [], ◌∷◌, length, map, slice_index, subst, sym, refl, arith}
 use Rattle.std.specs.List.{AllZip}
 use Rattle.table_walk_laws.proofs.OrbitLemmas.{orbit_exists}
@@ -11,7 +11,7 @@ use Rattle.skeleton_class_laws.proofs.RoundLemmas.{next_injective}
 use Rattle.skeleton_class_laws.proofs.WalkLemmas.{start_below, around_class}
 use Rattle.skeleton_class_laws.proofs.FirstPlaces.{first_place}
 
--- a list that goes along with another, where each item has one
+-- if each item of a list has a related item, there is a list of these
 pub zip_exists : {B : Type 0} (R : ℕ → B → Type 0) (xs : List ℕ) → ((i : ℕ) → i < length xs → (y : B) × R (slice_index xs i) y) → (ys : List B) × AllZip R xs ys
 zip_exists R [] h = ([], tt)
 zip_exists R (x ∷ xs) h = let first = h 0 (omega arith) in let rest = zip_exists R xs (λ i l. h (suc i) (omega arith)) in (first.0 ∷ rest.0, (first.1, rest.1))

@@ -19,14 +19,14 @@ numbers = 6 ∷ 0 ∷ 1 ∷ 2 ∷ 0 ∷ 6 ∷ 3 ∷ 4 ∷ 1 ∷ 3 ∷ 6 ∷ 5 �
 pub numbers_are : (a b : ℕ) → a < 4 → b < 4 → slice_index numbers (4 * a + b) ≡ edge_number a b
 numbers_are a b l m = eqb-true (slice_index numbers (4 * a + b)) (edge_number a b) (pairs_all (λ x y. slice_index numbers (4 * x + y) == edge_number x y) refl a b l m)
 
--- an edge by its ends, in either order
+-- the number of an edge does not depend on the order of its ends
 pub edge_number-turned : (a b : ℕ) → a < 4 → b < 4 → edge_number b a ≡ edge_number a b
 edge_number-turned a b l m = eqb-true (edge_number b a) (edge_number a b) (pairs_all (λ x y. edge_number y x == edge_number x y) refl a b l m)
 
 pub edge_number-ends : (e : ℕ) → e < 6 → edge_number (slice_index (ends e) 0) (slice_index (ends e) 1) ≡ e
 edge_number-ends e l = eqb-true (edge_number (slice_index (ends e) 0) (slice_index (ends e) 1)) e (list_all-below (λ x. edge_number (slice_index (ends x) 0) (slice_index (ends x) 1) == x) 6 refl e l)
 
--- the lesser end of an edge, and the greater
+-- the smaller end of an edge, and the greater
 abbrev pub low : ℕ → ℕ
 low e = slice_index (ends e) 0
 
@@ -83,7 +83,7 @@ ends-edge_number a b l m ne = (
     small : edge_number a b < 6
     small = small_by (or_cases (a == b) (nat_lt (edge_number a b) 6) false (pairs_all (λ x y. (x == y) || (nat_lt (edge_number x y) 6 || false)) refl a b l m))
 
--- where the d-th of twelve directed edges leads
+-- the end of the d-th of the twelve directed edges of a tetrahedron
 abbrev pub head : ℕ → ℕ
 head d = slice_index (others (d / 3)) (d % 3)
 

@@ -1,4 +1,5 @@
--- Of each kind, what a table of neighbours joins is the same.
+-- For each kind of items (vertices, edges, directed edges, faces, signed tetrahedra and signed vertices): a table of
+-- neighbours joins two items if and only if the gluings identify them.
 use Rattle.std.proofs.Common.{◌≡◌, ◌↔◌, ℕ, ◌*◌, ◌<◌, List, length, Option, Some}
 use Rattle.table_walk_laws.specs.Joined.{IsJoined, neighbours_of}
 use Rattle.table_definitions.specs.Table.{Row, IsTable}

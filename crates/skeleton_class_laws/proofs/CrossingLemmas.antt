@@ -1,4 +1,4 @@
--- What lies across a face, case by case.
+-- The images of simplices across a face, case by case.
 use Rattle.std.proofs.Common.{◌≡◌, ℕ, ◌+◌, ◌*◌, ◌/◌, ◌%◌, true, false, List, [], ◌∷◌, Option, Some, None, refl, sym, ap, ◌∙◌, arith}
 use Rattle.std.specs.Prelude.{◌==◌, option_map, slice_index}
 use Rattle.table_definitions.specs.Permutation.{image, others}
@@ -33,7 +33,7 @@ pub crossed_face-glued : (rows : List Row) (i f : ℕ) (g : Gluing) → f ≡ 0 
 unfolding crossed_face
 crossed_face-glued rows i f g e h = rw (e, h) refl
 
--- the same with what the code reads
+-- the image of a vertex, as the code computes it
 pub crossed_vertex-is : (rows : List Row) (i f : ℕ) (g : Gluing) (a b : ℕ) → (i % 4 == f) ≡ false → Some g ≡ glue rows (record { tet = i / 4; face = f })
     → a ≡ g.tet → b ≡ image g.perm (i % 4) → Some (4 * a + b) ≡ crossed_vertex rows i f
 crossed_vertex-is rows i f g a b e h ea eb = rw (ea, eb) (sym (crossed_vertex-glued rows i f g e (sym h)))
@@ -42,7 +42,7 @@ pub crossed_face-is : (rows : List Row) (i f : ℕ) (g : Gluing) (a b : ℕ) →
     → a ≡ g.tet → b ≡ image g.perm (i % 4) → Some (4 * a + b) ≡ crossed_face rows i f
 crossed_face-is rows i f g a b e h ea eb = rw (ea, eb) (sym (crossed_face-glued rows i f g e (sym h)))
 
--- a place of two vertices
+-- the image of a directed edge
 pub across-first : (rows : List Row) (t a b f : ℕ) → (a == f) ≡ true → across rows (pair t a b) f ≡ None
 across-first rows t a b f h = rw h refl
 
@@ -56,7 +56,7 @@ pub across-glued : (rows : List Row) (t a b f : ℕ) (g : Gluing) → (a == f) �
     → across rows (pair t a b) f ≡ Some (pair g.tet (image g.perm a) (image g.perm b))
 across-glued rows t a b f g h k s = rw (h, k, s) refl
 
--- edges and directed edges as such places
+-- edges and directed edges as pairs of vertices
 pub edge_is : (i a b : ℕ) → ends (i % 6) ≡ a ∷ b ∷ [] → edge i ≡ pair (i / 6) a b
 edge_is i a b e = λ k. record { tet = i / 6; vertices = e k }
 

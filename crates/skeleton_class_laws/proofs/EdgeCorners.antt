@@ -1,4 +1,4 @@
--- The corners round an edge are corners of tetrahedra, and not too many.
+-- The corners around an edge are corners of tetrahedra, and there are at most 1,000,000.
 use Rattle.std.proofs.Common.{◌≡◌, ◌≢◌, ℕ, zero, suc, ◌+◌, ◌*◌, ◌/◌, ◌%◌, ◌<◌, ◌≤◌, Bool, false, not, List, [], length, map, filter, get_or, sym, ap, ◌∙◌, subst, arith}
 use Rattle.std.specs.Prelude.{slice_index}
 use Rattle.std.specs.Bool.{MatchBool}
@@ -16,7 +16,7 @@ use Rattle.skeleton_definitions.specs.Skeleton.{Skeleton, IsSkeleton, IsAround}
 use Rattle.skeleton_class_laws.specs.CornersIn.{IsCornerIn, AreCornersIn}
 use Rattle.skeleton_class_laws.proofs.Rounds.{walk_has_corners, walk_in_range}
 
--- the corner at which the walk round an edge starts
+-- the corner at which the tour around an edge starts
 first_in_tet : (n t e : ℕ) → t < n → e < 6 → IsCornerIn n (corner_of t (ends e) (filter (λ v. not (has (ends e) v)) four))
 first_in_tet n t zero l m = record { tet = l; a = omega arith; b = omega arith; c = omega arith; d = omega arith; ac = omega arith; ad = omega arith }
 first_in_tet n t (suc zero) l m = record { tet = l; a = omega arith; b = omega arith; c = omega arith; d = omega arith; ac = omega arith; ad = omega arith }
@@ -37,7 +37,7 @@ least_in_range n Same classes count c numbered l =
     let same : least classes (slice_index classes some.0) ≡ least classes c = ap (least classes) some.2 in
     omega (arith, some.1)
 
--- corners by numbers
+-- corners as numbers
 abbrev number_of : Corner → ℕ
 number_of k = 256 * k.tet + (64 * k.a + (16 * k.b + (4 * k.c + k.d)))
 
@@ -59,7 +59,7 @@ number_tells n k l h m same =
     let p = four_parts k.tet k.a k.b k.c k.d l.tet l.a l.b l.c l.d h.a h.b h.c h.d m.a m.b m.c m.d same in
     λ i. record { tet = p.0 i; a = p.1 i; b = p.2 i; c = p.3 i; d = p.4 i }
 
--- corners of n tetrahedra, each once, are no more than their numbers
+-- different corners of n tetrahedra are at most as many as their numbers
 few_corners : (n : ℕ) (first : Corner) (corners : List Corner) → AreCornersIn n corners → ((i j : ℕ) → i < j → j < length corners → get_or corners i first ≢ get_or corners j first) → length corners ≤ 256 * n
 few_corners n first corners inside once =
     subst (λ m. m ≤ 256 * n) (length-map corners number_of) (distinct_below (256 * n) (map number_of corners)
@@ -74,7 +74,7 @@ few_corners n first corners inside once =
         once i j less lj (number_tells n (get_or corners i first) (get_or corners j first) (inside i first li) (inside j first lj)
         (sym (get_or-map number_of corners i first d li) ∙ same ∙ get_or-map number_of corners j first d lj))
 
--- the walk round an inner edge class lists its corners, each in range and not too many
+-- the tour around an internal edge class lists its corners, each in one of 1,000 tetrahedra, and at most 1,000,000
 pub record IsRound (s : Skeleton) (c : ℕ) (corners : List Corner) : Type 0 where
   pub all : AreCorners s.rows (first_corner (least s.edges.classes c)) corners
   pub inside : AreCornersIn 1000 corners

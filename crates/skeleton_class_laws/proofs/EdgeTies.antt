@@ -30,14 +30,14 @@ pair_either t a b l m ne =
     let n = ends-edge_number a b l m ne in
     elim n.1 [ inl e ↦ inl (sym (edge_by_ends t a b a b n.0 e)) | inr e ↦ inr (ap turned (sym (edge_by_ends t a b b a n.0 e))) ]
 
--- a place is edge i, in one of its directions
+-- a pair of vertices is edge i, in one of its directions
 abbrev Either : ℕ → Place → Type 0
 Either i p = (p ≡ edge i) ⊎ (p ≡ turned (edge i))
 
 pub turned_twice : (i : ℕ) → turned (turned (edge i)) ≡ edge i
 turned_twice i = ap (λ (p : Place). turned (turned p)) (edge_pair i) ∙ sym (edge_pair i)
 
--- the step of a turned place
+-- a step of a reversed edge
 swap : (a b : Bool) → (a || (b || false)) ≡ (b || (a || false))
 swap true true = refl
 swap true false = refl
@@ -62,7 +62,7 @@ edge_turned : (rows : List Row) (i f : ℕ) → across rows (turned (edge i)) f 
 edge_turned rows i f = subst (λ (p : Place). across rows (turned p) f ≡ option_map turned (across rows p f)) (sym (edge_pair i)) (pair_turned rows (i / 6) (low (i % 6)) (high (i % 6)) f)
 
 module _ (rows : List Row) (table : IsTable rows) where
-  -- where a step from edge i leads
+  -- the edge that a step from edge i reaches
   record Lands (i f : ℕ) (q : Place) : Type 0 where
     next : crossed_edge rows i f ≡ Some (edge_at q)
     turned_number : edge_at (turned q) ≡ edge_at q
@@ -101,7 +101,7 @@ module _ (rows : List Row) (table : IsTable rows) where
   turn_either i q (inl e) = inr (ap turned e)
   turn_either i q (inr e) = inl (ap turned e ∙ turned_twice i)
 
-  -- the same from either direction
+  -- a step from edge i, in either direction
   step_forth : (i f : ℕ) (p q : Place) → Either i p → across rows p f ≡ Some q → (crossed_edge rows i f ≡ Some (edge_at q)) × Either (edge_at q) q
   step_forth i f p q (inl same) e = let s = lands i f q (sym (ap (λ (r : Place). across rows r f) same) ∙ e) in (s.next, s.either)
   step_forth i f p q (inr same) e =

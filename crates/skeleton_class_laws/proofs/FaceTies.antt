@@ -1,4 +1,4 @@
--- Faces by numbers.
+-- Faces and the steps between them, by the faces' numbers.
 use Rattle.std.proofs.Common.{◌≡◌, ◌↔◌, inl, inr, false, ℕ, zero, suc, ◌*◌, ◌/◌, ◌%◌, ◌<◌, List, [], ◌∷◌, length, Option, Some, None, refl, sym, ap, ◌∙◌, arith, subst}
 use Rattle.std.specs.Prelude.{◌==◌, option_map, option_and_then}
 use Rattle.table_definitions.specs.Permutation.{image, inverse}
@@ -12,7 +12,7 @@ use Rattle.skeleton_class_laws.specs.Crossings.{crossed_face}
 use Rattle.skeleton_class_laws.specs.Neighbours.{led, IsLed, IsReversible}
 
 module _ (rows : List Row) (table : IsTable rows) where
-  -- the face that a step leads to
+  -- the face that a step reaches
   record Leads (i f j : ℕ) : Type 0 where
     first : f ≡ 0
     gluing : Gluing
@@ -65,7 +65,7 @@ module _ (rows : List Row) (table : IsTable rows) where
   pub few_choices : (i f j : ℕ) → i < 4 * length rows → crossed_face rows i f ≡ Some j → f < 4
   few_choices i f j l e = let z : f ≡ 0 = (leads i f j e).first in omega arith
 
-  -- to be led to is to be the same face or glued to it
+  -- what steps reach from a face is the face itself or the face glued to it
   same_by : (fs : List ℕ) (i j : ℕ) → led (crossed_face rows) i fs ≡ Some j → SameFace rows i j
   same_by [] i j e = inl (let s : i ≡ j = cc in s)
   same_by (f ∷ fs) i j e = by_step (λ k s. same_by fs k j s) (crossed_face rows i f) refl e

@@ -1,4 +1,4 @@
--- The first number below a bound that has a property, and the first place of a number in a list.
+-- The first number below a bound that has a property, and the first index of a number in a list.
 use Rattle.std.proofs.Common.{◌≡◌, ℕ, zero, suc, ◌<◌, ◌⊎◌, inl, inr, true, List, length, slice_index, subst, sym, ap, ◌∙◌, arith}
 use Rattle.std.specs.Prelude.{◌==◌}
 use Rattle.std.specs.List.{position_or_len}
@@ -9,7 +9,7 @@ use Rattle.basic_lemmas.proofs.Numbers.{below_suc}
 use Rattle.table_definitions.specs.Lists.{has}
 use Rattle.table_definitions.proofs.Bijections.{there}
 
--- none below k has the fact, or a first one does
+-- no number below k has the property, or there is a first one that has it
 pub none_or_first : (Q : ℕ → Type 0) → ((j : ℕ) → Q j ⊎ (Q j → ⊥)) → (k : ℕ) → ((j : ℕ) → j < k → Q j → ⊥) ⊎ ((j : ℕ) × (j < k) × Q j × ((i : ℕ) → i < j → Q i → ⊥))
 none_or_first Q decide zero = inl (λ j l q. absurd (omega arith))
 none_or_first Q decide (suc k) = elim (none_or_first Q decide k) [
@@ -20,7 +20,7 @@ none_or_first Q decide (suc k) = elim (none_or_first Q decide k) [
   ]
 ]
 
--- the first place of a number that stands in the list
+-- the first index of a number that occurs in the list
 pub record FirstPlace (xs : List ℕ) (c : ℕ) : Type 0 where
   pub in_range : position_or_len (λ d. d == c) xs < length xs
   pub is : slice_index xs (position_or_len (λ d. d == c) xs) ≡ c

@@ -28,7 +28,7 @@ use Rattle.skeleton_class_laws.proofs.VertexSignTies.{signed_vertex, crossed_ver
 use Rattle.skeleton_class_laws.specs.Tallies.{is_counted, AreTallies}
 use Rattle.skeleton_class_laws.proofs.TallyLemmas.{count_more}
 
--- nothing is counted where nothing passes
+-- a count is 0 if nothing passes the test
 none_zero : (p : ℕ → Bool) (n : ℕ) → ((i : ℕ) → i < n → p i ≡ false) → count_by p (below n) ≡ 0
 none_zero p zero h = refl
 none_zero p (suc n) h =
@@ -55,13 +55,13 @@ zero_none p (suc n) h i l =
 
 module _ (rows : List Row) (table : IsTable rows) (classes : List ℕ) (count : ℕ) (vertices : IsNumbering (4 * length rows) (SameVertex rows) classes count)
     (signed : List ℕ) (k : ℕ) (num : IsNumbering (8 * length rows) (IsLed (crossed_vertex_sign rows)) signed k) (c : ℕ) where
-  -- the vertex behind a face is of the same class
+  -- the vertex across a face is of the same class
   same_class : (i f j : ℕ) → i < 4 * length rows → crossed_vertex rows i f ≡ Some j → slice_index classes j ≡ slice_index classes i
   same_class i f j l e =
       let t = stepped rows (4 * length rows) vertex vertex_at (crossed_vertex rows) (vertices_counted rows table) i f j l e in
       sym ((vertices.together i j l t.1).1 (joined_step rows (vertex i) f (vertex j) t.0))
 
-  -- what a signed member says stays the same
+  -- along a path it does not change whether a signed member agrees with the signs
   keeps_saying : (signs : List Bool) → AreLinkSigns rows classes c signs → (fs : List ℕ) (x m : ℕ) → x < 8 * length rows → slice_index classes (x / 2) ≡ c → led (crossed_vertex_sign rows) x fs ≡ Some m
       → says (m % 2) (sign_of signs (m / 2)) ≡ says (x % 2) (sign_of signs (x / 2))
   keeps_saying signs a [] x m l own e = let s : m ≡ x = cc in ap (λ j. says (j % 2) (sign_of signs (j / 2))) s
@@ -95,7 +95,7 @@ module _ (rows : List Row) (table : IsTable rows) (classes : List ℕ) (count : 
           let own_bit : x % 2 < 2 = omega arith in
           later j lj class e ∙ ap (λ n. says n (sign_of signs (j / 2))) bit ∙ says_behind (is_odd g.perm) (x % 2) (sign_of signs (x / 2)) (sign_of signs (j / 2)) own_bit agreed
 
-  -- signs tell a member from itself with the other sign
+  -- in an orientable link a member with one sign and the member with the other sign are of different classes
   pub tells_apart : IsOrientableLink rows classes c → (i : ℕ) → i < 4 * length rows → slice_index classes i ≡ c → slice_index signed (2 * i) ≢ slice_index signed (2 * i + 1)
   tells_apart o i l own e =
       let l0 : 2 * i < 8 * length rows = omega arith in

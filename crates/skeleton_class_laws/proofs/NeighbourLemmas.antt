@@ -1,4 +1,4 @@
--- A table of neighbours joins what choices of neighbours lead to.
+-- A table of neighbours joins two items if and only if choices of neighbours reach one from the other.
 use Rattle.std.proofs.Common.{◌≡◌, ◌↔◌, ℕ, zero, suc, ◌+◌, ◌<◌, ◌≤◌, List, [], ◌∷◌, ◌++◌, length, Contains, Option, Some, None, refl, sym, ap, subst, ◌∙◌, arith, inl, inr, length-append}
 use Rattle.std.specs.Prelude.{option_and_then, slice_index}
 use Rattle.std.specs.List.{slice_index_or}
@@ -25,7 +25,7 @@ one_more_row n next table row a e = record {
   ];
 }
 
--- the entry of a row that gives a neighbour
+-- the entry of a row that contains a neighbour
 entry_of : (row : List (Option ℕ)) (y : ℕ) → Contains (present row) y → (f : ℕ) × (f < length row) × (slice_index_or row f None ≡ Some y)
 entry_of [] y c = absurd (let l : c.0 < 0 = c.1 in omega arith)
 entry_of (None ∷ row) y c = let e = entry_of row y c in let l : e.0 < length row = e.1 in let m : suc e.0 < length (None ∷ row) = omega arith in (suc e.0, m, e.2)
@@ -46,7 +46,7 @@ entry_at next i (suc (suc zero)) l = refl
 entry_at next i (suc (suc (suc zero))) l = refl
 entry_at next i (suc (suc (suc (suc f)))) l = absurd (omega arith)
 
--- a place past the end has no neighbours
+-- an index beyond the end of the table has no neighbours
 no_row : (table : List (List (Option ℕ))) (i j : ℕ) → length table ≤ i → Contains (neighbours_of table i) j → ⊥
 no_row [] i j l c = let m : c.0 < 0 = c.1 in omega arith
 no_row (row ∷ table) zero j l c = omega arith
@@ -78,7 +78,7 @@ module _ (n : ℕ) (next : ℕ → ℕ → Option ℕ) (table : List (List (Opti
         let back = r i h.1.0 j h.0 h.1.1 h.1.2 in
         contained j back.1.0 i back.0 back.1.1 back.1.2
 
-    -- what the table joins, choices lead to
+    -- if the table joins two items, choices of neighbours reach one from the other
     led_by : (i k : ℕ) (path : List ℕ) → LeadsBy (λ a b. Contains (neighbours_of table a) b) i path k → IsLed next i k
     led_by i k [] e = ([], ap Some e)
     led_by i k (j ∷ path) p =
@@ -89,7 +89,7 @@ module _ (n : ℕ) (next : ℕ → ℕ → Option ℕ) (table : List (List (Opti
     pub led_from_joined : (i k : ℕ) → IsJoined (neighbours_of table) i k → IsLed next i k
     led_from_joined i k p = led_by i k p.0 p.1
 
-    -- and where choices lead the table joins
+    -- if choices of neighbours reach one item from another, the table joins them
     module _ (few : (i f j : ℕ) → i < n → next i f ≡ Some j → f < 4) where
       joined_by : (fs : List ℕ) (i k : ℕ) → i < n → led next i fs ≡ Some k → IsJoined (neighbours_of table) i k
       joined_by [] i k l e = ([], let s : i ≡ k = cc in s)

@@ -1,4 +1,4 @@
--- The things of each kind in a table are numbered.
+-- The classes of the items of each kind in a table have a numbering.
 use Rattle.std.proofs.Common.{ℕ, ◌*◌, List, [], length, map, Option, subst, arith}
 use Rattle.std.proofs.lemmas.List.FromFn.{length-map-range_with_len, get_or-map-range_with_len}
 use Rattle.table_walk_laws.specs.Joined.{IsSymmetric, HasNeighboursBelow, neighbours_of}

@@ -11,7 +11,7 @@ use Rattle.skeleton_class_laws.specs.Numberings.{IsOrdered, AreFirsts, AreFirsts
 pub none_first : (classes : List ℕ) → AreFirstsUpTo 0 classes []
 none_first classes = record { below = λ j l. absurd (omega arith); least_member = λ c l. absurd (omega arith); in_range = λ c l. absurd (omega arith); member = λ c l. absurd (omega arith) }
 
--- a place whose class was met
+-- if the class of item i has occurred before, the first members stay as they are
 pub first_passes : (i : ℕ) (classes firsts : List ℕ) → IsOrdered classes → AreFirstsUpTo i classes firsts → i < length classes → slice_index classes i ≢ length firsts → AreFirstsUpTo (i + 1) classes firsts
 first_passes i classes firsts ordered a l ne = record {
   below = λ j m. elim (cases_order j i) [
@@ -32,7 +32,7 @@ first_passes i classes firsts ordered a l ne = record {
           let m : slice_index classes o.0 < length firsts = a.below o.0 o.1 in let e : slice_index classes o.0 ≡ length firsts = o.2 in absurd (omega arith)
     ]
 
--- a place with a new class
+-- if the class of item i is new, i is its first member
 pub first_grows : (i : ℕ) (classes firsts : List ℕ) → AreFirstsUpTo i classes firsts → i < length classes → slice_index classes i ≡ length firsts → AreFirstsUpTo (i + 1) classes (firsts ++ i ∷ [])
 first_grows i classes firsts a l e = record {
   below = λ j m. elim (cases_lt j i) [

@@ -1,4 +1,4 @@
--- Places that are counted through: chains lead where choices of neighbours lead.
+-- Items that are numbered: chains reach what choices of neighbours reach.
 use Rattle.std.proofs.Common.{◌≡◌, ◌↔◌, ℕ, ◌<◌, List, [], ◌∷◌, Option, Some, None, refl, sym, ap, subst, ◌∙◌}
 use Rattle.std.specs.Prelude.{option_map, option_and_then}
 use Rattle.table_definitions.specs.Table.{Row, IsTable}
@@ -6,7 +6,7 @@ use Rattle.table_definitions.specs.Places.{Place, IsPlace, across, along, IsJoin
 use Rattle.table_definitions.proofs.ChainLaws.{step_back, face_crossed}
 use Rattle.skeleton_class_laws.specs.Neighbours.{led, IsLed, IsReversible}
 
--- n places with numbers below n, and where their steps lead
+-- n items with numbers below n, and the items that their steps reach
 pub record AreCounted (rows : List Row) (n : ℕ) (place : ℕ → Place) (number : Place → ℕ) (next : ℕ → ℕ → Option ℕ) : Type 0 where
   pub steps : (i f : ℕ) → next i f ≡ option_map number (across rows (place i) f)
   pub numbered : (i : ℕ) → i < n → number (place i) ≡ i
@@ -25,7 +25,7 @@ module _ (rows : List Row) (n : ℕ) (place : ℕ → Place) (number : Place →
       let h = a.lands i f m.0 l m.1 in
       (m.1 ∙ ap (λ (q : Place). Some q) (h.0 ∙ ap place m.2), subst (λ k. k < n) m.2 h.1)
 
-  -- and the other way round
+  -- a step is a step by numbers
   steps_on : (i f : ℕ) (q : Place) → i < n → across rows (place i) f ≡ Some q → (next i f ≡ Some (number q)) × (q ≡ place (number q)) × (number q < n)
   steps_on i f q l e = let h = a.lands i f q l e in (a.steps i f ∙ ap (λ (o : Option Place). option_map number o) e, h.0, h.1)
 
@@ -50,7 +50,7 @@ module _ (rows : List Row) (n : ℕ) (place : ℕ → Place) (number : Place →
   pub led_is_joined : (i j : ℕ) → i < n → j < n → IsLed next i j ↔ IsJoined rows (place i) (place j)
   led_is_joined i j l m = (λ h. (h.0, along_led h.0 i j l h.1), λ h. (h.0, led_along h.0 i (place j) l h.1 ∙ ap Some (a.numbered j m)))
 
-  -- steps can be taken back
+  -- steps have inverses
   module _ (table : IsTable rows) where
     pub reversible : IsReversible n next
     reversible i f j l m e =

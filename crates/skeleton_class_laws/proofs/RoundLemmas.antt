@@ -13,7 +13,7 @@ use Rattle.table_walk_laws.specs.Walks.{IsInjectiveBelow, IsUndoneBy, step_of}
 use Rattle.table_walk_laws.proofs.Steps.{undone_is_injective}
 use Rattle.skeleton_class_laws.specs.Rounds.{word_at, corner_by, corner_at, swap, word_across, next_corner, corner_word}
 
--- the corner of a number, and what is next, with what the code reads
+-- the corner with a number, and the next corner, as the code computes them
 pub corner_at-is : (k : ℕ) (p : List ℕ) → p ≡ word_at k → corner_by (k / 24) p ≡ corner_at k
 unfolding corner_at
 corner_at-is k p e = ap (corner_by (k / 24)) e
@@ -34,7 +34,7 @@ next_corner-by rows k g p q x y ep h ex eq ey =
     (λ i. Some (24 * ex i + ey i)) ∙ ap (λ (w : List ℕ). Some (24 * g.tet + index w)) (eq ∙ ap (λ (w : List ℕ). compose (compose g.perm w) swap) ep)
     ∙ sym (next_corner-is rows k g (subst (λ (w : List ℕ). glue rows (record { tet = k / 24; face = image w 2 }) ≡ Some g) ep h))
 
--- the words behind gluings
+-- the words of corners across gluings
 pub swap_permutes : IsPermutationOfFour swap
 unfolding is_permutation
 swap_permutes = refl
@@ -46,7 +46,7 @@ pub behind_permutes : (g p : List ℕ) → IsPermutationOfFour g → IsPermutati
 unfolding word_across
 behind_permutes g p hg hp = compose_permutes (compose g p) swap (compose_permutes g p hg hp) swap_permutes
 
--- the corner behind a gluing has four vertices, as the corner has
+-- the word of the corner across a gluing is the word across the gluing of the corner's word
 corner_word-behind : (k : Corner) (g : Gluing) → corner_word (corner_across k g) ≡ word_across g.perm (corner_word k)
 unfolding word_across compose
 corner_word-behind k g = refl
@@ -146,7 +146,7 @@ module _ (rows : List Row) (table : IsTable rows) where
               let b = behind_images g.perm (word_at k) hg (word_permutes k) in
               sym ((λ i. corner_by (w.0 i) (w.1 i)) ∙ (λ i. record { tet = g.tet; a = b.0 i; b = b.1 i; c = b.2 i; d = b.3 i }))
 
--- past the last corner there is none
+-- there is no entry after the last corner
 pub none_past : (xs : List (Option ℕ)) (k : ℕ) → length xs ≤ k → slice_index_or xs k None ≡ None
 none_past [] k l = refl
 none_past (x ∷ xs) zero l = absurd (omega arith)
@@ -159,7 +159,7 @@ no_next rows k l = by_glue (glue rows (record { tet = k / 24; face = image (word
     by_glue None h = next_corner-free rows k h
     by_glue (Some g) h = let t : k / 24 < length rows = glued_tet rows (record { tet = k / 24; face = image (word_at k) 2 }) g h in absurd (omega arith)
 
--- the table of steps is injective, as the steps are
+-- the table of steps is injective if the steps are
 pub table_injective : (rows : List Row) (next : List (Option ℕ)) → IsTable rows → length next ≡ 24 * length rows → ((k : ℕ) → step_of next k ≡ next_corner rows k) → IsInjectiveBelow (length next) (step_of next)
 table_injective rows next table size same = record {
   within = λ x y l e. omega (arith, (next_injective rows table).within x y (omega arith) (sym (same x) ∙ e));

@@ -1,4 +1,4 @@
--- A walk round an edge lists each corner that its steps reach once.
+-- A tour around an edge lists each corner that its steps reach, once.
 use Rattle.std.proofs.Common.{◌≡◌, ◌≢◌, ℕ, zero, suc, ◌<◌, ◌≤◌, List, [], ◌∷◌, length, get_or, Option, Some, None, ⊎_elim, refl, sym, ap, ◌∙◌, subst, arith}
 use Rattle.std.specs.Prelude.{option_map, option_and_then, Contains}
 use Rattle.std.proofs.lemmas.Bool.{cases_lt}
@@ -9,7 +9,7 @@ use Rattle.table_definitions.proofs.PermutationLaws.{image_below, image-of_inver
 use Rattle.skeleton_class_laws.specs.CornersIn.{IsCornerIn}
 use Rattle.skeleton_definitions.specs.Corners.{Corner, left_through, came_through, corner_across, step, steps, Reaches, GoesAround, IsTourFrom, AreCorners}
 
--- the corner to which a way across a gluing leads, and the corner itself where there is none
+-- the corner that a way across a gluing reaches, and the corner itself if there is no gluing
 abbrev pub where_led : (Corner → Gluing → Corner) → Corner → Option Gluing → Corner
 where_led way k None = k
 where_led way k (Some g) = way k g
@@ -21,7 +21,7 @@ next rows k = where_led corner_across k (glue rows (left_through k))
 abbrev pub before : List Row → Corner → Corner
 before rows k = where_led corner_across k (glue rows (came_through k))
 
--- what the first of several steps leads to
+-- the first of several steps
 pub first_step : (rows : List Row) (n : ℕ) (l : Corner) (o : Option Corner) → option_and_then (λ m. steps rows n m) o ≡ Some l → (m : Corner) × (o ≡ Some m) × (steps rows n m ≡ Some l)
 first_step rows n l None e = absurd cc
 first_step rows n l (Some m) e = (m, refl, e)
@@ -67,7 +67,7 @@ step_is rows table k l four (Some g) e h = behind_is rows table k l four g e (cc
 pub is_step : (rows : List Row) → IsTable rows → (k l : Corner) → IsCornerIn (length rows) k → step rows k ≡ Some l → IsStep rows k l
 is_step rows table k l four h = step_is rows table k l four (glue rows (left_through k)) refl h
 
--- the corners of a round, by their places
+-- the corners of a tour, by their indices
 module _ (rows : List Row) (first : Corner) where
   next_at : (k : Corner) (ks : List Corner) → GoesAround rows first k ks → (i : ℕ) → i < length ks → step rows (get_or (k ∷ ks) i first) ≡ Some (get_or (k ∷ ks) (suc i) first)
   next_at k [] h i l = absurd (omega arith)
@@ -88,7 +88,7 @@ module _ (rows : List Row) (first : Corner) where
   four_at table k [] h four (suc i) l = absurd (omega arith)
   four_at table k (m ∷ ms) h four (suc i) l = four_at table m ms h.2 (is_step rows table k m four h.0).four i (omega arith)
 
-  -- no corner stands at two places
+  -- no corner occurs at two indices
   once_at : IsTable rows → (k : Corner) (ks : List Corner) → k ≡ first → GoesAround rows first k ks → IsCornerIn (length rows) k → (i j : ℕ) → i < j → j ≤ length ks → get_or (k ∷ ks) i first ≢ get_or (k ∷ ks) j first
   once_at table k ks e h four i zero less l same = absurd (omega arith)
   once_at table k ks e h four zero (suc j) less l same = not_first k ks h j (omega arith) (sym same ∙ e)
@@ -103,7 +103,7 @@ module _ (rows : List Row) (first : Corner) where
       let r : Reaches rows first (get_or (k ∷ ks) i first) = reached_at k ks e h i (omega arith) in
       (suc r.0, steps_more rows r.0 first (get_or (k ∷ ks) i first) (get_or (k ∷ ks) (suc i) first) r.1 (next_at k ks h i (omega arith)))
 
-  -- a step from a corner of the round leads to one of the round
+  -- a step from a corner of the tour reaches a corner of the tour
   closed : (k : Corner) (ks : List Corner) → k ≡ first → GoesAround rows first k ks → (i : ℕ) → i ≤ length ks → (m : Corner) → step rows (get_or (k ∷ ks) i first) ≡ Some m
       → (j : ℕ) × (j ≤ length ks) × (get_or (k ∷ ks) j first ≡ m)
   closed k ks e h i l m f = ⊎_elim
@@ -130,7 +130,7 @@ contained rows first k ks e h m (suc n) i l c at f = go (step rows c) refl f (λ
         let next = closed rows first k ks e h i l d (ap (λ x. step rows x) at ∙ s) in
         again next.0 next.1 d next.2 g
 
--- the law: the walk until it is back lists all corners that steps reach, each once
+-- the law: the tour that returns to its first corner lists all corners that steps reach, each once
 pub walk_has_corners : (rows : List Row) → IsTable rows → (first : Corner) → IsCornerIn (length rows) first → (corners : List Corner) → IsTourFrom rows first corners → AreCorners rows first corners
 walk_has_corners rows table first four [] h = absurd h
 walk_has_corners rows table first four (k ∷ ks) h =

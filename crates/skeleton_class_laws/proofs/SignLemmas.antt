@@ -17,7 +17,7 @@ use Rattle.skeleton_class_laws.specs.Signs.{sign_behind, crossed_sign, AreSignsB
 use Rattle.skeleton_class_laws.proofs.SignTies.{signed, landed, crossed_sign-is, led_is_component, signs_reversible}
 
 module _ (rows : List Row) (table : IsTable rows) where
-  -- what a signed tetrahedron says stays the same
+  -- along a path it does not change whether a signed tetrahedron agrees with the signs
   keeps_saying : (signs : List Bool) → AreSigns rows signs → (fs : List ℕ) (k m : ℕ) → led (crossed_sign rows) k fs ≡ Some m
       → says (m % 2) (sign_of signs (m / 2)) ≡ says (k % 2) (sign_of signs (k / 2))
   keeps_saying signs a [] k m e = let s : m ≡ k = cc in ap (λ j. says (j % 2) (sign_of signs (j / 2))) s

@@ -44,7 +44,7 @@ sign_twice false s l = omega arith
 pub behind_small : (g : Gluing) (k : ℕ) → sign_behind g (k % 2) < 2
 behind_small g k = sign_small (is_odd g.perm) (k % 2) (omega arith)
 
--- the parts of where it lands
+-- the tetrahedron and the sign that a signed step reaches
 pub landed : (g : Gluing) (k m : ℕ) → m ≡ 2 * g.tet + sign_behind g (k % 2) → (m / 2 ≡ g.tet) × (m % 2 ≡ sign_behind g (k % 2))
 landed g k m e =
     let s : sign_behind g (k % 2) < 2 = behind_small g k in
@@ -91,7 +91,7 @@ led_along_tets rows (f ∷ fs) k m e = by_step (λ j s. led_along_tets rows fs j
 pub led_is_component : (rows : List Row) (k m : ℕ) → IsLed (crossed_sign rows) k m → SameComponent rows (k / 2) (m / 2)
 led_is_component rows k m h = (h.0, led_along_tets rows h.0 k m h.1)
 
--- with what the code reads
+-- the image across a face, as the code computes it
 pub crossed_sign-by : (rows : List Row) (k f : ℕ) (g : Gluing) (x y : ℕ) (odd : Bool) → Some g ≡ glue rows (record { tet = k / 2; face = f }) → x ≡ g.tet → is_odd g.perm ≡ odd
     → y ≡ (if odd then k % 2 else 1 - k % 2) → Some (2 * x + y) ≡ crossed_sign rows k f
 crossed_sign-by rows k f g x y odd h ex eo ey =

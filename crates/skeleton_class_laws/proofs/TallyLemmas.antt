@@ -1,4 +1,4 @@
--- Tallies, one thing after the other.
+-- Tallies, one item after another.
 use Rattle.std.proofs.Common.{◌≡◌, ◌≢◌, ◌⊎◌, inl, inr, ℕ, zero, suc, ◌+◌, ◌*◌, ◌/◌, cond, ◌<◌, ◌≤◌, Bool, true, false, List, [], ◌∷◌, ◌++◌, length, set, refl, sym, ap, ◌∙◌, arith, subst₂}
 use Rattle.std.specs.Prelude.{◌==◌, ◌&&◌, slice_index, count_by, replicate}
 use Rattle.std.specs.List.{slice_index_or}
@@ -61,7 +61,7 @@ module _ (passes : List Bool) (owners : List ℕ) (count : ℕ) where
   pub things_end : (i : ℕ) (tallies : List ℕ) → i ≡ length owners → AreTalliesUpTo i passes owners count tallies → AreTallies passes owners count tallies
   things_end i tallies e a = record { one_each = a.one_each; told = λ c l. a.told c l ∙ ap (λ k. count_by (is_counted passes owners c) (below k)) e }
 
--- the tetrahedron of a thing
+-- the tetrahedron of an item
 pub owner_inside : (e t n : ℕ) → 0 < e → e ≤ 3 → t < 4 * e * n → t / e / 4 < n
 owner_inside zero t n l m h = absurd (omega arith)
 owner_inside (suc zero) t n l m h = omega arith

@@ -1,4 +1,4 @@
--- Orbits of corners are walks round edges.
+-- Orbits of corners are tours around edges.
 use Rattle.std.proofs.Common.{◌≡◌, ◌≢◌, ◌⊎◌, inl, inr, ℕ, zero, suc, ◌+◌, ◌-◌, ◌*◌, ◌/◌, ◌%◌, ◌<◌, ◌≤◌, Bool, true, false, List, [], ◌∷◌, length, map, Option, Some, None, refl, sym, ap, ◌∙◌, arith, subst, subst₂}
 use Rattle.std.specs.Prelude.{◌==◌, ◌&&◌, ◌||◌, not, nat_lt, filter, option_map, is_none, slice_index}
 use Rattle.std.specs.Bool.{MatchBool}
@@ -41,7 +41,7 @@ corner_apart k l ne e = ne same
         omega arith
 
 module _ (rows : List Row) (table : IsTable rows) where
-  -- steps that come back, by corners
+  -- steps that return to the first corner, as a tour of corners
   goes_round : (first k : ℕ) (ks : List ℕ) → ((j : ℕ) → suc j < length (k ∷ ks) → next_corner rows (slice_index (k ∷ ks) j) ≡ Some (slice_index (k ∷ ks) (suc j)))
       → next_corner rows (last_of (k ∷ ks)) ≡ Some first → ((j : ℕ) → j < length ks → slice_index ks j ≢ first)
       → GoesAround rows (corner_at first) (corner_at k) (map corner_at ks)
@@ -96,7 +96,7 @@ module _ (rows : List Row) (table : IsTable rows) where
   reached_below start zero x l e = let s : start ≡ x = cc in subst (λ y. y < 24 * length rows) s l
   reached_below start (suc n) x l e = let b = after_before (next_corner rows) start n x e in within rows table b.0 x (reached_below start n b.0 l b.1) b.2
 
--- a test that some number passes
+-- a test that a number below four passes
 any_four : (p : ℕ → Bool) (f : ℕ) → f < 4 → p f ≡ true → list_any p four ≡ true
 any_four p zero l h = rw h refl
 any_four p (suc zero) l h = any_two (p 0) (p 1) _ h
@@ -126,7 +126,7 @@ any_below p (suc n) j l h = let s : suc n ≡ n + 1 = omega arith in ap (λ m. l
   | inr more ↦ let e : j ≡ n = omega arith in or_right (list_any p (below n)) (p n) (ap p (sym e) ∙ h)
 ]
 
--- where the walk starts
+-- the corner at which the walk starts
 abbrev rest_of : ℕ → List ℕ
 rest_of e = filter (λ v. not (has (ends e) v)) four
 
@@ -204,7 +204,7 @@ lies_by rows t a b f e small two na nb lf free =
     off : has (ends e) f ≡ false
     off = has_neither (ends e) a b f two na nb
 
--- round an inner class the walk goes on
+-- around an internal edge class each corner has a next one
 module _ (rows : List Row) (table : IsTable rows) (classes : List ℕ) (count : ℕ) (num : IsNumbering (6 * length rows) (SameEdge rows) classes count) (first : ℕ) (inside : first < 6 * length rows) where
   open_by : (t a b f e : ℕ) → t < length rows → e < 6 → (ends e ≡ a ∷ b ∷ []) ⊎ (ends e ≡ b ∷ a ∷ []) → a ≢ f → b ≢ f → f < 4 → glue rows (record { tet = t; face = f }) ≡ None
       → SameEdge rows first (6 * t + e) → is_boundary_edge rows classes (slice_index classes first) ≡ true
@@ -268,13 +268,13 @@ module _ (rows : List Row) (table : IsTable rows) (classes : List ℕ) (count : 
       let o = open_edge x lx (edge_joined rows table (start_of first) r.0 x r.1) (no_glue x e) in
       false≢true (sym inner ∙ o)
 
-  -- the walk, or no corner
+  -- the tour around an internal edge class, and no corner for a boundary class
   pub around_by : (corners : List Corner) (b : Bool) → is_boundary_edge rows classes (slice_index classes first) ≡ b → MatchBool b (corners ≡ []) (IsTour (next_corner rows) (start_of first) corners)
       → MatchBool b (corners ≡ []) (IsTourFrom rows (first_corner first) corners)
   around_by corners true e h = h
   around_by corners false e h = subst (λ k. IsTourFrom rows k corners) (start_is_first first) (walk_from_round rows table (start_of first) corners (inner_goes_on e) h)
 
--- of a skeleton
+-- the tour around an edge class of a skeleton
 pub around_class : (s : Skeleton) (c first : ℕ) (b : Bool) (corners : List Corner) → IsSkeleton s → first ≡ least s.edges.classes c → first < 6 * length s.rows → slice_index s.edges.classes first ≡ c
     → b ≡ is_boundary_edge s.rows s.edges.classes c → IsTourUnlessBoundary (next_corner s.rows) b first corners → IsAround s c corners
 around_class s c first b corners k ef inside member eb h =

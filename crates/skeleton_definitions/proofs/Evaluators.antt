@@ -10,7 +10,7 @@ use Rattle.skeleton_definitions.specs.Links.{directed, vertex_number, link_edges
 use Rattle.skeleton_definitions.specs.declared.Link.{Link}
 use Rattle.skeleton_definitions.specs.Corners.{Corner, step}
 
--- each thing gets the least label among its own and its neighbours'
+-- each item gets the least label among its own and its neighbours'
 abbrev pub spread : (ℕ → List ℕ) → List ℕ → List ℕ
 spread neighbours labels = map (λ i. fold (λ a j. min a (slice_index labels j)) (slice_index labels i) (neighbours i)) (below (length labels))
 
@@ -19,14 +19,14 @@ spread_often zero neighbours labels = labels
 spread_often (suc n) neighbours [] = []
 spread_often (suc n) neighbours (l ∷ ls) = spread_often n neighbours (spread neighbours (l ∷ ls))
 
--- the classes of n things under their neighbours, numbered by their least members
+-- the classes of n items under their neighbours, numbered by their least members
 abbrev pub numbered : List ℕ → List ℕ
 numbered labels = map (λ l. count_by (λ m. slice_index labels m == m) (below l)) labels
 
 abbrev pub classes_of : (ℕ → List ℕ) → ℕ → List ℕ
 classes_of neighbours n = numbered (spread_often n neighbours (below n))
 
--- the numbers that stand in a list of classes
+-- the number of classes that occur in a list of classes
 abbrev pub count_of : List ℕ → ℕ
 count_of classes = fold (λ a c. max a (c + 1)) 0 classes
 
@@ -59,7 +59,7 @@ components rows = classes_of (λ t. neighbours_by (λ (p : Place). p.tet) (acros
 abbrev pub signed_number : ℕ → ℕ → Bool → ℕ
 signed_number t s odd = 2 * t + (if odd then s else 1 - s)
 
--- no chain of gluings joins a tetrahedron with the one sign to itself with the other
+-- no chain of gluings joins a tetrahedron with one sign to itself with the other
 abbrev pub is_orientable : List Row → Bool
 is_orientable rows = list_all (λ t. not (slice_index doubled (2 * t) == slice_index doubled (2 * t + 1))) (below (length rows))
   where
@@ -69,7 +69,7 @@ is_orientable rows = list_all (λ t. not (slice_index doubled (2 * t) == slice_i
 abbrev pub signed_side : List Row → ℕ → ℕ → ℕ → List ℕ
 signed_side rows i s f = map (λ (g : Gluing). signed_number (vertex_number g.tet (slice_index g.perm (i % 4))) s (is_odd g.perm)) (option_to_list (glue rows (record { tet = i / 4; face = f })))
 
--- the members of a vertex class with signs, joined over the sides of their triangles
+-- the members of a vertex class with signs, joined across the sides of their triangles
 abbrev pub is_orientable_link : List Row → List ℕ → ℕ → Bool
 is_orientable_link rows classes c = list_all (λ i. not (slice_index classes i == c) || not (slice_index doubled (2 * i) == slice_index doubled (2 * i + 1))) (below (length classes))
   where
@@ -97,7 +97,7 @@ link_of rows c =
     directions : List ℕ
     directions = directed_classes rows
 
--- the walk from a corner until it is back, in at most n steps
+-- the walk from a corner until it returns, in at most n steps
 abbrev pub same_corner : Corner → Corner → Bool
 same_corner k l = (k.tet == l.tet) && same_list (k.a ∷ k.b ∷ k.c ∷ k.d ∷ []) (l.a ∷ l.b ∷ l.c ∷ l.d ∷ [])
 

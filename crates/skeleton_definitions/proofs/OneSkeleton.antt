@@ -1,4 +1,4 @@
--- A skeleton of a table is one.
+-- The skeleton of a table is unique.
 use Rattle.std.proofs.Common.{◌≡◌, ℕ, ◌*◌, List, length, sym, ◌∙◌, subst, ap₂, arith, ext_get_or}
 use Rattle.table_definitions.specs.Table.{Row}
 use Rattle.table_definitions.specs.Classes.{IsNumbering}

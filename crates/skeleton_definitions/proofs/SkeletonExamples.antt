@@ -12,7 +12,8 @@ sphere_classes : (vertex_classes sphere ≡ 0 ∷ 0 ∷ 0 ∷ 0 ∷ []) × (edge
 unfolding computed
 sphere_classes = (refl, refl, refl)
 
--- the usual ideal triangulation of the figure eight knot complement: one vertex, two edges of degree 6, four faces, a torus
+-- the usual ideal triangulation of the figure eight knot complement: one vertex, two edges of degree 6, four faces, a
+-- torus
 figure_eight_skeleton : (components figure_eight ≡ 0 ∷ 0 ∷ [])
     × (vertex_classes figure_eight ≡ 0 ∷ 0 ∷ 0 ∷ 0 ∷ 0 ∷ 0 ∷ 0 ∷ 0 ∷ [])
     × (count_of (edge_classes figure_eight) ≡ 2)
@@ -28,7 +29,7 @@ links : (link_of figure_eight 0 ≡ record { triangles = 8; edges = 12; vertices
 unfolding computed
 links = (refl, refl, refl)
 
--- 0:1032 0:1032 - -, with an invalid edge: the chain over face 0 joins edge 23 to its own reverse
+-- 0:1032 0:1032 - -, with an invalid edge: the chain across face 0 joins edge 23 to its own reverse
 invalid_skeleton : (is_orientable invalid ≡ false) × (is_closed invalid ≡ false)
     × (vertex_classes invalid ≡ 0 ∷ 0 ∷ 1 ∷ 1 ∷ [])
     × (map (λ c. (link_of invalid c).kind) (0 ∷ 1 ∷ []) ≡ Disc ∷ Disc ∷ [])
@@ -43,7 +44,7 @@ invalid_skeleton = (refl, refl, refl, refl, refl, refl, refl, refl, (0 ∷ [], r
 corner : ℕ → ℕ → ℕ → ℕ → Corner
 corner a b c d = record { tet = 0; a = a; b = b; c = c; d = d }
 
--- the walk round edge class 0, and the inner edges
+-- the tour around edge class 0, and the internal edges
 sphere_walk : (walk_from sphere (first_corner 0) ≡ corner 0 1 2 3 ∷ corner 1 2 0 3 ∷ corner 0 2 3 1 ∷ corner 3 1 0 2 ∷ corner 3 0 2 1 ∷ [])
     × (internal_edges sphere (edge_classes sphere) 2 ≡ 0 ∷ 1 ∷ [])
 unfolding computed corner

@@ -1,4 +1,4 @@
--- Directed places, by two vertices: their numbers, and where they begin.
+-- Directed edges, by two vertices: their numbers, and their first vertices.
 use Rattle.std.proofs.Common.{◌≡◌, ◌≢◌, ℕ, ◌+◌, ◌*◌, ◌/◌, ◌%◌, ◌<◌, false, List, [], ◌∷◌, Some, refl, sym, ap, ◌∙◌, subst, subst₂, arith}
 use Rattle.std.specs.Prelude.{◌==◌, ◌||◌, slice_index}
 use Rattle.std.proofs.lemmas.Bool.{or_parts, or_from}
@@ -40,7 +40,7 @@ directed_arrow n i l =
     let r : i % 12 < 12 = omega arith in
     record { v = (i % 12) / 3; w = head (i % 12); is = directed_pair i; below = omega arith; low_v = omega arith; low_w = head_below (i % 12) r; apart = apart_head (i % 12) r }
 
--- the vertex at which a place begins
+-- the vertex at which a directed edge begins
 abbrev pub tail_of : Place → Place
 tail_of p = one_vertex p.tet (slice_index p.vertices 0)
 
@@ -67,6 +67,6 @@ tail_step rows p q f r a e =
           (subst₂ (IsJoined rows) (sym here) (sym there) (joined_step rows (one_vertex q.tet a.v) f (carried s.gluing (one_vertex q.tet a.v)) step));
     }
 
--- joined arrows begin at joined vertices
+-- joined directed edges begin at joined vertices
 pub tails_joined : (rows : List Row) (n : ℕ) (p q : Place) → IsArrow n p → IsJoined rows p q → IsJoined rows (tail_of p) (tail_of q)
 tails_joined rows n p q a j = (kept_along rows (FromPair rows p) (tail_step rows p) j.0 p q (record { v = a.v; w = a.w; is = a.is; joined = joined_refl rows (tail_of p) }) j.1).joined

@@ -1,4 +1,4 @@
--- So sides, directions and faces are counted by classes.
+-- Sides, directions and faces, counted by their classes.
 use Rattle.std.proofs.Common.{◌≡◌, ℕ, ◌+◌, ◌*◌, ◌<◌, true, List, length, Option, Some, None, refl, sym, ap, ◌∙◌, arith}
 use Rattle.std.specs.Prelude.{not, is_none, count_by}
 use Rattle.table_definitions.specs.Lists.{below, times_in}

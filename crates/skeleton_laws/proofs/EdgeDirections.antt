@@ -1,4 +1,4 @@
--- Each edge class has two classes of directions where no edge is invalid.
+-- If no edge is invalid, each edge class has two classes of directions.
 use Rattle.std.proofs.Common.{◌≡◌, ℕ, ◌+◌, ◌*◌, ◌<◌, List, length, ◌⊎◌, inl, inr, refl, sym, ap, ◌∙◌, subst, subst₂}
 use Rattle.std.specs.Prelude.{slice_index}
 use Rattle.std.proofs.lemmas.List.FromFn.{length-range_with_len}
@@ -30,7 +30,7 @@ module _ (rows : List Row) (es : List ℕ) (e : ℕ) (edges : IsNumbering (6 * l
   Direction k (inl c) = slice_index ds (forward (least es c)) ≡ k
   Direction k (inr c) = slice_index ds (backward (least es c)) ≡ k
 
-  -- joined where their classes are one
+  -- directed edges of one class are joined
   joined : (i j : ℕ) → i < 12 * length rows → j < 12 * length rows → (p q : Place) → directed i ≡ p → directed j ≡ q → slice_index ds i ≡ slice_index ds j → IsJoined rows p q
   joined i j li lj p q a b s = subst₂ (IsJoined rows) a b ((arrows.together i j li lj).0 s)
 

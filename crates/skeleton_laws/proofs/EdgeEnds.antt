@@ -27,7 +27,7 @@ edge_ends_at i =
 pub edge_below : (t a b n : ℕ) → a < 4 → b < 4 → a ≢ b → t < n → 6 * t + edge_number a b < 6 * n
 edge_below t a b n la lb ne lt = let s = (ends-edge_number a b la lb ne).0 in omega arith
 
--- a chain joins the pair to itself the other way round
+-- a chain joins the directed edge to its own reverse
 abbrev pub Reverses : List Row → ℕ → ℕ → ℕ → Type 0
 Reverses rows t a b = IsJoined rows (pair t a b) (pair t b a)
 

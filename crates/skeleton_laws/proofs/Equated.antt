@@ -1,4 +1,4 @@
--- Each table has equations in any coordinates: in quad coordinates the walk round each inner edge gives a row.
+-- Each table has equations in any coordinates: in quad coordinates the tour around each internal edge gives a row.
 use Rattle.std.proofs.Common.{◌≡◌, ℕ, ◌<◌, Bool, true, false, not, List, length, slice_index, refl, subst}
 use Rattle.std.specs.Prelude.{MatchBool}
 use Rattle.std.proofs.lemmas.Bool.{not-true}

@@ -1,4 +1,4 @@
--- Each face class has two faces where none is a boundary face.
+-- If there is no boundary face, each face class has two faces.
 use Rattle.std.proofs.Common.{◌≡◌, ℕ, ◌+◌, ◌*◌, ◌<◌, true, List, length, Some, ◌⊎◌, inl, inr, refl, sym, ap, ◌∙◌, subst, arith}
 use Rattle.std.specs.Prelude.{slice_index}
 use Rattle.std.proofs.lemmas.List.FromFn.{length-range_with_len}
@@ -78,7 +78,7 @@ module _ (rows : List Row) (table : IsTable rows) (fs : List ℕ) (f : ℕ) (fac
   face_once' k (inr c) (inl c') lk a b r s = absurd (not_both_sides k c' c lk (below-among c' f (is_first_kind (below f) (below f) c' b)) (below-among c f (is_second_kind (below f) (below f) c a)) s r)
   face_once' k (inr c) (inr c') lk a b r s = ap (λ z. inr z) (sym (face_class k c lk (below-among c f (is_second_kind (below f) (below f) c a)) r) ∙ face_class k c' lk (below-among c' f (is_second_kind (below f) (below f) c' b)) s)
 
-  -- where a side lies
+  -- the number of a side is in range
   side_below : (k : ℕ) (y : ℕ ⊎ ℕ) → Among y (both (below f) (below f)) → FaceSide k y → k < 4 * length rows
   side_below k (inl c) a r = subst (λ z. z < 4 * length rows) r (start_face c (below-among c f (is_first_kind (below f) (below f) c a))).0
   side_below k (inr c) a r =

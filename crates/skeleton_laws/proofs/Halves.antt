@@ -1,4 +1,4 @@
--- The sides of a link as halves of its edges: a first side, and the side behind its gluing or one in a boundary face.
+-- The sides of a link as halves of its edges: a first side, and the side across its gluing or one in a boundary face.
 use Rattle.std.proofs.Common.{◌≡◌, ◌≢◌, ℕ, ◌+◌, ◌*◌, ◌/◌, ◌%◌, ◌<◌, true, false, List, [], ◌∷◌, length, Option, Some, None, ◌⊎◌, inl, inr, refl, sym, ap, ◌∙◌, arith}
 use Rattle.std.specs.Prelude.{◌==◌, ◌||◌, is_none, slice_index}
 use Rattle.std.proofs.lemmas.Bool.{and_parts, and_from, ne_eqb, false≢true}
@@ -23,7 +23,7 @@ use Rattle.skeleton_laws.proofs.Sides.{side_face, is_side, first_side, free_side
 use Rattle.surface_laws.proofs.LinkingLemmas.{free_is as none_from}
 
 module _ (rows : List Row) (table : IsTable rows) (classes : List ℕ) (count : ℕ) (numbered : IsNumbering (4 * length rows) (SameVertex rows) classes count) (c : ℕ) where
-  -- the side behind a gluing
+  -- the side across a gluing
   abbrev other : ℕ → Gluing → ℕ
   other k g = side_number g.tet (image g.perm (k / 4 % 4)) (image g.perm (k % 4))
 
@@ -115,14 +115,14 @@ module _ (rows : List Row) (table : IsTable rows) (classes : List ℕ) (count : 
   unfolding free_side
   is_free k l s n = is_passing (free_side rows classes c) (4 * (4 * length rows)) k l (and_from (is_side classes c k) (is_boundary rows (side_face k)) s (ap is_none n))
 
-  -- a first side is itself, and also the other side of its edge or a boundary side
+  -- a first side corresponds to itself, and also to the other side of its edge; a boundary side to itself
   abbrev Halves : ℕ ⊎ ℕ → ℕ ⊎ ℕ → Type 0
   Halves (inl k) (inl l) = k ≡ l
   Halves (inl k) (inr l) = ⊥
   Halves (inr k) (inl l) = (g : Gluing) × (glue rows (side_face k) ≡ Some g) × (other k g ≡ l)
   Halves (inr k) (inr l) = (glue rows (side_face k) ≡ None) × (k ≡ l)
 
-  -- the first of two that are glued stands before the other
+  -- the first of two sides that are glued is before the other
   pub before : (k : ℕ) (g : Gluing) → IsFirst k → glue rows (side_face k) ≡ Some g → is_face_before (side_face k) (other_side (side_face k) g) ≡ true
   before k g f e = ap (is_first_side (side_face k)) (sym e) ∙ f.first
 

@@ -1,4 +1,5 @@
--- The members of a vertex class, and the vertices of its link: the least of each class of arrows that begin at the class.
+-- The members of a vertex class, and the vertices of its link: the least of each class of directed edges that begin at
+-- the class.
 use Rattle.std.proofs.Common.{◌≡◌, ℕ, ◌*◌, ◌/◌, ◌%◌, ◌<◌, Bool, true, List, length, sym, ap, ◌∙◌, subst}
 use Rattle.std.specs.Prelude.{◌==◌, ◌&&◌, count_by, slice_index}
 use Rattle.std.proofs.lemmas.Bool.{and_parts, and_from, eqb-true, eq-eqb}
@@ -61,7 +62,7 @@ module _ (rows : List Row) (vs : List ℕ) (n : ℕ) (numbered : IsNumbering (4 
     is_corner i l f e =
         is_passing is_corner_number (12 * length rows) i l (and_from (is_least ds i) (slice_index vs (vertex_number (i / 12) ((i % 12) / 3)) == c) f (eq-eqb (slice_index vs (vertex_number (i / 12) ((i % 12) / 3))) c e))
 
-    -- the corner of an arrow that begins at the class
+    -- the corner of a directed edge that begins at the class
     pub record Found (p : Place) : Type 0 where
       pub i : ℕ
       pub among : Among i corners

@@ -1,4 +1,4 @@
--- Lists of which the members correspond one to one are as long as each other.
+-- Lists whose members correspond one to one have the same length.
 use Rattle.std.proofs.Common.{◌≡◌, ℕ, suc, ◌+◌, ◌<◌, ◌≤◌, Bool, true, List, [], ◌∷◌, ◌++◌, length, map, filter, ◌⊎◌, inl, inr, refl, sym, ap, ◌∙◌, subst, arith}
 use Rattle.std.specs.Prelude.{count_by}
 use Rattle.std.proofs.lemmas.List.{length-map, length-append}
@@ -9,7 +9,7 @@ use Rattle.table_definitions.proofs.Listed.{map-among, appended-among, filter-am
 use Rattle.table_definitions.proofs.DistinctLists.{AreApart, apart_append, map_apart, apart_filter, apart_below, apart_short}
 
 module _ {A B : Type 0} (R : A → B → Type 0) (ys : List B) where
-  -- for each member one that corresponds to it, all of them apart
+  -- for each member one that corresponds to it, different ones for different members
   record Chosen (xs : List A) : Type 0 where
     list : List B
     long : length list ≡ length xs

@@ -1,4 +1,4 @@
--- Places of one vertex, and their classes.
+-- Vertices of tetrahedra, and their classes.
 use Rattle.std.proofs.Common.{◌≡◌, ℕ, ◌+◌, ◌*◌, ◌%◌, ◌<◌, List, [], ◌∷◌, length, refl, sym, ap, ◌∙◌, subst₂, arith}
 use Rattle.std.specs.Prelude.{◌↔◌, slice_index}
 use Rattle.table_definitions.specs.Table.{Row}

@@ -1,4 +1,4 @@
--- Sums over what passes a test, and over blocks of numbers; where none passes, none is counted.
+-- Sums over the items that pass a test, and over blocks of numbers; if none passes, the count is 0.
 use Rattle.std.proofs.Common.{◌≡◌, ℕ, zero, suc, ◌+◌, ◌*◌, Bool, true, false, cond, List, [], ◌∷◌, filter, refl, sym, ap, ◌∙◌, arith}
 use Rattle.std.specs.Prelude.{◌==◌, ◌&&◌, not, count_by, sum_by}
 use Rattle.std.specs.List.{list_all}
@@ -27,7 +27,7 @@ sum_blocks f w (suc n) =
     ap (λ m. sum_by f (below m)) e ∙ below_sum f (w * n) w ∙ ap (λ m. m + sum_by (λ j. f (w * n + j)) (below w)) (sum_blocks f w n)
     ∙ sym (sum_below_next (λ t. sum_by (λ j. f (w * t + j)) (below w)) n) ∙ ap (λ m. sum_by (λ t. sum_by (λ j. f (w * t + j)) (below w)) (below m)) up
 
--- a term that a test lets through or not
+-- a sum that counts if a test passes
 pub sum_if : (b : Bool) (f : ℕ → ℕ) (xs : List ℕ) → one_if b * sum_by f xs ≡ sum_by (λ x. one_if b * f x) xs
 sum_if true f xs = (let e : 1 * sum_by f xs ≡ sum_by f xs = omega arith in e) ∙ sum_by_same f (λ x. 1 * f x) xs (λ x a. omega arith)
 sum_if false f xs = (let e : 0 * sum_by f xs ≡ 0 = omega arith in e) ∙ sym (sum_by-none (λ x. 0 * f x) xs (λ x a. omega arith))
@@ -44,7 +44,7 @@ and_if true false = refl
 and_if false true = refl
 and_if false false = refl
 
--- none of a list passes a test if and only if none is counted
+-- no item of a list passes a test if and only if the count is 0
 pub none_pass : {A : Type 0} (p : A → Bool) (xs : List A) → list_all (λ x. not (p x)) xs ≡ (count_by p xs == 0)
 none_pass p [] = refl
 none_pass {A} p (x ∷ xs) = by_test (p x) refl (none_pass p xs)

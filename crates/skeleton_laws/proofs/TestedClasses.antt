@@ -1,4 +1,5 @@
--- A list that names the class of each of n places, by tests: it keeps to the classes over each face, and a chain leads from each place to the first of its class.
+-- A list that names the class of each of n simplices, verified by tests: across each face the class remains the same,
+-- and a chain joins each simplex to the first of its class.
 use Rattle.std.proofs.Common.{◌≡◌, ℕ, ◌<◌, Bool, true, false, List, length, Option, Some, None, refl, sym, ap, ◌∙◌, subst, inl, inr}
 use Rattle.std.specs.Prelude.{◌==◌, ◌&&◌, nat_lt, slice_index}
 use Rattle.std.specs.List.{list_all, list_any}
@@ -35,7 +36,7 @@ some_below p m h = elim (all_or_one (λ j. p j ≡ false) (λ j. p j ≡ true) (
 ]
 
 module _ (rows : List Row) (n : ℕ) (place : ℕ → Place) (number : Place → ℕ) (classes : List ℕ) (count : ℕ) (chain : ℕ → List ℕ) (first : ℕ → ℕ) where
-  -- over each face the class stays
+  -- across each face the class remains the same
   unfoldable pub stays_over : ℕ → Option Place → Bool
   stays_over k None = true
   stays_over k (Some r) = nat_lt (number r) n && (is_place_at (Some r) (place (number r)) && (slice_index classes (number r) == slice_index classes k))
@@ -43,7 +44,7 @@ module _ (rows : List Row) (n : ℕ) (place : ℕ → Place) (number : Place →
   unfoldable pub stays : Bool
   stays = list_all (λ k. list_all (λ f. stays_over k (across rows (place k) f)) (below 4)) (below n)
 
-  -- a chain leads to the first of the class
+  -- a chain joins each simplex to the first of its class
   unfoldable pub leads : Bool
   leads = list_all (λ k. is_place_at (along rows (place k) (chain k)) (place (first (slice_index classes k)))) (below n)
 

@@ -1,4 +1,4 @@
--- Things of all classes are all things, and there are as many least members as classes.
+-- The counts of all classes add up to the count of all items, and there are as many least members as classes.
 use Rattle.std.proofs.Common.{◌≡◌, ℕ, ◌<◌, Bool, true, false, List, refl, sym, ap, ◌∙◌}
 use Rattle.std.specs.Prelude.{◌==◌, ◌&&◌, sum_by, count_by, slice_index}
 use Rattle.std.proofs.lemmas.Bool.{eqb-true, eq-eqb, ne_eqb}
@@ -13,7 +13,7 @@ use Rattle.table_definitions.proofs.TableLaws.{Among-below}
 use Rattle.surface_laws.proofs.Counting.{sum_by_same, sum_swap, one_term}
 use Rattle.skeleton_laws.proofs.Matchings.{related_same, passing, length-passing, passing_apart, passing_is, is_passing}
 
--- things of all classes are all things
+-- the counts of all classes add up to the count of all items
 pub sum_classes : (L : ℕ → Bool) (T : ℕ → ℕ) (v n : ℕ) → ((i : ℕ) → i < n → T i < v) → sum_by (λ c. count_by (λ i. L i && (T i == c)) (below n)) (below v) ≡ count_by L (below n)
 sum_classes L T v n small =
     sum_swap (λ (c i : ℕ). one_if (L i && (T i == c))) (below v) (below n)

@@ -15,12 +15,12 @@ use Rattle.certificate_laws.proofs.Descents.{descents_end_lem, descents_certify_
 use Rattle.certificate_laws.proofs.Loops.{descents_go_on_lem, descents_are_done_lem}
 use Rattle.sphere_certificate.specs.declared.accepted.AcceptedMove.{AcceptedMove}
 
--- its signature tells it
+-- its signature determines whether a table is the standard sphere
 pub told_by_text : (rows : List Row) (text : List ℕ) (told : Bool) → IsTable rows → IsSignature rows text → (told ≡ true) ↔ (text ≡ sphere_text) → (told ≡ true) ↔ IsStandard rows
 told_by_text rows text told table signature same =
     (λ e. text_standard rows text table signature (same.0 e), λ s. same.1 (standard_text rows text table s signature))
 
--- by which of both searches it is found
+-- a move that is found by the first or the second search is the descent's move
 pub first_search : (rows : List Row) (vertices : List (List ℕ)) (m : Move) → vertices ≡ map (λ v. v ∷ []) four → Some m ≡ find (is_accepted rows) (moves_with vertices (length rows)) → Some m ≡ descent_move rows
 unfolding descent_move
 first_search rows vertices m are e =
@@ -35,7 +35,7 @@ second_search rows vertices edges found are none ends e =
     e ∙ ap (λ (cores : List (List ℕ)). find (is_accepted rows) (moves_with cores (length rows))) ends
     ∙ sym (ap (λ (o : Option Move). option_or o (find (is_accepted rows) (three_two_moves (length rows)))) first)
 
--- how a descent goes on at a table, or ends there
+-- the next move of a descent, or none if it ends
 abbrev pub Next : List Row → Option AcceptedMove → Type 0
 Next rows next = MatchOption next (IsStandard rows ⊎ (descent_move rows ≡ None)) (λ (a : AcceptedMove). (IsStandard rows → ⊥) × (descent_move rows ≡ Some a.played))
 
@@ -47,7 +47,7 @@ pub one_more : (rows : List Row) (before now : List Move) (table : List Row) (m 
 one_more rows before now table m new so_far g plays pushed =
     subst (λ (ms : List Move). DescendsSoFar rows ms new) (sym pushed) (descents_go_on_lem rows before table m new so_far (record { goes = g.0; first = g.1; plays = plays }))
 
--- the end
+-- the end of a descent
 pub ended : (rows : List Row) (moves : List Move) (last : List Row) (reached : Bool) → DescendsSoFar rows moves last → IsStandard last ⊎ (descent_move last ≡ None) → (reached ≡ true) ↔ IsStandard last
     → IsDescended rows (record { reached = reached; moves = moves; table = last })
 ended rows moves last reached so_far ends told = record { descent = descents_are_done_lem rows moves last so_far ends; reached = told }

@@ -11,7 +11,7 @@ use Rattle.move_definitions.proofs.MoveLists.{moves_more}
 abbrev move_with : ℕ → List ℕ → Move
 move_with t core = record { tet = t; core = core }
 
--- where none of the cores so far is found, one more is found or not
+-- if none of the cores so far is accepted, the next one is or is not
 one_core : (p : Move → Bool) (t : ℕ) (cores : List (List ℕ)) (i : ℕ) (core : List ℕ) → i < length cores → core ≡ get_or cores i core → find p (moves_at t (take i cores)) ≡ None
     → find p (moves_at t (take (i + 1) cores)) ≡ find p (moves_at t (core ∷ []))
 one_core p t cores i core l is none =
@@ -45,7 +45,7 @@ found_stays p cores t (suc k) n m is e =
     ∙ ap (find p) (moves_more cores (k + t)) ∙ find-append p (moves_with cores (k + t)) (moves_at (k + t) cores)
     ∙ ap (λ (o : Option Move). option_or o (find p (moves_at (k + t) cores))) (found_stays p cores t k (k + t) m refl e)
 
--- what is found first is found of all, and where nothing is found the search goes on
+-- what is found first is found in all, and if nothing is found, the search continues
 pub found_first : (p : Move → Bool) (cores : List (List ℕ)) (t n : ℕ) (m : Move) → t < n → find p (moves_with cores t) ≡ None → find p (moves_at t cores) ≡ Some m → find p (moves_with cores n) ≡ Some m
 found_first p cores t n m l none e =
     found_stays p cores (suc t) (n - suc t) n m (omega arith) (found_next p cores t none ∙ e)

@@ -4,7 +4,7 @@ use Rattle.table_definitions.specs.Permutation.{IsPermutationOfFour, is_permutat
 use Rattle.table_definitions.specs.Table.{Gluing}
 use Rattle.move_definitions.specs.Certificates.{standard_sphere, to_itself}
 
--- a face that is glued to another one of its tetrahedron, wherever the word is a permutation
+-- a face that is glued to another face of its tetrahedron, if the word is a permutation
 abbrev pub IsGlued : List ℕ → Option Gluing → Type 0
 IsGlued p face = IsPermutationOfFour p → face ≡ to_itself p
 

@@ -1,4 +1,5 @@
--- What divides the quads of a canonical solution divides its triangles: their remainders are heights of no quads.
+-- A divisor of the quads of a canonical solution divides its triangles: the remainders of the triangles are heights for
+-- quads that are 0.
 use Rattle.std.proofs.Common.{◌≡◌, ℕ, ◌+◌, ◌*◌, ◌/◌, ◌%◌, ◌-◌, ◌<◌, List, [], length, slice_index, refl, sym, ap, subst, ◌∙◌, arith}
 use Rattle.std.specs.Int.{◌∣◌}
 use Rattle.std.proofs.Math.Nat.{dvd-zero, mul-div_cancel', add-mul-mod_self_left, zero-mod}

@@ -1,4 +1,4 @@
--- How often a vector meets an edge: the arcs of a face there round one end, and those round the other.
+-- How often a vector meets an edge: the arcs of a face around one end of it, and those around the other.
 use Rattle.std.proofs.Common.{◌≡◌, ℕ, zero, suc, ◌+◌, ◌<◌, List, [], ◌∷◌, arith}
 use Rattle.std.specs.Prelude.{sum_by, slice_index}
 use Rattle.std.proofs.lemmas.List.Sums.{sum_by-cons}
@@ -23,7 +23,7 @@ module _ (g : ℕ → ℕ) where
   in_two : (a b c d : ℕ) → sum_by g (a ∷ b ∷ c ∷ d ∷ []) ≡ sum_by g (a ∷ c ∷ []) + sum_by g (b ∷ d ∷ [])
   in_two a b c d = omega (arith, four_terms a b c d, two_terms a c, two_terms b d)
 
-  -- the octagons of the edge's type are met twice, and the others once
+  -- the octagons of the edge's type meet the edge twice, and the others once
   in_two_0 : (a b c d x y z : ℕ) → sum_by g (a ∷ b ∷ c ∷ d ∷ x ∷ x ∷ y ∷ z ∷ []) ≡ sum_by g (a ∷ c ∷ x ∷ z ∷ []) + sum_by g (b ∷ d ∷ x ∷ y ∷ [])
   in_two_0 a b c d x y z = omega (arith, eight_terms a b c d x x y z, four_terms a c x z, four_terms b d x y)
 

@@ -125,7 +125,7 @@ module _ (n : ℕ) (ys xs : List ℕ) (same : AreSame n ys xs) where
     | inr high ↦ absurd (some.1 (at_none some.0 l high))
   ]
 
-  -- with quads in place of octagons it is the standard vector
+  -- with two quads in place of each octagon, of which there is none, it is the standard vector
   pub quads_for_none : HasQuadsForOctagons n xs ys
   quads_for_none = record {
     width = same.standard;
@@ -155,7 +155,7 @@ module _ (n : ℕ) (ys xs zs ws : List ℕ) (same : AreSame n ys xs) (other : Ar
       (λ i l z. at_standard n ys xs same i l ∙ inside (octagon_column i) (sym (at_standard n zs ws other i l) ∙ z))
       (λ i l z. entry_past ys (7 * n) i same.standard l)
 
--- the octagon vector is determined
+-- the octagon vector is unique
 pub one_octagon : (n : ℕ) (ys xs ws : List ℕ) → AreSame n ys xs → AreSame n ys ws → xs ≡ ws
 one_octagon n ys xs ws same other = ext_get_or 0 xs ws (same.octagon ∙ sym other.octagon) (λ i l. let li : i < 10 * n = omega (arith, same.octagon) in
     elim (cases_lt (i % 10) 7) [

@@ -25,7 +25,7 @@ use Rattle.surface_quad_laws.specs.LinkLaws.{IsCanonical}
 use Rattle.surface_quad_laws.proofs.Canonical.{lift_canonical}
 use Rattle.surface_agreement_laws.specs.VertexSurfaces.{IsVertexSurfaceBy, IsVertexSurfaceOf}
 
--- where both lower heights are 0
+-- the case that both heights at the vertex without triangles are 0
 no_difference : (a b y z y' z' : ℕ) → y' ≡ 0 → z' ≡ 0 → a * z + b * y' ≡ b * y + a * z' → a * z ≡ b * y
 no_difference a b y z y' z' ey ez e = omega (arith, ap (λ m. b * m) ey, ap (λ m. a * m) ez)
 
@@ -38,7 +38,8 @@ module _ (s : Skeleton) (k : IsSkeleton s) where
   abbrev n : ℕ
   n = length s.rows
 
-  -- z lies inside y, which is 0 somewhere at each class: where a times its quads are b times those of y, so is all of it
+  -- z is inside y, which has no triangle at some vertex of each class: if a times the quads of z are b times those of
+  -- y, a times z is b times y
   module _ (ys zs : List ℕ) (sy : IsStandardSolution s ys) (sz : IsStandardSolution s zs) (canonical : IsCanonical s Standard ys) (inside : IsInside zs ys)
       (a b : ℕ) (quads : (j : ℕ) → a * slice_index (projected n zs) j ≡ b * slice_index (projected n ys) j) where
     same_quads : projected n (multiple a zs) ≡ projected n (multiple b ys)

@@ -1,4 +1,4 @@
--- A vertex link is a vertex surface: a solution inside it is so many of it.
+-- A vertex link is a vertex surface: a solution inside it is a multiple of it.
 use Rattle.std.proofs.Common.{◌≡◌, ◌≢◌, ℕ, ◌*◌, ◌/◌, ◌%◌, ◌<◌, ◌≤◌, true, ◌⊎◌, inl, inr, List, length, slice_index, sym, ap, subst, ◌∙◌, arith}
 use Rattle.std.specs.Int.{◌∣◌}
 use Rattle.std.proofs.Math.Nat.{eq-one_of_dvd-one}
@@ -37,7 +37,7 @@ module _ (s : Skeleton) (k : IsSkeleton s) (coords : Coords) (h : HasTriangles c
   is_link : IsLinkSurface s coords link
   is_link = link_surface s k c coords h
 
-  -- 1 at the members of the class, and 0 at the others
+  -- 1 at the members of the class, and 0 at other vertices
   pub one_there : (t v : ℕ) → t < n → v < 4 → class_of (vertex_number t v) ≡ c → slice_index link (tri_column coords t v) ≡ 1
   one_there t v lt lv e = link-one n s.vertices.classes c coords t v h lt lv e
 
@@ -67,7 +67,7 @@ module _ (s : Skeleton) (k : IsSkeleton s) (coords : Coords) (h : HasTriangles c
     alone = (linking coords zs).1 (λ i l q. inside i (others-link n s.vertices.classes c coords i h (subst (λ m. i < m) sz.width l)
         (subst (λ m. m ≤ i % columns_each coords) (four_triangles coords h) (leb-true (triangles_each coords) (i % columns_each coords) q))))
 
-    -- so many of each link
+    -- how often the solution contains each link
     many : ℕ → ℕ
     many = (linking_links s k coords h zs sz alone).0
 
@@ -75,7 +75,7 @@ module _ (s : Skeleton) (k : IsSkeleton s) (coords : Coords) (h : HasTriangles c
     unfolding many
     triangle_is t v lt lv = (linking_links s k coords h zs sz alone).1 (tri_column coords t v) (column_below coords h n t v lt lv) ∙ triangles-sum s k coords h many t v lt lv
 
-    -- without this link it would be 0
+    -- without this link the solution would be 0
     some_of_it : many c ≢ 0
     some_of_it z = some.1 (by_column coords h n (λ i. slice_index zs i ≡ 0)
         (λ t v lt lv. elim (cases_eq (class_of (vertex_number t v)) c) [
@@ -129,7 +129,7 @@ module _ (s : Skeleton) (k : IsSkeleton s) (coords : Coords) (h : HasTriangles c
     | inr full ↦ inl (full.0, full.1, is_the_link s k coords h full.0 full.1 ys vertex full.2)
   ]
 
-  -- a canonical solution of triangles alone is 0: it is so many of each link, and has none
+  -- a canonical solution of triangles alone is 0, since it is a sum of links and contains none
   canonical_zero : IsSolution (columns coords (length s.rows)) (matching_rows coords s.rows) ys → is_linking coords ys ≡ true → IsCanonical s coords ys
       → (i : ℕ) → i < columns coords (length s.rows) → slice_index ys i ≡ 0
   canonical_zero solution alone canonical = by_column coords h (length s.rows) (λ i. slice_index ys i ≡ 0) at_triangle at_other

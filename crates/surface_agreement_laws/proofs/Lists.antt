@@ -15,7 +15,7 @@ use Rattle.surface_agreement_laws.specs.VertexSurfaces.{IsVertexSurfaceOf, IsSur
 use Rattle.surface_agreement_laws.proofs.InOctagons.{AreSame, in_octagons_is, octagon_column, standard_column, at_standard, at_octagon, at_none}
 use Rattle.surface_agreement_laws.proofs.SameSurfaces.{vertices_without_octagons}
 
--- octagon vectors stand in the order of their triangles and quads
+-- octagon vectors without octagons are in the order of their standard vectors
 module _ (n : ℕ) (ys xs zs ws : List ℕ) (same : AreSame n ys xs) (other : AreSame n zs ws) where
   pub before_octagon : IsBefore ys zs → IsBefore xs ws
   before_octagon b = record { column = octagon_column b.column; same = earlier; less = less }

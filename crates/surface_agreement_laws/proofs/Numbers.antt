@@ -55,7 +55,7 @@ module _ (s : Skeleton) (k : IsSkeleton s) (standard : List (List ℕ)) (one : I
       omega arith
 
   module _ (links : List Link) (kinds : HasSphereAndDiscLinks s links) (quad_rows : List EquationRow) (equations : AreEquations Quad s.rows quad_rows) (quads : List (List ℕ)) (other : IsSurfaceListBy s Quad quad_rows quads) where
-    -- a quad vertex surface is not 0, and so what lies over it is not linking
+    -- a quad vertex surface is not 0, so a vector over it is not linking
     not_linking : (xs ys : List ℕ) → IsVertexSurfaceBy s Quad quad_rows xs → IsVertexSurfaceOf s Standard ys → quads_of s ys ≡ xs → not (is_linking Standard ys) ≡ true
     not_linking xs ys vertex over e = by_test (is_linking Standard ys) refl
       where

@@ -1,4 +1,5 @@
--- A canonical solution is the lift of its quads, so where there are lifts there is one vertex surface over each quad one.
+-- A canonical solution is the lift of its quads, so if there are lifts there is one vertex surface over each quad
+-- vertex surface.
 use Rattle.std.proofs.Common.{ℕ, List, subst}
 use Rattle.cone_definitions.specs.Rows.{Row as EquationRow}
 use Rattle.skeleton_definitions.specs.Skeleton.{Skeleton, IsSkeleton}

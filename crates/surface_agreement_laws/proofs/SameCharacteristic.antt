@@ -1,4 +1,4 @@
--- A standard vector and the octagon vector that is the same have the same Euler characteristic.
+-- A standard vector and its octagon vector have the same Euler characteristic.
 use Rattle.std.proofs.Common.{◌≡◌, ℕ, ◌+◌, ◌*◌, ◌/◌, ◌%◌, ◌<◌, List, [], ◌∷◌, length, filter, not, sum, refl, sym, ap, ◌∙◌, arith}
 use Rattle.std.specs.Prelude.{◌==◌, sum_by, slice_index}
 use Rattle.std.proofs.lemmas.List.Sums.{sum_by-cons}

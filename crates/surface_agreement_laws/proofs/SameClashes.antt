@@ -19,7 +19,7 @@ standard_clash a b e = by_kind (or_cases (is_octagon Standard a && is_octagon St
         let r = and_parts (a / 7 == b / 7) (is_quad_or_octagon Standard a) p.0 in
         (eqb-true (a / 7) (b / 7) r.0, leb-true 4 (a % 7) r.1, leb-true 4 (b % 7) p.1)
 
--- two octagons clash, and what else is of one tetrahedron
+-- columns of triangles and quads that clash in octagon coordinates are quads of one tetrahedron
 octagon_clash : (a b : ℕ) → a % 10 < 7 → b % 10 < 7 → clash_test Octagon a b ≡ true → (a / 10 ≡ b / 10) × (4 ≤ a % 10) × (4 ≤ b % 10)
 octagon_clash a b la lb e = by_kind (or_cases (is_octagon Octagon a && is_octagon Octagon b) (((a / 10 == b / 10) && is_quad_or_octagon Octagon a) && is_quad_or_octagon Octagon b) e)
   where

@@ -1,4 +1,4 @@
--- A standard vector and the octagon vector that is the same are vertex surfaces at once.
+-- A standard vector is a vertex surface if and only if its octagon vector is.
 use Rattle.std.proofs.Common.{◌≡◌, ℕ, ◌*◌, ◌%◌, ◌<◌, ◌≤◌, true, inl, inr, List, length, slice_index, sym, subst, ◌∙◌, arith}
 use Rattle.std.specs.Prelude.{◌↔◌, ◌&&◌, not, nat_lt}
 use Rattle.std.specs.Int.{◌∣◌}
@@ -20,7 +20,7 @@ use Rattle.surface_agreement_laws.specs.VertexSurfaces.{IsVertexSurfaceOf, in_oc
 use Rattle.surface_agreement_laws.proofs.InOctagons.{AreSame, in_octagons_is, in_standard, in_standard_is, each_octagon, each_standard, at_none, nonzero_octagon, nonzero_standard, quads_for_none, inside_octagon, inside_standard, one_octagon}
 use Rattle.surface_agreement_laws.proofs.SameClashes.{standard_admissible, octagon_admissible}
 
--- what the test says
+-- what the test for octagons decides
 pub no_octagon : (n : ℕ) (xs : List ℕ) → length xs ≡ 10 * n → has_no_octagon xs ≡ true → (i : ℕ) → i < 10 * n → 7 ≤ i % 10 → slice_index xs i ≡ 0
 no_octagon n xs w h i l high =
     let at : not (is_octagon Octagon i && nat_lt 0 (slice_index xs i)) ≡ true =
@@ -46,7 +46,7 @@ module _ (s : Skeleton) (k : IsSkeleton s) where
   solves ys xs same = match_as_quads s k xs ys same.octagon (quads_for_none n ys xs same)
 
   module _ (ys xs : List ℕ) (same : AreSame n ys xs) where
-    -- an octagon vector inside it is the same as its triangles and quads
+    -- an octagon vector inside it is that of its triangles and quads
     same_within : (ws : List ℕ) → length ws ≡ 10 * n → IsInside ws xs → AreSame n (in_standard n ws) ws
     same_within ws w inside = in_standard_is n ws w (λ i l high. inside i (at_none n ys xs same i l high))
 

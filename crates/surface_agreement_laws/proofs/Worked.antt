@@ -102,7 +102,7 @@ outside (suc (suc (suc (suc (suc (suc (suc (suc (suc (suc (suc (suc zero))))))))
 outside (suc (suc (suc (suc (suc (suc (suc (suc (suc (suc (suc (suc (suc zero))))))))))))) a b = refl
 outside (suc (suc (suc (suc (suc (suc (suc (suc (suc (suc (suc (suc (suc (suc i)))))))))))))) a b = refl
 
--- a solution inside the two quads has as many of each
+-- a solution inside the two quads has equally many of each
 module _ (zs : List ℕ) (sz : IsSolution 14 (matching_rows Standard two_tetrahedra) zs) (some : IsNonzero zs) (inside : IsInside zs two_quads) where
   third_zero : IsZeroAt third_row zs
   third_zero = subst (λ (rows : List EquationRow). (d : EquationRow) → 2 < length rows → IsZeroAt (slice_index_or rows 2 d) zs) rows_are (sz.zero 2) [] (lit< tt)

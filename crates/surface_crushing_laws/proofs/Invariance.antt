@@ -18,7 +18,7 @@ use Rattle.move_laws.proofs.Parities.{behind}
 use Rattle.surface_crushing_laws.proofs.RetainedEnds.{chain_somewhere, chain_signed}
 
 module _ (rows : List Row) (xs : List ℕ) (new : List Row) (table : IsTable rows) (c : IsCrushed rows xs new) where
-  -- a face of the crushed table, by the kept face that it was
+  -- a face of the crushed table, and the kept face of which it is the image
   record Was (y : Face) : Type 0 where
     tet : ℕ
     kept : IsKeptFace rows xs (face_at tet y.face)

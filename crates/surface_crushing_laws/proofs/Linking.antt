@@ -1,4 +1,4 @@
--- A vertex linking vector has no quads, and what is answered of a vector without quads.
+-- A vertex linking vector has no quads, and the results for vectors without quads.
 use Rattle.std.proofs.Common.{◌≡◌, ℕ, ◌+◌, true, List, length, Result, Ok, Err, inl, inr, sym, ap, ◌∙◌, subst, arith}
 use Rattle.std.specs.Prelude.{◌%◌, ◌↔◌}
 use Rattle.std.proofs.Math.ListN.{get_or-eq_default}
@@ -29,7 +29,7 @@ crushed_to_itself_lem rows xs table = (whole_without_quads rows xs, λ quads. st
 pub nothing_else_is_crushed : NothingElseIsCrushed
 nothing_else_is_crushed rows new xs table quads c = nothing_else rows xs quads table new c
 
--- crushed rows are the table, and the other way round
+-- rows are the crushed table of the table if and only if they are the table
 whole : (rows new : List Row) (xs : List ℕ) → IsTable rows → HasNoQuads (length rows) xs → IsCrushed rows xs new ↔ (new ≡ rows)
 whole rows new xs table quads = (nothing_else rows xs quads table new, λ e. subst (IsCrushed rows xs) (sym e) (stays_whole rows xs quads table))
 

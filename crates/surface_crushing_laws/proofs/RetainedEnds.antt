@@ -12,7 +12,7 @@ use Rattle.surface_definitions.specs.Crushing.{is_removed, partner_in, exchange,
 use Rattle.surface_laws.proofs.Glued.{glued_is}
 use Rattle.surface_laws.proofs.Turns.{by_two, IsTurned, turned_at, exchange_is}
 
--- across a gluing, an odd exchange and a further gluing
+-- the sign across a gluing, an odd transposition and a further gluing
 two_behind : (h g a : Bool) → behind h (behind g a) ≡ behind (not (beq h (not (beq true g)))) a
 two_behind true true true = refl
 two_behind true true false = refl
@@ -30,7 +30,7 @@ exchange_odd : (v w : ℕ) → v < 4 → w < 4 → v ≢ w → is_odd (exchange 
 exchange_odd v w lv lw d = given_apart v w (is_odd (exchange v w)) (unfold exchange_test in by_two exchange_test 4 4 (unfold exchange_test is_odd inversions in refl) v w lv lw) d
 
 module _ (rows : List Row) (xs : List ℕ) (table : IsTable rows) (x : Face) (lx : x.face < 4) where
-  -- what a chain has come by
+  -- the gluing by which a chain has come
   record Reached (g : Gluing) : Type 0 where
     tet : g.tet < length rows
     permutes : IsPermutationOfFour g.perm
@@ -81,7 +81,7 @@ module _ (rows : List Row) (xs : List ℕ) (table : IsTable rows) (x : Face) (lx
         let g = all x lt lx in
         ends_somewhere n g.0 end (first_reached g.0 g.1) (subst (λ (o : Option Gluing). ChainEnds rows xs x n o end) g.1 c)
 
-  -- the sign behind a chain
+  -- the sign across a chain
   module _ (sign : ℕ → Bool) (agree : (y : Face) (g : Gluing) → glue rows y ≡ Some g → sign g.tet ≡ behind (is_odd g.perm) (sign y.tet)) where
     abbrev Signed : Gluing → Type 0
     Signed g = sign g.tet ≡ behind (is_odd g.perm) (sign x.tet)

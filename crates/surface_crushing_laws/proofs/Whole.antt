@@ -1,4 +1,4 @@
--- Where nothing is taken out, each tetrahedron keeps its number and each face its gluing.
+-- If no tetrahedron is taken out, each tetrahedron keeps its number and each face its gluing.
 use Rattle.std.proofs.Common.{◌≡◌, ℕ, zero, suc, ◌<◌, ◌≤◌, Bool, true, false, List, [], ◌∷◌, length, Option, Some, None, inl, inr, refl, sym, ap, ◌∙◌, arith, nat_lt, ◌⊎◌, option_map}
 use Rattle.std.specs.Prelude.{slice_index}
 use Rattle.std.specs.List.{list_any}
@@ -26,7 +26,7 @@ each_of_three p h =
     let third = or_parts (p 2) (list_any p []) second.1 in
     below_suc (λ k. p k ≡ false) 2 (below_suc (λ k. p k ≡ false) 1 (below_suc (λ k. p k ≡ false) 0 (λ j l. absurd (omega arith)) first.0) second.0) third.0
 
--- all numbers pass if and only if as many pass
+-- all numbers below n pass a test if and only if n of them do
 all_rank : (p : ℕ → Bool) (n : ℕ) → rank p n ≡ n → (t : ℕ) → t < n → p t ≡ true
 all_rank p zero e t l = absurd (omega arith)
 all_rank p (suc n) e t l = by_last (true_or_false (p n)) (all_rank p n) t l
@@ -43,7 +43,7 @@ module _ (rows : List Row) (xs : List ℕ) (quads : HasNoQuads (length rows) xs)
   same_number t l = rank_all (stays xs) t (λ u m. not_from_false (is_removed xs u) (none_removed u (omega arith)))
 
   module _ (table : IsTable rows) where
-    -- what a face is glued by is what its chain ends at, and keeps its number
+    -- the end of the chain of a face is the face's gluing, and its tetrahedron keeps its number
     same_gluing : (x : Face) (n : ℕ) (o end : Option Gluing) → glue rows x ≡ o → ChainEnds rows xs x n o end → o ≡ option_map (renumbered xs) end
     same_gluing x zero None end e h = sym (ap (option_map (renumbered xs)) h)
     same_gluing x zero (Some g) end e h =
@@ -62,7 +62,7 @@ module _ (rows : List Row) (xs : List ℕ) (quads : HasNoQuads (length rows) xs)
     pub nothing_else : (new : List Row) → IsCrushed rows xs new → new ≡ rows
     nothing_else new c = crushed_once rows xs table new rows c stays_whole
 
--- and only where there are no quads is nothing taken out
+-- if no tetrahedron is taken out, there are no quads
 pub whole_without_quads : (rows : List Row) (xs : List ℕ) → IsCrushed rows xs rows → HasNoQuads (length rows) xs
 whole_without_quads rows xs c t k l m =
     let kept : stays xs t ≡ true = all_rank (stays xs) (length rows) (sym c.length_is) t l in

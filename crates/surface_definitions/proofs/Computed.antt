@@ -1,4 +1,5 @@
--- The definitions that the examples compute: a proof that unfolds `computed` unfolds them all, and those of the crates below.
+-- The definitions that the examples compute: a proof that unfolds `computed` unfolds them all, and those of the crates
+-- below.
 use Rattle.std.proofs.Common.{ℕ}
 use Rattle.cone_text_definitions.proofs.Computed.{computed as cone_text_computed}
 use Rattle.skeleton_definitions.proofs.Computed.{computed as skeleton_computed}

@@ -1,4 +1,4 @@
--- A row is 0 at a vector if and only if the two sides of its equation add up to the same.
+-- A row is 0 at a vector if and only if the two sides of its equation have the same sum.
 use Rattle.std.proofs.Common.{◌≡◌, ℕ, zero, suc, ◌+◌, ◌-◌, ◌*◌, ◌<◌, ◌≤◌, min, Bool, true, false, cond, ℤ, pos, negsuc, ◌-ℤ◌, List, [], ◌∷◌, Some, None, refl, sym, ap, ◌∙◌, arith, ⊎_elim}
 use Rattle.std.specs.List.{cons_option, AllByRecursion, range_with_len}
 use Rattle.std.specs.Prelude.{◌==◌, if◌then◌else◌, sum_by, slice_index, filter_map}
@@ -67,7 +67,7 @@ sum_by-of_sums f g h each (c ∷ cs) =
     let more : sum_by f cs + sum_by g cs ≡ sum_by h cs = sum_by-of_sums f g h each cs in
     omega (arith, sum_by-cons f c cs, sum_by-cons g c cs, sum_by-cons h c cs, each c)
 
--- the times that a column stands on both sides
+-- the entry of a column, as often as the column occurs on both sides
 abbrev shared : Equation → List ℕ → ℕ → ℕ
 shared e xs c = min (times_in e.left c) (times_in e.right c) * slice_index xs c
 
@@ -90,7 +90,7 @@ times_more l ls xs c =
     let step : times_in (l ∷ ls) c ≡ cond (l == c) 1 0 + times_in ls c = sum_by-cons (λ m. cond (m == c) 1 0) l ls in
     sym (add-mul (cond (l == c) 1 0) (times_in ls c) (slice_index xs c)) ∙ ap (λ k. k * slice_index xs c) (sym step)
 
--- one column among those from a on
+-- one column among those from a onwards
 none_before : (l : ℕ) (xs : List ℕ) (n a : ℕ) → l < a → sum_by (one_or_none l xs) (range_with_len a n) ≡ 0
 unfolding one_or_none
 none_before l xs zero a h = refl
@@ -135,7 +135,7 @@ by_column (l ∷ ls) xs n a =
     sym (sum_by-of_sums (one_or_none l xs) (times_entry ls xs) (times_entry (l ∷ ls) xs) (times_more l ls xs) (below n))
     ∙ ap (λ k. k + sum_by (times_entry ls xs) (below n)) (one_within l xs n 0 low high) ∙ ap (λ k. slice_index xs l + k) (by_column ls xs n a.1) ∙ sym (sum_by-cons (slice_index xs) l ls)
 
--- a row is 0 if and only if the sides of its equation add up to the same
+-- a row is 0 if and only if the two sides of its equation have the same sum
 pub row_is_zero : (e : Equation) (xs : List ℕ) (n : ℕ) → AllByRecursion (λ c. c < n) e.left → AllByRecursion (λ c. c < n) e.right → IsZeroAt (row_of n e) xs → Holds e xs
 row_is_zero e xs n l r z =
     let plus : sum_by (surplus e xs) (below n) + sum_by (shared e xs) (below n) ≡ sum_by (times_entry e.left xs) (below n) =

@@ -1,4 +1,4 @@
--- The verdict, by the first equation that is not met.
+-- The verdict, by the first equation that does not hold.
 use Rattle.std.proofs.Common.{◌≡◌, ◌≢◌, ℕ, zero, suc, ◌+◌, ◌<◌, true, false, List, [], ◌∷◌, length, get_or, Option, Some, None, inl, inr, refl, sym, ap, ◌∙◌, subst, arith, add-zero}
 use Rattle.std.specs.List.{All, find}
 use Rattle.std.specs.Prelude.{◌==◌, ◌||◌, ◌↔◌, nat_lt, if◌then◌else◌, Result, Ok, Err, IsOk}
@@ -29,7 +29,7 @@ fault_fails max i row x within not_zero =
     let e : (plus_part row x == minus_part row x) ≡ false = ne_eqb (plus_part row x) (minus_part row x) not_zero in
     λ k. fault_by i (l k) (e k)
 
--- the verdict at the first row that is not met
+-- the verdict at the first row that does not hold
 first_fault : (max k : ℕ) (rows : List EquationRow) (x : List ℕ) (v : Verdict) (w : VectorFault) (i : ℕ) → i < length rows → HoldWithinBefore max rows x i → row_fault max (k + i) (get_or rows i []) x ≡ Some w
     → rows_verdict max k rows x v ≡ Err w
 first_fault max k [] x v w i l met f = absurd (omega arith)
@@ -69,7 +69,7 @@ module _ (max n : ℕ) (rows : List EquationRow) (pairs : List (ℕ × ℕ)) (x 
   pub clash_told : (found : Option (ℕ × ℕ)) → length x ≡ n → All (HoldsWithin max x) rows → found ≡ find (both_nonzero x) pairs → verdict max n rows pairs x ≡ clash_verdict found
   clash_told found e met f = at_width max n rows pairs x e ∙ no_fault max 0 rows x (clash_verdict (find (both_nonzero x) pairs)) met ∙ sym (ap clash_verdict f)
 
--- accepted are exactly the admissible solutions of which no part is large
+-- exactly the admissible solutions of which no part exceeds the limit are accepted
 ok_solution : (v : Verdict) → IsOk v → v ≡ solution
 ok_solution (Ok u) h = refl
 ok_solution (Err fault) h = absurd cc

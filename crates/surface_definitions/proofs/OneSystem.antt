@@ -1,4 +1,4 @@
--- The equations of a table are one list.
+-- The equations of a table are unique.
 use Rattle.std.proofs.Common.{◌≡◌, ℕ, ◌+◌, ◌*◌, cond, List, [], ◌∷◌, length, map, ◌⊎◌, inl, inr, ⊎_elim, refl, sym, ap, ◌∙◌, subst, subst₂, arith, zero-add}
 use Rattle.std.specs.Prelude.{ℤ, pos, ◌-ℤ◌, ◌==◌, Option, Some, None, if◌then◌else◌}
 use Rattle.std.specs.List.{AllZip, filter_map}
@@ -28,7 +28,7 @@ record IsWithout (y : Corner) (ys zs : List Corner) : Type 0 where
   pub others : (k : Corner) → Among k ys → (k ≡ y) ⊎ Among k zs
   pub counts : (f : Corner → ℕ) (x : ℕ) → times_in (map f ys) x ≡ times_in (map f (y ∷ zs)) x
 
--- one number more
+-- one more number
 times_more : (x m : ℕ) (ms : List ℕ) → times_in (m ∷ ms) x ≡ times_in (m ∷ []) x + times_in ms x
 times_more x m ms = sum_by-cons (λ (n : ℕ). cond (n == x) 1 0) m ms ∙ ap (λ k. k + times_in ms x) (sym (zero-add (cond (m == x) 1 0)))
 
@@ -62,7 +62,7 @@ taken_out y (l ∷ ls) (inr h) a =
       },
     )
 
--- lists of the same corners, each once, have the same numbers as often
+-- two lists of the same different corners have the same numbers, each as often
 same_counts : (xs ys : List Corner) → AreApart xs → AreApart ys → ((k : Corner) → Among k xs → Among k ys) → ((k : Corner) → Among k ys → Among k xs) → (f : Corner → ℕ) (x : ℕ) →
     times_in (map f xs) x ≡ times_in (map f ys) x
 same_counts [] [] a b to back f x = refl
@@ -80,7 +80,7 @@ corners_count rows first xs ys a b = same_counts xs ys (apart_from first xs a.on
     (λ k h. among_contains k ys ((b.reached k).1 ((a.reached k).0 (contains_among k xs h))))
     (λ k h. among_contains k xs ((a.reached k).1 ((b.reached k).0 (contains_among k ys h))))
 
--- an equation's row is known by how often each column stands on both sides
+-- how often each column occurs on both sides determines an equation's row
 abbrev term_by : ℕ → ℕ → ℕ → Option (ℕ × ℤ)
 term_by left right c = if left == right then None else Some (c, pos left -ℤ pos right)
 

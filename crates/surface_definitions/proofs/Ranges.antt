@@ -1,4 +1,4 @@
--- Lists made over the numbers below a bound, one number more at a time.
+-- Lists over the numbers below a bound, one more number at a time.
 use Rattle.std.proofs.Common.{◌≡◌, ℕ, zero, suc, ◌+◌, ◌<◌, ◌≤◌, Bool, cond, List, [], ◌∷◌, ◌++◌, filter, Option, Some, None, refl, ap, ◌∙◌, arith, append-nil, add-zero}
 use Rattle.std.specs.List.{cons_option, filter_map, flat_map}
 use Rattle.std.specs.Prelude.{option_to_list}
@@ -22,7 +22,7 @@ pub flat_map-more : {Y : Type 0} (f : ℕ → List Y) (n : ℕ) → flat_map f (
 flat_map-more f n =
     ap (flat_map f) (below_next n) ∙ flat_map-append f (below n) (n ∷ []) ∙ ap (λ ys. flat_map f (below n) ++ ys) (append-nil (f n))
 
--- numbers of which nothing is made add nothing
+-- numbers without a value add nothing
 pub quiet : {Y : Type 0} (h : ℕ → Option Y) (a d : ℕ) → ((k : ℕ) → a ≤ k → k < a + d → h k ≡ None) → filter_map h (below (a + d)) ≡ filter_map h (below a)
 quiet h a zero none = ap (λ n. filter_map h (below n)) (add-zero a)
 quiet h a (suc d) none =

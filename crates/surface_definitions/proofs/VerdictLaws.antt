@@ -1,4 +1,4 @@
--- The verdict is a solution exactly at the admissible solutions of which no part passes the maximum.
+-- The verdict is `solution` exactly at the admissible solutions of which no part exceeds the maximum.
 use Rattle.std.proofs.Common.{◌≡◌, ℕ, zero, suc, ◌+◌, ◌<◌, ◌≤◌, Bool, true, false, cond, List, [], ◌∷◌, length, Option, Some, None, Err, ◌⊎◌, inl, inr, refl, ap, ◌∙◌, arith, ⊎_elim}
 use Rattle.std.specs.Prelude.{◌==◌, nat_lt, ◌||◌, if◌then◌else◌, All, find, slice_index}
 use Rattle.std.proofs.lemmas.Bool.{eqb-true, eq-eqb, ltb-false, le-ltb, or_parts, or_from, and_cases, and_left, and_right}
@@ -37,7 +37,8 @@ no_solution max i row xs true e v h = absurd cc
 no_solution max i row xs false true v h = (refl, h)
 no_solution max i row xs false false v h = absurd cc
 
--- the verdict over the rows is a solution if and only if nothing is wrong at any and the rest is
+-- the verdict over the rows is `solution` if and only if nothing is wrong at any row and the rest of the verdict is
+-- `solution`
 rows_solve : (max i : ℕ) (rows : List EquationRow) (xs : List ℕ) (v : Verdict) → rows_verdict max i rows xs v ≡ solution
     → All (λ (row : EquationRow). IsZeroAt row xs) rows × All (λ (row : EquationRow). HasPartsWithin max row xs) rows × (v ≡ solution)
 rows_solve max i [] xs v h = ((λ k d l. absurd (omega arith)), (λ k d l. absurd (omega arith)), h)
@@ -92,7 +93,7 @@ pass_pairs xs (p ∷ ps) a =
     let first : 0 < length (p ∷ ps) = omega arith in
     ap (λ (b : Bool). verdict_if b p (find (both_nonzero xs) ps)) (both_not xs p (a 0 p first)) ∙ pass_pairs xs ps (λ k d l. a (suc k) d (omega arith))
 
--- the length is looked at first
+-- the length is checked first
 length_test : (b : Bool) (v : Verdict) (n : ℕ) → (if b then v else Err (Length n)) ≡ solution → (b ≡ true) × (v ≡ solution)
 length_test true v n h = (refl, h)
 length_test false v n h = absurd cc

@@ -1,4 +1,5 @@
--- A component that has a triangle at each vertex of a class is the link of the class, so each component is a vertex link or canonical.
+-- A component that has a triangle at each vertex of a class is the link of the class, so each component is a vertex
+-- link or canonical.
 use Rattle.std.proofs.Common.{◌≡◌, ◌≢◌, ℕ, zero, suc, ◌+◌, ◌*◌, ◌/◌, ◌%◌, ◌<◌, ◌≤◌, ◌⊎◌, inl, inr, cond, List, length, ap, ◌∙◌, arith}
 use Rattle.std.specs.Prelude.{slice_index}
 use Rattle.std.proofs.lemmas.Bool.{cases_lt, cases_eq, ne_eqb}
@@ -23,7 +24,7 @@ use Rattle.surface_efficiency_laws.proofs.LevelComponents.{level_is_link}
 -- ---- a piece of a component
 
 module _ (xs components : List ℕ) (i : ℕ) where
-  -- where a component has something in a column, one of the column's pieces is of it
+  -- if a component is not 0 in a column, one of the column's pieces belongs to it
   pub piece_there : length components ≡ length (discs_of xs) → (col : ℕ) → slice_index (component_vector xs components i) col ≢ 0
       → (j : ℕ) × (j < slice_index xs col) × (slice_index components (disc_number xs (piece_at col j)) ≡ i)
   piece_there one_each col some = elim (all_or_one (λ j. slice_index components (disc_number xs (piece_at col j)) ≡ i → ⊥) (λ j. slice_index components (disc_number xs (piece_at col j)) ≡ i) decide (slice_index xs col)) [
@@ -62,7 +63,7 @@ module _ (s : Skeleton) (k : IsSkeleton s) (coords : Coords) (xs : List ℕ) (w 
     abbrev IsFull : ℕ → Type 0
     IsFull c = (m : ℕ) → m < 4 * n → class_of m ≡ c → triangles (component_vector xs components i) m ≢ 0
 
-    -- a triangle of the component, at place j, round vertex m
+    -- the triangle of the component with index j around vertex m
     record HasTriangle (c j m : ℕ) : Type 0 where
       in_range : m < 4 * n
       chosen : class_of m ≡ c
@@ -76,7 +77,7 @@ module _ (s : Skeleton) (k : IsSkeleton s) (coords : Coords) (xs : List ℕ) (w 
         let d : j < triangles xs (vertex_number t v) = all (vertex_number t v) l h.chosen in
         omega arith
 
-    -- from one place to a lesser one, until each vertex of the class has a triangle there
+    -- from one index to a smaller one, until each vertex of the class has a triangle with this index
     link_by : (fuel c j m : ℕ) → j < fuel → IsFull c → HasTriangle c j m → component_vector xs components i ≡ link_of s coords c
     link_by zero c j m l full h = absurd (omega arith)
     link_by (suc fuel) c j m l full h =

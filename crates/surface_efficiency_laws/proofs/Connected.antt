@@ -37,7 +37,7 @@ two_terms f n l =
     omega arith
 
 module _ (s : Skeleton) (coords : Coords) (xs components : List ℕ) (count : ℕ) (numbered : AreComponents s.rows coords xs components count) where
-  -- a component has something in some column
+  -- each component is nonzero
   pub component_nonzero : (i : ℕ) → i < count → IsNonzero (component_vector xs components i)
   component_nonzero i l =
       let m = numbered.none_empty i l in
@@ -50,7 +50,7 @@ module _ (s : Skeleton) (coords : Coords) (xs components : List ℕ) (count : �
       (p.column, λ z. absurd (omega arith))
 
   module _ (w : IsSurface s.rows coords xs) (v : IsVertexSurfaceOf s coords xs) where
-    -- each component is so many times the vertex surface
+    -- each component is a multiple of the vertex surface, so no entry of the surface exceeds the component's
     whole_in_each : (i : ℕ) → i < count → (j : ℕ) → slice_index xs j ≤ slice_index (component_vector xs components i) j
     whole_in_each i l j =
         let n : ℕ = columns coords (length s.rows) in
@@ -64,7 +64,7 @@ module _ (s : Skeleton) (coords : Coords) (xs components : List ℕ) (count : �
         let m : 1 * slice_index r.s j ≤ r.b * slice_index r.s j = mul-le-mul_right (slice_index r.s j) (times_some ys r.s r.b r.y_is some) in
         omega arith
 
-    -- so there is one
+    -- so there is exactly one component
     pub one_component : count ≡ 1
     one_component =
         let c : ℕ = v.extreme.nonzero.0 in

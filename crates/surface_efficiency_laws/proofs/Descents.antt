@@ -1,4 +1,4 @@
--- A linear number of a solution that is positive is positive at a ray inside it.
+-- If a linear function is positive at a solution, it is positive at a ray inside it.
 use Rattle.std.proofs.Common.{◌≡◌, ℕ, zero, suc, ◌+◌, ◌*◌, ◌<◌, ◌≤◌, List, inl, inr, ap, ◌∙◌, arith}
 use Rattle.std.proofs.Math.Nat.{mul-le-mul_left}
 use Rattle.std.proofs.lemmas.Bool.{cases_lt, cases_eq}
@@ -9,7 +9,7 @@ use Rattle.cone_definitions.proofs.Linear.{IsLinear, linear_zero}
 use Rattle.cone_definitions.proofs.Rays.{ray_inside}
 use Rattle.cone_definitions.proofs.Solutions.{Rest, rest_of, Rest-solution}
 
--- of m * F = c * Fv + Fr and m * G = c * Gv + Gr, where G is less than F and Fv at most Gv
+-- if m * F = c * Fv + Fr and m * G = c * Gv + Gr, G is less than F, and Fv is at most Gv, then Gr is less than Fr
 pub rest_less : (m c F Fv Fr G Gv Gr : ℕ) → 1 ≤ m → m * F ≡ c * Fv + 1 * Fr → m * G ≡ c * Gv + 1 * Gr → G < F → Fv ≤ Gv → Gr < Fr
 rest_less m c F Fv Fr G Gv Gr some e f less most =
     let l : G + 1 ≤ F = omega arith in
@@ -45,7 +45,7 @@ module _ (columns : ℕ) (rows : List Row) (f g : List ℕ → ℕ) (f_linear : 
   pub more_inside : (x : List ℕ) → IsSolution columns rows x → g x < f x → HasMoreInside x
   more_inside x solution more = more_by (support_size columns x + 1) x (omega arith) solution more
 
--- ---- descents that keep a third number
+-- ---- descents with a third function
 
 rest_most : (m c F Fv Fr G Gv Gr : ℕ) → m * F ≡ c * Fv + 1 * Fr → m * G ≡ c * Gv + 1 * Gr → G ≤ F → Fv ≤ Gv → Gr ≤ Fr
 rest_most m c F Fv Fr G Gv Gr e f most less =

@@ -1,4 +1,4 @@
--- The component of a level is the link of its class.
+-- The component of the triangles with a given index is the link of their class.
 use Rattle.std.proofs.Common.{◌≡◌, ℕ, ◌%◌, ◌<◌, ◌≤◌, cond, ap₂, List, length, inl, inr, refl, sym, ap, ◌∙◌, subst₂, arith}
 use Rattle.std.specs.Prelude.{◌==◌, slice_index}
 use Rattle.std.proofs.lemmas.Bool.{cases_lt, cases_eq, eq-eqb, ne_eqb}
@@ -36,7 +36,7 @@ module _ (s : Skeleton) (k : IsSkeleton s) (coords : Coords) (xs : List ℕ) (w 
     found : (p : NormalDisc) → IsPieceOf xs p → IsFound xs p
     found p h = piece_found xs p h
 
-    -- each triangle of the level is in it, and nothing else
+    -- the component has each triangle with the index of the level, and no other piece
     level_in : (u y : ℕ) → IsOfClass s c u y → of_piece (level u y) ≡ i
     level_in u y m =
         let a : IsFound xs (level t v) = found (level t v) (level_there s k coords xs w c j deep t v here) in
@@ -73,7 +73,7 @@ module _ (s : Skeleton) (k : IsSkeleton s) (coords : Coords) (xs : List ℕ) (w 
               (in_level (piece_at (tri_column coords u y) q) (record { column = in_width xs (tri_column coords u y) q l; number = l }) e).is))) ∙ sym (ap (λ b. cond b 1 0) (ne_eqb q j off))
         ]
 
-    -- so it is the link of the class
+    -- so the component is the link of the class
     pub level_is_link : component_vector xs components i ≡ link_of s coords c
     level_is_link = same_vectors (component_vector xs components i) (link_of s coords c) widths (λ col. elim (cases_lt col (columns coords n)) [
       | inl l ↦ by_column coords w.triangles n (λ col. slice_index (component_vector xs components i) col ≡ slice_index (link_of s coords c) col) at_triangle at_other col l

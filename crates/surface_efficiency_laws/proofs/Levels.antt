@@ -1,4 +1,5 @@
--- Where each vertex of a class has more than j triangles, those at place j meet one another alone, and are joined: they are a component, the link of the class.
+-- If each vertex of a class has more than j triangles, those with index j meet only one another, and are joined: they
+-- are a component, the link of the class.
 use Rattle.std.proofs.Common.{◌≡◌, ℕ, ◌+◌, ◌-◌, ◌*◌, ◌%◌, ◌<◌, ◌≤◌, List, [], ◌∷◌, ◌++◌, length, Some, inl, inr, refl, sym, ap, ◌∙◌, subst, subst₂, arith}
 use Rattle.std.specs.Prelude.{slice_index}
 use Rattle.std.proofs.lemmas.Bool.{cases_lt}
@@ -32,11 +33,11 @@ pub record IsOfClass (s : Skeleton) (c t v : ℕ) : Type 0 where
 abbrev pub IsDeep : Skeleton → Coords → List ℕ → ℕ → ℕ → Type 0
 IsDeep s coords xs c j = (t v : ℕ) → IsOfClass s c t v → j < slice_index xs (tri_column coords t v)
 
--- the triangle at place j round a vertex
+-- the triangle with index j around a vertex
 abbrev pub triangle_at : Coords → ℕ → ℕ → ℕ → NormalDisc
 triangle_at coords j t v = piece_at (tri_column coords t v) j
 
--- it is one round a vertex of class c
+-- the piece is the triangle with index j around a vertex of class c
 pub record IsLevel (s : Skeleton) (coords : Coords) (c j : ℕ) (p : NormalDisc) : Type 0 where
   pub tet : ℕ
   pub vertex : ℕ
@@ -69,7 +70,7 @@ module _ (s : Skeleton) (k : IsSkeleton s) (coords : Coords) (xs : List ℕ) (w 
         chosen = sym (class_across s.rows k.table s.vertices.classes s.vertices.count k.vertices (face_at t f) g v e m.below_four off) ∙ m.chosen;
       }
 
-  -- an arc of a level is at place j, and so is the one that it meets
+  -- an arc of a triangle with index j has index j, and so has the arc that it meets
   arc_of_level : (t f v : ℕ) → f < 4 → (v ≡ f → ⊥) → IsOfClass s c t v → disc_of coords xs (arc_at t f v j) ≡ level t v
   arc_of_level t f v lf off m = triangle_piece coords n xs w.triangles w.admissible t f v m.tet lf m.below_four off j (deep t v m)
 
@@ -104,7 +105,7 @@ module _ (s : Skeleton) (k : IsSkeleton s) (coords : Coords) (xs : List ℕ) (w 
       ∙ arc_of_level g.tet (image g.perm a.face) (image g.perm a.vertex) i.other_face (images_apart g.perm a.vertex a.face i.permutes m.is_vertex i.face m.off_vertex)
       (of_class_across a.tet a.face a.vertex g h.of_class m.off_vertex m.glued)
 
-  -- so no chain of arcs leaves the level
+  -- no chain of arcs leaves the triangles with index j
   pub stays : (p q : NormalDisc) (arcs : List Arc) → IsLevel s coords c j p → ArcsLead s.rows coords xs p arcs q → IsLevel s coords c j q
   stays p q [] h e = subst (IsLevel s coords c j) e h
   stays p q (a ∷ arcs) h (g, m, e, rest) =
@@ -112,9 +113,9 @@ module _ (s : Skeleton) (k : IsSkeleton s) (coords : Coords) (xs : List ℕ) (w 
       stays (disc_of coords xs (arc_across g a)) q arcs
       (record { tet = g.tet; vertex = image g.perm a.vertex; of_class = of_class_across a.tet a.face a.vertex g l.of_class m.off_vertex m.glued; is = level_across a g m l }) rest
 
-  -- ---- chains of gluings carry the level's triangles to one another
+  -- ---- chains of gluings join the triangles with index j to one another
 
-  -- arcs lead from piece p to the level's triangle at a place
+  -- arcs join piece p to the triangle with index j at a vertex
   record LedTo (p : NormalDisc) (q : Place) : Type 0 where
     v : ℕ
     is : q.vertices ≡ v ∷ []

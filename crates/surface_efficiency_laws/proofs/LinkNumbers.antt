@@ -1,4 +1,5 @@
--- Linear numbers of a vector with vertex links; and links that are spheres or discs have no negative Euler characteristic.
+-- Linear functions of a vector with vertex links; links that are spheres or discs have no negative Euler
+-- characteristic.
 use Rattle.std.proofs.Common.{◌≡◌, ℕ, ◌+◌, ◌*◌, ◌<◌, ◌≤◌, ◌⊎◌, inl, inr, Bool, true, false, ℤ, pos, negsuc, List, [], ◌∷◌, length, slice_index, sum_by, refl, sym, ap, ◌∙◌, arith}
 use Rattle.std.specs.Prelude.{get_or}
 use Rattle.std.proofs.Math.Nat.{mul-le-mul_left}
@@ -28,7 +29,7 @@ use Rattle.surface_efficiency_laws.proofs.Measures.{points_and_pieces, pieces_ar
 
 -- ---- vectors with links
 
--- so many of each link of some classes
+-- the links of some classes, with multiplicity `times`
 module _ (s : Skeleton) (f : List ℕ → ℕ) (linear : IsLinear f) (times : ℕ → ℕ) where
   abbrev link : ℕ → List ℕ
   link c = link_of s Standard c
@@ -55,7 +56,7 @@ module _ (s : Skeleton) (f : List ℕ → ℕ) (linear : IsLinear f) (times : �
       let last : sum_by (λ d. times d * f (link d)) (c ∷ cs) ≡ times c * f (link c) + sum_by (λ d. times d * f (link d)) cs = sum_by-cons (λ d. times d * f (link d)) c cs in
       omega arith
 
--- a sum of so many of each number that is at most another
+-- if f is at most g, a sum of multiples of f is at most that of g
 pub sum_most : (times f g : ℕ → ℕ) (cs : List ℕ) → ((c : ℕ) → Among c cs → f c ≤ g c) → sum_by (λ c. times c * f c) cs ≤ sum_by (λ c. times c * g c) cs
 sum_most times f g [] h = omega arith
 sum_most times f g (c ∷ cs) h =

@@ -50,7 +50,7 @@ module _ (s : Skeleton) (coords : Coords) where
     is_more : (p a r : ℕ) → a < p + r → pos 0 <ℤ euler p a r
     is_more p a r h = omega (arith, ints)
 
-    -- the Euler characteristic is positive if and only if these are more than the arcs
+    -- the Euler characteristic is positive if and only if there are more points and pieces than arcs
     pub positive_is : IsPositive s coords xs → arcs s.rows coords xs < points_and_pieces n xs
     positive_is h =
         let e : sum_by (slice_index xs) (below n) ≡ sum xs = pieces_are in
@@ -68,7 +68,7 @@ module _ (s : Skeleton) (coords : Coords) where
     is_twice : (o p a r : ℕ) → a + 2 * o ≤ p + r → pos (2 * o) ≤ℤ euler p a r
     is_twice o p a r h = omega (arith, ints)
 
-    -- it is at least twice o if and only if these are at least the arcs and twice o
+    -- the Euler characteristic is at least 2 o if and only if there are at least 2 o more points and pieces than arcs
     pub at_least_twice : (o : ℕ) → pos (2 * o) ≤ℤ characteristic s coords xs → arcs s.rows coords xs + 2 * o ≤ points_and_pieces n xs
     at_least_twice o h =
         let e : sum_by (slice_index xs) (below n) ≡ sum xs = pieces_are in

@@ -1,4 +1,5 @@
--- Where no listed surface without octagons but vertex links has positive Euler characteristic, those with octagons decide.
+-- If no listed surface without octagons, other than a vertex link, has positive Euler characteristic, the surfaces with
+-- octagons decide.
 use Rattle.std.proofs.Common.{◌≡◌, ℕ, ◌+◌, ◌*◌, ◌%◌, ◌<◌, ◌≤◌, ◌↔◌, inl, inr, List, length, filter, Contains, slice_index, ap, ◌∙◌, arith}
 use Rattle.std.proofs.lemmas.Bool.{cases_eq, cases_lt, leb-true}
 use Rattle.cone_definitions.specs.Rows.{Row as EquationRow, IsPrimitiveExtreme}
@@ -35,7 +36,7 @@ module _ (s : Skeleton) (surfaces : List (List ℕ)) (list : IsSurfaceListOf s O
   octagons_linear : IsLinear (λ xs. octagons s xs)
   octagons_linear = columns_linear (filter (is_octagon Octagon) (below (columns Octagon (length s.rows))))
 
-  -- the arcs and twice the octagons
+  -- the number of arcs plus twice the number of octagons
   abbrev lower : List ℕ → ℕ
   lower xs = arcs s.rows Octagon xs + 2 * octagons s xs
 
@@ -46,7 +47,7 @@ module _ (s : Skeleton) (surfaces : List (List ℕ)) (list : IsSurfaceListOf s O
     listed : (v : List ℕ) → IsPrimitiveExtreme n rows v → IsInside v x → Contains surfaces v
     listed v ray inside = ray_listed n rows (clash_list Octagon (length s.rows)) surfaces x v list surface.admissible ray inside
 
-    -- a ray inside x without octagons is not positive
+    -- a ray inside x without octagons has no positive Euler characteristic
     none_without : (v : List ℕ) → IsPrimitiveExtreme n rows v → IsInside v x → octagons s v ≡ 0 → points_and_pieces s Octagon n v ≤ lower v
     none_without v ray inside z = elim (cases_lt (lower v) (points_and_pieces s Octagon n v)) [
       | inr few ↦ few

@@ -35,7 +35,7 @@ use Rattle.surface_efficiency_laws.proofs.LinkNumbers.{number_with_links, sum_mo
 use Rattle.surface_efficiency_laws.proofs.Measures.{points_and_pieces, points_and_pieces_linear, arcs_linear}
 use Rattle.surface_efficiency_laws.proofs.MultipleLifts.{lift_quads, multiple_lift}
 
--- m times more is more, and so with what is added
+-- m times more is more, also after at least as much is added
 still_less : (m F G F' G' : ℕ) → 1 ≤ m → G < F → G' ≤ F' → m * G + G' < m * F + F'
 still_less m F G F' G' some less most =
     let l : G + 1 ≤ F = omega arith in
@@ -70,7 +70,7 @@ module _ (s : Skeleton) (k : IsSkeleton s) (links : List Link) (spheres : HasSph
   times_is : (f : List ℕ → ℕ) → IsLinear f → (m : ℕ) (x : List ℕ) → f (multiple m x) ≡ m * f x
   times_is f linear m x = let e : 1 * f (multiple m x) ≡ m * f x + 0 * f x = linear.splits 1 m 0 (multiple m x) x x (λ j. let h : slice_index (multiple m x) j ≡ m * slice_index x j = entry-multiple m x j in omega arith) in omega arith
 
-  -- of m * q = c * v + r, with their lifts: m times that of q and so many links are c times that of v and that of r
+  -- if m * q = c * v + r, m times the lift of q, with some links, is c times the lift of v plus the lift of r
   module _ (m c : ℕ) (q v r x y z : List ℕ) (some : 1 ≤ m) (wq : length q ≡ 3 * n) (wv : length v ≡ 3 * n) (wr : length r ≡ 3 * n) (splits : Splits m q c v 1 r)
       (lq : IsLiftOf s q x) (lv : IsLiftOf s v y) (lr : IsLiftOf s r z) where
     abbrev both : List ℕ
@@ -94,7 +94,7 @@ module _ (s : Skeleton) (k : IsSkeleton s) (links : List Link) (spheres : HasSph
     whole : HasOneLiftWithLinks s (sum_of (multiple c y) z)
     whole = one_lift_with_links s k both both_solves
 
-    -- its lift is m times that of q
+    -- the lift of the sum's quads is m times that of q
     quads_of_both : (j : ℕ) → slice_index (projected n (sum_of (multiple c y) z)) j ≡ m * slice_index q j
     quads_of_both j = elim (cases_lt j (3 * n)) [
       | inl l ↦ (let e : slice_index (projected n both) j ≡ c * slice_index (projected n y) j + slice_index (projected n z) j =
@@ -121,7 +121,7 @@ module _ (s : Skeleton) (k : IsSkeleton s) (links : List Link) (spheres : HasSph
           omega arith)
     ]
 
-    -- so that of r has positive Euler characteristic where that of q has and that of v has not
+    -- if the lift of q has positive Euler characteristic and that of v has not, the lift of r has
     number_is : (f : List ℕ → ℕ) → IsLinear f → f (sum_of (multiple c y) z) ≡ m * f x + sum_by (λ d. whole.times d * f (link_of s Standard d)) (below s.vertices.count)
     number_is f linear = number_with_links s f linear whole.times (below s.vertices.count) (multiple m x) both (length-multiple m x ∙ lq.width) adds
         ∙ ap (λ a. a + sum_by (λ d. whole.times d * f (link_of s Standard d)) (below s.vertices.count)) (times_is f linear m x)
@@ -146,7 +146,7 @@ module _ (s : Skeleton) (k : IsSkeleton s) (links : List Link) (spheres : HasSph
     pub is_lift : IsLiftOf s v lift
     pub positive : arcs s.rows Standard lift < points_and_pieces s Standard (columns Standard (length s.rows)) lift
 
-  -- the lift of no quads is twice itself
+  -- the lift of a vector without quads is twice itself, so it has no points and no pieces
   no_quads : (q x : List ℕ) → length q ≡ 3 * n → ((j : ℕ) → slice_index q j ≡ 0) → IsLiftOf s q x → upper x ≡ 0
   no_quads q x w z l =
       let twice : x ≡ multiple 2 x = same_lift q x (multiple 2 x) l (multiple_lift s k 2 q q x w w (λ j. let e : slice_index q j ≡ 0 = z j in omega arith) l) in

@@ -22,7 +22,7 @@ use Rattle.surface_efficiency_laws.specs.Octagons.{octagons, PositiveWithoutOcta
 use Rattle.surface_efficiency_laws.proofs.Connected.{vertex_surface_connected}
 use Rattle.surface_efficiency_laws.proofs.Efficiency.{list_decides, some_list}
 
--- where a sum is 0 each term is
+-- if a sum is 0, each term is
 term_zero : (f : ℕ → ℕ) (cs : List ℕ) (c : ℕ) → Among c cs → sum_by f cs ≡ 0 → f c ≡ 0
 term_zero f [] c a z = absurd a
 term_zero f (d ∷ cs) c (inl e) z = let first : f d ≡ 0 = omega (arith, sum_by-cons f d cs) in ap f e ∙ first
@@ -42,7 +42,7 @@ module _ (s : Skeleton) (k : IsSkeleton s) where
       let m = filter-among (is_octagon Octagon) i (below (columns Octagon n)) a in
       at_none n ys xs same i (below-among i (10 * n) m.0) (leb-true 7 (i % 10) m.1))
 
-  -- a vertex link is the same in both
+  -- a vertex link has the same triangles and quads in standard and octagon coordinates
   same_links : (c : ℕ) → AreSame n (link_of s Standard c) (link_of s Octagon c)
   same_links c = record {
     standard = length-link n s.vertices.classes c Standard;
@@ -57,7 +57,7 @@ module _ (s : Skeleton) (k : IsSkeleton s) where
         | inr high ↦ others-link n s.vertices.classes c Octagon (10 * t + j) tt (omega arith) (omega arith) ∙ sym (others-link n s.vertices.classes c Standard (7 * t + j) tt (omega arith) (omega arith))
       ]
 
-  -- the standard vector is determined
+  -- the standard vector is unique
   one_standard : (ys zs xs : List ℕ) → AreSame n ys xs → AreSame n zs xs → ys ≡ zs
   one_standard ys zs xs same other = ext_get_or 0 ys zs (same.standard ∙ sym other.standard) (λ i l. let li : i < 7 * n = omega (arith, same.standard) in
       at_standard n ys xs same i li ∙ sym (at_standard n zs xs other i li))

@@ -34,7 +34,7 @@ module _ (F : ℕ → ℤ → ℕ) (n : ℕ) (e : Equation) where
       (λ c m. subst (λ k. over weighed (term_of e c) ≤ k) (ap (F c) (sym (entry_row n e c (below-among c n m)))) (term_less c)) in
       subst (λ k. k ≤ sum_by (λ c. F c (entry (row_of n e) c)) (below n)) (sym a) b
 
--- a sum over what passes
+-- a sum over the items that pass a test
 pub over_passing : (p : ℕ → Bool) (f : ℕ → ℕ) (xs : List ℕ) → sum_by (λ c. cond (p c) (f c) 0) xs ≡ sum_by f (filter p xs)
 over_passing p f [] = refl
 over_passing p f (x ∷ xs) = sum_by-cons (λ c. cond (p c) (f c) 0) x xs ∙ ap (λ k. cond (p x) (f x) 0 + k) (over_passing p f xs) ∙ go (p x)

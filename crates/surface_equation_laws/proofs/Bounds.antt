@@ -60,7 +60,7 @@ module _ (coords : Coords) (rows : List Row) (e : Enumeration) (t : IsOfTable co
       → IsSurfaceList e.system.columns e.system.rows e.pairs list → IsListed e taken list
   are_listed taken list perm named surfaces = listed e (is_free coords) (group_of coords n) (cap_of coords n) (groups_of coords n) (size_of coords n) bounded taken list perm named surfaces
 
-  -- so are the rows that an order names in turn, as far as they go
+  -- the rows that an order names one after another are within the limit
   pub named_within : (taken : List ℕ) → AreNamed e.order e.system taken → AreWithin e.limit e.system e.pairs taken
   named_within taken named k l =
       let x : (rest : List ℕ) × IsPermutation (range_with_len 0 (length e.system.rows)) (taken ++ rest) = extended e.order e.system taken named in

@@ -25,7 +25,7 @@ use Rattle.cone_bound_laws.specs.Caps.{HasCaps, plus_in, minus_in, row_weight, c
 use Rattle.surface_equation_laws.specs.Caps.{is_free, group_of, cap_of, groups_of, size_of}
 use Rattle.surface_equation_laws.proofs.BoundTerms.{plus_in_less, minus_in_less, weight_less, size_is}
 
--- what two columns have to show to clash
+-- whether two columns are quads or octagons of the same tetrahedron
 abbrev both_in : Coords → ℕ → ℕ → Bool
 both_in coords a b = (a / columns_each coords == b / columns_each coords) && is_quad_or_octagon coords a && is_quad_or_octagon coords b
 
@@ -71,7 +71,7 @@ some_cap coords n g = go (has_octagons coords && (g == n))
     go true = omega arith
     go false = omega arith
 
--- no column weighs more than the cap of its group
+-- the weight of each column is at most the cap of its group
 weight_capped : (coords : Coords) (n c : ℕ) → weight coords c ≤ cap_of coords n (group_of coords n c)
 weight_capped coords n c = go (is_octagon coords c) (is_quad_or_octagon coords c) (octagon_has coords c)
   where

@@ -1,4 +1,4 @@
--- Sums over columns that stand once.
+-- Sums over columns that occur at most once each.
 use Rattle.std.proofs.Common.{◌≡◌, ℕ, ◌+◌, ◌≤◌, Bool, true, false, cond, List, [], ◌∷◌, length, inl, inr, refl, sym, ap, ◌∙◌, arith, filter}
 use Rattle.std.specs.Prelude.{◌==◌, sum_by, count_by}
 use Rattle.std.proofs.lemmas.Bool.{ne_eqb, true≢false}
@@ -24,13 +24,13 @@ sum_by_less f g (x ∷ xs) h =
     let here : f x ≤ g x = h x (inl refl) in
     omega (arith, sum_by-cons f x xs, sum_by-cons g x xs)
 
--- how often the numbers of one list stand in the other
+-- how often the numbers of one list occur in the other, counted from either list
 pub times_swap : (cs ls : List ℕ) → sum_by (times_in ls) cs ≡ sum_by (times_in cs) ls
 times_swap cs ls =
     sum_swap (λ (c l : ℕ). cond (l == c) 1 0) cs ls
     ∙ sum_by_same (λ l. sum_by (λ c. cond (l == c) 1 0) cs) (times_in cs) ls (λ l a. sum_by_same (λ c. cond (l == c) 1 0) (λ c. cond (c == l) 1 0) cs (λ c b. ap (λ t. cond t 1 0) (flips l c)))
 
--- a number that passes a test stands among those that do at most as often, and another not at all
+-- in the numbers that pass a test, a number that passes occurs at most as often as in all, and any other does not occur
 pub passing_less : (p : ℕ → Bool) (l : ℕ) (cs : List ℕ) → times_in (filter p cs) l ≤ times_in cs l
 passing_less p l [] = omega arith
 passing_less p l (c ∷ cs) = go (p c) (passing_less p l cs)
@@ -56,7 +56,7 @@ passing_once p cs once l = go (p l) refl
     go true e = omega (arith, passing_less p l cs, once l)
     go false e = omega (arith, passing_none p l cs e)
 
--- so a list stands in them at most as often as it passes
+-- the numbers of a list occur in those that pass at most as often as its numbers pass the test
 pub times_over : (p : ℕ → Bool) (cs ls : List ℕ) → IsOnce cs → sum_by (times_in ls) (filter p cs) ≤ count_by p ls
 times_over p cs ls once =
     let less : sum_by (times_in (filter p cs)) ls ≤ count_by p ls = sum_by_less (times_in (filter p cs)) (λ l. cond (p l) 1 0) ls (λ l a. passing_once p cs once l) in
@@ -67,7 +67,8 @@ times_over_all cs ls once =
     let less : sum_by (times_in cs) ls ≤ sum_by (λ (l : ℕ). 1) ls = sum_by_less (times_in cs) (λ (l : ℕ). 1) ls (λ l a. once l) in
     omega (arith, times_swap cs ls, sum_by-ones ls)
 
--- the positive entries of an equation's row in columns that pass a test add up to at most as many as its left side has of them
+-- the positive entries of an equation's row, in columns that pass a test, add up to at most the number of such columns
+-- on its left side
 pub plus_passing : (n : ℕ) (e : Equation) (p : ℕ → Bool) (cs : List ℕ) → IsOnce cs → plus_over (row_of n e) (filter p cs) ≤ count_by p e.left
 plus_passing n e p cs once =
     let less : plus_over (row_of n e) (filter p cs) ≤ sum_by (times_in e.left) (filter p cs) = sum_by_less (λ c. positive_coefficient (entry (row_of n e) c)) (times_in e.left) (filter p cs) (λ c a. plus_entry n e c) in

@@ -91,7 +91,7 @@ module _ (coords : Coords) (rows : List Row) (c : ℕ) (triangles : HasTriangles
       subst (λ k. k ≤ arc_weight coords place * cond ((y.1).tet == t0) 1 0) (sym e)
       (cond_less ((y.1).tet == t0) (turned_times coords p f place) (arc_weight coords place) (few_across coords p f place g.permutes g.face (index_below coords c)))
 
-  -- a pair counts where one of its sides is a face of the tetrahedron
+  -- a pair counts once for each of its sides that is a face of the tetrahedron
   abbrev at_pair : Face × Gluing → ℕ
   at_pair y = cond ((y.0).tet == t0) 1 0 + cond ((y.1).tet == t0) 1 0
 

@@ -1,4 +1,4 @@
--- How often the corners of an edge class stand at the edges of a tetrahedron.
+-- How often the corners of an edge class lie at the edges of a tetrahedron.
 use Rattle.std.proofs.Common.{◌≡◌, ℕ, ◌+◌, ◌*◌, ◌/◌, ◌%◌, ◌<◌, ◌≤◌, Bool, true, false, cond, List, [], ◌∷◌, length, map, ◌⊎◌, inl, inr, refl, sym, ap, ◌∙◌, subst, arith}
 use Rattle.std.specs.Prelude.{◌==◌, ◌&&◌, ◌||◌, nat_lt, slice_index, sum_by, count_by}
 use Rattle.std.proofs.lemmas.Bool.{agree_below, agree_below_at, and_parts, ltb-true, or_cases, eqb-true, eq-eqb, both_ways, false_from_ne_true}
@@ -25,7 +25,7 @@ use Rattle.surface_equation_laws.proofs.CornerClasses.{IsFirst, first_is, least_
 use Rattle.basic_lemmas.proofs.Truths.{one_if}
 use Rattle.skeleton_class_laws.specs.Rounds.{corner_word}
 
--- a word turned round, and one of each two that are turned round to each other
+-- the word of a corner seen from the other end of its edge, and one of each two such words
 abbrev pub turn : List ℕ → List ℕ
 turn w = image w 1 ∷ image w 0 ∷ image w 3 ∷ image w 2 ∷ []
 
@@ -34,14 +34,14 @@ halves =
     (0 ∷ 1 ∷ 2 ∷ 3 ∷ []) ∷ (0 ∷ 1 ∷ 3 ∷ 2 ∷ []) ∷ (0 ∷ 2 ∷ 1 ∷ 3 ∷ []) ∷ (0 ∷ 2 ∷ 3 ∷ 1 ∷ []) ∷ (0 ∷ 3 ∷ 1 ∷ 2 ∷ []) ∷ (0 ∷ 3 ∷ 2 ∷ 1 ∷ []) ∷
     (1 ∷ 2 ∷ 0 ∷ 3 ∷ []) ∷ (1 ∷ 2 ∷ 3 ∷ 0 ∷ []) ∷ (1 ∷ 3 ∷ 0 ∷ 2 ∷ []) ∷ (1 ∷ 3 ∷ 2 ∷ 0 ∷ []) ∷ (2 ∷ 3 ∷ 0 ∷ 1 ∷ []) ∷ (2 ∷ 3 ∷ 1 ∷ 0 ∷ []) ∷ []
 
--- a corner is in tetrahedron t and of a word, or of that word turned round
+-- a corner is in tetrahedron t and has a word, or the word from the edge's other end
 abbrev pub is_of : List ℕ → List ℕ → Bool
 is_of w v = same_list v w || same_list v (turn w)
 
 abbrev pub hits : ℕ → List ℕ → Corner → Bool
 hits t w k = (k.tet == t) && is_of w (corner_word k)
 
--- what a hit says
+-- a corner that is in tetrahedron t and has word w, from one end of its edge or the other
 record IsHit (t : ℕ) (w : List ℕ) (k : Corner) : Type 0 where
   tet : k.tet ≡ t
   either : (corner_word k ≡ w) ⊎ (corner_word k ≡ turn w)
@@ -64,7 +64,7 @@ same_corner k l t w = λ i. corner_at (t i) (image (w i) 0) (image (w i) 1) (ima
 abbrev pub side : ℕ → List ℕ → ℕ
 side s w = keeping (image w 0) (image w s)
 
--- a word has the quad of its half
+-- the quad of a word is that of the word in `halves` that represents it
 quad_test : ℕ → List ℕ → ℕ → Bool
 quad_test s v q = one_if (side s v == q) == sum_by (λ w. one_if (side s w == q) * one_if (is_of w v)) halves
 
@@ -86,7 +86,7 @@ quad_of_half s which v h q l =
     eqb-true (one_if (side s v == q)) (sum_by (λ w. one_if (side s w == q) * one_if (is_of w v)) halves)
     (agree_below_at (quad_test s v) (λ q. true) 3 q (and_parts (nat_lt (side s v) 3) (agree_below (quad_test s v) (λ q. true) 3) (quads_tested s which v h)).1 l)
 
--- so a column counts a corner by the halves that it hits
+-- a column counts a corner by the halves to which the corner belongs
 corner_counts : (s c : ℕ) (k : Corner) → (s ≡ 2) ⊎ (s ≡ 3) → IsPermutationOfFour (corner_word k)
     → one_if (quad_column Quad k.tet (side s (corner_word k)) == c) ≡ sum_by (λ w. one_if (side s w == c % 3) * one_if (hits (c / 3) w k)) halves
 corner_counts s c k which h =
@@ -120,7 +120,7 @@ module _ (rows : List Row) (classes : List ℕ) (count : ℕ) (table : IsTable r
       ∙ sum_by_same (λ w. sum_by (λ k. one_if (side s w == c % 3) * one_if (hits (c / 3) w k)) corners) (λ w. one_if (side s w == c % 3) * count_by (hits (c / 3) w) corners) halves
       (λ w a. sum_by_times (one_if (side s w == c % 3)) (λ k. one_if (hits (c / 3) w k)) corners)
 
-  -- at most one corner hits a half
+  -- at most one corner belongs to a half
   one_hits : (t : ℕ) (w : List ℕ) → count_by (hits t w) corners ≤ 1
   one_hits t w = count_one (hits t w) corners (apart_from first corners are.once) same
     where
@@ -145,7 +145,7 @@ module _ (rows : List Row) (classes : List ℕ) (count : ℕ) (table : IsTable r
             ]
           ]
 
-  -- and only where the edge is of the class
+  -- a corner belongs to a half only if the edge is of the class
   pub hits_few : (t : ℕ) (w : List ℕ) (e : ℕ) → edge_number (image w 0) (image w 1) ≡ e → edge_number (image w 1) (image w 0) ≡ e
       → count_by (hits t w) corners ≤ one_if (slice_index classes (6 * t + e) == r)
   hits_few t w e one other = go (slice_index classes (6 * t + e) == r) refl

@@ -1,4 +1,4 @@
--- Steps round an edge: no walk comes to a corner turned round both ways.
+-- Steps around an edge: no walk visits a corner in both directions of its edge.
 use Rattle.std.proofs.Common.{◌≡◌, ℕ, zero, suc, ◌+◌, ◌-◌, ◌<◌, true, not, List, [], ◌∷◌, length, Option, Some, None, option_map, option_and_then, inl, inr, refl, sym, ap, ◌∙◌, subst, arith}
 use Rattle.std.specs.Prelude.{◌==◌, ◌&&◌}
 use Rattle.std.proofs.lemmas.Bool.{and_parts, not-true, eqb-false, eq-eqb, and_from, both_ways, cases_lt}
@@ -17,7 +17,7 @@ pub record IsCorner (rows : List Row) (k : Corner) : Type 0 where
   pub tet : k.tet < length rows
   pub permutes : IsPermutationOfFour (corner_word k)
 
--- the corner with its edge and its faces turned round
+-- the corner with its edge reversed and its faces exchanged
 abbrev pub turned_round : Corner → Corner
 turned_round k = record { tet = k.tet; a = k.b; b = k.a; c = k.d; d = k.c }
 
@@ -37,7 +37,7 @@ step_by rows k g h = ap (option_map (corner_across k)) h
 vertices_apart : (w : List ℕ) → IsPermutationOfFour w → not (image w 0 == image w 1) && (not (image w 0 == image w 2) && not (image w 1 == image w 2)) ≡ true
 vertices_apart w h = by_words (λ w. not (image w 0 == image w 1) && (not (image w 0 == image w 2) && not (image w 1 == image w 2))) refl w h
 
--- the edge's ends are apart, and its first face lies at none of them
+-- the edge's ends are different, and its first face is opposite neither of them
 pub record IsApart (k : Corner) : Type 0 where
   pub ends : k.a ≡ k.b → ⊥
   pub first : k.a ≡ k.c → ⊥
@@ -61,7 +61,7 @@ module _ (rows : List Row) (table : IsTable rows) where
       let g : IsGlued rows (face_at k.tet k.c) s.on.g = glued_is rows (face_at k.tet k.c) s.on.g table s.on.glued in
       subst (IsCorner rows) s.is (record { tet = g.other_tet; permutes = corner_behind_permutes k s.on.g g.permutes h.permutes })
 
-  -- a step turned round leads back
+  -- a step of reversed corners is the inverse of the step
   pub step_back : (k l : Corner) → IsCorner rows k → step rows k ≡ Some l → step rows (turned_round l) ≡ Some (turned_round k)
   step_back k l h e =
       let s : IsStep rows k l = step_is rows k l e in
@@ -98,7 +98,7 @@ module _ (rows : List Row) (table : IsTable rows) where
       go None g f more = absurd cc
       go (Some m) g f more = more m (step_keeps k m h g) f
 
-  -- no corner is reached turned round
+  -- no steps from a corner reach the reversed corner
   turn_at_once : (k : Corner) → IsCorner rows k → step rows k ≡ Some (turned_round k) → ⊥
   turn_at_once k h e =
       let s : IsStep rows k (turned_round k) = step_is rows k (turned_round k) e in

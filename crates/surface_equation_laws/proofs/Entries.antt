@@ -40,7 +40,7 @@ zero_plus y z e = omega (arith, ints)
 plus_zero : (y z : ℤ) → y ≡ pos 0 → z +ℤ y ≡ z
 plus_zero y z e = omega (arith, ints)
 
--- no entry but in the row's columns
+-- columns that are not in the row have no entry
 entry_absent : (e : Equation) (c : ℕ) (cs : List ℕ) → (Among c cs → ⊥) → entry (filter_map (term_of e) cs) c ≡ pos 0
 unfolding entry
 entry_absent e c [] none = refl
@@ -77,7 +77,7 @@ negative_le : (z : ℤ) (a b : ℕ) → z ≡ pos a -ℤ pos b → negative_coef
 negative_le (pos k) a b e = omega (arith, ints)
 negative_le (negsuc k) a b e = omega (arith, ints)
 
--- its positive part is at most how often the column stands on the left, and its negative part on the right
+-- the positive part of an entry is at most how often the column occurs on the left, the negative part on the right
 pub plus_entry : (n : ℕ) (e : Equation) (c : ℕ) → positive_coefficient (entry (row_of n e) c) ≤ times_in e.left c
 plus_entry n e c = elim (cases_lt c n) [
   | inl l ↦ positive_le (entry (row_of n e) c) (times_in e.left c) (times_in e.right c) (entry_row n e c l)
@@ -97,7 +97,7 @@ magnitude_within : (z : ℤ) (a b m : ℕ) → z ≡ pos a -ℤ pos b → a ≤ 
 magnitude_within (pos k) a b m e la lb = omega (arith, ints)
 magnitude_within (negsuc k) a b m e la lb = omega (arith, ints)
 
--- the magnitude is at most the greater of both
+-- the magnitude is at most the greater of these numbers
 pub magnitude_most : (n : ℕ) (e : Equation) (c m : ℕ) → times_in e.left c ≤ m → times_in e.right c ≤ m → magnitude (entry (row_of n e) c) ≤ m
 magnitude_most n e c m l r = elim (cases_lt c n) [
   | inl low ↦ magnitude_within (entry (row_of n e) c) (times_in e.left c) (times_in e.right c) m (entry_row n e c low) l r

@@ -51,7 +51,7 @@ arc_weight coords a = if nat_le (before_octagons coords) a then 2 else 1
 abbrev pub face_times : Coords → ℕ → ℕ → ℕ
 face_times coords f a = sum_by (λ v. times_in (local_arcs coords f v) a) (others f)
 
--- the same in the face to which a permutation leads
+-- how often an index occurs among the arcs of the image of a face under a permutation
 abbrev pub turned_times : Coords → List ℕ → ℕ → ℕ → ℕ
 turned_times coords p f a = sum_by (λ v. times_in (local_arcs coords (image p f) (image p v)) a) (others f)
 

@@ -1,4 +1,4 @@
--- With few tetrahedra the bound is within the limit.
+-- If a table has at most `most_tetrahedra` tetrahedra, the bound on numbers is within the limit.
 use Rattle.std.proofs.Common.{ℕ, ◌≤◌, List, length, refl}
 use Rattle.std.specs.List.{range_with_len}
 use Rattle.std.specs.List.Sorted.{IsPermutation}

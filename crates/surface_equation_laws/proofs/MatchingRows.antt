@@ -22,7 +22,7 @@ use Rattle.surface_equation_laws.proofs.LocalArcs.{local_arcs, placed, arcs_plac
 use Rattle.surface_equation_laws.proofs.FaceArcs.{IsArc, is_arc}
 use Rattle.surface_equation_laws.proofs.Chosen.{plus_passing, minus_passing, plus_at_most, minus_at_most}
 
--- the equation of which a row is
+-- the equation that a row represents
 pub record IsRowOf (coords : Coords) (rows : List Row) (row : EquationRow) : Type 0 where
   pub face : Face
   pub gluing : Gluing
@@ -54,7 +54,7 @@ row_is_of coords rows row table h =
       is = row_made (row_of (columns coords (length rows))) row a.0 (matching coords b.0.0 b.0.1 d.0) a.2 d.2;
     }
 
--- the columns of arcs have one triangle, and are few
+-- the columns of the arcs on one side have at most one triangle, and are at most `side_length`
 one_triangle : (coords : Coords) (t f v : ℕ) → HasTriangles coords → IsArc coords f v → count_by (λ c. not (is_quad_or_octagon coords c)) (arc_columns coords t f v) ≤ 1
 one_triangle coords t f v h a =
     let e : count_by (λ c. not (is_quad_or_octagon coords c)) (arc_columns coords t f v) ≡ count_by (λ a. not (nat_le (triangles_each coords) a)) (local_arcs coords f v) =

@@ -1,4 +1,4 @@
--- Lists in which nothing stands twice.
+-- Lists in which no item occurs twice.
 use Rattle.std.proofs.Common.{◌≡◌, ℕ, ◌+◌, ◌≤◌, Bool, true, false, cond, List, [], ◌∷◌, inl, inr, refl, sym, ap, subst, arith}
 use Rattle.std.specs.Prelude.{◌==◌, count_by}
 use Rattle.std.proofs.lemmas.Bool.{eq-eqb, false_from_ne_true}
@@ -10,7 +10,7 @@ use Rattle.table_definitions.proofs.DistinctLists.{AreApart}
 use Rattle.surface_equation_laws.specs.Entries.{IsOnce}
 use Rattle.basic_lemmas.proofs.Truths.{one_if}
 
--- where any two that pass are one, at most one passes
+-- if any two items that pass are equal, at most one passes
 pub count_one : {A : Type 0} (p : A → Bool) (xs : List A) → AreApart xs → ((x y : A) → Among x xs → Among y xs → p x ≡ true → p y ≡ true → x ≡ y) → count_by p xs ≤ 1
 count_one p [] once same = omega arith
 count_one {A} p (c ∷ cs) once same = go (p c) refl (count_one p cs once.1 (λ a b x y. same a b (inr x) (inr y)))

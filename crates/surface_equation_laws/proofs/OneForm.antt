@@ -1,4 +1,4 @@
--- The one form agrees with the words by coordinates.
+-- The form for all coordinates agrees with the definitions for each kind of coordinates.
 use Rattle.std.proofs.Common.{◌≡◌, ℕ, ◌+◌, ◌/◌, ◌%◌, ◌<◌, ◌≤◌, Bool, true, false, not, List, length, inl, inr, refl, sym, ap, ◌∙◌, subst, arith}
 use Rattle.std.specs.Prelude.{◌==◌, ◌&&◌, nat_lt, nat_le, if◌then◌else◌}
 use Rattle.std.proofs.lemmas.Bool.{ne_eqb, and_parts, false≢true, false_from_ne_true, leb-true, le-leb, lt-ltb, le-ltb, cases_lt}

@@ -1,4 +1,4 @@
--- Columns of which no two clash have a quad or octagon for each tetrahedron at most, and one octagon at most.
+-- Columns of which no two clash have at most one quad or octagon in each tetrahedron, and at most one octagon.
 use Rattle.std.proofs.Common.{◌≡◌, ℕ, zero, suc, ◌+◌, ◌*◌, ◌/◌, ◌%◌, ◌<◌, ◌≤◌, Bool, true, false, cond, List, [], ◌∷◌, All, Contains, slice_index, ◌⊎◌, inl, inr, refl, sym, ap, ◌∙◌, subst, arith}
 use Rattle.std.specs.Prelude.{◌==◌, ◌&&◌, ◌^◌, nat_lt, sum_by, count_by, if◌then◌else◌}
 use Rattle.std.proofs.lemmas.Bool.{and_from, and_parts, or_left, or_right, eqb-true, eq-eqb, ne_eqb, lt-ltb, cases_order, leb-true, le-leb, false_from_ne_true, false≢true}

@@ -33,7 +33,7 @@ meeting (suc zero) = 0 ∷ 2 ∷ 3 ∷ 5 ∷ []
 meeting (suc (suc q)) = 0 ∷ 1 ∷ 4 ∷ 5 ∷ []
 
 module _ (N : List ℕ → ℕ) (m : ℕ → ℕ) (few : (w : List ℕ) (e : ℕ) → edge_number (image w 0) (image w 1) ≡ e → edge_number (image w 1) (image w 0) ≡ e → N w ≤ m e) where
-  -- each edge that a quad meets has one half with the quad on a side
+  -- each edge that a quad meets has one word in `halves` with the quad on a given side
   on_third : (q : ℕ) → q < 3 → sum_by (λ w. one_if (side 2 w == q) * N w) halves ≤ sum_by m (meeting q)
   on_third zero l = omega (arith, few (0 ∷ 2 ∷ 1 ∷ 3 ∷ []) 1 refl refl, few (0 ∷ 3 ∷ 1 ∷ 2 ∷ []) 2 refl refl, few (1 ∷ 2 ∷ 0 ∷ 3 ∷ []) 3 refl refl, few (1 ∷ 3 ∷ 0 ∷ 2 ∷ []) 4 refl refl)
   on_third (suc zero) l = omega (arith, few (0 ∷ 1 ∷ 2 ∷ 3 ∷ []) 0 refl refl, few (0 ∷ 3 ∷ 2 ∷ 1 ∷ []) 2 refl refl, few (1 ∷ 2 ∷ 3 ∷ 0 ∷ []) 3 refl refl, few (2 ∷ 3 ∷ 0 ∷ 1 ∷ []) 5 refl refl)
@@ -46,11 +46,11 @@ module _ (N : List ℕ → ℕ) (m : ℕ → ℕ) (few : (w : List ℕ) (e : ℕ
   on_fourth (suc (suc zero)) l = omega (arith, few (0 ∷ 1 ∷ 2 ∷ 3 ∷ []) 0 refl refl, few (0 ∷ 2 ∷ 1 ∷ 3 ∷ []) 1 refl refl, few (1 ∷ 3 ∷ 0 ∷ 2 ∷ []) 4 refl refl, few (2 ∷ 3 ∷ 0 ∷ 1 ∷ []) 5 refl refl)
   on_fourth (suc (suc (suc q))) l = absurd (omega arith)
 
--- the edges that the quad of a column meets, each counted where it is of class r
+-- the number of edges of class r that the quad of a column meets
 abbrev pub met : List ℕ → ℕ → ℕ → ℕ
 met classes c r = sum_by (λ e. one_if (slice_index classes (6 * (c / 3) + e) == r)) (meeting (c % 3))
 
--- sums over lists whose items are tied one by one
+-- sums over lists whose items are related one by one
 zip_few : {A B : Type 0} (P : A → B → Type 0) (F : B → ℕ) (G : A → ℕ) (xs : List A) (ys : List B) → AllZip P xs ys → ((x : A) (y : B) → Among x xs → P x y → F y ≤ G x) → sum_by F ys ≤ sum_by G xs
 zip_few P F G [] [] z h = omega arith
 zip_few P F G [] (y ∷ ys) z h = absurd z

@@ -1,4 +1,5 @@
--- The sums of a quad equation: both signs have the same, so at most half of all magnitudes.
+-- The sums of a quad equation: the positive and the negative coefficients have the same sum, at most half of all
+-- magnitudes.
 use Rattle.std.proofs.Common.{◌≡◌, ℕ, zero, suc, ◌+◌, ◌*◌, ◌<◌, ◌≤◌, ℤ, pos, negsuc, ◌-ℤ◌, List, [], ◌∷◌, length, map, ◌⊎◌, inl, inr, refl, sym, ap, ◌∙◌, subst, arith, Contains}
 use Rattle.std.specs.Prelude.{sum_by, not, ◌==◌}
 use Rattle.std.specs.List.{AllZip, range_with_len}
@@ -31,7 +32,7 @@ use Rattle.surface_equation_laws.proofs.QuadColumns.{quad_columns_are_few}
 use Rattle.basic_lemmas.proofs.Truths.{one_if}
 use Rattle.skeleton_class_laws.specs.Rounds.{corner_word}
 
--- positive and negative parts with what they are differences of
+-- the positive and negative parts of a difference a - b
 balanced : (z : ℤ) (a b : ℕ) → z ≡ pos a -ℤ pos b → positive_coefficient z + b ≡ negative_coefficient z + a
 balanced (pos k) a b e = omega (arith, ints)
 balanced (negsuc k) a b e = omega (arith, ints)
@@ -43,7 +44,7 @@ all_times n ls low = times_swap (below n) ls ∙ sum_by_same (times_in (below n)
     once : (l : ℕ) → l < n → times_in (below n) l ≡ 1
     once l h = one_term (λ k. one_if (k == l)) l n (λ k off. ap one_if (ne_eqb k l off)) h ∙ ap one_if (eq-eqb l l refl)
 
--- where both sides have as many columns, all in range, both signs have the same sum
+-- if both sides have equally many columns, all in range, the positive and the negative coefficients have the same sum
 same_sums : (n : ℕ) (e : Equation) → ((l : ℕ) → Among l e.left → l < n) → ((l : ℕ) → Among l e.right → l < n) → length e.left ≡ length e.right → plus_over (row_of n e) (below n) ≡ minus_over (row_of n e) (below n)
 same_sums n e low_left low_right same =
     let plus : ℕ → ℕ = λ c. positive_coefficient (entry (row_of n e) c) in
@@ -87,7 +88,7 @@ module _ (rows : List Row) (quad_rows : List EquationRow) (table : IsTable rows)
       let e = m.2 in
       omega arith
 
-  -- the equation of which a row is
+  -- the equation that a row represents
   record IsEquationRow (row : EquationRow) : Type 0 where
     equation : Equation
     low_left : (l : ℕ) → Among l equation.left → l < columns Quad (length rows)

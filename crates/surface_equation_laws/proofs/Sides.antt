@@ -1,4 +1,4 @@
--- Each face is a side of one glued pair at most.
+-- Each face is a side of at most one glued pair.
 use Rattle.std.proofs.Common.{◌≡◌, ℕ, ◌+◌, ◌≤◌, Bool, true, false, cond, List, length, Option, Some, None, inl, inr, refl, sym, ap, ◌∙◌, subst, arith}
 use Rattle.std.specs.Prelude.{sum_by, if◌then◌else◌}
 use Rattle.std.proofs.lemmas.Bool.{cases_Bool, both_ways, not-true}
@@ -8,7 +8,7 @@ use Rattle.surface_laws.proofs.Glued.{IsGlued, glued_is}
 use Rattle.surface_equation_laws.proofs.FaceSums.{over, sum_by-filter_map, one_face, no_face, same_face_apart}
 use Rattle.table_definitions.proofs.Faces.{not_both_before}
 
--- how often a face stands on a side of a pair
+-- how often a face is a side of a pair
 abbrev pub stands : Face → Face × Gluing → ℕ
 stands z y = cond (same_face y.0 z) 1 0 + cond (same_face (other_side y.0 y.1) z) 1 0
 

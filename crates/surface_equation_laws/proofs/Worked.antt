@@ -14,7 +14,8 @@ use Rattle.surface_definitions.specs.QuadEquations.{quad_equation}
 use Rattle.surface_equation_laws.specs.Entries.{entry, column_sum}
 use Rattle.surface_equation_laws.specs.Weights.{weight_product}
 
--- triangles have 3 at most, quads 4, octagons 8, and some have as many
+-- the magnitudes in a column add up to at most 3 for a triangle, 4 for a quad and 8 for an octagon, and some columns
+-- reach these numbers
 sphere_columns : map (column_sum (matching_rows Standard sphere)) (below 7) ≡ 3 ∷ 3 ∷ 1 ∷ 1 ∷ 2 ∷ 2 ∷ 4 ∷ []
 unfolding computed entry
 sphere_columns = refl

@@ -23,7 +23,7 @@ product_octagon : caps_product (cap_of Octagon 2) 3 ≡ 128
 unfolding caps_product
 product_octagon = refl
 
--- in both coordinates some columns and all rows are as large as they may be
+-- in both coordinates some columns and all rows reach their bounds
 free_entries : map (plus_in (is_free Standard)) (matching_rows Standard figure_eight) ≡ 1 ∷ 1 ∷ 1 ∷ 1 ∷ 1 ∷ 1 ∷ 1 ∷ 1 ∷ 1 ∷ 1 ∷ 1 ∷ 1 ∷ []
 unfolding computed
 free_entries = refl

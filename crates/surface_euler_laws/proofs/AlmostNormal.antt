@@ -1,4 +1,5 @@
--- In a 0-efficient table an almost normal sphere is listed where there is one: a listed surface with octagons whose Euler characteristic is at least twice their number has one, and 2.
+-- If a 0-efficient table has an octagonal almost normal sphere, one is listed: a listed surface with octagons whose
+-- Euler characteristic is at least twice their number has one octagon, and Euler characteristic 2.
 use Rattle.std.proofs.Common.{◌↔◌, ℕ, ◌*◌, pos, ◌≤ℤ◌, List, None, Contains, sym, subst₂, arith}
 use Rattle.std.proofs.lemmas.Int.{ints}
 use Rattle.skeleton_definitions.specs.Skeleton.{Skeleton, IsSkeleton, IsFirstInvalid}

@@ -1,4 +1,4 @@
--- The points at the ends of an arc: across a gluing they are the same.
+-- The points at the ends of an arc, which are the same across a gluing.
 use Rattle.std.proofs.Common.{◌≡◌, ℕ, ◌<◌, Bool, List, Option, Some, ◌⊎◌, inl, inr, sym, ap, ◌∙◌}
 use Rattle.table_definitions.specs.Permutation.{image}
 use Rattle.table_definitions.specs.Table.{Gluing, glue}

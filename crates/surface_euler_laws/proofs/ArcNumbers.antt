@@ -94,7 +94,7 @@ module _ (s : Skeleton) (k : IsSkeleton s) (valid : (c : ℕ) → c < s.edges.co
   pub side_of : (b : Arc) → OnSurface b → (m : Number b) → IsSideOf piece_on piece_behind m.a (pn b)
   side_of b x m = elim m.is [ inl q ↦ inl (one_is m.a b q) | inr q ↦ inr (other_back m.a b q.0 x q.1 q.2) ]
 
-  -- the pieces on both sides have piece_on colour where those of the arc's number have
+  -- the pieces on both sides have the same colour if those of the arc's number have
   pub both_sides : (h : ℕ → Bool) (b : Arc) (g : Gluing) → OnSurface b → glued b ≡ Some g → (m : Number b) → h (piece_on m.a) ≡ h (piece_behind m.a) → h (pn b) ≡ h (pn (arc_across g b))
   both_sides h b g x f m e = elim m.is [
     | inl q ↦ ap h (sym (one_is m.a b q)) ∙ e ∙ ap h (other_is m.a b g q f)

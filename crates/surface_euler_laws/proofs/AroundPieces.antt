@@ -1,4 +1,4 @@
--- The arcs of a piece lead round it, from one end of a side to the other.
+-- The other arcs of a piece are a path around it, from one end of an arc to its other end.
 use Rattle.std.proofs.Common.{◌≡◌, ◌≢◌, ℕ, ◌/◌, ◌<◌, Bool, List, [], ◌∷◌, length, Option, Some, None, inl, inr, refl, sym, ap, ◌∙◌, subst}
 use Rattle.table_definitions.specs.Permutation.{image}
 use Rattle.table_definitions.specs.Table.{Gluing, glue, way_back}
@@ -62,7 +62,7 @@ module _ (s : Skeleton) (k : IsSkeleton s) (valid : (c : ℕ) → c < s.edges.co
   tet_of : (b : Arc) → OnSurface b → (of b).column / columns_each coords ≡ b.tet
   tet_of b x = arc_in coords (length s.rows) xs surface.triangles surface.admissible b.tet b.face b.vertex b.place x.in_range x.face x.is_vertex x.off
 
-  -- arcs of one piece have one colour, where each arc has
+  -- if both ends of each arc have one colour, all arcs of one piece have the same
   piece_colour : (h : ℕ → Bool) → ((b : Arc) → OnSurface b → Agrees h b) → (b b' : Arc) → OnSurface b → OnSurface b' → of b ≡ of b'
       → (u w u' w' : ℕ) → Four b.vertex b.face u w → Four b'.vertex b'.face u' w' → h (end_at b u) ≡ h (end_at b' u')
   piece_colour h all b b' x x' e u w u' w' four four' =
@@ -74,7 +74,7 @@ module _ (s : Skeleton) (k : IsSkeleton s) (valid : (c : ℕ) → c < s.edges.co
       b.vertex b.face u w b.place b'.vertex b'.face u' w' b'.place four four' x.there y.there (e ∙ ap (disc_of coords xs) moved)
       ∙ ap (λ z. h (point s k valid coords xs surface z b'.vertex u' b'.place)) (sym tet)
 
-  -- and so along chains of arcs
+  -- if so, all arcs of a chain have the same colour
   pub arcs_colour : (h : ℕ → Bool) → ((b : Arc) → OnSurface b → Agrees h b) → (p q : NormalDisc) (arcs : List Arc) → ArcsLead s.rows coords xs p arcs q
       → (b b' : Arc) → OnSurface b → OnSurface b' → of b ≡ p → of b' ≡ q → (u w u' w' : ℕ) → Four b.vertex b.face u w → Four b'.vertex b'.face u' w' → h (end_at b u) ≡ h (end_at b' u')
   arcs_colour h all p q [] e b b' x x' d d' u w u' w' four four' = piece_colour h all b b' x x' (d ∙ e ∙ sym d') u w u' w' four four'

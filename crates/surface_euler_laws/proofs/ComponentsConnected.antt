@@ -1,4 +1,5 @@
--- The vector of a component is a connected surface: its pieces are those of the component, each numbered by how many stand before it, and so are its arcs.
+-- The vector of a component is a connected surface: its pieces and arcs are those of the component, each numbered by
+-- how many are before it.
 use Rattle.std.proofs.Common.{◌≡◌, ℕ, ◌+◌, ◌-◌, ◌<◌, ◌≤◌, Bool, true, false, cond, List, [], ◌∷◌, length, ◌⊎◌, inl, inr, refl, sym, ap, ◌∙◌, subst, subst₂, arith}
 use Rattle.std.specs.Prelude.{◌==◌, sum_by, slice_index}
 use Rattle.std.specs.List.{slice_index_or}

@@ -1,4 +1,5 @@
--- Each edge runs along the least of its class, or against it, and not both; the same across each gluing, and the other way from its other end.
+-- Each edge runs along the least edge of its class, or against it, and not both; this is the same across each gluing,
+-- and is reversed if the edge is read from its other end.
 use Rattle.std.proofs.Common.{◌≡◌, ◌≢◌, ℕ, ◌+◌, ◌*◌, ◌<◌, Bool, true, false, not, List, length, ◌⊎◌, inl, inr, refl, sym, ap, ◌∙◌, subst, subst₂, arith}
 use Rattle.std.specs.Prelude.{slice_index}
 use Rattle.std.proofs.lemmas.Bool.{cases_lt, cases_eq}
@@ -65,7 +66,7 @@ module _ (s : Skeleton) (k : IsSkeleton s) (valid : (c : ℕ) → c < s.edges.co
   unfolding class
   class_below t v u e = (k.edges).in_range (number t v u) (number_below t v u e)
 
-  -- it runs along that, or against it
+  -- it runs along that edge, or against it
   EitherWay : ℕ → ℕ → ℕ → Type 0
   EitherWay t v u = IsJoined s.rows (pair t v u) (edge (start t v u)) ⊎ IsJoined s.rows (pair t v u) (turned (edge (start t v u)))
 
@@ -93,7 +94,7 @@ module _ (s : Skeleton) (k : IsSkeleton s) (valid : (c : ℕ) → c < s.edges.co
   runs_if t v u (inl e) = is_left (runs_either t v u e)
   runs_if t v u (inr e) = false
 
-  -- whether it runs along it
+  -- whether it runs along the least edge of its class
   pub runs : ℕ → ℕ → ℕ → Bool
   runs t v u = runs_if t v u (decide_edge t v u)
 

@@ -1,4 +1,4 @@
--- A forest grows by items with one end in it and one outside, and where none is left by a root in a new part.
+-- A forest grows by items with one end in it and one outside, and if there is none, by a root in a new component.
 use Rattle.std.proofs.Common.{◌≡◌, ◌≢◌, ℕ, zero, suc, ◌+◌, ◌<◌, ◌≤◌, Bool, true, false, List, [], ◌∷◌, length, map, Option, Some, None, ◌⊎◌, inl, inr, refl, sym, ap, ◌∙◌, subst, arith}
 use Rattle.std.specs.Prelude.{◌==◌, ⊤}
 use Rattle.std.proofs.lemmas.Bool.{cases_Bool, eq-eqb, or_left, or_right}
@@ -10,7 +10,7 @@ use Rattle.table_definitions.proofs.DistinctLists.{AreApart, apart_below, apart_
 use Rattle.table_definitions.proofs.Listed.{has_among, below-among, map-among}
 use Rattle.table_definitions.proofs.TableLaws.{Among, Among-below}
 
--- a forest is a list of steps, the last first: an item and the thing that it adds to those before, or a new root
+-- a forest is a list of steps, the last one first: an item and the node that it adds to those before, or a new root
 abbrev pub nodes : List (Option ℕ × ℕ) → List ℕ
 nodes [] = []
 nodes (s ∷ steps) = s.1 ∷ nodes steps
@@ -54,7 +54,7 @@ module _ (n e : ℕ) (from to part : ℕ → ℕ) (used : ℕ → Bool) where
     pub new : has ns y ≡ false
     pub ends : ((from a ≡ y) × (has ns (to a) ≡ true)) ⊎ ((to a ≡ y) × (has ns (from a) ≡ true))
 
-  -- a new root y, in a part that has none
+  -- a new root y, in a component that has none
   pub record IsRoot (steps : List (Option ℕ × ℕ)) (y : ℕ) : Type 0 where
     pub inside : y < n
     pub alone : (x : ℕ) → Among x (roots steps) → part x ≢ part y
@@ -64,7 +64,7 @@ module _ (n e : ℕ) (from to part : ℕ → ℕ) (used : ℕ → Bool) where
   IsGrown ((None, y) ∷ steps) = IsRoot steps y × IsGrown steps
   IsGrown ((Some a, y) ∷ steps) = IsStep (nodes steps) a y × IsGrown steps
 
-  -- both ends of its items are in it
+  -- both ends of the forest's items are in the forest
   ends_in : (steps : List (Option ℕ × ℕ)) → IsGrown steps → (a : ℕ) → Among a (items steps) → (has (nodes steps) (from a) ≡ true) × (has (nodes steps) (to a) ≡ true)
   ends_in [] g a h = absurd h
   ends_in ((None, y) ∷ steps) g a h =
@@ -82,7 +82,7 @@ module _ (n e : ℕ) (from to part : ℕ → ℕ) (used : ℕ → Bool) where
       by_end (inl h) = (new_in (from b) h.0, has_more y (to b) (nodes steps) h.1)
       by_end (inr h) = (has_more y (from b) (nodes steps) h.1, new_in (to b) h.0)
 
-  -- an item with an end outside is none of its items
+  -- an item with an end outside is not in the forest
   pub off_items : (steps : List (Option ℕ × ℕ)) → IsGrown steps → (a y : ℕ) → (from a ≡ y) ⊎ (to a ≡ y) → has (nodes steps) y ≡ false → Among a (items steps) → ⊥
   off_items steps g a y end new h = by_end end
     where
@@ -115,7 +115,7 @@ module _ (n e : ℕ) (from to part : ℕ → ℕ) (used : ℕ → Bool) where
   parts_apart ((None, y) ∷ steps) g = ((λ h. let m = map-among part (part y) (roots steps) h in (g.0).alone m.0 m.1 (sym m.2)), parts_apart steps g.1)
   parts_apart ((Some a, y) ∷ steps) g = parts_apart steps g.1
 
-  -- the items that may be used join what is in one part
+  -- the items that may be used join the nodes of each component
   abbrev pub JoinParts : Type 0
   JoinParts = (h : ℕ → Bool) → ((a : ℕ) → a < e → used a ≡ true → h (from a) ≡ h (to a)) → (x y : ℕ) → x < n → y < n → part x ≡ part y → h x ≡ h y
 
@@ -141,7 +141,8 @@ module _ (n e : ℕ) (from to part : ℕ → ℕ) (used : ℕ → Bool) where
         let l : length (below n) ≤ length ns = apart_short (below n) ns (apart_below n) (λ x a. has_among ns x (h x (below-among x n a))) in
         omega (arith, length-range_with_len 0 n)
 
-    -- a forest that is smaller has a step more: where no item leads out of it, what is outside is in a new part
+    -- a forest that does not contain all nodes has one more step: if no item leaves it, a node outside is in a new
+    -- component
     next : (steps : List (Option ℕ × ℕ)) → IsGrown steps → length steps < n → (s : Option ℕ × ℕ) × IsGrown (s ∷ steps)
     next steps g l = elim (all_or_one (λ y. has (nodes steps) y ≡ true) (λ y. has (nodes steps) y ≡ false) (λ y. cases_Bool (has (nodes steps) y)) n) [
       | inl all ↦ absurd (let m = all_in (nodes steps) all in let k = length-nodes steps in omega arith)

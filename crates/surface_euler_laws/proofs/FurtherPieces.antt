@@ -1,4 +1,4 @@
--- An arc behind the triangles is of one quad or octagon, which meets edges of other types once.
+-- An arc after those of the triangles is of one quad or octagon, which meets edges of other types once.
 use Rattle.std.proofs.Common.{◌≡◌, ◌≢◌, ℕ, ◌+◌, ◌-◌, ◌<◌, ◌≤◌, Bool, List, length, ◌⊎◌, inl, inr, refl, sym, ap, ◌∙◌, arith}
 use Rattle.std.specs.Prelude.{slice_index}
 use Rattle.skeleton_definitions.specs.Skeleton.{Skeleton, IsSkeleton, IsValidClass}
@@ -23,7 +23,7 @@ module _ (s : Skeleton) (k : IsSkeleton s) (valid : (c : ℕ) → c < s.edges.co
   abbrev pub from_v : ℕ → ℕ → ℕ → ℕ → ℕ
   from_v col o i v = slice_index xs (tri_column coords t v) + from_end (slice_index xs col) (keeps_by_zero o v) i
 
-  -- an arc behind the triangles, of a quad or an octagon
+  -- an arc of a quad or an octagon, which is after those of the triangles
   pub record IsFurther (v f j : ℕ) : Type 0 where
     pub o : ℕ
     pub i : ℕ
@@ -34,7 +34,7 @@ module _ (s : Skeleton) (k : IsSkeleton s) (valid : (c : ℕ) → c < s.edges.co
     pub once : Once s k valid coords xs surface t lt h (col_at v f) o i lo type_is li
     pub kind : (o ≡ keeping v f) ⊎ ((j : ℕ) → j < 3 → j ≢ o → behind_type coords xs t j ≡ col_at v f)
 
-  -- the widths of the edges that a piece of type o meets once
+  -- the widths of the edges that a piece of type o meets once each
   once_by : (q o : ℕ) → o < 3
       → ((a b : ℕ) → a < 3 → b < 3 → o ≡ a → o ≢ b → slice_index xs (behind_type coords xs t a) + slice_index xs (behind_type coords xs t b) ≡ q)
       → (v u f w : ℕ) → Four v u f w → o ≢ keeping v u → width s.rows coords xs surface t f v u ≡ tri v + tri u + q

@@ -93,7 +93,7 @@ module _ (s : Skeleton) (k : IsSkeleton s) (valid : (c : ℕ) → c < s.edges.co
             })
       ]
 
-  -- ---- the parts are the components
+  -- ---- the components of the polygons are those of the surface
 
   module _ (components : List ℕ) (count : ℕ) (numbered : AreComponents s.rows coords xs components count) where
     abbrev pieces : ℕ

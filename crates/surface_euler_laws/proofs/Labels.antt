@@ -1,4 +1,5 @@
--- The points of the surface by number: that at a place of an edge, counted from one of its ends, is the same across each gluing, and the same counted from the other.
+-- The points of the surface by number. The point with a given index on an edge, counted from one of its ends, is the
+-- same across each gluing, and the same if it is counted from the other end.
 use Rattle.std.proofs.Common.{◌≡◌, ℕ, ◌+◌, ◌-◌, ◌*◌, ◌/◌, ◌%◌, ◌<◌, Bool, true, false, not, List, length, map, inl, inr, refl, sym, ap, ◌∙◌, subst, arith}
 use Rattle.std.specs.Prelude.{slice_index, sum}
 use Rattle.std.specs.List.{slice_index_or}
@@ -41,7 +42,7 @@ module _ (s : Skeleton) (k : IsSkeleton s) (valid : (c : ℕ) → c < s.edges.co
   unfolding weights
   weights_length = length-map (below s.edges.count) (λ c. weight coords xs (least s.edges.classes c)) ∙ length-range_with_len 0 s.edges.count
 
-  -- the points of an edge
+  -- the number of points of an edge
   pub wide : ℕ → ℕ → ℕ → ℕ
   wide t v u = slice_index weights (class s k valid t v u)
 
@@ -68,11 +69,11 @@ module _ (s : Skeleton) (k : IsSkeleton s) (valid : (c : ℕ) → c < s.edges.co
   place_below true m j l = l
   place_below false m j l = omega arith
 
-  -- the number s k valid of the point at place j of the edge from v to u, counted from v
+  -- the number of the point with index j on the edge from v to u, counted from v
   pub point : ℕ → ℕ → ℕ → ℕ → ℕ
   point t v u j = disc_number weights (piece_at (class s k valid t v u) (place_if (runs s k valid t v u) (wide t v u) j))
 
-  -- counted from the other end
+  -- the same point, counted from the other end
   pub point_back : (t v u j : ℕ) → IsEdge s k valid t v u → j < wide t v u → point t v u j ≡ point t u v (wide t v u - 1 - j)
   unfolding point wide
   point_back t v u j e l =
@@ -86,12 +87,12 @@ module _ (s : Skeleton) (k : IsSkeleton s) (valid : (c : ℕ) → c < s.edges.co
       twice true = refl
       twice false = refl
 
-  -- across gluings
+  -- the same point, across gluings
   pub point_across : (t v u t' v' u' j : ℕ) → IsEdge s k valid t v u → IsEdge s k valid t' v' u' → IsJoined s.rows (pair t v u) (pair t' v' u') → point t v u j ≡ point t' v' u' j
   unfolding point wide
   point_across t v u t' v' u' j e e' h = λ i. disc_number weights (piece_at (one_class s k valid t v u t' v' u' e e' h i) (place_if (one_run s k valid t v u t' v' u' e e' h i) (slice_index weights (one_class s k valid t v u t' v' u' e e' h i)) j))
 
-  -- each point is there
+  -- each point is on some edge
   pub record IsPoint (x : ℕ) : Type 0 where
     pub t : ℕ
     pub v : ℕ

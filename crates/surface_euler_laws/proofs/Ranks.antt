@@ -1,4 +1,4 @@
--- How many of a kind stand before a place, and the place before which so many stand.
+-- How many marked indices are before an index, and the marked index before which there are exactly r.
 use Rattle.std.proofs.Common.{◌≡◌, ℕ, zero, suc, ◌+◌, ◌-◌, ◌<◌, ◌≤◌, Bool, true, false, cond, List, [], ◌∷◌, ◌⊎◌, inl, inr, refl, sym, ap, ◌∙◌, subst, arith}
 use Rattle.std.specs.Prelude.{sum_by, slice_index}
 use Rattle.std.proofs.lemmas.Bool.{cases_lt, lt-ltb, le-ltb}
@@ -17,7 +17,7 @@ first_part f j n l =
     let last = last_term f j in
     omega arith
 
--- the place at which so many stand before
+-- the marked index before which there are exactly r marked ones
 pub select : (f : ℕ → ℕ) → ((j : ℕ) → (f j ≡ 0) ⊎ (f j ≡ 1)) → (n r : ℕ) → r < sum_by f (below n) → (j : ℕ) × (j < n) × (f j ≡ 1) × (sum_by f (below j) ≡ r)
 select f each zero r l = absurd (omega arith)
 select f each (suc n) r l = elim (cases_lt r (sum_by f (below n))) [
@@ -28,7 +28,7 @@ select f each (suc n) r l = elim (cases_lt r (sum_by f (below n))) [
   ])
 ]
 
--- counted from the end, as many stand before
+-- the rank of a marked index among the marked ones, if both are counted from the end
 pub from_either : (f : ℕ → ℕ) (e j : ℕ) (b : Bool) → j < e → f (from_end e b j) ≡ 1 → from_end (sum_by f (below e)) b (sum_by (λ a. f (from_end e b a)) (below j)) ≡ sum_by f (below (from_end e b j))
 from_either f e j true l one = refl
 from_either f e j false l one =
@@ -43,7 +43,7 @@ from_either f e j false l one =
     ∙ sum_back (λ a. f (suc (e - 1 - j) + a)) j in
     omega arith
 
--- where the entry there is not 0, the first nonzero column is the same in a vector inside
+-- if a vector is 0 where xs is, and is not 0 in the first nonzero column of xs, this is its own first nonzero column
 pub first_same : (xs ys : List ℕ) → ((c : ℕ) → slice_index xs c ≡ 0 → slice_index ys c ≡ 0) → (os : List ℕ) (q : ℕ) → 0 < slice_index ys (first_nonzero xs os q) → first_nonzero ys os q ≡ first_nonzero xs os q
 first_same xs ys inside [] q l = refl
 first_same xs ys inside (o ∷ os) q l = elim (cases_lt 0 (slice_index xs o)) [

@@ -1,4 +1,4 @@
--- So for each arc of the surface.
+-- The sides of a piece are a path around it, for each arc of the surface.
 use Rattle.std.proofs.Common.{◌≡◌, ◌≢◌, ℕ, ◌+◌, ◌-◌, ◌%◌, ◌<◌, ◌≤◌, Bool, List, length, ◌⊎◌, inl, inr, refl, sym, ap, ◌∙◌, subst, arith}
 use Rattle.std.specs.Prelude.{slice_index}
 use Rattle.std.proofs.lemmas.Bool.{cases_lt, cases_eq}
@@ -52,7 +52,7 @@ module _ (s : Skeleton) (k : IsSkeleton s) (valid : (c : ℕ) → c < s.edges.co
   abbrev c : ℕ → ℕ → ℕ → Bool
   c v u j = colour s k valid coords xs surface t lt h v u j
 
-  -- so the arc has
+  -- if they have, the two ends of the arc have the same colour
   pub lead_round : (v f u w j : ℕ) → Four v f u w → j < arcs_around coords xs t f v → OthersAgree v f j → c v u j ≡ c v w j
   lead_round v f u w j four l others = elim (cases_lt j (tri v)) [
     | inl low ↦ (let one = triangle u f w (middle_two v f u w four) (λ q. four.uf (sym q)) low in
@@ -93,7 +93,7 @@ module _ (s : Skeleton) (k : IsSkeleton s) (valid : (c : ℕ) → c < s.edges.co
               let b : Four v u w f = middle_two v w u f (last_two v w f u a) in
               sym (beside u w f b (λ q. four.uf (sym q)) (g (keeping v u) (type_below v u w f b) (λ q. other_type v u w f b (q ∙ e))) ∙ way w f u a e)
 
-  -- where each arc of the tetrahedron has ends of one colour, the arcs of a piece have one
+  -- if both ends of each arc of the tetrahedron have one colour, all arcs of a piece have the same
   module _ (all : (v f u w j : ℕ) → Four v f u w → j < arcs_around coords xs t f v → c v u j ≡ c v w j) where
     record HasPartner (o v : ℕ) : Type 0 where
       p : ℕ
@@ -119,7 +119,7 @@ module _ (s : Skeleton) (k : IsSkeleton s) (valid : (c : ℕ) → c < s.edges.co
         number : {p q : NormalDisc} → p ≡ q → p.number ≡ q.number
         number e = ap (λ (r : NormalDisc). r.number) e
 
-        -- round one triangle
+        -- around one triangle
         round_one : (z y : ℕ) → z ≡ v → y ≡ j → Four z f' u' w' → j < tri v → c v u j ≡ c z u' y
         round_one z y e d other low =
             let o : Four v f' u' w' = subst (λ a. Four a f' u' w') e other in

@@ -1,4 +1,4 @@
--- In a tetrahedron of a surface stand, behind the triangles, quads of one type, or octagons of one type, or nothing.
+-- In a tetrahedron a surface has, after the triangles, quads of one type, or octagons of one type, or nothing.
 use Rattle.std.proofs.Common.{◌≡◌, ◌≢◌, ℕ, suc, ◌+◌, ◌-◌, ◌*◌, ◌/◌, ◌%◌, ◌<◌, ◌≤◌, Bool, true, false, not, cond, List, [], ◌∷◌, map, filter, ◌⊎◌, inl, inr, refl, sym, ap, ◌∙◌, subst, arith}
 use Rattle.std.specs.Prelude.{◌==◌, nat_lt, slice_index}
 use Rattle.std.specs.List.{position_or_len, slice_index_or}
@@ -22,7 +22,7 @@ octagons_with coords t k = map (oct_column coords t) (filter (λ j. not (j == k)
 pub octagons_are : (coords : Coords) (t f v : ℕ) → octagon_arcs coords t f v ≡ octagons_with coords t (keeping v f)
 octagons_are coords t f v = refl
 
--- the column behind the triangles, where an arc is of type k
+-- the column of the arcs of type k that are after those of the triangles
 abbrev pub behind_type : (coords : Coords) (xs : List ℕ) (t k : ℕ) → ℕ
 behind_type coords xs t k = first_nonzero xs (octagons_with coords t k) (quad_column coords t k)
 
@@ -50,7 +50,7 @@ module _ (xs : List ℕ) where
   first_among os q = first_is (λ c. (c ≡ q) ⊎ Among c os) xs os q (inl refl) (all_from (λ c. (c ≡ q) ⊎ Among c os) os (λ c a. inr a))
 
 module _ (n : ℕ) (xs : List ℕ) (t : ℕ) (lt : t < n) where
-  -- quads alone: type k's, and no other
+  -- quads alone: those of type k, and no others
   pub record AreQuads (coords : Coords) (k : ℕ) : Type 0 where
     pub type_is : type_in coords (behind_type coords xs t k) ≡ k
     pub no_other : (j : ℕ) → j < 3 → j ≢ k → slice_index xs (behind_type coords xs t j) ≡ 0

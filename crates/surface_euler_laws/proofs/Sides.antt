@@ -1,4 +1,5 @@
--- The sides of a piece lead round it: where the other sides have ends of one colour, each has; and where all have, the piece has one colour.
+-- The sides of a piece are a path around it: if both ends of each other side have one colour, so have those of the
+-- remaining side; and if all have, the piece has one colour.
 use Rattle.std.proofs.Common.{◌≡◌, ◌≢◌, ℕ, ◌+◌, ◌-◌, ◌<◌, Bool, true, false, not, List, length, ◌⊎◌, inl, inr, sym, ap, ◌∙◌, subst, arith}
 use Rattle.std.specs.Prelude.{slice_index}
 use Rattle.std.proofs.lemmas.Bool.{cases_eq}
@@ -18,7 +19,7 @@ use Rattle.surface_euler_laws.proofs.Labels.{wide, wide_is, point, point_back}
 
 module _ (s : Skeleton) (k : IsSkeleton s) (valid : (c : ℕ) → c < s.edges.count → IsValidClass s c) (coords : Coords) (xs : List ℕ) (surface : IsSurface s.rows coords xs)
     (t : ℕ) (lt : t < length s.rows) (h : ℕ → Bool) where
-  -- the colour of the point at place j of the edge from v to u
+  -- the colour of the point with index j on the edge from v to u
   abbrev pub colour : ℕ → ℕ → ℕ → Bool
   colour v u j = h (point s k valid coords xs surface t v u j)
 
@@ -49,7 +50,7 @@ module _ (s : Skeleton) (k : IsSkeleton s) (valid : (c : ℕ) → c < s.edges.co
     abbrev q : ℕ
     q = slice_index xs col
 
-    -- its place from vertex v
+    -- its index among the arcs around vertex v
     abbrev pub at : ℕ → ℕ
     at v = tris v + from_end (slice_index xs col) (keeps_by_zero o v) i
 
@@ -76,7 +77,7 @@ module _ (s : Skeleton) (k : IsSkeleton s) (valid : (c : ℕ) → c < s.edges.co
         ∙ ap (λ z. piece_at col (from_end (slice_index xs col) (keeps_by_zero z v) (from_end (slice_index xs col) (keeps_by_zero o v) i))) type_is
         ∙ ap (piece_at col) (from_end_twice (slice_index xs col) (keeps_by_zero o v) i li)
 
-    -- where the arcs round v have ends of one colour
+    -- each of its arcs around v has ends of one colour
     abbrev pub IsGood : ℕ → Type 0
     IsGood v = (f u w : ℕ) → Four v f u w → HasArc (keeping v f) → colour v u (at v) ≡ colour v w (at v)
 
@@ -90,7 +91,7 @@ module _ (s : Skeleton) (k : IsSkeleton s) (valid : (c : ℕ) → c < s.edges.co
           go false true e = (omega arith, omega arith)
           go false false e = absurd cc
 
-      -- a corner, from either of the two vertices between which it is
+      -- a corner of the piece, on the edge between v and u, read from either end
       turn : (v u f w : ℕ) → Four v u f w → o ≢ keeping v u → colour v u (at v) ≡ colour u v (at u)
       turn v u f w four ne =
           let e : IsEdge s k valid t v u = record { lt = lt; lv = four.lv; lu = four.lu; ne = four.vu } in
@@ -109,14 +110,14 @@ module _ (s : Skeleton) (k : IsSkeleton s) (valid : (c : ℕ) → c < s.edges.co
             sym two ∙ one)
       ]
 
-      -- u and w are apart from v and p, and so are each of them from v
+      -- the type that keeps v and p on one side keeps u and w on the other
       pair_up : (v p u w : ℕ) → Four v p u w → Four u w v p
       pair_up v p u w four = middle_two u v w p (last_two u v p w (first_two v u p w (middle_two v p u w four)))
 
       off : (v p u w : ℕ) → Four v p u w → o ≡ keeping v p → o ≢ keeping v u
       off v p u w four e q = other_type v p u w four (sym e ∙ q)
 
-      -- the way round by the other vertices
+      -- the path around the piece by the other vertices
       pub far : (v p u w : ℕ) → Four v p u w → o ≡ keeping v p → IsGood u → IsGood p → IsGood w → colour v u (at v) ≡ colour v w (at v)
       far v p u w four e gu gp gw =
           let at_u : Four u w v p = pair_up v p u w four in

@@ -1,4 +1,4 @@
--- A forest of polygons and one of points, by arcs that the other does not use: so there are enough arcs.
+-- A forest of polygons and a forest of points have no arc in common: this bounds the number of arcs from below.
 use Rattle.std.proofs.Common.{◌≡◌, ◌≢◌, ℕ, ◌+◌, ◌*◌, ◌<◌, ◌≤◌, Bool, true, false, not, List, [], ◌∷◌, ◌++◌, length, Option, Some, None, inl, inr, refl, sym, ap, ◌∙◌, subst, arith}
 use Rattle.std.proofs.lemmas.Bool.{cases_Bool, cases_eq}
 use Rattle.std.proofs.lemmas.List.{length-append}
@@ -14,7 +14,8 @@ abbrev all : ℕ → Bool
 all a = true
 
 module _ (polygons arcs points parts : ℕ) (one other left right : ℕ → ℕ) (p : ArePolygons polygons arcs points parts one other left right) where
-  -- where each arc outside the forest has ends of one colour, each arc has: the last polygon's other sides lead round it
+  -- if each arc outside the forest has ends of one colour, so has each arc: the other sides of the last polygon are a
+  -- path around it
   peel : (h : ℕ → Bool) (steps : List (Option ℕ × ℕ)) → IsGrown polygons arcs one other p.part_of all steps → ((a : ℕ) → a < arcs → (Among a (items steps) → ⊥) → h (left a) ≡ h (right a))
       → (a : ℕ) → a < arcs → h (left a) ≡ h (right a)
   peel h [] g outside = λ a l. outside a l (λ z. z)

@@ -1,4 +1,5 @@
--- How often the surface meets an edge: the arcs of a face there round one end, and those round the other; along the whole edge class the same.
+-- How often the surface meets an edge: the arcs of a face around one end of the edge, and those around the other. The
+-- number is the same along the whole edge class.
 use Rattle.std.proofs.Common.{◌≡◌, ◌≢◌, ℕ, zero, suc, ◌+◌, ◌/◌, ◌%◌, ◌<◌, true, false, List, [], ◌∷◌, length, map, Some, ◌⊎◌, inl, inr, refl, sym, ap, ◌∙◌, subst, arith}
 use Rattle.std.specs.Prelude.{slice_index}
 use Rattle.table_definitions.specs.Lists.{has}
@@ -43,13 +44,13 @@ four_by (suc (suc (suc (suc (suc zero))))) l = record { lv = omega arith; lu = o
 four_by (suc (suc (suc (suc (suc (suc e)))))) l = absurd (omega arith)
 
 module _ (rows : List Row) (coords : Coords) (xs : List ℕ) (s : IsSurface rows coords xs) where
-  -- the arcs round v in face f
+  -- the arcs around v in face f
   pub arcs_by_type : (t f v : ℕ) → t < length rows → f < 4 → v < 4 → v ≢ f → arcs_around coords xs t f v ≡ slice_index xs (tri_column coords t v) + slice_index xs (behind_type coords xs t (keeping v f))
   arcs_by_type t f v lt lf lv off =
       arcs_are coords (length rows) xs s.triangles s.admissible t f v lt lf lv off xs (λ c z. z)
       ∙ ap (λ os. slice_index xs (tri_column coords t v) + slice_index xs (first_nonzero xs os (quad_column coords t (keeping v f)))) (octagons_are coords t f v)
 
-  -- the arcs of face f at the edge from v to u
+  -- the arcs of face f that end on the edge from v to u
   abbrev pub width : ℕ → ℕ → ℕ → ℕ → ℕ
   width t f v u = arcs_around coords xs t f v + arcs_around coords xs t f u
 
@@ -66,7 +67,7 @@ module _ (rows : List Row) (coords : Coords) (xs : List ℕ) (s : IsSurface rows
       let d = ap (λ k. slice_index xs (behind_type coords xs t k)) two in
       omega (arith, width_by_type t v u f w lt h, width_by_type t v u w f lt g)
 
-  -- a place of two vertices at which the surface has m points
+  -- a pair of two vertices, on the edge between which the surface has m points
   record IsWide (m : ℕ) (p : Place) : Type 0 where
     v : ℕ
     u : ℕ
@@ -149,7 +150,7 @@ module _ (rows : List Row) (coords : Coords) (xs : List ℕ) (s : IsSurface rows
             | inr q ↦ either_face p.tet a b f w x.tet four ∙ ap (λ z. width p.tet z a b) (sym q) ∙ same
           ]
 
-  -- so where a place is joined to edge i, in either direction, it has as many points as that
+  -- an edge that is joined to edge i, in either direction, has as many points as edge i
   pub width_is : (t v u f w i : ℕ) → t < length rows → Four v u f w → IsJoined rows (pair t v u) (edge i) ⊎ IsJoined rows (pair t v u) (turned (edge i)) → weight coords xs i ≡ width t f v u
   width_is t v u f w i lt h j =
       let start : IsWide (width t f v u) (pair t v u) = record { v = v; u = u; f = f; w = w; is = refl; tet = lt; four = h; wide = refl } in

@@ -1,4 +1,4 @@
--- Lifts and crushed tables of vectors that are fit, and the faults of those that are not.
+-- The lifts and crushed tables of accepted vectors, and the faults of other vectors, are unique.
 use Rattle.std.proofs.Common.{◌≡◌, ℕ, List, Result, Ok, Err, sym, ap, ◌∙◌, refl}
 use Rattle.cone_definitions.specs.Rows.{Row as EquationRow}
 use Rattle.text_definitions.specs.Written.{limit}

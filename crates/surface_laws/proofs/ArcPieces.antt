@@ -1,4 +1,4 @@
--- Each arc is one of a piece, and the arcs round a vertex count the pieces there.
+-- Each arc is an arc of one piece, and the arcs around a vertex are as many as the pieces there.
 use Rattle.std.proofs.Common.{◌≡◌, ℕ, ◌+◌, ◌-◌, ◌/◌, ◌<◌, Bool, true, false, List, ◌∷◌, length, inl, inr, refl, sym, ap, ◌∙◌, subst, arith}
 use Rattle.std.specs.Prelude.{slice_index, sum_by, if◌then◌else◌}
 use Rattle.std.proofs.lemmas.Bool.{cases_lt, lt-ltb, le-ltb}
@@ -19,14 +19,14 @@ use Rattle.surface_laws.proofs.ComponentCounts.{belongs, in_column, component_co
 use Rattle.surface_laws.proofs.Counting.{sum_by_same, below_sum, sum_back}
 use Rattle.table_definitions.proofs.Listed.{below-among}
 
--- a place in a nonempty column is in range
+-- a column that has a piece is in range
 pub in_width : (xs : List ℕ) (c k : ℕ) → k < slice_index xs c → c < length xs
 in_width xs c k l = elim (cases_lt c (length xs)) [
   | inl inside ↦ inside
   | inr past ↦ absurd (let z : slice_index xs c ≡ 0 = get_or_past xs c 0 past in omega arith)
 ]
 
--- a number counted from one end or the other of so many
+-- a number below `count`, counted from one end or from the other
 abbrev pub from_end : ℕ → Bool → ℕ → ℕ
 from_end count b j = if b then j else count - 1 - j
 
@@ -46,7 +46,7 @@ module _ (coords : Coords) (n : ℕ) (xs : List ℕ) (triangles : HasTriangles c
     abbrev pub behind : ℕ
     behind = first_nonzero xs (octagon_arcs coords t f v) (quad_column coords t (keeping v f))
 
-    -- the arcs round the vertex in any vector with no more columns than this one
+    -- the arcs around v in any vector that is 0 in each column in which xs is 0
     pub arcs_are : (ys : List ℕ) → ((c : ℕ) → slice_index xs c ≡ 0 → slice_index ys c ≡ 0) → arcs_around coords ys t f v ≡ slice_index ys tri + slice_index ys behind
     arcs_are ys inside =
         let further : slice_index ys (quad_column coords t (keeping v f)) + sum_by (slice_index ys) (octagon_arcs coords t f v) ≡ slice_index ys behind =

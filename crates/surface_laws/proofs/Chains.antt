@@ -1,4 +1,4 @@
--- Crush chains: no face starts two of different ends, and each kept face starts one.
+-- Crush chains: no two chains from one face have different ends, and a chain starts at each kept face.
 use Rattle.std.proofs.Common.{◌≡◌, ℕ, zero, suc, ◌+◌, ◌*◌, ◌/◌, ◌%◌, ◌<◌, Bool, true, false, not, List, length, Option, Some, None, option_map, if◌then◌else◌, IsTrue, inl, inr, refl, sym, ap, ◌∙◌, subst, arith}
 use Rattle.std.proofs.lemmas.Bool.{false≢true}
 use Rattle.basic_lemmas.proofs.Options.{none_or_some}
@@ -16,7 +16,7 @@ use Rattle.surface_laws.specs.CrushingLaws.{IsKeptFace, HasOneEnd}
 use Rattle.surface_laws.proofs.Glued.{IsGlued, glued_is, glued_once}
 use Rattle.surface_laws.proofs.Turns.{IsTurned, turned_at, IsExchange, exchange_is}
 
--- no chain goes on at a kept face
+-- a tetrahedron is not both kept and taken out
 pub kept_or_gone : (b : Bool) → IsTrue (not b) → IsTrue b → ⊥
 kept_or_gone true k r = false≢true k
 kept_or_gone false k r = false≢true r
@@ -117,12 +117,12 @@ module _ (rows : List Row) (xs : List ℕ) (table : IsTable rows) where
         kept_or_gone (is_removed xs x.tet) k.kept (ap (is_removed xs) tets ∙ s.gone);
   }
 
-  -- the face y is the next of the chain of x that leaves, and o what the chain of x has come by there
+  -- the chain of x leaves by face y next, and o is the gluing by which it has come there
   abbrev pub Stands : Face → Face → Option Gluing → Type 0
   Stands x y None = glue rows y ≡ None
   Stands x y (Some g) = (h : Gluing) × (glue rows y ≡ Some h) × (g.tet ≡ h.tet) × IsPermutationOfFour g.perm × (image g.perm x.face ≡ image h.perm y.face)
 
-  -- so it is at the next face too
+  -- if so, it holds of the next face too
   pub stands_on : (x y : Face) (g h : Gluing) → x.face < 4 → glue rows y ≡ Some h → g.tet ≡ h.tet → IsPermutationOfFour g.perm → image g.perm x.face ≡ image h.perm y.face
       → is_removed xs h.tet ≡ true → Stands x (turned_face xs (other_side y h)) (passed rows xs x g)
   stands_on x y g h l e tets permutes images gone = go (glue rows z) refl
@@ -173,7 +173,7 @@ module _ (rows : List Row) (xs : List ℕ) (table : IsTable rows) where
   stays_if true i e = absurd cc
   stays_if false i e = refl
 
-  -- where no step leads on, the chain ends
+  -- if there is no further step, the chain ends
   ended : (x y : Face) (o : Option Gluing) → y.face < 4 → Stands x y o → leaves rows xs (number y) ≡ None → (end : Option Gluing) × ChainEnds rows xs x zero o end
   ended x y None l s h = (None, refl)
   ended x y (Some g) l s h =
@@ -188,7 +188,7 @@ module _ (rows : List Row) (xs : List ℕ) (table : IsTable rows) where
       let past' : after (leaves rows xs) i (suc k) ≡ None = ap (after (leaves rows xs) i) (sym more) ∙ past in
       cc
 
-  -- the chain goes as long as the steps lead on
+  -- the chain continues as long as there are further steps
   chain_from : (count : ℕ) (x y : Face) (o : Option Gluing) (e : ℕ) → x.face < 4 → y.face < 4 → Stands x y o
       → after (leaves rows xs) (number y) count ≡ Some e → leaves rows xs e ≡ None → (end : Option Gluing) × ChainEnds rows xs x count o end
   chain_from zero x y o e lx ly s h none = let is : number y ≡ e = cc in ended x y o ly s (ap (leaves rows xs) is ∙ none)
@@ -212,7 +212,7 @@ module _ (rows : List Row) (xs : List ℕ) (table : IsTable rows) where
   starts x None e = e
   starts x (Some g) e = (g, e, refl, table.permutes x g e, refl)
 
-  -- the chain of a kept face, over fewer tetrahedra than there are faces
+  -- the chain of a kept face, through fewer tetrahedra than there are faces
   pub record HasChain (x : Face) : Type 0 where
     pub count : ℕ
     pub few : count < 4 * length rows

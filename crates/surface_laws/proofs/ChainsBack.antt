@@ -10,11 +10,11 @@ use Rattle.surface_laws.specs.CrushingLaws.{IsKeptFace}
 use Rattle.surface_laws.proofs.Glued.{IsGlued, glued_is}
 use Rattle.surface_laws.proofs.Turns.{IsTurned, turned_at, IsExchange, exchange_is}
 
--- what a chain that has come by q goes on by across the next gluing
+-- the gluing by which a chain that has come by q continues across the next gluing
 abbrev pub onward_by : List ℕ → Option Gluing → Option Gluing
 onward_by q o = option_map (λ (k : Gluing). gluing_to k.tet (compose k.perm q)) o
 
--- across h, the exchange e and g, the other way
+-- the inverse of the way across g, the transposition e and h
 back_perm : (g e h q : List ℕ) → IsPermutationOfFour g → IsPermutationOfFour e → IsPermutationOfFour h → IsPermutationOfFour q → inverse e ≡ e
     → compose (inverse g) (compose e (compose (inverse h) q)) ≡ compose (inverse (compose h (compose e g))) q
 back_perm g e h q hg he hh hq itself =
@@ -27,14 +27,14 @@ back_perm g e h q hg he hh hq itself =
     ∙ compose-compose (inverse g) e (compose (inverse h) q) ig he (compose_permutes (inverse h) q ih hq))
 
 module _ (rows : List Row) (xs : List ℕ) (table : IsTable rows) (x : Face) (lx : x.face < 4) (kept : IsTrue (not (is_removed xs x.tet))) where
-  -- whatever chain comes by q to the face which the chain of x has reached by g, it goes on to x, across g the other way
+  -- the chain of x has reached a face by g; any chain that comes to this face by q continues to x, by the inverse of g
   record Returns (m : ℕ) (g : Gluing) : Type 0 where
     in_range : g.tet < length rows
     permutes : IsPermutationOfFour g.perm
     leads : (z : Face) (q : List ℕ) → z.face < 4 → IsPermutationOfFour q → image q z.face ≡ image g.perm x.face
         → ChainEnds rows xs z m (onward_by q (glue rows (face_at g.tet (image g.perm x.face)))) (Some (gluing_to x.tet (compose (inverse g.perm) q)))
 
-  -- so it is behind the first gluing
+  -- it holds after the first gluing
   returns_first : (g : Gluing) → glue rows x ≡ Some g → Returns 0 g
   returns_first g e =
       let a : IsGlued rows x g = glued_is rows x g table e in
@@ -55,7 +55,7 @@ module _ (rows : List Row) (xs : List ℕ) (table : IsTable rows) (x : Face) (lx
   abbrev further : Gluing → Gluing → Gluing
   further g h = gluing_to h.tet (compose h.perm (compose (exchange (reached g) (partner_there g)) g.perm))
 
-  -- and behind each further one
+  -- it holds after each further gluing
   returns_on : (m : ℕ) (g h : Gluing) → Returns m g → is_removed xs g.tet ≡ true → glue rows (face_at g.tet (partner_there g)) ≡ Some h → Returns (suc m) (further g h)
   returns_on m g h r gone e = record { in_range = a.other_tet; permutes = whole; leads = leads }
     where
@@ -116,7 +116,7 @@ module _ (rows : List Row) (xs : List ℕ) (table : IsTable rows) (x : Face) (lx
           (sym (λ i. onward_by (compose (swaps i) q1) (glue rows (face_at g.tet (to_v i))))) then) in
           subst (λ o. ChainEnds rows xs z (suc m) (onward_by q o) (Some (gluing_to x.tet (compose (inverse (compose h.perm (compose ex g.perm))) q)))) (sym back) (gone, here)
 
-  -- where the chain of x ends at a kept face, chains come back from there
+  -- if the chain of x ends at a kept face, chains return to x from there
   record ComesBack (e : Gluing) : Type 0 where
     kept_there : IsTrue (not (is_removed xs e.tet))
     count : ℕ
@@ -143,7 +143,7 @@ unturned : (o : Option Gluing) → ((k : Gluing) → o ≡ Some k → IsPermutat
 unturned None h = refl
 unturned (Some k) h = ap (λ p. Some (gluing_to k.tet p)) (compose-identity k.perm (h k refl))
 
--- where a chain ends at a kept face
+-- a chain that ends at a kept face, and the chain back from there
 pub record IsReadBack (rows : List Row) (xs : List ℕ) (x : Face) (e : Gluing) : Type 0 where
   pub permutes : IsPermutationOfFour e.perm
   pub kept_there : IsKeptFace rows xs (other_side x e)

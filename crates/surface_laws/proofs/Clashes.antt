@@ -1,4 +1,4 @@
--- Of any two columns that clash one is 0 in an admissible vector, and that is all.
+-- A vector is admissible if and only if one of any two clashing columns is 0 in it.
 use Rattle.std.proofs.Common.{◌≡◌, ◌≢◌, ℕ, ◌/◌, ◌%◌, ◌<◌, ◌≤◌, true, List, ◌⊎◌, inl, inr, slice_index, sym, arith}
 use Rattle.std.specs.Prelude.{◌==◌, ◌&&◌, nat_lt}
 use Rattle.std.proofs.lemmas.Bool.{cases_lt, ltb-true, lt-ltb, eq-eqb, le-leb, and_parts, and_from, or_right, eqb-true, leb-true, or_cases, or_left}
@@ -71,7 +71,7 @@ module _ (coords : Coords) (n : ℕ) (xs : List ℕ) where
       → triangles_each coords ≤ a % columns_each coords → triangles_each coords ≤ b % columns_each coords → (slice_index xs a ≡ 0) ⊎ (slice_index xs b ≡ 0)
   clash_zero h a b less lb t fa fb = none_clash h a b less lb (one_tetrahedron coords a b t fa fb)
 
-  -- so where one is not 0, the other is
+  -- so if one is not 0, the other is 0
   pub other_zero : IsAdmissible (clash_list coords n) xs → (a b : ℕ) → a ≢ b → a < columns coords n → b < columns coords n → a / columns_each coords ≡ b / columns_each coords
       → triangles_each coords ≤ a % columns_each coords → triangles_each coords ≤ b % columns_each coords → 0 < slice_index xs a → slice_index xs b ≡ 0
   other_zero h a b ne la lb t fa fb some = elim (cases_lt a b) [

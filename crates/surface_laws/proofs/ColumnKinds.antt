@@ -26,7 +26,7 @@ three_among (suc zero) l = inr (inl refl)
 three_among (suc (suc zero)) l = inr (inr (inl refl))
 three_among (suc (suc (suc k))) l = absurd (omega arith)
 
--- what is so of all the columns is so of the first nonzero one
+-- what holds of all the columns holds of the first nonzero one
 pub first_is : (P : ℕ → Type 0) (xs os : List ℕ) (q : ℕ) → P q → AllByRecursion P os → P (first_nonzero xs os q)
 first_is P xs [] q h a = h
 first_is P xs (o ∷ os) q h a = by_test (nat_lt 0 (slice_index xs o)) (first_is P xs os q h a.1)

@@ -70,14 +70,14 @@ module _ (xs components : List ℕ) (one_each : length components ≡ length (di
   pub component_past : (c : ℕ) → length xs ≤ c → slice_index (component_vector xs components i) c ≡ 0
   component_past c l = get_or_past (component_vector xs components i) c 0 (omega (arith, component_width))
 
-  -- past the end both are 0
+  -- beyond the last column both are 0
   pub component_count : (c : ℕ) → slice_index (component_vector xs components i) c ≡ in_column xs components i c
   component_count c = elim (cases_lt c (length xs)) [
     | inl l ↦ component_entry c l
     | inr past ↦ component_past c past ∙ ap (λ m. sum_by (λ j. belongs xs components i (piece_at c j)) (below m)) (sym (get_or_past xs c 0 past))
   ]
 
-  -- where the vector is 0 the component's is
+  -- if the vector is 0 in a column, the component's vector is
   pub component_inside : (c : ℕ) → slice_index xs c ≡ 0 → slice_index (component_vector xs components i) c ≡ 0
   component_inside c z = component_count c ∙ ap (λ m. sum_by (λ j. belongs xs components i (piece_at c j)) (below m)) z
 

@@ -1,4 +1,4 @@
--- Components of worked surfaces: the relations are met.
+-- Components of worked surfaces: examples that fulfil the relations.
 use Rattle.surface_definitions.proofs.Computed.{computed}
 use Rattle.std.proofs.Common.{ℕ, zero, suc, ◌<◌, Bool, true, false, List, [], ◌∷◌, Ok, refl, arith}
 use Rattle.std.proofs.lemmas.Bool.{ltb-true, leb-true}
@@ -21,7 +21,7 @@ jj_table = table_from table_jj refl refl refl
 abbrev two_quads : List ℕ
 two_quads = 0 ∷ 0 ∷ 0 ∷ 0 ∷ 0 ∷ 2 ∷ 0 ∷ []
 
--- the two quads meet, each with the side that the other turns away
+-- the two quads meet, and each turns to the other the side that the other turns away
 two_joined : (i : ℕ) → i < 2 → SamePiece table_jj Standard two_quads 0 i
 unfolding computed
 two_joined zero l = ([], refl)
@@ -53,7 +53,7 @@ two_answer = (
   },
 )
 
--- all signs the same, and those of the triangles alone
+-- all signs true, and those of the triangles alone
 all_true : ℕ → Bool
 all_true i = true
 

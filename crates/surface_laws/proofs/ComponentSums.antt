@@ -17,7 +17,7 @@ use Rattle.surface_laws.proofs.Counting.{sum_by_same, sum_swap, over_places}
 use Rattle.surface_laws.proofs.ComponentCounts.{components_add_up, component_width}
 
 module _ (part : ℕ → List ℕ) (count : ℕ) (xs : List ℕ) (adds : (c : ℕ) → sum_by (λ i. slice_index (part i) c) (below count) ≡ slice_index xs c) where
-  -- a function of vectors that adds up over the parts
+  -- a function of vectors whose values at the components add up
   abbrev AddsUp : (List ℕ → ℕ) → Type 0
   AddsUp f = sum_by (λ i. f (part i)) (below count) ≡ f xs
 

@@ -1,4 +1,5 @@
--- The vector of a component is an admissible solution: meeting arcs are of one component, so that as many of its arcs stand on both sides.
+-- The vector of a component is an admissible solution: arcs that meet are of one component, so that each gluing has
+-- equally many of its arcs on both sides.
 use Rattle.std.proofs.Common.{◌≡◌, ℕ, ◌<◌, cond, List, [], ◌∷◌, length, Some, inl, inr, sym, ap, ◌∙◌}
 use Rattle.std.specs.Prelude.{◌==◌, slice_index, sum_by}
 use Rattle.std.specs.List.{slice_index_or}
@@ -30,7 +31,7 @@ module _ (rows : List Row) (coords : Coords) (xs : List ℕ) (s : IsSurface rows
       arc_piece coords (length rows) xs s.triangles s.admissible a.tet a.face a.vertex m.in_range i.face m.is_vertex m.off_vertex a.place m.there
 
   module _ (components : List ℕ) (count : ℕ) (h : AreComponents rows coords xs components count) where
-    -- meeting arcs are of one component
+    -- arcs that meet are of one component
     pub one_component : (a : Arc) (g : Gluing) → Meets rows coords xs a g
         → slice_index components (disc_number xs (disc_of coords xs a)) ≡ slice_index components (disc_number xs (disc_of coords xs (arc_across g a)))
     one_component a g m =
@@ -46,7 +47,7 @@ module _ (rows : List Row) (coords : Coords) (xs : List ℕ) (s : IsSurface rows
       abbrev ys : List ℕ
       ys = component_vector xs components i
 
-      -- as many of the component's arcs on both sides of a gluing
+      -- equally many of the component's arcs on both sides of a gluing
       component_matched : (x : Face) (g : Gluing) (v : ℕ) → glue rows x ≡ Some g → v < 4 → (v ≡ x.face → ⊥) → arcs_around coords ys x.tet x.face v ≡ arcs_around coords ys g.tet (image g.perm x.face) (image g.perm v)
       component_matched x g v e lv off =
           let into : IsGlued rows x g = glued_is rows x g s.table e in

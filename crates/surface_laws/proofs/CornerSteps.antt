@@ -9,7 +9,7 @@ pub record LeadsOn (rows : List Row) (k : Corner) : Type 0 where
   pub g : Gluing
   pub glued : glue rows (left_through k) ≡ Some g
 
--- where a step leads it has crossed a glued face
+-- a step crosses a glued face
 pub record IsStep (rows : List Row) (k l : Corner) : Type 0 where
   pub on : LeadsOn rows k
   pub is : corner_across k on.g ≡ l

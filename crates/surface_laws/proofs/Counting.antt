@@ -1,4 +1,4 @@
--- Sums over ranges, over made lists and over pairs.
+-- Sums over ranges, over images of lists, and over pairs.
 use Rattle.std.proofs.Common.{◌≡◌, ℕ, zero, suc, ◌+◌, ◌-◌, ◌<◌, ◌≤◌, List, [], ◌∷◌, ◌++◌, length, get_or, map, flat_map, inl, inr, refl, sym, ap, ◌∙◌, arith}
 use Rattle.std.specs.Prelude.{sum_by}
 use Rattle.std.specs.List.{range_with_len}
@@ -9,7 +9,7 @@ use Rattle.table_definitions.proofs.TableLaws.{Among}
 use Rattle.table_definitions.proofs.Bijections.{below-push}
 use Rattle.surface_laws.proofs.Sums.{sum_by_plus}
 
--- equal terms give equal sums
+-- sums of equal terms are equal
 pub sum_by_same : {A : Type 0} (f g : A → ℕ) (xs : List A) → ((x : A) → Among x xs → f x ≡ g x) → sum_by f xs ≡ sum_by g xs
 sum_by_same f g [] h = refl
 sum_by_same f g (x ∷ xs) h =
@@ -57,7 +57,7 @@ range_one f c a (suc n) h l m = elim (cases_eq a c) [
 pub one_term : (f : ℕ → ℕ) (c n : ℕ) → ((k : ℕ) → (k ≡ c → ⊥) → f k ≡ 0) → c < n → sum_by f (below n) ≡ f c
 one_term f c n h l = let m : c < 0 + n = omega arith in range_one f c 0 n h (omega arith) m
 
--- a sum over the places of a list is one over the list
+-- a sum over the indices of a list is a sum over its items
 range_places : {A : Type 0} (G : A → ℕ) (f : ℕ → ℕ) (d : A) (ps : List A) (a : ℕ) → ((i : ℕ) → i < length ps → f (a + i) ≡ G (get_or ps i d)) → sum_by f (range_with_len a (length ps)) ≡ sum_by G ps
 range_places G f d [] a h = refl
 range_places G f d (p ∷ ps) a h =
@@ -70,8 +70,7 @@ range_places G f d (p ∷ ps) a h =
 pub over_places : {A : Type 0} (G : A → ℕ) (f : ℕ → ℕ) (d : A) (ps : List A) → ((i : ℕ) → i < length ps → f i ≡ G (get_or ps i d)) → sum_by f (below (length ps)) ≡ sum_by G ps
 over_places G f d ps h = range_places G f d ps 0 (λ i l. let e : 0 + i ≡ i = omega arith in ap f e ∙ h i l)
 
--- a sum over the numbers below m + n
--- the last term of a sum over numbers, and what each term is at most
+-- the last term of a sum over numbers; each term is at most the sum; a sum over the numbers below m + n
 pub last_term : (f : ℕ → ℕ) (n : ℕ) → sum_by f (below (suc n)) ≡ sum_by f (below n) + f n
 last_term f n =
     let e : sum_by f (below n ++ n ∷ []) ≡ sum_by f (below n) + sum_by f (n ∷ []) = sum_by-append f (below n) (n ∷ []) in
@@ -99,7 +98,7 @@ below_sum f m (suc n) =
     let before : sum_by f (below (m + n)) ≡ sum_by f (below m) + sum_by (λ j. f (m + j)) (below n) = below_sum f m n in
     omega arith
 
--- the first number apart
+-- the term of 0 is split off
 below_first : (f : ℕ → ℕ) (n : ℕ) → sum_by f (below (suc n)) ≡ f 0 + sum_by (λ j. f (1 + j)) (below n)
 below_first f n =
     let e : 1 + n ≡ suc n = omega arith in

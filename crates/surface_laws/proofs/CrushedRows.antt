@@ -1,4 +1,4 @@
--- The crushed rows of a table are determined, and they are a table.
+-- The crushed table of a table and a vector is unique, and is a table.
 use Rattle.std.proofs.Common.{◌≡◌, ℕ, zero, suc, ◌*◌, ◌<◌, ◌≤◌, Bool, true, not, List, [], length, Option, Some, None, option_map, refl, sym, ap, ◌∙◌, subst, arith, ext_get_or}
 use Rattle.std.specs.Prelude.{◌==◌, if◌then◌else◌}
 use Rattle.std.specs.List.{slice_index_or}
@@ -21,7 +21,7 @@ abbrev pub stays : List ℕ → ℕ → Bool
 stays xs t = not (is_removed xs t)
 
 module _ (rows : List Row) (xs : List ℕ) (table : IsTable rows) where
-  -- a face of the crushed table, by the kept face that it was
+  -- a face of the crushed table, and the kept face of which it is the image
   record ComesFrom (t f : ℕ) : Type 0 where
     was : ℕ
     kept : IsKeptFace rows xs (face_at was f)
@@ -40,7 +40,7 @@ module _ (rows : List Row) (xs : List ℕ) (table : IsTable rows) where
   glue_from new h t f c =
       ap (λ u. glue new (face_at u f)) (sym c.number) ∙ h.glued (face_at c.was f) c.end (c.kept).in_range (c.kept).face (c.kept).kept c.chain
 
-  -- so two lists of crushed rows agree everywhere
+  -- so two crushed tables have the same rows
   same_rows : (a b : List Row) → IsCrushed rows xs a → IsCrushed rows xs b → (t : ℕ) → t < length a → slice_index_or a t [] ≡ slice_index_or b t []
   same_rows a b f g t l =
       let lb : t < length b = omega (arith, f.length_is, g.length_is) in
@@ -55,7 +55,7 @@ module _ (rows : List Row) (xs : List ℕ) (table : IsTable rows) where
   pub crushed_once : (a b : List Row) → IsCrushed rows xs a → IsCrushed rows xs b → a ≡ b
   crushed_once a b f g = ext_get_or [] a b (f.length_is ∙ sym g.length_is) (same_rows a b f g)
 
-  -- a glued face of the crushed table, by what it was
+  -- a glued face of the crushed table, and the face of which it is the image
   record GluedFrom (t f : ℕ) (h : Gluing) : Type 0 where
     was : ℕ
     g : Gluing
@@ -134,7 +134,7 @@ follow rows xs x (suc fuel) (suc n) None end l h = absurd h
 follow rows xs x (suc fuel) (suc n) (Some g) end l h =
     ap (λ b. if b then followed fuel rows xs x (passed rows xs x g) else Some g) h.0 ∙ follow rows xs x fuel n (passed rows xs x g) end (omega arith) h.1
 
--- the rows that are made so are crushed rows
+-- the rows that are computed in this way are the crushed table
 pub crushed_are : (rows : List Row) (xs : List ℕ) → IsTable rows → IsCrushed rows xs (crushed rows xs)
 crushed_are rows xs table = record {
   length_is = length-map kept (crushed_row rows xs) ∙ length-picked (stays xs) (length rows);

@@ -1,4 +1,4 @@
--- A vector that is fit is an admissible solution, and in coordinates with triangles a surface.
+-- An accepted vector is an admissible solution, and in coordinates with triangles a surface.
 use Rattle.std.proofs.Common.{◌≢◌, ℕ, List, length, refl, subst}
 use Rattle.text_definitions.specs.Written.{limit}
 use Rattle.cone_definitions.specs.Rows.{Row as EquationRow, IsSolution}

@@ -1,4 +1,5 @@
--- The arcs behind the triangles are those of one column: of the quads and octagons with an arc there, one at most is nonzero.
+-- The arcs after those of the triangles are those of one column: of the quads and octagons with an arc there, at most
+-- one is nonzero.
 use Rattle.std.proofs.Common.{◌≡◌, ℕ, zero, suc, ◌+◌, ◌*◌, ◌/◌, ◌%◌, ◌<◌, ◌≤◌, Bool, true, false, not, cond, List, [], ◌∷◌, map, filter, ◌⊎◌, inl, inr, refl, sym, ap, ◌∙◌, arith}
 use Rattle.std.specs.Prelude.{◌==◌, nat_lt, slice_index, sum_by, ⊤}
 use Rattle.std.specs.List.{AllByRecursion, position_or_len, slice_index_or}
@@ -16,7 +17,7 @@ use Rattle.surface_laws.proofs.Turns.{keeping_below}
 abbrev IsZeroIn : List ℕ → ℕ → ℕ → Type 0
 IsZeroIn xs a b = (slice_index xs a ≡ 0) ⊎ (slice_index xs b ≡ 0)
 
--- of each two of these columns one is 0
+-- of any two of these columns at least one is 0
 abbrev pub MostOne : List ℕ → List ℕ → Type 0
 MostOne xs [] = ⊤
 MostOne xs (d ∷ ds) = AllByRecursion (IsZeroIn xs d) ds × MostOne xs ds

@@ -1,4 +1,4 @@
--- Heights of a class make a lift there, and lifts of all classes make one of the vector.
+-- Heights of a class are a lift there, and lifts of all classes are a lift of the vector.
 use Rattle.std.proofs.Common.{◌≡◌, ℕ, zero, suc, ◌+◌, ◌*◌, ◌/◌, ◌%◌, ◌-◌, ◌<◌, ◌≤◌, Bool, List, [], length, map, Some, ◌⊎◌, inl, inr, sym, ap, ◌∙◌, arith, ext_get_or}
 use Rattle.std.specs.Prelude.{nat_lt, if◌then◌else◌, slice_index}
 use Rattle.std.proofs.lemmas.Bool.{cases_lt, cases_eq, lt-ltb, le-ltb}

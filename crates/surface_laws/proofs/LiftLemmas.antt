@@ -1,4 +1,4 @@
--- A lift is a solution, admissible where its quad vector is; and what is answered of a quad vector is determined.
+-- A lift is a solution, and admissible if its quad vector is; the answer for a quad vector is unique.
 use Rattle.std.proofs.Common.{◌≡◌, ℕ, ◌+◌, ◌*◌, ◌/◌, ◌%◌, ◌-◌, ◌<◌, ◌≤◌, true, List, length, ◌⊎◌, inl, inr, Result, Ok, Err, refl, sym, ap, ◌∙◌, arith, ext_get_or}
 use Rattle.std.specs.Prelude.{◌==◌, ◌&&◌, nat_lt, slice_index}
 use Rattle.std.specs.List.{AllByRecursion}
@@ -37,7 +37,7 @@ module _ (rows : List Row) (table : IsTable rows) (classes : List ℕ) (count : 
       (f.each (slice_index classes (vertex_number (y.0).tet v)) (numbered.in_range (vertex_number (y.0).tet v) l)).holds y v cy cv refl)
       f.width
 
-  -- the lift of a vector of quads projects to it, also where there is no tetrahedron
+  -- the lift of a vector of quads projects to it, also if there is no tetrahedron
   pub lift_projects : (xs ys : List ℕ) → length xs ≡ columns Quad (length rows) → IsLift rows classes count xs ys → projected (length rows) ys ≡ xs
   lift_projects xs ys w f = elim (cases_lt 0 (length rows)) [
     | inl some ↦ (let l : 0 < 4 * length rows = omega arith in (f.each (slice_index classes 0) (numbered.in_range 0 l)).quads_are)
@@ -92,7 +92,7 @@ pair_alone n a b h =
     (and_from (quad_alone a / 3 == quad_alone b / 3) (is_quad_or_octagon Quad (quad_alone a)) (eq-eqb (quad_alone a / 3) (quad_alone b / 3) tets) (le-leb 0 (quad_alone a % 3) (omega arith)))
     (le-leb 0 (quad_alone b % 3) (omega arith)))))
 
--- a standard vector is admissible where its quads are
+-- a standard vector is admissible if its quads are
 pub quads_admissible : (n : ℕ) (xs ys : List ℕ) → projected n ys ≡ xs → IsAdmissible (clash_list Quad n) xs → IsAdmissible (clash_list Standard n) ys
 quads_admissible n xs ys e h =
     All-from_recursion (λ (p : ℕ × ℕ). (slice_index ys p.0 ≡ 0) ⊎ (slice_index ys p.1 ≡ 0)) (clash_list Standard n)
@@ -117,7 +117,7 @@ quads_admissible n xs ys e h =
           | inr z ↦ inr (sym (same_entry b lb p.second) ∙ z)
         ]
 
--- what is answered of a quad vector
+-- the answer for a quad vector
 least_class : (s : Skeleton) (xs : List ℕ) (c d : ℕ) → IsLeastWithoutLift s xs c → IsLeastWithoutLift s xs d → c ≡ d
 least_class s xs c d f g = elim (cases_order c d) [
   | inl e ↦ e

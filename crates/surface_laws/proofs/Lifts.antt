@@ -24,7 +24,7 @@ use Rattle.surface_laws.specs.LiftLaws.{triangle_at}
 differ_on : (a b y y' z z' q q' r r' : ℕ) → a + z ≡ b + y → 0 + y + q ≡ 0 + y' + q' → 0 + z + r ≡ 0 + z' + r' → q ≡ r → q' ≡ r' → a + z' ≡ b + y'
 differ_on a b y y' z z' q q' r r' d e f s t = omega arith
 
--- heights that differ by as much at two places, and are 0 at one place each, are the same
+-- two heights that differ by the same number at three vertices, and are each 0 at one of these, are equal
 same_heights : (y z y1 z1 y2 z2 : ℕ) → y + z1 ≡ z + y1 → y + z2 ≡ z + y2 → y1 ≡ 0 → z2 ≡ 0 → y ≡ z
 same_heights y z y1 z1 y2 z2 d e a b = omega arith
 
@@ -44,7 +44,7 @@ module _ (rows : List Row) (table : IsTable rows) (classes : List ℕ) (count : 
       sym (projected_at ys (length rows) t k lt lk) ∙ ap (λ w. slice_index w (3 * t + k)) (a ∙ sym b) ∙ projected_at zs (length rows) t k lt lk
 
   module _ (c : ℕ) (ys zs : List ℕ) (one : IsLiftAt rows classes xs c ys) (other : IsLiftAt rows classes xs c zs) where
-    -- the heights at a place differ by as much as a and b
+    -- the heights at a vertex differ by as much as a and b
     record DifferAt (a b : ℕ) (p : Place) : Type 0 where
       v : ℕ
       is : p.vertices ≡ v ∷ []

@@ -1,4 +1,4 @@
--- What the tests of quads and of boundary arcs say.
+-- What the tests for quads and for boundary arcs decide.
 use Rattle.std.proofs.Common.{◌≡◌, ℕ, ◌<◌, ◌≤◌, ◌↔◌, Bool, true, false, not, List, [], ◌∷◌, length, Option, Some, None, is_none, inl, inr, refl, sym, ap, ◌∙◌, arith}
 use Rattle.std.specs.Prelude.{◌&&◌, nat_lt, slice_index}
 use Rattle.std.specs.List.{list_all, list_any}

@@ -1,4 +1,5 @@
--- The matching equations hold across each gluing, read from either side, where they hold at the lesser faces.
+-- If the matching equations hold at the smaller face of each glued pair, they hold across each gluing, read from either
+-- side.
 use Rattle.std.proofs.Common.{◌≡◌, ℕ, ◌<◌, Bool, true, false, not, List, length, Option, Some, None, ◌⊎◌, inl, inr, IsTrue, Contains, sym, ap, ◌∙◌}
 use Rattle.std.specs.Prelude.{◌==◌, ◌&&◌, nat_lt, if◌then◌else◌, sum_by, slice_index}
 use Rattle.std.proofs.lemmas.Bool.{cases_order, lt-ltb, eq-eqb, and_from, or_left, or_right}
@@ -13,7 +14,7 @@ use Rattle.surface_laws.proofs.Chains.{kept_or_gone}
 use Rattle.surface_laws.proofs.Glued.{IsGlued, glued_is}
 use Rattle.table_definitions.proofs.Listed.{Among-filter_map, filter_map-among, Among-others, contains_among}
 
--- of two different faces one stands before the other
+-- of two different faces one is before the other
 pub before_or_after : (x y : Face) → IsTrue (not (same_face y x)) → (is_face_before x y ≡ true) ⊎ (is_face_before y x ≡ true)
 before_or_after x y apart = elim (cases_order x.tet y.tet) [
   | inl e ↦ elim (cases_order x.face y.face) [
@@ -25,7 +26,7 @@ before_or_after x y apart = elim (cases_order x.tet y.tet) [
   | inr (inr more) ↦ inr (or_left (nat_lt y.tet x.tet) ((y.tet == x.tet) && nat_lt y.face x.face) (lt-ltb y.tet x.tet more))
 ]
 
--- the glued pairs are the glued faces that stand before what they are glued to
+-- the glued pairs are the glued faces that are before the faces to which they are glued
 pub among_pairs : (rows : List Row) (x : Face) (g : Gluing) → IsTable rows → glue rows x ≡ Some g → is_face_before x (other_side x g) ≡ true → Among {A = Face × Gluing} (x, g) (glued_pairs rows)
 unfolding glued_pairs
 among_pairs rows x g table e before =
@@ -52,14 +53,14 @@ pair_glued rows y h =
     sym (ap (glue rows) s.0) ∙ s.1
 
 module _ (rows : List Row) (coords : Coords) (ys : List ℕ) (table : IsTable rows) (Chosen : ℕ → ℕ → Type 0) where
-  -- what is chosen is chosen across a gluing too
+  -- if a vertex of a face is chosen, its image across the face's gluing is
   abbrev pub IsChosenAcross : Type 0
   IsChosenAcross = (x : Face) (g : Gluing) (v : ℕ) → glue rows x ≡ Some g → v < 4 → (v ≡ x.face → ⊥) → Chosen x.tet v → Chosen g.tet (image g.perm v)
 
   abbrev pub HoldAtPairs : Type 0
   HoldAtPairs = (y : Face × Gluing) (v : ℕ) → Contains (glued_pairs rows) y → Contains (others (y.0).face) v → Chosen (y.0).tet v → Holds (matching coords y.0 y.1 v) ys
 
-  -- the equation of the way back is the same, its sides exchanged
+  -- the equation of the inverse gluing is the same with its sides exchanged
   pub mirrored : (x : Face) (g : Gluing) (v : ℕ) → IsPermutationOfFour g.perm → x.face < 4 → v < 4
       → Holds (matching coords (other_side x g) (way_back x g) (image g.perm v)) ys → Holds (matching coords x g v) ys
   mirrored x g v p lx lv h =

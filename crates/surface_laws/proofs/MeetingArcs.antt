@@ -1,4 +1,4 @@
--- Arcs meet back across the way back.
+-- If an arc meets another across a gluing, the other meets it across the inverse gluing.
 use Rattle.std.proofs.Common.{◌≡◌, ℕ, ◌<◌, List, Some, subst}
 use Rattle.table_definitions.specs.Permutation.{image}
 use Rattle.table_definitions.specs.Table.{Gluing, Row, Face, glue}
@@ -13,7 +13,7 @@ abbrev pub arc_at : ℕ → ℕ → ℕ → ℕ → Arc
 arc_at t f v k = record { tet = t; face = f; vertex = v; place = k }
 
 module _ (rows : List Row) (coords : Coords) (xs : List ℕ) (s : IsSurface rows coords xs) where
-  -- as many arcs on both sides of a gluing
+  -- equally many arcs on both sides of a gluing
   pub as_many : (x : Face) (g : Gluing) (v : ℕ) → glue rows x ≡ Some g → v < 4 → (v ≡ x.face → ⊥) → arcs_around coords xs x.tet x.face v ≡ arcs_around coords xs g.tet (image g.perm x.face) (image g.perm v)
   as_many x g v e lv off = solved rows coords xs s.table s.triangles s.solves x g v e lv off
 

@@ -1,4 +1,4 @@
--- No chain leads from a face back to it: read from both ends, it would meet itself in one gluing or in one tetrahedron.
+-- No chain returns to its first face: read from both ends, it would meet itself in one gluing or in one tetrahedron.
 use Rattle.std.proofs.Common.{◌≡◌, ℕ, zero, suc, ◌<◌, true, List, Option, Some, None, refl, sym, ap, ◌∙◌, subst}
 use Rattle.std.specs.Prelude.{◌==◌}
 use Rattle.std.proofs.lemmas.Bool.{and_from, eq-eqb}
@@ -11,7 +11,7 @@ use Rattle.surface_laws.proofs.Glued.{IsGlued, glued_is}
 use Rattle.surface_laws.proofs.Turns.{turned_at}
 
 module _ (rows : List Row) (xs : List ℕ) (table : IsTable rows) where
-  -- from face y over so many tetrahedra that are taken out to face z
+  -- from face y, through the given number of tetrahedra that are taken out, to face z
   abbrev Leads : ℕ → Face → Face → Type 0
   Leads zero y z = (g : Gluing) × (glue rows y ≡ Some g) × (other_side y g ≡ z)
   Leads (suc k) y z = (g : Gluing) × (glue rows y ≡ Some g) × (is_removed xs g.tet ≡ true) × Leads k (turned_face xs (other_side y g)) z
@@ -30,7 +30,7 @@ module _ (rows : List Row) (xs : List ℕ) (table : IsTable rows) where
       let s : LeadsLast k (turned_face xs (other_side y g)) z = leads_last k (turned_face xs (other_side y g)) z h in
       record { last = s.last; leads = (g, e, r, s.leads); gone = s.gone; below = s.below; glued = s.glued }
 
-  -- what a face is glued to is glued to it
+  -- gluing is symmetric: if y is glued to u, u is glued to y
   other_way : (y u : Face) (g h : Gluing) → glue rows y ≡ Some g → glue rows u ≡ Some h → other_side u h ≡ y → other_side y g ≡ u
   other_way y u g h e f same =
       let a : IsGlued rows u h = glued_is rows u h table f in
@@ -53,7 +53,7 @@ module _ (rows : List Row) (xs : List ℕ) (table : IsTable rows) where
       let same : s.last ≡ turned_face xs z = sym (turn_back rows xs table s.last s.gone s.below) ∙ sym (ap (turned_face xs) back) in
       no_return k (turned_face xs z) (subst (Leads k (turned_face xs z)) same s.leads)
 
-  -- a crush chain leads so from face to face
+  -- a crush chain from one face to another is such a path
   leads_from : (n : ℕ) (x y : Face) (o : Option Gluing) (e : Gluing) → x.face < 4 → Stands rows xs table x y o → ChainEnds rows xs x n o (Some e) → Leads n y (other_side x e)
   leads_from zero x y None e l s h = absurd cc
   leads_from zero x y (Some g) e l s h =

@@ -1,4 +1,4 @@
--- The pieces of a column stand behind those of the columns before.
+-- The pieces of a column come after those of the columns before it.
 use Rattle.std.proofs.Common.{◌≡◌, ℕ, zero, suc, ◌+◌, ◌<◌, ◌≤◌, List, ◌∷◌, length, get_or, take, flat_map, refl, sym, ap, ◌∙◌, arith, length-take-le, get_or-take}
 use Rattle.std.specs.Prelude.{slice_index, sum_by, sum}
 use Rattle.std.specs.List.{range_with_len, slice_index_or}

@@ -15,11 +15,11 @@ use Rattle.table_definitions.proofs.Listed.{contains_among, among_contains, Amon
 abbrev pub piece_at : ℕ → ℕ → NormalDisc
 piece_at c j = record { column = c; number = j }
 
--- the place of no piece
+-- a piece that is read at an index that is out of range
 abbrev pub no_piece : NormalDisc
 no_piece = record { column = 0; number = 0 }
 
--- whether two pieces are one
+-- whether two pieces are equal
 abbrev pub same_piece : NormalDisc → NormalDisc → Bool
 same_piece p q = (p.column == q.column) && (p.number == q.number)
 
@@ -61,11 +61,11 @@ module _ (xs : List ℕ) where
       let other : same_piece p q ≡ false = false_from_ne_true (same_piece p q) (λ t. a.0 (subst (λ (r : NormalDisc). Among r ps) (sym (same_piece-true p q t)) (among_contains q ps (Contains-get_or ps i d li)))) in
       ap (λ b. cond (not b) (1 + position_or_len (λ r. same_piece r q) ps) 0) other ∙ ap (λ k. 1 + k) (position_apart ps i d a.1 li) ∙ omega arith
 
-  -- the number of the piece at a place is that place
+  -- the number of the piece with a given index is this index
   pub number-piece : (i : ℕ) (d : NormalDisc) → i < length (discs_of xs) → disc_number xs (slice_index_or (discs_of xs) i d) ≡ i
   number-piece i d l = position_apart (discs_of xs) i d (pieces_apart 0 (length xs)) l
 
-  -- a piece stands at its number
+  -- the piece with the number of p in the list is p
   pub record IsFound (p : NormalDisc) : Type 0 where
     pub in_range : disc_number xs p < length (discs_of xs)
     pub there : slice_index_or (discs_of xs) (disc_number xs p) no_piece ≡ p

@@ -51,7 +51,7 @@ meets_by rows coords xs a g t e =
       glued = e;
     }
 
--- whether an arc is one of p, and what passes for the piece across the gluing
+-- whether an arc is one of piece p, and the piece across its gluing passes the test `rest`
 abbrev pub step_passes : List Row → Coords → List ℕ → NormalDisc → Arc → Option Gluing → (NormalDisc → Bool) → Bool
 step_passes rows coords xs p a None rest = false
 step_passes rows coords xs p a (Some g) rest = is_there rows coords xs a && (same_piece (disc_of coords xs a) p && rest (disc_of coords xs (arc_across g a)))
@@ -113,7 +113,7 @@ same_truth-true true false e = absurd (false≢true e)
 same_truth-true false true e = absurd (false≢true e)
 same_truth-true false false e = refl
 
--- whether a sign stays at an arc if and only if it is to
+-- whether the sign stays the same across an arc if and only if the test `stays` passes there
 abbrev pub sign_fits : Coords → List ℕ → (ℕ → Bool) → (Arc → Gluing → Bool) → Arc × Gluing → Bool
 sign_fits coords xs sign stays m =
     same_truth (sign (disc_number xs (disc_of coords xs (arc_across m.1 m.0)))) (if stays m.0 m.1 then sign (disc_number xs (disc_of coords xs m.0)) else not (sign (disc_number xs (disc_of coords xs m.0))))

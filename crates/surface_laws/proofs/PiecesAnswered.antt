@@ -1,4 +1,4 @@
--- Something is answered of the pieces of each surface.
+-- The pieces of each surface have an answer.
 use Rattle.std.proofs.Common.{ℕ, ◌<◌, ◌↔◌, Bool, true, false, List, [], ◌∷◌, ◌⊎◌, inl, inr, Result, Ok, Err, IsTrue, refl}
 use Rattle.std.specs.Prelude.{sum}
 use Rattle.std.specs.List.{AllZip}
@@ -16,7 +16,7 @@ use Rattle.surface_laws.proofs.ComponentsFound.{components_found}
 use Rattle.surface_laws.proofs.Signs.{signs_decided}
 use Rattle.surface_laws.proofs.SignedSteps.{sides_back, stays_oriented, orientation_back}
 
--- the truth value of what is decided
+-- the truth value of a proposition that is decided
 record IsToldBy (P : Type 0) : Type 0 where
   truth : Bool
   is : IsTrue truth ↔ P

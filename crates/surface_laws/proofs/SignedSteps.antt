@@ -26,7 +26,7 @@ turned_twice : (b : Bool) (k : ℕ) → k < 2 → turned_if b (turned_if b k) �
 turned_twice true k l = refl
 turned_twice false k l = omega arith
 
--- an arc leads from a piece with a sign to one with a sign
+-- an arc joins a piece with a sign to a piece with a sign
 pub record SignedStep (rows : List Row) (coords : Coords) (xs : List ℕ) (stays : Arc → Gluing → Bool) (k l : ℕ) : Type 0 where
   pub arc : Arc
   pub gluing : Gluing
@@ -35,14 +35,14 @@ pub record SignedStep (rows : List Row) (coords : Coords) (xs : List ℕ) (stays
   pub other : 2 * disc_number xs (disc_of coords xs (arc_across gluing arc)) + turned_if (stays arc gluing) (k % 2) ≡ l
 
 module _ (rows : List Row) (coords : Coords) (xs : List ℕ) (s : IsSurface rows coords xs) where
-  -- whether sides are kept is the same from either side of a gluing
+  -- whether a gluing keeps sides does not depend on the side from which it is read
   pub sides_back : (a : Arc) (g : Gluing) → Meets rows coords xs a g → keeps_sides coords xs (arc_across g a) (way_back (face_of_arc a) g) ≡ keeps_sides coords xs a g
   sides_back a g m =
       let b : MeetsBack rows coords xs a g = meets_back rows coords xs s a g m in
       ap (λ (c : Arc). if looks_positive coords xs (arc_across g a) then looks_positive coords xs c else not (looks_positive coords xs c)) b.same
       ∙ agree_if (looks_positive coords xs a) (looks_positive coords xs (arc_across g a))
 
-  -- and so is whether the orientation is kept
+  -- whether a gluing keeps the orientation
   abbrev pub stays_oriented : Arc → Gluing → Bool
   stays_oriented a g = if is_odd g.perm then keeps_sides coords xs a g else not (keeps_sides coords xs a g)
 
@@ -108,7 +108,8 @@ module _ (rows : List Row) (coords : Coords) (xs : List ℕ) (s : IsSurface rows
           let step : Contains (signed p) q = of_step p q (record { arc = a; gluing = g; meets = m; one = sym r.0; other = ap (λ i. 2 * piece (arc_across g a) + turned_if (stays a g) i) r.1 }) in
           (numbered.together p q lp lq).1 (q ∷ [], (step, refl))
 
-      -- along a chain of arcs the class of a piece with a sign is that of the last piece with some sign
+      -- along a chain of arcs, the class of the first piece with a sign is that of the last piece with one of the two
+      -- signs
       class_along : (arcs : List Arc) (p q : NormalDisc) (k : ℕ) → k < 2 → ArcsLead rows coords xs p arcs q
           → (class_of (2 * disc_number xs p + k) ≡ class_of (2 * disc_number xs q + 0)) ⊎ (class_of (2 * disc_number xs p + k) ≡ class_of (2 * disc_number xs q + 1))
       class_along [] p q zero l e = inl (ap (λ (u : NormalDisc). class_of (2 * disc_number xs u + 0)) e)
@@ -120,7 +121,7 @@ module _ (rows : List Row) (coords : Coords) (xs : List ℕ) (s : IsSurface rows
           elim (class_along arcs next q (turned_if (stays a g) k) (turned_low (stays a g) k l) h) [ inl f ↦ inl (here ∙ f) | inr f ↦ inr (here ∙ f) ]
 
       module _ (components : List ℕ) (count : ℕ) (are : AreComponents rows coords xs components count) (i : ℕ) where
-        -- signs that there are make each piece free
+        -- if there are signs, no piece is joined to itself with the other sign
         abbrev value : (ℕ → Bool) → ℕ → Bool
         value sign k = says (k % 2) (sign (k / 2))
 
@@ -151,7 +152,8 @@ module _ (rows : List Row) (coords : Coords) (xs : List ℕ) (s : IsSurface rows
             let second : value signs.0 (2 * p + 1) ≡ not (signs.0 p) = (λ t. says (om t) (signs.0 (o t))) in
             not_itself (signs.0 p) (sym first ∙ sym v ∙ second)
 
-        -- and where each piece is free there are signs: whether the class is that of the first piece
+        -- if no piece is joined to itself with the other sign there are signs: whether the class is that of the first
+        -- piece
         pub signs_by_free : i < count → ((p : ℕ) → p < n → IsFreePiece classes components i p) → HasSigns rows coords xs components i stays
         signs_by_free li free = ((λ p. class_of (2 * p + 0) == class_of (2 * start.0 + 0)), λ a g m e. at a g m e (stays a g) refl)
           where

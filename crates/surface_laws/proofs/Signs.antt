@@ -1,4 +1,4 @@
--- Signs of a component exist or do not: they do where no piece is joined to itself with the other sign.
+-- Signs of a component exist or do not: they do if no piece is joined to itself with the other sign.
 use Rattle.std.proofs.Common.{◌≡◌, ℕ, ◌+◌, ◌*◌, ◌/◌, ◌%◌, ◌<◌, Bool, true, List, length, filter_map, Option, Some, None, Contains, ◌⊎◌, inl, inr, ap, ◌∙◌}
 use Rattle.std.specs.Prelude.{◌==◌, if◌then◌else◌, slice_index}
 use Rattle.std.proofs.lemmas.Bool.{cases_eq, eq-eqb, eqb-true}

@@ -1,4 +1,4 @@
--- The solutions of the matching rows are the vectors at which as many arcs stand on both sides of each gluing.
+-- The solutions of the matching rows are the vectors with equally many arcs on both sides of each gluing.
 use Rattle.std.proofs.Common.{◌≡◌, ℕ, ◌<◌, true, not, List, length, map, filter, Some, Contains, arith}
 use Rattle.std.specs.Prelude.{◌==◌, ⊤}
 use Rattle.std.specs.List.{AllByRecursion}
@@ -31,7 +31,7 @@ arcs_in_range coords n t f v h lt lf lv off =
     (column_below coords h n t v lt lv, (quad_below coords n t (keeping v f) lt (keeping_below v f lv lf off), octagons_below coords n t f v lt))
 
 module _ (rows : List Row) (coords : Coords) (ys : List ℕ) (table : IsTable rows) (triangles : HasTriangles coords) where
-  -- both sides of an equation have columns of the table
+  -- both sides of an equation consist of columns of the table
   record IsInRange (y : Face × Gluing) (v : ℕ) : Type 0 where
     left : AllByRecursion (λ c. c < columns coords (length rows)) (matching coords y.0 y.1 v).left
     right : AllByRecursion (λ c. c < columns coords (length rows)) (matching coords y.0 y.1 v).right
@@ -45,7 +45,7 @@ module _ (rows : List Row) (coords : Coords) (ys : List ℕ) (table : IsTable ro
         right = arcs_in_range coords (length rows) (y.1).tet (image (y.1).perm (y.0).face) (image (y.1).perm v) triangles a.other_tet a.other_face (image_below (y.1).perm v a.permutes o.0) (images_apart (y.1).perm v (y.0).face a.permutes o.0 a.face o.1);
       }
 
-  -- where all equations hold the rows are 0
+  -- if all equations hold, the rows are 0
   pub rows_zero : ((y : Face × Gluing) (v : ℕ) → Contains (glued_pairs rows) y → Contains (others (y.0).face) v → Holds (matching coords y.0 y.1 v) ys)
       → length ys ≡ columns coords (length rows) → IsSolution (columns coords (length rows)) (matching_rows coords rows) ys
   unfolding matching_equations
@@ -62,7 +62,7 @@ module _ (rows : List Row) (coords : Coords) (ys : List ℕ) (table : IsTable ro
           (λ v cv. let r : IsInRange y v = in_range y v cy cv in
           zero_row (matching coords y.0 y.1 v) ys (columns coords (length rows)) r.left r.right (h y v (contains_among y (glued_pairs rows) cy) (contains_among v (others (y.0).face) cv))))
 
-  -- and at a solution each equation holds, read from either side
+  -- at a solution each equation holds, read from either side
   pub solved : IsSolution (columns coords (length rows)) (matching_rows coords rows) ys → (x : Face) (g : Gluing) (v : ℕ) → glue rows x ≡ Some g → v < 4 → (v ≡ x.face → ⊥) → Holds (matching coords x g v) ys
   unfolding matching_equations
   solved s x g v e lv off = matched rows coords ys table (λ t w. ⊤) (λ x g v e lv off c. tt) at_pairs x g v e lv off tt

@@ -1,4 +1,4 @@
--- Heights are spread from one vertex of a class along chains; where any heights exist these are heights too, so that a
+-- Numbers are spread from one vertex of a class along chains; if any heights exist, these numbers are heights, so a
 -- lift exists or does not.
 use Rattle.std.proofs.Common.{◌≡◌, ℕ, zero, suc, ◌+◌, ◌*◌, ◌/◌, ◌%◌, ◌-◌, ◌<◌, ◌≤◌, List, [], ◌∷◌, length, get_or, Option, Some, None, ◌⊎◌, inl, inr, Result, Ok, Err, refl, sym, ap, ◌∙◌, subst, arith}
 use Rattle.std.specs.Prelude.{slice_index, sum_by, sum, option_and_then}
@@ -26,7 +26,7 @@ use Rattle.surface_laws.proofs.Solved.{other_is}
 use Rattle.table_definitions.proofs.Listed.{Among-others}
 use Rattle.table_definitions.proofs.Faces.{face_at}
 
--- what is decided of each item is decided of a list
+-- if a property of each item is decided, that of all items of a list is
 pub decided_all : {A : Type 0} (P : A → Type 0) (xs : List A) → ((x : A) → Among x xs → P x ⊎ (P x → ⊥)) → ((x : A) → Among x xs → P x) ⊎ (((x : A) → Among x xs → P x) → ⊥)
 decided_all P [] d = inl (λ x h. absurd h)
 decided_all {A} P (y ∷ ys) d = go (d y (inl refl)) (decided_all P ys (λ x h. d x (inr h)))
@@ -108,7 +108,7 @@ module _ (s : Skeleton) (k : IsSkeleton s) (xs : List ℕ) (width : length xs �
         let at : vertex_number (j / 4) r.v ≡ j = ap (vertex_number (j / 4)) v ∙ number-vertex j in
         subst (λ i. Rise i j) (number-vertex start) (subst (Rise (vertex_number (start / 4) (start % 4))) at r.rise)
 
-    -- up and down to any number; of a vertex of another class nothing
+    -- the rise and the fall to the vertex with any number, and 0 for a vertex of another class
     spread_by : (j : ℕ) → (j < n) ⊎ (n ≤ j) → (class_of j ≡ c) ⊎ (class_of j ≡ c → ⊥) → ℕ × ℕ
     spread_by j (inl l) (inl e) = ((rise_to j l e).up, (rise_to j l e).down)
     spread_by j (inl l) (inr out) = (0, 0)
@@ -139,12 +139,12 @@ module _ (s : Skeleton) (k : IsSkeleton s) (xs : List ℕ) (width : length xs �
         let at : get_or (below n) j 0 ≡ j = get_or-range_with_len 0 n j 0 l ∙ omega arith in
         subst (λ i. (spread i).1 ≤ sum_by (λ j. (spread j).1) (below n)) at (get_or-le-sum_by (λ j. (spread j).1) (below n) j 0 inside)
 
-    -- any heights differ from these by one number
+    -- any heights differ from these numbers by a constant
     height_forced : (h : ℕ → ℕ) → AreHeights s xs c h → (j : ℕ) → j < n → class_of j ≡ c → height j + h start ≡ all_down + h j
     unfolding height
     height_forced h a j lj cj = spread_from (height j) (spread j).0 (spread j).1 all_down (h start) (h j) (down_within j lj) refl (spread_forced h a j lj cj)
 
-    -- so these are heights where any are
+    -- so these numbers are heights if there are any heights
     heights_if_any : (h : ℕ → ℕ) → AreHeights s xs c h → AreHeights s xs c height
     heights_if_any h a x g v e lv off ch =
         let i : IsGlued s.rows x g = glued_is s.rows x g k.table e in

@@ -1,4 +1,4 @@
--- Vertices of one class, and a gluing that carries one to the next.
+-- Vertices of one class, and a gluing that maps one to the next.
 use Rattle.std.proofs.Common.{◌≡◌, ℕ, ◌+◌, ◌*◌, ◌/◌, ◌%◌, ◌<◌, Bool, true, false, List, [], ◌∷◌, length, Option, Some, None, option_map, refl, sym, ap, ◌∙◌, subst₂, arith}
 use Rattle.std.specs.Prelude.{◌==◌, if◌then◌else◌, slice_index}
 use Rattle.std.proofs.lemmas.Bool.{ne_eqb, or_from, or_parts, eqb-false}
@@ -34,7 +34,7 @@ across_is rows x g v e off =
     let free : has (v ∷ []) x.face ≡ false = or_from (v == x.face) false (ne_eqb v x.face off) refl in
     ap (crossed_if rows x (one_vertex x.tet v)) free ∙ ap (option_map (λ g. carried g (one_vertex x.tet v))) e
 
--- a vertex that is carried across a face
+-- a vertex and its image across a face
 pub record IsCrossed (rows : List Row) (t v f : ℕ) (q : Place) : Type 0 where
   pub g : Gluing
   pub glued : glue rows (face_at t f) ≡ Some g

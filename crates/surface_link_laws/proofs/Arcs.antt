@@ -44,7 +44,7 @@ module _ (rows : List Row) (classes : List ℕ) (c : ℕ) where
       (λ t a. sum_by_same (λ f. first (face_at t f) * arcs_in coords (vertex_link coords n classes c) (face_at t f)) (λ f. first (face_at t f) * sum_by (at_vertex t) (others f)) four
       (λ f b. ap (λ m. first (face_at t f) * m) (arcs_in-link n classes c coords h t f (below-among t n a) (four-among f b))))
 
-  -- the sides of the triangle at place i
+  -- the sides of the triangle at vertex v of tetrahedron t
   abbrev sides_at : ℕ → ℕ → ℕ
   sides_at t v = sum_by (λ f. first (face_at t f)) (others v)
 

@@ -24,7 +24,7 @@ use Rattle.surface_quad_laws.specs.LinkLaws.{vertex_link}
 use Rattle.surface_quad_laws.proofs.VertexLinks.{member}
 use Rattle.surface_link_laws.proofs.Triangles.{arcs_in-link}
 
--- of a positive sum one term is positive, and a term makes it so
+-- a sum is positive if and only if one of its terms is
 positive_term : (f : ℕ → ℕ) (xs : List ℕ) → 0 < sum_by f xs → (x : ℕ) × Among x xs × (0 < f x)
 positive_term f [] l = absurd (omega arith)
 positive_term f (x ∷ xs) l = elim (cases_lt 0 (f x)) [
@@ -72,7 +72,7 @@ module _ (rows : List Row) (classes : List ℕ) (c : ℕ) (coords : Coords) (h :
       let o = other_is x.face v.0 v.1 in
       (x, side_listed x.tet x.face v.0 b.tet o.0 b.one_of_four (λ e. o.1 (sym e)) (counts (slice_index classes (vertex_number x.tet v.0)) c v.2), ap is_none b.free)
 
-  -- and a side in one has an arc there
+  -- a side in a boundary face has an arc there
   open_side : (x : Face) → Among x (sides classes c) → is_boundary rows x ≡ true → HasBoundaryArc rows coords (vertex_link coords (length rows) classes c)
   open_side x a e =
       let m = flat_map-among (λ i. map (λ f. face_at (i / 4) f) (others (i % 4))) x (members classes c) a in

@@ -1,4 +1,4 @@
--- A vertex link is one component: chains of gluings carry its triangles to one another.
+-- A vertex link is one component: chains of gluings join its triangles to one another.
 use Rattle.std.proofs.Common.{◌≡◌, ℕ, ◌*◌, ◌/◌, ◌%◌, ◌<◌, List, [], ◌∷◌, ◌++◌, length, Some, inl, inr, refl, sym, ap, ◌∙◌, subst, subst₂, arith}
 use Rattle.std.specs.Prelude.{slice_index}
 use Rattle.std.specs.List.{slice_index_or}
@@ -28,7 +28,7 @@ module _ (s : Skeleton) (k : IsSkeleton s) (c : ℕ) (coords : Coords) (h : HasT
   abbrev xs : List ℕ
   xs = link_of s coords c
 
-  -- arcs lead from piece p to the triangle at a place
+  -- arcs join piece p to the triangle at a vertex
   record LedTo (p : NormalDisc) (q : Place) : Type 0 where
     v : ℕ
     is : q.vertices ≡ v ∷ []
@@ -63,7 +63,7 @@ module _ (s : Skeleton) (k : IsSkeleton s) (c : ℕ) (coords : Coords) (h : HasT
       let at : l.v ≡ w = ap (λ (vs : List ℕ). slice_index vs 0) (sym l.is) in
       (l.arcs, subst (λ x. ArcsLead s.rows coords xs p l.arcs (triangle coords u x)) at l.lead)
 
-  -- so they lead from each triangle to each
+  -- so arcs join each two triangles
   triangles_led : (t v u w : ℕ) → IsMember s k c coords h t v → IsMember s k c coords h u w → (arcs : List Arc) × ArcsLead s.rows coords (link_of s coords c) (triangle coords t v) arcs (triangle coords u w)
   triangles_led t v u w a b =
       let la : vertex_number t v < 4 * n = let x = a.tet in let y = a.below_four in omega arith in
@@ -109,6 +109,6 @@ module _ (s : Skeleton) (k : IsSkeleton s) (c : ℕ) (coords : Coords) (h : HasT
     pub in_first : (i : ℕ) → i < length (discs_of (link_of s coords c)) → slice_index components i ≡ 0
     in_first i l = let low : slice_index components i < count = numbered.in_range i l in let one : count ≡ 1 = one_component in omega arith
 
-    -- so it is the whole
+    -- so the component is the whole link
     pub whole_vector : component_vector (link_of s coords c) components 0 ≡ link_of s coords c
     whole_vector = one_is_whole s.rows coords (link_of s coords c) components count numbered one_component

@@ -1,4 +1,4 @@
--- What is answered of the components of a vertex link: it is one, as the link is.
+-- The answer for the components of a vertex link: there is one, the link itself.
 use Rattle.std.proofs.Common.{◌≡◌, ℕ, ◌<◌, List, [], ◌∷◌, refl, ◌∙◌, subst}
 use Rattle.std.specs.List.{AllZip}
 use Rattle.std.specs.Cmp.{both_ways}

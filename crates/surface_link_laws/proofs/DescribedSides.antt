@@ -1,4 +1,4 @@
--- Each component that a description lists is told alike.
+-- Each component that a description lists is two-sided if and only if it is orientable.
 use Rattle.std.proofs.Common.{◌≡◌, ℕ, List, [], ◌∷◌}
 use Rattle.std.specs.Prelude.{All}
 use Rattle.std.specs.List.{AllZip}

@@ -1,4 +1,5 @@
--- The pieces of a vertex link are its triangles, one at each member of the class, and each of its arcs is one of theirs.
+-- The pieces of a vertex link are its triangles, one at each member of the class, and each of its arcs is one of
+-- theirs.
 use Rattle.std.proofs.Common.{◌≡◌, ℕ, ◌<◌, ◌≤◌, Bool, true, false, not, ◌-◌, List, length, Some, refl, sym, ap, ◌∙◌, subst, arith}
 use Rattle.std.specs.Prelude.{◌==◌, ◌||◌, if◌then◌else◌, slice_index}
 use Rattle.std.specs.List.{slice_index_or}
@@ -76,7 +77,7 @@ module _ (s : Skeleton) (k : IsSkeleton s) (c : ℕ) (coords : Coords) (h : HasT
     number = (let o : slice_index (link_of s coords c) (tri_column coords t v) ≡ 1 = one_there t v m in omega arith);
   }
 
-  -- each piece is one of them
+  -- each piece is one of these triangles
   pub record IsTriangle (p : NormalDisc) : Type 0 where
     pub tet : ℕ
     pub vertex : ℕ
@@ -113,7 +114,7 @@ module _ (s : Skeleton) (k : IsSkeleton s) (c : ℕ) (coords : Coords) (h : HasT
   across_is_arc : (a : Arc) (g : Gluing) → Meets s.rows coords (link_of s coords c) a g → IsLinkArc (arc_across g a)
   across_is_arc a g m = let b : MeetsBack s.rows coords xs a g = meets_back s.rows coords xs surface a g m in arc_is (arc_across g a) _ b.meets
 
-  -- it is an arc of its triangle, which looks at its vertex
+  -- it is an arc of its triangle, whose positive side is that of the vertex
   of_triangle : (a : Arc) → IsLinkArc a → is_triangle_arc coords (link_of s coords c) a ≡ true
   of_triangle a i =
       let o : slice_index (link_of s coords c) (tri_column coords a.tet a.vertex) ≡ 1 = one_there a.tet a.vertex i.is_member in

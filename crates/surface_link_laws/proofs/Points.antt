@@ -70,7 +70,7 @@ module _ (s : Skeleton) (k : IsSkeleton s) (c : ℕ) (directions : List ℕ) (co
     first_joined : IsJoined s.rows (pair t a b) (directed (vertex_of t a b))
     first_joined = subst (λ p. IsJoined s.rows p (directed (vertex_of t a b))) (pair_is t a b la lb ne) first.same
 
-    -- it is counted where the tail is of the class
+    -- it is counted if its first vertex is of the class
     first_counted : is_vertex (vertex_of t a b) ≡ at_vertex t a
     unfolding is_vertex
     first_counted =
@@ -78,7 +78,7 @@ module _ (s : Skeleton) (k : IsSkeleton s) (c : ℕ) (directions : List ℕ) (co
         let same : least directions (slice_index directions (vertex_of t a b)) ≡ vertex_of t a b = ap (least directions) first.same_class in
         (λ j. one_if (eq-eqb (least directions (slice_index directions i)) i same j && (one_tail i t a b la first_joined j == c)))
 
-    -- a least directed edge that is joined to it is it
+    -- a directed edge that is joined to it, and is the least of its class, is this vertex
     told : (i : ℕ) → i < 12 * n → is_least directions i ≡ true → IsJoined s.rows (directed i) (pair t a b) → i ≡ vertex_of t a b
     told i l e j =
         let d : ℕ = direction_number t a b in
@@ -140,7 +140,7 @@ module _ (s : Skeleton) (k : IsSkeleton s) (c : ℕ) (directions : List ℕ) (co
     back : b ≢ a
     back q = ne (sym q)
 
-    -- its two vertices of the link
+    -- the two vertices of the link on the edge
     abbrev one : ℕ
     one = vertex_of t a b
 
@@ -153,7 +153,7 @@ module _ (s : Skeleton) (k : IsSkeleton s) (c : ℕ) (directions : List ℕ) (co
     other_below : other < 12 * n
     other_below = (first t b a lt lb la back).below
 
-    -- a directed edge counts for the class where it is one of its edge
+    -- a directed edge counts for the class of its edge
     term : ℕ → ℕ
     term i = one_if (edge_class i == e) * is_vertex i
 

@@ -34,7 +34,7 @@ vertex-triangle : (coords : Coords) → HasTriangles coords → (t v : ℕ) → 
 unfolding vertex_in
 vertex-triangle coords h t v l = λ i. vertex_number (triangle_in coords t v h l i) (index_of_index coords t v (triangle_place coords v h l) i)
 
--- where sides are kept signs stay exactly across odd gluings
+-- if sides are kept, signs stay the same across odd gluings, and only there
 stays_by : (kept odd : Bool) (x : Bool) → kept ≡ true
     → (if (if odd then kept else not kept) then x else not x) ≡ (if odd then x else not x)
 stays_by kept odd x e = ap (λ (b : Bool). if (if odd then b else not b) then x else not x) e ∙ by_odd odd

@@ -1,4 +1,4 @@
--- Sums over what passes a test, over blocks of numbers, and with two terms alone.
+-- Sums over the items that pass a test, over blocks of numbers, and with only two nonzero terms.
 use Rattle.std.proofs.Common.{◌≡◌, ◌≢◌, ℕ, ◌+◌, ◌*◌, ◌<◌, inl, inr, refl, sym, ap, ◌∙◌, arith}
 use Rattle.std.specs.Prelude.{◌==◌, get_or, sum_by}
 use Rattle.std.specs.List.{AllPairs}

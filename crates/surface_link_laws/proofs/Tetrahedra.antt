@@ -1,4 +1,4 @@
--- The piece of an arc stands in the arc's tetrahedron, which its number tells.
+-- The piece of an arc is in the arc's tetrahedron, and the number of the piece determines this tetrahedron.
 use Rattle.std.proofs.Common.{◌≡◌, ℕ, zero, suc, ◌-◌, ◌/◌, ◌<◌, Bool, true, false, List, [], ◌∷◌, length, ap, ◌∙◌}
 use Rattle.std.specs.Prelude.{nat_lt, slice_index, if◌then◌else◌}
 use Rattle.std.specs.List.{AllByRecursion, position_or_len, slice_index_or}
@@ -14,7 +14,7 @@ use Rattle.surface_laws.proofs.Glued.{IsGlued, glued_is}
 use Rattle.surface_laws.proofs.PieceNumbers.{no_piece, IsFound, piece_found}
 use Rattle.surface_laws.proofs.Turns.{keeping_below}
 
--- what holds of a list's items and of what stands past them holds at each place
+-- what holds of each item of a list, and of the value beyond its end, holds at each index
 at_place : (P : ℕ → Type 0) (os : List ℕ) (k q : ℕ) → P q → AllByRecursion P os → P (slice_index_or os k q)
 at_place P [] k q past all = past
 at_place P (o ∷ os) zero q past all = all.0
@@ -37,7 +37,7 @@ module _ (coords : Coords) (xs : List ℕ) (triangles : HasTriangles coords) (a 
       go true = triangle_in coords a.tet a.vertex triangles is_vertex
       go false = further_tet
 
--- the tetrahedron of the piece of this number
+-- the tetrahedron of the piece with a given number
 abbrev pub tet_of : Coords → List ℕ → ℕ → ℕ
 tet_of coords xs i = (slice_index_or (discs_of xs) i no_piece).column / columns_each coords
 

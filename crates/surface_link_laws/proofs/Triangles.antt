@@ -56,7 +56,7 @@ module _ (n : ℕ) (classes : List ℕ) (c : ℕ) where
       (four_alone (λ j. slice_index (vertex_link coords n classes c) (columns_each coords * t + j)) (λ v. member classes c (4 * t + v)) (3 + octagons_each coords)
       (λ v lv. triangle-link n classes c coords t v h lt lv) further)
 
-  -- the members of the class, by places and tetrahedra
+  -- the members of the class, by tetrahedra and their vertices
   pub members-sum : length classes ≡ 4 * n → sum_by (λ t. sum_by (λ v. member classes c (4 * t + v)) (below 4)) (below n) ≡ times_in classes c
   members-sum w =
       sym (sum_blocks (member classes c) 4 n) ∙ ap (λ m. sum_by (member classes c) (below m)) (sym w)

@@ -1,4 +1,5 @@
--- Signs of pieces, turned by the signs of their tetrahedra, are signs of the other kind.
+-- Signs of pieces, multiplied by the signs of their tetrahedra, are signs of the other kind: of sides or of
+-- orientation.
 use Rattle.std.proofs.Common.{◌≡◌, ℕ, Bool, true, false, List, refl, sym, ap, ◌∙◌}
 use Rattle.std.specs.Prelude.{not, if◌then◌else◌}
 use Rattle.basic_lemmas.proofs.Truths.{same_truth}
@@ -42,7 +43,7 @@ twice false true = refl
 twice false false = refl
 
 module _ (rows : List Row) (coords : Coords) (xs components : List ℕ) (component : ℕ) (s : IsSurface rows coords xs) (signs : List Bool) (agree : AreSigns rows signs) where
-  -- the sign of the tetrahedron of a piece stays and changes as across the gluing
+  -- across an arc the sign of a piece's tetrahedron stays the same or changes as the gluing says
   sign_over : (a : Arc) (g : Gluing) → Meets rows coords xs a g → sign_of signs (tet_of coords xs (disc_number xs (disc_of coords xs (arc_across g a)))) ≡ if_so (is_odd g.perm) (sign_of signs (tet_of coords xs (disc_number xs (disc_of coords xs a))))
   sign_over a g m =
       let back : MeetsBack rows coords xs a g = meets_back rows coords xs s a g m in

@@ -1,4 +1,4 @@
--- In each face there are as many arcs of the octagons as of the quads in their place.
+-- In each face the octagons have as many arcs as the quads that replace them.
 use Rattle.std.proofs.Common.{◌≡◌, ℕ, ◌+◌, ◌<◌, not, List, [], ◌∷◌, length, filter, Some, sym, ◌∙◌, subst, arith}
 use Rattle.std.specs.Prelude.{◌==◌, ◌↔◌, sum_by, slice_index}
 use Rattle.std.proofs.lemmas.List.Sums.{sum_by-cons}
@@ -44,7 +44,7 @@ module _ (s : Skeleton) (k : IsSkeleton s) where
   abbrev n : ℕ
   n = length s.rows
 
-  -- an equation holds with the octagons where it does with the quads
+  -- an equation holds with the octagons if and only if it holds with the quads
   both_sides : (ys zs : List ℕ) → HasQuadsForOctagons n ys zs → (x : Face) (g : Gluing) (v : ℕ) → glue s.rows x ≡ Some g → v < 4 → (v ≡ x.face → ⊥) → Holds (matching Octagon x g v) ys ↔ Holds (matching Standard x g v) zs
   both_sides ys zs h x g v e lv off =
       let i : IsGlued s.rows x g = glued_is s.rows x g k.table e in

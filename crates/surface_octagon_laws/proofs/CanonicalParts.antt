@@ -1,4 +1,5 @@
--- The canonical part of an octagon solution is that over the lift of its quads, with two quads in place of each octagon.
+-- The canonical part of an octagon solution is that over the lift of its quads, with two quads in place of each
+-- octagon.
 use Rattle.std.proofs.Common.{◌≡◌, ℕ, ◌+◌, ◌*◌, ◌/◌, ◌%◌, ◌-◌, ◌<◌, ◌≤◌, List, length, sym, ap, ◌∙◌, subst, arith, ext_get_or}
 use Rattle.std.specs.Prelude.{slice_index}
 use Rattle.skeleton_definitions.specs.Skeleton.{Skeleton, IsSkeleton}
@@ -22,7 +23,7 @@ module _ (s : Skeleton) (k : IsSkeleton s) where
   abbrev n : ℕ
   n = length s.rows
 
-  -- a canonical solution is a lift once each octagon is two quads
+  -- a canonical solution becomes a lift if each octagon is replaced by two quads
   pub canonical_as_quads : (ys zs : List ℕ) → HasQuadsForOctagons n ys zs → IsOctagonSolution s ys → IsCanonical s Octagon ys → IsLiftOf s (projected n zs) zs
   canonical_as_quads ys zs h solution canonical =
       canonical_lift s k zs ((match_as_quads s k ys zs solution.width h).0 solution) (λ c lc. let m = canonical c lc in
@@ -60,7 +61,7 @@ module _ (s : Skeleton) (k : IsSkeleton s) where
   no_less : (a b l : ℕ) → a ≡ b + l → l ≡ 0 → b ≡ a
   no_less a b l e z = omega arith
 
-  -- an entry behind the triangles, by the quads and octagons
+  -- an entry after those of the triangles, by the quads and octagons
   rest-at : (ys : List ℕ) (i : ℕ) → i < 10 * n → 4 ≤ i % 10 → slice_index ys i ≡ slice_index (quads_and_octagons n ys) (6 * (i / 10) + (i % 10 - 4))
   rest-at ys i l high =
       let lt : i / 10 < n = omega arith in

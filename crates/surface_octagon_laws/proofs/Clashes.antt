@@ -1,4 +1,4 @@
--- Quads and octagons clash in quad-octagon coordinates as they do in the vector.
+-- Quads and octagons clash in quad-octagon coordinates if and only if they clash in octagon coordinates.
 use Rattle.std.proofs.Common.{◌≡◌, ℕ, ◌+◌, ◌*◌, ◌/◌, ◌%◌, ◌-◌, ◌<◌, ◌≤◌, List, ◌⊎◌, inl, inr, sym, ap, ◌∙◌, arith}
 use Rattle.std.specs.Prelude.{slice_index, ◌↔◌}
 use Rattle.cone_definitions.specs.Surfaces.{IsAdmissible}

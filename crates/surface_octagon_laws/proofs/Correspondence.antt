@@ -1,4 +1,4 @@
--- Where all links are spheres or discs, quad-octagon solutions and octagon solutions correspond.
+-- If all links are spheres or discs, quad-octagon solutions and octagon solutions correspond.
 use Rattle.std.proofs.Common.{◌≡◌, ℕ, ◌*◌, List, length, sym, ap, ◌∙◌, subst}
 use Rattle.std.specs.Prelude.{◌↔◌, slice_index}
 use Rattle.cone_definitions.specs.Rows.{Row as EquationRow}

@@ -55,7 +55,7 @@ quads-at n xs t k lt lk = block-at 3 (λ t. map (quads_at xs t) three) (λ t. re
 pub length-quads : (n : ℕ) (xs : List ℕ) → length (quads_for_octagons n xs) ≡ 3 * n
 length-quads n xs = length-blocks 3 (λ t. map (quads_at xs t) three) (λ t. refl) n
 
--- the quads of a tetrahedron in octagon coordinates, once each octagon there is two quads
+-- the quads of a tetrahedron in octagon coordinates, if each octagon there is replaced by two quads
 abbrev quads_in : List ℕ → ℕ → ℕ → ℕ
 quads_in ys t k = slice_index ys (quad_column Octagon t k) + sum_by (λ j. slice_index ys (oct_column Octagon t j)) (other_types k)
 
@@ -157,7 +157,7 @@ joined-entries n zs xs w = ext_get_or 0 (quads_and_octagons n (joined n zs xs)) 
         ap (slice_index (quads_and_octagons n (joined n zs xs))) (sym whole) ∙ entry-at n (joined n zs xs) (i / 6) (i % 6) lt lj
         ∙ entry-joined n zs xs (i / 6) (i % 6) lt lj ∙ ap (slice_index xs) whole
 
--- and is the standard vector, where that has their quads
+-- the octagon vector becomes the standard vector, if the standard vector has their quads
 pub joined_is : (n : ℕ) (zs xs : List ℕ) → length zs ≡ 7 * n → length xs ≡ 6 * n → projected n zs ≡ quads_for_octagons n xs → HasQuadsForOctagons n (joined n zs xs) zs
 joined_is n zs xs w v e = record {
   width = w;
@@ -166,7 +166,7 @@ joined_is n zs xs w v e = record {
       ∙ ap (λ us. quads_at us t k) (sym (joined-entries n zs xs v)) ∙ quads_in-at n (joined n zs xs) t k lt lk;
 }
 
--- octagon vectors with the same triangles and the same quads and octagons are one
+-- octagon vectors with the same triangles, quads and octagons are equal
 pub same_vector : (n : ℕ) (ys ws : List ℕ) → length ys ≡ 10 * n → length ws ≡ 10 * n
     → ((t v : ℕ) → t < n → v < 4 → slice_index ys (tri_column Octagon t v) ≡ slice_index ws (tri_column Octagon t v)) → quads_and_octagons n ys ≡ quads_and_octagons n ws → ys ≡ ws
 same_vector n ys ws wy ww triangles e = ext_get_or 0 ys ws (wy ∙ sym ww) (λ i l. by_column Octagon tt n (λ i. slice_index ys i ≡ slice_index ws i) triangles rest i (omega (arith, wy)))

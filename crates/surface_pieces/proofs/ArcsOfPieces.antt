@@ -1,4 +1,5 @@
--- Round a vertex of a face a piece has at most one arc: that of its number, or that of the place from which its number is counted.
+-- Around a vertex of a face a piece has at most one arc: that with the piece's number, or that with this number counted
+-- from the other end.
 use Rattle.std.proofs.Common.{◌≡◌, ℕ, ◌+◌, ◌-◌, ◌/◌, ◌%◌, ◌<◌, ◌≤◌, Bool, List, length, inl, inr, refl, sym, ap, ◌∙◌, subst, arith}
 use Rattle.std.specs.Prelude.{slice_index}
 use Rattle.std.proofs.lemmas.Bool.{cases_lt}
@@ -44,7 +45,7 @@ module _ (coords : Coords) (n : ℕ) (xs : List ℕ) (triangles : HasTriangles c
   number_is p q e = ap (λ (r : NormalDisc). r.number) e
 
   module _ (p : NormalDisc) (here : t ≡ p.column / columns_each coords) (some : p.number < slice_index xs p.column) where
-    -- another arc of the piece has the same place
+    -- another arc of the piece has the same index
     same_arc : (k : ℕ) → ((i : ℕ) → i < arcs_around coords xs t f v → disc_of coords xs (arc_at t f v i) ≡ p → i ≡ k) → (b : Arc) → IsArcOf coords xs p f v b → b ≡ arc_at t f v k
     same_arc k one b is =
         let tet : b.tet ≡ t = is.tet ∙ sym here in

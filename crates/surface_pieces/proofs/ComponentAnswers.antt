@@ -38,7 +38,7 @@ module _ (rows : List Row) (coords : Coords) (xs : List ℕ) (s : IsSurface rows
       let empty : slice_index_or table k [] ≡ [] = get_or_past table k [] (let z = are.size in omega arith) in
       nothing l (subst (λ (r : List (Option ℕ)). Contains (neighbours_of (r ∷ []) 0) l) empty c)
 
-  -- the rows list the meeting pieces
+  -- the rows list the pieces that meet
   meeting : AreMeetingPieces rows coords xs (neighbours_of table)
   meeting i j = (
     (λ c. elim (cases_lt i n) [
@@ -56,7 +56,7 @@ module _ (rows : List Row) (coords : Coords) (xs : List ℕ) (s : IsSurface rows
         }))),
   )
 
-  -- so they join components
+  -- so they join the pieces of each component
   pub joins : JoinComponents rows coords xs (neighbours_of table)
   joins = join_components rows coords xs (neighbours_of table) s meeting
 
@@ -82,7 +82,7 @@ zip_map : {A B : Type 0} (R : A → B → Type 0) (f : A → B) (xs : List A) �
 zip_map R f [] h = tt
 zip_map R f (x ∷ xs) h = (h x (inl refl), zip_map R f xs (λ y m. h y (inr m)))
 
--- what is held of the components tells them
+-- the classes, vectors and signs determine the list of components
 pub told : (rows : List Row) (coords : Coords) (xs classes : List ℕ) (count : ℕ) (vectors : List (List ℕ)) (two_sided orientable : List Bool) → AreComponents rows coords xs classes count
     → AreVectors xs classes count vectors → AreSigned Sides rows coords xs classes count two_sided → AreSigned Orientation rows coords xs classes count orientable
     → AreListedComponents rows coords xs (all_components vectors two_sided orientable)

@@ -10,7 +10,7 @@ module _ (xs : List ℕ) (q : ℕ) where
   at_test : ℕ → List ℕ → Bool → ℕ
   at_test c os b = slice_index_or (c ∷ os) (cond (not b) (1 + position_or_len (λ d. nat_lt 0 (slice_index xs d)) os) 0) q
 
-  -- the first of the columns from place k on
+  -- the first nonzero column from index k onwards
   abbrev from_place : List ℕ → ℕ → ℕ
   from_place os k = first_nonzero xs (drop k os) q
 

@@ -1,4 +1,5 @@
--- A surface that a struct holds: which of two clashing columns is 0 can be told, and its other facts have at most one proof each.
+-- A struct stores only that a proof exists that its vector is a surface. The proof is recovered: it is decidable which
+-- of two clashing columns is 0, and the other facts have at most one proof each.
 use Rattle.std.proofs.Common.{◌≡◌, ℕ, zero, suc, Bool, true, false, List, length, inl, inr, ◌⊎◌, refl}
 use Rattle.std.specs.Prelude.{slice_index, T}
 use Rattle.std.specs.List.{slice_index_or}

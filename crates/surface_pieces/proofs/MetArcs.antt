@@ -1,4 +1,4 @@
--- Arcs that meet, and what they join.
+-- Arcs that meet, and the pieces that they join.
 use Rattle.std.proofs.Common.{◌≡◌, ℕ, ◌/◌, ◌<◌, Bool, true, false, not, List, length, Option, Some, None, refl, sym, ap, ◌∙◌, subst, arith}
 use Rattle.std.specs.Prelude.{sum, if◌then◌else◌}
 use mathlib.Core.Bool.{beq}

@@ -1,4 +1,4 @@
--- Rows of what pieces are joined to, and those of numbers that are read off from them.
+-- For each piece, a row of what it is joined to, and the rows of numbers that are read from these.
 use Rattle.std.proofs.Common.{◌≡◌, ℕ, suc, ◌+◌, ◌*◌, ◌%◌, ◌<◌, ◌≤◌, inl, inr, List, [], ◌∷◌, length, Option, Some, None, IfSome, IfNone, set, ◌++◌, refl, sym, ap, ◌∙◌, subst, arith}
 use Rattle.std.specs.List.{slice_index_or}
 use Rattle.std.proofs.lemmas.Bool.{cases_eq}
@@ -23,7 +23,7 @@ use Rattle.surface_pieces.specs.Readings.{read_across, read_at, IsReadRow, AreRe
 use Rattle.surface_pieces.specs.Slots.{slots_each, vertex_of_slot}
 use Rattle.surface_pieces.proofs.SlotsOfArcs.{HasSlot, slot_of_arc}
 
--- a number that is there stands at a place
+-- a number that is present is in a slot
 present_place : (row : List (Option ℕ)) (l : ℕ) → Among l (present row) → (s : ℕ) × (s < length row) × (slice_index_or row s None ≡ Some l)
 present_place [] l h = absurd h
 present_place (None ∷ row) l h = let p = present_place row l h in (suc p.0, (let k = p.1 in omega arith), p.2)
@@ -31,7 +31,7 @@ present_place (Some m ∷ row) l (inl e) = (0, omega arith, ap Some (sym e))
 present_place (Some m ∷ row) l (inr h) = let p = present_place row l h in (suc p.0, (let k = p.1 in omega arith), p.2)
 
 module _ (rows : List Row) (coords : Coords) (xs : List ℕ) (p : NormalDisc) where
-  -- what is said of one slot
+  -- what one slot contains
   abbrev pub IsSlot : ℕ → Option Across → Type 0
   IsSlot slot o = IfSome o (IsJoinedAt rows coords xs p (slot % 4) (vertex_of_slot coords p slot)) × IfNone o (HasNoMeeting rows coords xs p (slot % 4) (vertex_of_slot coords p slot))
 
@@ -103,7 +103,7 @@ pub numbers_low : (kind : SearchKind) (n : ℕ) → numbers kind n ≤ 2 * n
 numbers_low Pieces n = omega arith
 numbers_low (Signed signs) n = omega arith
 
--- the rows that are read off list what the pieces are joined to
+-- the rows that are read list what the pieces are joined to
 pub rows_read : (rows : List Row) (coords : Coords) (xs : List ℕ) → IsSurface rows coords xs → (kind : SearchKind) (joined : List (List (Option Across))) (listed : List (List (Option ℕ)))
     → AreJoined rows coords xs joined → AreReadRows kind joined listed → AreRows kind rows coords xs listed
 rows_read rows coords xs s kind joined listed j r = record {

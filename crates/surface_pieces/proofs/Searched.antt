@@ -1,4 +1,4 @@
--- Rows of numbers are fit for a search for classes.
+-- Rows of neighbours fulfil the conditions of a search for classes.
 use Rattle.std.proofs.Common.{ℕ, List, length, Option, sym, subst}
 use Rattle.table_definitions.specs.Table.{Row}
 use Rattle.table_walk_laws.specs.Joined.{HasNeighboursBelow, IsSymmetric, neighbours_of}

@@ -1,5 +1,5 @@
--- Signs of a component exist if and only if no piece is joined to itself with the other sign, by the classes of what
--- rows of neighbours list.
+-- Signs of a component exist if and only if no piece is joined to itself with the other sign, by the classes of the
+-- rows of neighbours.
 use Rattle.std.proofs.Common.{◌≡◌, ℕ, ◌*◌, ◌/◌, ◌<◌, ◌≤◌, ◌↔◌, Bool, List, [], ◌∷◌, length, Option, Contains, inl, inr, sym, ap, ◌∙◌, subst, arith}
 use Rattle.std.specs.List.{slice_index_or}
 use Rattle.std.proofs.lemmas.Bool.{cases_lt}
@@ -18,7 +18,7 @@ use Rattle.surface_pieces.specs.declared.joined.SearchKind.TheVariants.{Signed}
 use Rattle.surface_pieces.specs.Searches.{stays_at, LeadsTo, AreRows, IsFree}
 
 module _ (rows : List Row) (coords : Coords) (xs : List ℕ) (s : IsSurface rows coords xs) where
-  -- whether signs stay is the same from either side of a gluing
+  -- whether signs stay the same across a gluing does not depend on the side from which it is read
   stays_back : (signs : SignKind) (a : Arc) (g : Gluing) → Meets rows coords xs a g → stays_at signs coords xs (arc_across g a) (way_back (face_of_arc a) g) ≡ stays_at signs coords xs a g
   stays_back Sides a g m = sides_back rows coords xs s a g m
   stays_back Orientation a g m = orientation_back rows coords xs s a g m

@@ -1,4 +1,5 @@
--- Each arc of a piece has a slot: by the type of the piece, the vertex around which it has an arc of the face is this one.
+-- Each arc of a piece has a slot: by the type of the piece, the vertex around which it has an arc of the face is this
+-- one.
 use Rattle.std.proofs.Common.{◌≡◌, ℕ, zero, suc, ◌+◌, ◌-◌, ◌*◌, ◌%◌, ◌<◌, ◌≤◌, Bool, true, false, not, List, filter, inl, inr, refl, sym, ap, ◌∙◌, subst, arith}
 use Rattle.std.specs.Prelude.{◌==◌, ◌&&◌, ◌||◌, nat_lt, if◌then◌else◌}
 use Rattle.std.specs.List.{AllByRecursion}

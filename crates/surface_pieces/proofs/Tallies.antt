@@ -14,7 +14,7 @@ use Rattle.surface_laws.proofs.PieceNumbers.{no_piece}
 use Rattle.surface_pieces.specs.Vectors.{AreVectors}
 use Rattle.basic_lemmas.proofs.Truths.{one_if}
 
--- how many of the first n pieces of component i stand in column c
+-- how many of the first n pieces of component i are in column c
 abbrev pub tally : List ℕ → List ℕ → ℕ → ℕ → ℕ → ℕ
 tally xs components n i c = count_by (is_counted xs components i c) (below n)
 
@@ -40,7 +40,7 @@ module _ (xs components : List ℕ) where
   no_and true = refl
   no_and false = refl
 
-  -- a component of another piece stays
+  -- the vectors of other components do not change
   tally_elsewhere : (n i : ℕ) (ys : List ℕ) → i ≢ slice_index components n → IsTally xs components n i ys → IsTally xs components (n + 1) i ys
   tally_elsewhere n i ys apart t = record {
     width = t.width;
@@ -50,7 +50,7 @@ module _ (xs components : List ℕ) where
         t.entry c l ∙ omega (arith, tally_next n i c);
   }
 
-  -- the piece's own has one more in its column
+  -- the vector of the piece's own component is greater by 1 in the piece's column
   tally_here : (n : ℕ) (ys : List ℕ) → (piece n).column < length xs → IsTally xs components n (slice_index components n) ys
       → IsTally xs components (n + 1) (slice_index components n) (set ys (piece n).column (slice_index ys (piece n).column + 1))
   tally_here n ys inside t = record {
@@ -82,7 +82,7 @@ module _ (xs components : List ℕ) where
       });
     }
 
-    -- the vector of the piece's component, as it is held
+    -- the vector of the piece's component, as it is stored
     pub held : (n : ℕ) (vectors : List (Vec ℕ Global)) (v : Vec ℕ Global) → AreTallies xs components count n vectors → slice_index components n < count → v ≡ slice_index_or vectors (slice_index components n) v
         → IsTally xs components n (slice_index components n) v.items
     held n vectors v t l e =

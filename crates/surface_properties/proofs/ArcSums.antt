@@ -18,7 +18,7 @@ three_others r (suc (suc zero)) l = omega arith
 three_others r (suc (suc (suc zero))) l = omega arith
 three_others r (suc (suc (suc (suc f)))) l = absurd (omega arith)
 
--- what is filtered counts nothing
+-- items that fail the test count nothing
 filtered : {A : Type 0} (f : A → ℕ) (p : A → Bool) (xs : List A) → sum_by f (filter p xs) ≡ sum_by (λ x. if p x then f x else 0) xs
 filtered f p [] = refl
 filtered {A} f p (x ∷ xs) = go (p x) refl (filtered f p xs)

@@ -1,4 +1,4 @@
--- Sums with a limit go on.
+-- Capped sums, term by term.
 use Rattle.std.proofs.Common.{◌≡◌, ℕ, ◌+◌, ◌<◌, ◌≤◌, ◌⊎◌, List, length, take, inl, inr, sym, ap, ◌∙◌, arith}
 use Rattle.std.specs.Prelude.{sum_by}
 use Rattle.std.specs.List.{slice_index_or}
@@ -17,14 +17,14 @@ pub capped_large : (n : ℕ) → limit < n → capped n ≡ limit + 1
 unfolding capped
 capped_large n l = grind arith
 
--- a number is large where it is so capped
+-- a number exceeds the limit if its capped value does
 pub large_is : (n : ℕ) → limit < capped n → limit < n
 large_is n l = elim (cases_lt limit n) [ inl more ↦ more | inr less ↦ omega (arith, capped_small n less) ]
 
 pub small_is : (n : ℕ) → capped n ≤ limit → n ≤ limit
 small_is n l = elim (cases_lt limit n) [ inl more ↦ omega (arith, capped_large n more) | inr less ↦ less ]
 
--- capped parts have a capped sum
+-- the capped sum of capped numbers is that of the numbers
 pub capped_sum : (a b : ℕ) → capped (capped a + capped b) ≡ capped (a + b)
 capped_sum a b = go (cases_lt limit a) (cases_lt limit b)
   where
@@ -43,15 +43,15 @@ capped_add a b = go (cases_lt limit a)
 pub capped_zero : capped 0 ≡ 0
 capped_zero = capped_small 0 (omega arith)
 
--- so a capped sum goes on
+-- a capped sum with one more term
 pub capped_more : (f : ℕ → ℕ) (n total one : ℕ) → total ≡ capped (sum_by f (below n)) → one ≡ capped (f n) → capped (total + one) ≡ capped (sum_by f (below (n + 1)))
 capped_more f n total one e g = (λ i. capped (e i + g i)) ∙ capped_sum (sum_by f (below n)) (f n) ∙ ap capped (sym (sum_below_next f n))
 
--- and that of a list
+-- a capped sum of a list with one more term
 pub capped_step : {A : Type 0} (f : A → ℕ) (xs : List A) (i : ℕ) (d : A) (total : ℕ) → i < length xs → total ≡ capped (sum_by f (take i xs)) → capped (total + f (slice_index_or xs i d)) ≡ capped (sum_by f (take (i + 1) xs))
 capped_step f xs i d total l e = ap (λ n. capped (n + f (slice_index_or xs i d))) e ∙ capped_add (sum_by f (take i xs)) (f (slice_index_or xs i d)) ∙ ap capped (sym (sum_by_more f xs i d l))
 
--- sums of two, three and four parts
+-- sums of two, three and four terms
 pub capped_two : (x y a b : ℕ) → a ≡ capped x → b ≡ capped y → capped (a + b) ≡ capped (x + y)
 capped_two x y a b e f = (λ i. capped (e i + f i)) ∙ capped_sum x y
 

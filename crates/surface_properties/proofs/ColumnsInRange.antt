@@ -1,4 +1,4 @@
--- The columns round a vertex of a face, and along an edge, are columns of the vector.
+-- The columns around a vertex of a face, and those along an edge, are columns of the vector.
 use Rattle.std.proofs.Common.{◌≡◌, ◌≢◌, ℕ, zero, suc, ◌<◌, Bool, true, false, List, ◌∷◌, length, sym, subst, arith}
 use Rattle.std.specs.Prelude.{All, slice_index, T, if◌then◌else◌}
 use Rattle.std.specs.List.{AllByRecursion}

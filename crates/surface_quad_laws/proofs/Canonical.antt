@@ -34,7 +34,7 @@ module _ (s : Skeleton) (k : IsSkeleton s) where
   pub lift_canonical : (xs ys : List ℕ) → IsLiftOf s xs ys → IsCanonical s Standard ys
   lift_canonical xs ys l c lc = let m = (l.each c lc).least in (m.0, (let i : m.0 < length s.vertices.classes = m.1 in omega (arith, (k.vertices).one_each)), m.2, m.3)
 
--- what lies inside a canonical vector is canonical
+-- a vector inside a canonical one is canonical
 pub inside_canonical : (s : Skeleton) (coords : Coords) (v x : List ℕ) → IsInside v x → IsCanonical s coords x → IsCanonical s coords v
 inside_canonical s coords v x inside h c l = let m = h c l in (m.0, m.1, m.2, inside _ m.3)
 
@@ -50,7 +50,7 @@ no_link_is_canonical s coords xs h link canonical =
     let none : slice_index (link_of s coords c) (tri_column coords (m.0 / 4) (m.0 % 4)) ≡ 0 = ap (λ (ys : List ℕ). slice_index ys (tri_column coords (m.0 / 4) (m.0 % 4))) (sym link.2) ∙ m.3 in
     omega arith
 
--- where a vector is not canonical, it has a triangle at each member of some class
+-- a vector that is not canonical has a triangle at each member of some class
 module _ (s : Skeleton) (coords : Coords) (xs : List ℕ) where
   abbrev triangle : ℕ → ℕ
   triangle i = slice_index xs (tri_column coords (i / 4) (i % 4))

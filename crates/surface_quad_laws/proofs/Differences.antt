@@ -1,4 +1,5 @@
--- Heights differ by the same all over a vertex class, and the triangles of a solution are heights.
+-- Two families of heights of a vertex class differ by a constant, and the numbers of triangles of a solution are
+-- heights.
 use Rattle.std.proofs.Common.{◌≡◌, ℕ, ◌+◌, ◌*◌, ◌/◌, ◌%◌, ◌<◌, ℤ, pos, ◌-ℤ◌, List, [], ◌∷◌, length, Some, refl, sym, ap, ◌∙◌, subst, arith}
 use Rattle.std.specs.Prelude.{slice_index}
 use Rattle.std.proofs.lemmas.Int.{ints}
@@ -34,7 +35,7 @@ module _ (s : Skeleton) (k : IsSkeleton s) where
   class_of i = slice_index s.vertices.classes i
 
   module _ (xs : List ℕ) (c : ℕ) (h m : ℕ → ℕ) (one : AreHeights s xs c h) (other : AreHeights s xs c m) where
-    -- the heights at a place differ by as much as a and b
+    -- the heights at a vertex differ by as much as a and b
     record DifferAt (a b : ℕ) (p : Place) : Type 0 where
       v : ℕ
       is : p.vertices ≡ v ∷ []

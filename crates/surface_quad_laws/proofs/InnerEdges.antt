@@ -1,4 +1,4 @@
--- Round an inner edge the walk leads on from each corner.
+-- Around an internal edge each corner has a next one.
 use Rattle.std.proofs.Common.{◌≡◌, ◌≢◌, ℕ, ◌+◌, ◌*◌, ◌/◌, ◌%◌, ◌<◌, Bool, true, false, List, [], ◌∷◌, length, Option, Some, None, ◌⊎◌, inl, inr, refl, sym, ap, ◌∙◌, subst, arith}
 use Rattle.std.specs.Prelude.{◌==◌, ◌&&◌, not, is_none, slice_index}
 use Rattle.std.specs.List.{list_any}
@@ -18,7 +18,7 @@ use Rattle.skeleton_class_laws.specs.Crossings.{pair}
 use Rattle.skeleton_class_laws.proofs.Cases.{ends-edge_number}
 use Rattle.skeleton_class_laws.proofs.EdgeTies.{edge_pair, edge_by_ends}
 
--- where a test passes nowhere
+-- a test that no item passes
 pub any_nowhere : {A : Type 0} (p : A → Bool) (xs : List A) (x : A) → list_any p xs ≡ false → Among x xs → p x ≡ false
 any_nowhere p [] x h a = absurd a
 any_nowhere p (y ∷ ys) x h (inl e) = ap p e ∙ (or_parts (p y) (list_any p ys) h).0
@@ -49,7 +49,7 @@ tet_at t e l = omega arith
 pub rest_at : (t e : ℕ) → e < 6 → (6 * t + e) % 6 ≡ e
 rest_at t e l = omega arith
 
--- the two vertices are the edge in one direction or the other
+-- the two vertices are the ends of the edge, in one direction or the other
 pub same_edge : (rows : List Row) (i t a b : ℕ) → HasEdge a b → IsJoined rows (edge i) (pair t a b) → SameEdge rows i (edge_at t a b)
 same_edge rows i t a b h j = by_ends h.ends_are
   where
@@ -57,7 +57,7 @@ same_edge rows i t a b h j = by_ends h.ends_are
     by_ends (inl e) = inl (subst (IsJoined rows (edge i)) (sym (edge_by_ends t a b a b h.small e)) j)
     by_ends (inr e) = inr (subst (IsJoined rows (edge i)) (sym (ap turned (edge_by_ends t a b b a h.small e))) j)
 
--- a face opposite neither vertex has their edge
+-- the two vertices are not opposite the face, so the face contains their edge
 pub off_edge : (a b c : ℕ) → HasEdge a b → a ≢ c → b ≢ c → has (ends (edge_number a b)) c ≡ false
 off_edge a b c h ac bc = by_ends h.ends_are
   where
@@ -102,7 +102,7 @@ module _ (rows : List Row) (table : IsTable rows) (classes : List ℕ) (count : 
   pub reached_round : (k : Corner) → Reaches rows (first_corner start) k → IsRound k
   reached_round k r = kept_by_steps rows IsRound round_step r.0 (first_corner start) k first_round r.1
 
-  -- where the class is an inner one, face c is glued
+  -- if the edge class is internal, face c is glued
   pub leads_on : is_boundary_edge rows classes c ≡ false → (k : Corner) → IsRound k → LeadsOn rows k
   leads_on inner k r =
       let h : HasEdge k.a k.b = has_edge k.a k.b r.four.a r.four.b r.four.ab in

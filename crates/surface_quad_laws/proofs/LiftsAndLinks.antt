@@ -1,4 +1,5 @@
--- A standard solution is the lift of its quads and, for each vertex class, as many links as it has triangles where the lift has none.
+-- A standard solution is the lift of its quads and, for each vertex class, as many links as the solution has triangles
+-- where the lift has none.
 use Rattle.std.proofs.Common.{◌≡◌, ℕ, ◌+◌, ◌*◌, ◌/◌, ◌%◌, ◌-◌, ◌<◌, ◌≤◌, List, length, ◌⊎◌, inl, inr, refl, sym, ap, ◌∙◌, subst, arith}
 use Rattle.std.specs.Prelude.{slice_index}
 use Rattle.std.proofs.lemmas.Bool.{cases_lt}
@@ -31,7 +32,7 @@ module _ (s : Skeleton) (k : IsSkeleton s) where
   quad_with : (times : ℕ → ℕ) (ys : List ℕ) (t j : ℕ) → t < n → j < 3 → with_links s times ys (quad_column Standard t j) ≡ slice_index ys (quad_column Standard t j)
   quad_with times ys t j lt lj = ap (λ z. slice_index ys (quad_column Standard t j) + z) (rest-sum s k Standard tt times (quad_column Standard t j) (omega arith) (omega arith)) ∙ omega arith
 
-  -- columns are those of triangles and those of quads
+  -- each column is that of a triangle or of a quad
   by_columns : (P : ℕ → Type 0) → ((t v : ℕ) → t < n → v < 4 → P (tri_column Standard t v)) → ((t j : ℕ) → t < n → j < 3 → P (quad_column Standard t j)) → (i : ℕ) → i < 7 * n → P i
   by_columns P triangles quads = by_column Standard tt n P triangles
       (λ i l high. let at : quad_column Standard (i / 7) (i % 7 - 4) ≡ i = omega arith in subst P at (quads (i / 7) (i % 7 - 4) (omega arith) (omega arith)))
@@ -86,7 +87,7 @@ module _ (s : Skeleton) (k : IsSkeleton s) where
     pub same_lift : (zs ws : List ℕ) → IsLiftOf s xs zs → IsLiftOf s xs ws → ws ≡ zs
     same_lift zs ws f g = one_lift s.rows k.table s.vertices.classes s.vertices.count k.vertices xs ws zs g f
 
-    -- where the lift has no triangle the vector has the links alone
+    -- where the lift has no triangle, the triangles of the vector are those of the links
     number_told : (zs : List ℕ) (many : ℕ → ℕ) → (h : IsLiftWithLinks s ys zs many) → (c : ℕ) (lc : c < s.vertices.count) → (i : ℕ) → i < 4 * n → class_of i ≡ c → triangle_at zs i ≡ 0 → triangle_at ys i ≡ many c
     number_told zs many h c lc i li ci z =
         let lt : i / 4 < n = omega arith in

@@ -35,7 +35,7 @@ nothing a b e = ap (λ z. a * z) e ∙ omega arith
 once : (a b : ℕ) → b ≡ 1 → a * b ≡ a
 once a b e = ap (λ z. a * z) e ∙ omega arith
 
--- columns are those of triangles and others
+-- each column is that of a triangle, or another
 pub by_column : (coords : Coords) → HasTriangles coords → (n : ℕ) (P : ℕ → Type 0) → ((t v : ℕ) → t < n → v < 4 → P (tri_column coords t v)) → ((i : ℕ) → i < columns coords n → 4 ≤ i % columns_each coords → P i)
     → (i : ℕ) → i < columns coords n → P i
 by_column coords h n P triangles rest i l = elim (cases_lt (i % columns_each coords) 4) [
@@ -50,7 +50,7 @@ module _ (s : Skeleton) (k : IsSkeleton s) (coords : Coords) (h : HasTriangles c
   abbrev class_of : ℕ → ℕ
   class_of i = slice_index s.vertices.classes i
 
-  -- so many of each link
+  -- the sum of the links has `times c` triangles at each vertex of class c
   pub triangles-sum : (times : ℕ → ℕ) (t v : ℕ) → t < n → v < 4 → links_sum s coords times (tri_column coords t v) ≡ times (class_of (vertex_number t v))
   triangles-sum times t v lt lv =
       let i : ℕ = vertex_number t v in
@@ -79,7 +79,7 @@ module _ (s : Skeleton) (k : IsSkeleton s) (coords : Coords) (h : HasTriangles c
         let r : vertex_number t v % 4 ≡ v = omega arith in
         λ i. slice_index ys (tri_column coords (d i) (r i))
 
-    -- the triangles are heights where all quads are 0, and so is 0
+    -- if all quads are 0, the numbers of triangles are heights, and so is 0
     heights : (c : ℕ) → AreHeights s [] c triangle
     heights c x g v e lv off ch =
         let i : IsGlued s.rows x g = glued_is s.rows x g k.table e in

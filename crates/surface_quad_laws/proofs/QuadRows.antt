@@ -1,4 +1,4 @@
--- Round an inner edge the quads of a standard solution add up to the same on both sides.
+-- Around an internal edge the quads of a standard solution have the same sum on both sides.
 use Rattle.std.proofs.Common.{◌≡◌, ℕ, ◌+◌, ◌*◌, ◌<◌, false, not, List, [], ◌∷◌, length, map, inl, inr, refl, sym, ap, ◌∙◌, subst, arith}
 use Rattle.std.specs.Prelude.{sum_by, slice_index}
 use Rattle.std.specs.List.{AllByRecursion, AllZip}
@@ -31,11 +31,11 @@ use Rattle.surface_quad_laws.proofs.Rounds.{HasFourVertices, next_is, next_once,
 use Rattle.surface_quad_laws.proofs.InnerEdges.{IsRound, reached_round, leads_on}
 use Rattle.skeleton_class_laws.proofs.Rounds.{next}
 
--- what the matching equation at the vertex a says of two corners
+-- the matching equation at vertex a of two corners
 sides : (t q t' q' : ℕ) → 0 + t + q ≡ 0 + t' + q' → t + q ≡ t' + q'
 sides t q t' q' h = omega arith
 
--- the triangles go round
+-- the triangles cancel around the edge
 telescoped : (t c d m : ℕ) → m ≡ t + c → m ≡ t + d → c ≡ d
 telescoped t c d m e f = omega arith
 

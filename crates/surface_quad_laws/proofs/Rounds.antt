@@ -1,4 +1,4 @@
--- Corners round an edge of a table, the next corner and the one before.
+-- Corners around an edge of a table, the next corner and the one before.
 use Rattle.std.proofs.Common.{◌≡◌, ◌≢◌, ℕ, zero, suc, ◌*◌, ◌/◌, ◌%◌, ◌<◌, List, length, filter, Some, sym, ap, ◌∙◌, subst, arith}
 use Rattle.std.specs.Prelude.{not, option_map}
 use Rattle.table_definitions.specs.Lists.{has}
@@ -60,7 +60,7 @@ module _ (rows : List Row) (table : IsTable rows) where
         cd = images_apart g.perm k.d k.c p four.d four.c (λ e. four.cd (sym e));
       }
 
-  -- the corner before the next one is the corner
+  -- the corner before the next corner is the corner itself
   pub before_next : (k : Corner) → HasFourVertices (length rows) k → LeadsOn rows k → before rows (next rows k) ≡ k
   before_next k four w =
       let g : Gluing = w.g in
@@ -77,11 +77,11 @@ module _ (rows : List Row) (table : IsTable rows) where
   pub next_once : (k l : Corner) → HasFourVertices (length rows) k → LeadsOn rows k → HasFourVertices (length rows) l → LeadsOn rows l → next rows k ≡ next rows l → k ≡ l
   next_once k l a v b w e = sym (before_next k a v) ∙ ap (before rows) e ∙ before_next l b w
 
--- what steps keep is so of all corners that they reach
+-- what each step preserves holds of all corners that steps reach
 pub kept_by_steps : (rows : List Row) (P : Corner → Type 0) → ((k l : Corner) → P k → step rows k ≡ Some l → P l) → (n : ℕ) (k l : Corner) → P k → steps rows n k ≡ Some l → P l
 kept_by_steps rows P keeps zero k l h e = let s : k ≡ l = cc in subst P s h
 kept_by_steps rows P keeps (suc n) k l h e = let m = first_step rows n l (step rows k) e in kept_by_steps rows P keeps n m.0 l (keeps k m.0 h m.1) m.2
 
--- one step more
+-- one more step
 pub reaches_next : (rows : List Row) (k l : Corner) → Reaches rows k l → LeadsOn rows l → Reaches rows k (next rows l)
 reaches_next rows k l r w = (suc r.0, steps_more rows r.0 k l (next rows l) r.1 (next_steps rows l w))

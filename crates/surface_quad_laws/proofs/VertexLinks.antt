@@ -1,4 +1,4 @@
--- A vertex link has as many arcs on both sides of each gluing, since a gluing keeps the class.
+-- A vertex link has equally many arcs on both sides of each gluing, since a gluing keeps the class.
 use Rattle.std.proofs.Common.{◌≡◌, ◌≢◌, ℕ, ◌/◌, ◌%◌, ◌<◌, ◌≤◌, Bool, true, List, length, Some, ◌⊎◌, inl, inr, sym, ap, ◌∙◌, subst, arith}
 use Rattle.std.specs.Prelude.{◌==◌, ◌&&◌, nat_lt, if◌then◌else◌, sum_by, slice_index}
 use Rattle.std.proofs.lemmas.Bool.{eq-eqb, ne_eqb, lt-ltb, le-ltb, leb-true, and_parts, or_cases}

@@ -1,5 +1,5 @@
--- The ends of sides that cross no tree of triangles are joined: were some seen and others not, the triangles with both kinds of ends
--- would hang on each other in rounds.
+-- The ends of sides that cross no tree of triangles are joined. If some ends had been seen and others not, the
+-- triangles with both kinds of ends would contain a cycle of the tree.
 use Rattle.std.proofs.Common.{◌≡◌, ℕ, ◌*◌, ◌<◌, Bool, true, false, not, List, [], ◌∷◌, length, ◌⊎◌, inl, inr, refl, sym, ap, ◌∙◌, subst, arith, suc}
 use Rattle.std.specs.Prelude.{◌&&◌, slice_index}
 use Rattle.std.specs.Cmp.{both_ways}
@@ -68,7 +68,7 @@ module _ (s : Skeleton) (c : ℕ) (z : IsVertexClass s c) (directions : List ℕ
         colour_other : (k : Corner) → IsFlag s c z k → colour (turn (mate s.rows k)) ≡ colour (turn k)
         colour_other k h = ap (has (ends_seen firsts gs)) (other_same s c z directions count numbered k h)
 
-        -- both ends of an edge are of one colour, whatever the flag
+        -- both ends of an edge have one colour, for each flag of the edge
         unmixed_edge : (l m : Corner) → IsFlag s c z l → IsFlag s c z m → IsOneSide s l m → colour m ≡ colour (turn m) → colour l ≡ colour (turn l)
         unmixed_edge l m h g o e = elim (four_flags s c z l m h g o) [
           | inl (inl q) ↦ subst (λ (k : Corner). colour k ≡ colour (turn k)) (sym q) e
@@ -85,7 +85,7 @@ module _ (s : Skeleton) (c : ℕ) (z : IsVertexClass s c) (directions : List ℕ
           free_unmixed : (k : Corner) → IsFlag s c z k → crosses k ≡ false → colour k ≡ colour (turn k)
           free_unmixed k h free = both_ways (colour k) (colour (turn k)) (carried (turn k) (turn_in s c z k h) free) (carried k h free)
 
-          -- a triangle of the tree, where those that came later are of one colour each
+          -- a triangle of the tree, if the ends of each triangle that was added later have one colour
           module _ (k : Corner) (older : List Corner) (new : Among (triangle_of k) (triangles_seen s c z root older) → ⊥) (on_older : Among (beyond s k) (triangles_seen s c z root older)) (hung_older : IsHung s c z root older)
               (there : Among k ds) (rest : (m : Corner) → Among m ds → Among m (k ∷ older) ⊎ IsPure (triangle_of m)) where
             by_tree : (l m : Corner) → IsFlag s c z l → triangle_of l ≡ triangle_of k → (l.c ≡ k.c → ⊥) → Among m ds → IsOneSide s l m → colour l ≡ colour (turn l)
@@ -151,7 +151,7 @@ module _ (s : Skeleton) (c : ℕ) (z : IsVertexClass s c) (directions : List ℕ
                 | inr m ↦ tree_pure m.0 m.1 k h m.2
               ]
 
-          -- so all flags of a triangle are of one colour
+          -- if so, all flags of a triangle have one colour
           triangle_colour : (l m : Corner) → IsFlag s c z l → IsFlag s c z m → triangle_of l ≡ triangle_of m → colour m ≡ true → colour l ≡ true
           triangle_colour l m h g t e = elim (cases_eq l.b m.b) [
             | inl q ↦ at m.b q ∙ e
@@ -204,7 +204,7 @@ module _ (s : Skeleton) (c : ℕ) (z : IsVertexClass s c) (directions : List ℕ
           | inr none ↦ inl (all_ends none)
         ]
 
-      -- all ends are joined to one of them by sides that are free
+      -- all ends are joined to one of the first by sides that cross no side of the tree
       pub all_joined : (gs : List Corner) × AreJoined firsts gs × Covers end other IsFree firsts (link_vertex_list s c z directions count numbered) gs
       all_joined = grow end other IsFree firsts (link_vertex_list s c z directions count numbered) (λ k h. end_listed s c z directions count numbered k h.0) firsts_in firsts_apart
           one_more (suc (length (link_vertex_list s c z directions count numbered))) [] tt (omega arith)

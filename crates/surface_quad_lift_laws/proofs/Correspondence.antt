@@ -1,4 +1,4 @@
--- Where all links are spheres or discs, quad solutions and standard solutions correspond.
+-- If all links are spheres or discs, quad solutions and standard solutions correspond.
 use Rattle.surface_vector_definitions.specs.declared.LiftFault.TheVariants.{NoLift}
 use Rattle.std.proofs.Common.{◌≡◌, ℕ, ◌<◌, false, pos, List, length, subst, arith, Err}
 use Rattle.std.specs.Prelude.{◌↔◌, get_or}

@@ -1,4 +1,5 @@
--- Where a link has few enough edges, the two trees cross all of them but those in boundary faces.
+-- If a link has at most as many edges as the two trees and the boundary faces account for, each of its edges is crossed
+-- by a tree or lies in a boundary face.
 use Rattle.surface_quad_lift_laws.proofs.FreeSides.{free_sides, IsFreeSide, listed_free, free_apart}
 use Rattle.std.proofs.Common.{◌≡◌, ℕ, ◌+◌, ◌*◌, ◌/◌, ◌%◌, ◌≤◌, Bool, true, false, cond, List, [], ◌∷◌, ◌++◌, length, map, filter, ◌⊎◌, inl, inr, refl, sym, ap, ◌∙◌, subst, arith, Option, None, Some}
 use Rattle.std.specs.Prelude.{◌==◌, ◌&&◌, if◌then◌else◌, sum_by, slice_index}
@@ -105,7 +106,7 @@ module _ (s : Skeleton) (c : ℕ) (z : IsVertexClass s c) where
       go true e = subst (λ i. Among i first_sides) (sym (edge_true k e)) (first_listed k h e)
       go false e = subst (λ i. Among i first_sides) (sym (edge_false k e)) (first_listed (mate s.rows k) (mate_in s c z k h) (other_first k h e))
 
-  -- flags of one side have mates of one side
+  -- the mates of two flags of one side are flags of one side
   side_mate : (k m : Corner) → IsFlag s c z k → IsFlag s c z m → side k ≡ side m → side (mate s.rows k) ≡ side (mate s.rows m)
   side_mate k m h g e = elim (same_side s c z k m h g e) [
     | inl q ↦ ap (λ l. side (mate s.rows l)) q
@@ -207,7 +208,7 @@ module _ (s : Skeleton) (c : ℕ) (z : IsVertexClass s c) where
             let o : IsOneSide s k.0 m.0 = edge_same k.0 m.0 f.0 (in_tree m.0 m.1) (sym k.2 ∙ m.2) in
             absurd (let w : false ≡ true = sym f.1 ∙ has_sides s ds k.0 m.0 m.1 o in cc)
 
-        -- no boundary side is of a tree
+        -- no boundary side belongs to a tree
         never_free : (x : ℕ) → Among x edges_of_trees → Among x (free_sides s c z) → ⊥
         unfolding edges_of_trees
         never_free x a b = elim (appended-among x (map edge_by ds) (map edge_by gs) a) [
@@ -243,7 +244,7 @@ module _ (s : Skeleton) (c : ℕ) (z : IsVertexClass s c) where
         edges_apart = apart_append (map edge_by ds ++ map edge_by gs) (free_sides s c z) (apart_append (map edge_by ds) (map edge_by gs) (apart_tree root ds hung) (apart_joined firsts gs joined) never_both)
             (free_apart s c z) never_free
 
-        -- so each edge is crossed by the one tree or the other, or it is free
+        -- each edge is crossed by one of the trees, or lies in a boundary face
         pub covered : (k : Corner) → IsFlag s c z k → ((m : Corner) × Among m ds × IsOneSide s k m) ⊎ (((m : Corner) × Among m gs × IsOneSide s k m) ⊎ ((m : Corner) × IsFlag s c z m × (glue s.rows (left_through m) ≡ None) × IsOneSide s k m))
         unfolding every_edge edges_of_trees
         covered k h =

@@ -1,4 +1,4 @@
--- The corners round an inner edge, as a cycle, and the same round the edge from its other end.
+-- The corners around an internal edge, as a cycle, and those around the edge from its other end.
 use Rattle.std.proofs.Common.{◌≡◌, ◌≢◌, ℕ, ◌<◌, Bool, true, false, List, [], ◌∷◌, length, map, Some, ◌⊎◌, inl, inr, refl, sym, ap, ◌∙◌, subst, arith}
 use Rattle.std.specs.Prelude.{◌==◌, ◌||◌, sum_by, slice_index}
 use Rattle.std.specs.List.{list_all}
@@ -26,7 +26,8 @@ use Rattle.surface_quad_lift_laws.proofs.Growing.{apart_covers}
 use Rattle.surface_quad_lift_laws.proofs.OneSides.{third_is}
 use Rattle.surface_quad_lift_laws.proofs.OneWay.{flip_corner, one_way}
 
--- corners each of which leads on to another of them, no two to the same; round them the quads add up to the same on both sides
+-- different corners, with each the corner across its gluing, and none with its two faces exchanged; around them the
+-- quads on both sides have the same sum
 pub record IsCycle (rows : List Row) (xs : List ℕ) (ks : List Corner) : Type 0 where
   pub apart : AreApart ks
   pub four : (k : Corner) → Among k ks → HasFourVertices (length rows) k
@@ -35,7 +36,7 @@ pub record IsCycle (rows : List Row) (xs : List ℕ) (ks : List Corner) : Type 0
   pub forward : (k : Corner) → Among k ks → Among (flip k) ks → ⊥
   pub sums : sum_by (quads xs) ks ≡ sum_by (λ k. quads xs (flip k)) ks
 
--- from the other end of the edge the quads on both sides change places
+-- from the other end of the edge the quads on both sides are exchanged
 crossed_test : ℕ → ℕ → ℕ → ℕ → Bool
 crossed_test a b c d = ((a == b) || ((a == c) || ((a == d) || ((b == c) || ((b == d) || (c == d)))))) || (keeping b c == keeping a d)
 
@@ -95,14 +96,14 @@ module _ (rows : List Row) (table : IsTable rows) (xs : List ℕ) where
       sums = sums;
     }
 
-    -- the corner before one of them is one of them
+    -- the corner before one of the cycle is one of the cycle
     pub before_listed : (k : Corner) → Among k ks → Among (before rows k) ks
     before_listed k a =
         let m = map-among (next rows) k ks (apart_covers (map (next rows) ks) ks (map_apart (next rows) ks (apart_from first ks are.once) (λ k l a b e. next_once rows table k l (four k a) (on k a) (four l b) (on l b) e))
         (λ x b. let w = map-among (next rows) x ks b in subst (λ (u : Corner). Among u ks) (sym w.2) (closed_under w.0 w.1)) (let size : length (map (next rows) ks) ≡ length ks = length-map ks (next rows) in omega arith) k a) in
         subst (λ (u : Corner). Among u ks) (sym (ap (before rows) m.2 ∙ before_next rows table m.0 (four m.0 m.1) (on m.0 m.1))) m.1
 
-    -- a place that is joined to theirs is the place of one of them
+    -- an edge that is joined to the edge of the cycle is the edge of one of its corners
     IsThere : Place → Type 0
     IsThere q = (k : Corner) × Among k ks × (pair k.tet k.a k.b ≡ q)
 
@@ -131,7 +132,7 @@ module _ (rows : List Row) (table : IsTable rows) (xs : List ℕ) where
     unfolding IsThere
     place_there q j = kept_along rows IsThere there_across j.0 (pair first.tet first.a first.b) q (first, listed first (0, refl), refl) j.1
 
-    -- so of a corner of that place the corner itself or its mate is one of them
+    -- if the edge of a corner is joined to theirs, the corner or its mate is one of them
     pub corner_there : (k : Corner) → HasFourVertices (length rows) k → LeadsOn rows k → IsJoined rows (pair first.tet first.a first.b) (pair k.tet k.a k.b) → Among k ks ⊎ Among (mate rows k) ks
     corner_there k y on_k j =
         let t = place_there (pair k.tet k.a k.b) j in

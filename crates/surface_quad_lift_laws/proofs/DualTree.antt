@@ -1,4 +1,5 @@
--- The triangles of a vertex class hang on one of them, each by a side; so heights are spread over them.
+-- The triangles of a vertex class form a tree, in which each is joined to an earlier one by a side; heights are spread
+-- along it.
 use Rattle.std.proofs.Common.{◌≡◌, ◌≢◌, ℕ, ◌+◌, ◌-◌, ◌*◌, ◌/◌, ◌%◌, ◌<◌, ◌≤◌, Bool, false, not, List, [], ◌∷◌, length, Some, ◌⊎◌, inl, inr, refl, sym, ap, ◌∙◌, subst, arith, suc}
 use Rattle.std.specs.Prelude.{◌==◌, ◌&&◌, if◌then◌else◌, sum_by, slice_index}
 use Rattle.std.proofs.lemmas.Bool.{eq-eqb, ne_eqb, and_parts, not-true}
@@ -32,11 +33,11 @@ beyond s k = triangle_of (mate s.rows k)
 abbrev pub quads : List ℕ → Corner → ℕ
 quads xs k = slice_index xs (quad_column Quad k.tet (keeping k.a k.c))
 
--- heights fit at a side
+-- the equation of the heights holds at the side of a flag
 abbrev pub IsLevel : Skeleton → List ℕ → (ℕ → ℕ) → Corner → Type 0
 IsLevel s xs h k = h (triangle_of k) + quads xs k ≡ h (beyond s k) + quads xs (mate s.rows k)
 
--- triangles that hang on a root, the last one first, each by the side of a flag
+-- a tree of triangles with a root, the last one first, each joined by the side of a flag
 abbrev pub triangles_seen : (s : Skeleton) (c : ℕ) → IsVertexClass s c → ℕ → List Corner → List ℕ
 triangles_seen s c z root ds = seen triangle_of (beyond s) (IsFlag s c z) (root ∷ []) ds
 
@@ -56,7 +57,7 @@ module _ (s : Skeleton) (c : ℕ) (z : IsVertexClass s c) where
     | inr e ↦ ap triangle_of (sym (mate-turn s.rows (flag_of k.tet k.a k.c))) ∙ ap (beyond s) (sym e)
   ]
 
-  -- what is carried over each side is so of all triangles of the class
+  -- what is preserved across each side holds of all triangles of the class, if it holds of one
   module _ (P : ℕ → Type 0) (carried_over : (k : Corner) → IsFlag s c z k → P (triangle_of k) → P (beyond s k)) where
     record IsSo (p : Place) : Type 0 where
       v : ℕ

@@ -1,4 +1,4 @@
--- Round an end of no side in a boundary face there is a cycle, by the quad equation of its edge.
+-- Around an end of sides none of which lies in a boundary face there is a cycle, by the quad equation of its edge.
 use Rattle.surface_quad_lift_laws.proofs.FreeSides.{none_is}
 use Rattle.surface_quad_lift_laws.proofs.SideLists.{flag_of, flag_in}
 use Rattle.surface_quad_lift_laws.proofs.OneSides.{third_is}
@@ -53,7 +53,7 @@ module _ (s : Skeleton) (c : ℕ) (z : IsVertexClass s c) (directions : List ℕ
   abbrev end : Corner → ℕ
   end k = end_of s c z directions count numbered k
 
-  -- a cycle with the end of a flag, and the flag or its mate
+  -- a cycle around the end of a flag, with the flag or its mate
   pub record HasCycle (xs : List ℕ) (k : Corner) : Type 0 where
     pub ks : List Corner
     pub cycle : IsCycle s.rows xs ks
@@ -102,7 +102,7 @@ module _ (s : Skeleton) (c : ℕ) (z : IsVertexClass s c) (directions : List ℕ
         by_edge (inr e) (inl d) = inr (subst₂ (IsJoined s.rows) (ap turned e) (ap turned (edge_pair i)) (joined_turned s.rows (edge j) (edge i) d))
         by_edge (inr e) (inr d) = inl (subst₂ (IsJoined s.rows) (ap turned e) (ap (λ p. turned (turned p)) (edge_pair i)) (joined_turned s.rows (edge j) (turned (edge i)) d))
 
-    -- no face round such an edge is a boundary face
+    -- no face around such an edge is a boundary face
     never_free : (t v w f : ℕ) → t < n → w < 4 → f < 4 → v ≢ f → w ≢ f → v ≢ w → IsJoined s.rows (pair k.tet k.a k.b) (pair t v w) → is_boundary s.rows (face_at t f) ≡ true → ⊥
     never_free t v w f lt lw lf vf wf vw d free =
         let o = two_at_class s (z.skeleton) c t v w (joined_class s (z.skeleton) c (pair k.tet k.a k.b) (pair t v w) d k_at_class) in
@@ -153,7 +153,7 @@ module _ (s : Skeleton) (c : ℕ) (z : IsVertexClass s c) (directions : List ℕ
       abbrev first : Corner
       first = first_corner (least classes class_e)
 
-      -- the corners of the row of its class
+      -- the corners of the quad equation of the edge's class
       module _ (corners : List Corner) (are : AreCorners s.rows first corners) (xs : List ℕ) (zero_row : IsZeroAt (row_of (columns Quad n) (quad_equation corners)) xs) where
         round : (l : Corner) → Among l corners → IsRound s.rows (z.skeleton).table classes edges edge_classes class_e low_e l
         round l a = reached_round s.rows (z.skeleton).table classes edges edge_classes class_e low_e l ((are.reached l).0 (contains_among l corners a))
@@ -178,7 +178,7 @@ module _ (s : Skeleton) (c : ℕ) (z : IsVertexClass s c) (directions : List ℕ
         from_first : (l : Corner) → Among l corners → IsJoined s.rows (pair first.tet first.a first.b) (pair l.tet l.a l.b)
         from_first l a = subst (λ p. IsJoined s.rows p (pair l.tet l.a l.b)) (edge_pair (least classes class_e)) (round l a).joined
 
-        -- the flag's directed edge, or its reverse
+        -- the first edge of the class is joined to the flag's directed edge, or to its reverse
         first_either : IsJoined s.rows (pair first.tet first.a first.b) (pair k.tet k.a k.b) ⊎ IsJoined s.rows (pair first.tet first.a first.b) (pair k.tet k.b k.a)
         first_either = by_edge edge_is ((edge_classes.together (least classes class_e) j (start_below s.rows (z.skeleton).table classes edges edge_classes class_e low_e) low_j).0 (start_class s.rows (z.skeleton).table classes edges edge_classes class_e low_e))
           where

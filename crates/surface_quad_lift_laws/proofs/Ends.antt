@@ -43,7 +43,7 @@ head_below a r la lr =
     (ltb-true (slice_index (others a) r) 4 p.0, eqb-false a (slice_index (others a) r) (not-true (a == slice_index (others a) r) p.1))
 
 module _ (s : Skeleton) (k : IsSkeleton s) (c : ℕ) where
-  -- a place of two vertices, the first of class c
+  -- a directed edge that begins at a vertex of class c
   pub record IsAtClass (p : Place) : Type 0 where
     pub v : ℕ
     pub w : ℕ

@@ -1,4 +1,5 @@
--- Flags of the link of a vertex class: a triangle, at the vertex a of a tetrahedron, with its side in face c and the end b of that side.
+-- Flags of the link of a vertex class: the triangle at vertex a of a tetrahedron, with its side in face c and the end
+-- of that side on the edge to b.
 use Rattle.std.proofs.Common.{◌≡◌, ℕ, ◌+◌, ◌*◌, ◌<◌, List, length, Option, Some, None, refl, sym, ap, ◌∙◌, subst, arith}
 use Rattle.std.specs.Prelude.{slice_index}
 use Rattle.table_definitions.specs.Permutation.{IsPermutationOfFour}
@@ -24,7 +25,8 @@ triangle_of k = vertex_number k.tet k.a
 abbrev pub side : Corner → ℕ
 side k = 4 * triangle_of k + k.c
 
--- the flag at the other end of the side; that at the same end on the other side there; that of the opposite end of the edge
+-- the flag at the other end of the side; the flag at the same end, on the other side there; and that at the opposite
+-- end of the edge ab
 abbrev pub turn : Corner → Corner
 turn k = record { tet = k.tet; a = k.a; b = k.d; c = k.c; d = k.b }
 
@@ -41,7 +43,7 @@ mate_behind k g = flip (corner_across k g)
 abbrev pub mate : List Row → Corner → Corner
 mate rows k = where_led mate_behind k (glue rows (left_through k))
 
--- a change that may come before the way across or behind it
+-- a change that may be made before or after the way across a gluing
 either_way : (way : Corner → Gluing → Corner) (change : Corner → Corner) (k : Corner) (o : Option Gluing) → ((g : Gluing) → way (change k) g ≡ change (way k g)) → where_led way (change k) o ≡ change (where_led way k o)
 either_way way change k None h = refl
 either_way way change k (Some g) h = h g
@@ -55,7 +57,7 @@ mate-opposite rows k = either_way mate_behind opposite k (glue rows (left_throug
 pub next-opposite : (rows : List Row) (k : Corner) → next rows (opposite k) ≡ opposite (next rows k)
 next-opposite rows k = either_way corner_across opposite k (glue rows (left_through k)) (λ g. refl)
 
--- where the side is glued, the flag on its other side is that of the next corner, and of the one before
+-- if the side is glued, its mate is the next corner with its sides exchanged, or the corner before
 pub mate-next : (rows : List Row) (k : Corner) → LeadsOn rows k → mate rows k ≡ flip (next rows k)
 mate-next rows k w = ap (where_led mate_behind k) w.glued ∙ ap (λ o. flip (where_led corner_across k o)) (sym w.glued)
 
@@ -82,7 +84,7 @@ module _ (s : Skeleton) (c : ℕ) (z : IsVertexClass s c) where
     chosen = h.chosen;
   }
 
-  -- across a glued side, and at a boundary face
+  -- the mate across a glued side, and at a boundary face
   glued_mate : (k : Corner) → IsFlag k → (g : Gluing) → glue s.rows (left_through k) ≡ Some g → IsFlag (mate_behind k g)
   glued_mate k h g e =
       let f : HasFourVertices n k = h.four in
@@ -128,7 +130,7 @@ module _ (s : Skeleton) (c : ℕ) (z : IsVertexClass s c) where
             d = image-of_inverse g.perm k.d p f.d i;
           })
 
-  -- flags of one side are one, or its two ends
+  -- two flags of one side are equal, or are those of its two ends
   pub side_parts : (k l : Corner) → IsFlag k → IsFlag l → side k ≡ side l → (k.tet ≡ l.tet) × (k.a ≡ l.a) × (k.c ≡ l.c)
   side_parts k l h m e = parts k.tet k.a k.c l.tet l.a l.c (h.four).a (h.four).c (m.four).a (m.four).c e
     where

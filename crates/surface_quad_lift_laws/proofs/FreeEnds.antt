@@ -1,4 +1,4 @@
--- The ends of sides in boundary faces are no more than these sides: each is the end of two.
+-- The ends of sides in boundary faces are at most as many as these sides: each is the end of two.
 use Rattle.std.proofs.Common.{◌≡◌, ℕ, ◌+◌, ◌*◌, ◌/◌, ◌%◌, ◌<◌, ◌≤◌, List, [], ◌∷◌, ◌++◌, length, map, filter, None, inl, inr, refl, sym, ap, ◌∙◌, subst, arith}
 use Rattle.std.specs.Prelude.{◌==◌, ◌&&◌, slice_index}
 use Rattle.std.proofs.lemmas.List.{length-map, length-append}

@@ -1,4 +1,4 @@
--- From a side in a boundary face the walk round its end leads to another such side.
+-- From a side in a boundary face the walk around its end reaches another such side.
 use Rattle.std.proofs.Common.{◌≡◌, ◌≢◌, ℕ, zero, suc, ◌+◌, ◌*◌, ◌<◌, ◌≤◌, Bool, true, false, not, List, [], ◌∷◌, length, map, Option, Some, None, ◌⊎◌, inl, inr, refl, sym, ap, ◌∙◌, subst, arith}
 use Rattle.std.specs.Prelude.{◌||◌, is_none}
 use Rattle.std.proofs.lemmas.Bool.{or_parts, or_cases, not-true}
@@ -51,7 +51,7 @@ module _ (s : Skeleton) (c : ℕ) (z : IsVertexClass s c) where
     end k = end_of s c z directions count numbered k
 
     module _ (start : Corner) (start_free : glue s.rows (came_through start) ≡ None) where
-      -- what the walk reaches
+      -- what the walk reaches is a flag with the same end
       pub record IsReached (w : Corner) : Type 0 where
         pub flag : IsFlag s c z w
         pub same_end : end w ≡ end start
@@ -74,7 +74,7 @@ module _ (s : Skeleton) (c : ℕ) (z : IsVertexClass s c) where
           go None q = absurd (let b : true ≡ false = ap (λ (o : Option Gluing). is_none o) (sym q) ∙ e in cc)
           go (Some g) q = record { g = g; glued = q }
 
-      -- no step leads to the start
+      -- no step reaches the start
       never_start : (w : Corner) → LeadsOn s.rows w → next s.rows w ≡ start → ⊥
       never_start w on e =
           let back = (z.skeleton).table.leads_back (left_through w) on.g on.glued in

@@ -31,7 +31,7 @@ has_sides s ds k m a (inl e) = among_has (sides_of s ds) (side k) (Among-left (s
 has_sides s ds k m a (inr e) = among_has (sides_of s ds) (side k)
     (Among-right (side k) (map side ds) (map (λ m. side (mate s.rows m)) ds) (subst (λ i. Among i (map (λ m. side (mate s.rows m)) ds)) (sym e) (Among-map (λ m. side (mate s.rows m)) m ds a)))
 
--- of four different vertices the third is known by the others
+-- of four different vertices the third is determined by the others
 pub third_is : (a b c d x : ℕ) → a < 4 → b < 4 → c < 4 → d < 4 → x < 4 → a ≢ b → a ≢ c → a ≢ d → b ≢ c → b ≢ d → c ≢ d → a ≢ x → b ≢ x → x ≢ d → x ≡ c
 third_is a b c d x la lb lc ld lx ab ac ad bc bd cd ax bx xd = by_both (pair_is a b c d la lb lc ld ab ac ad bc bd cd) (pair_is a b x d la lb lx ld ab ax ad bx bd xd)
   where
@@ -59,7 +59,7 @@ module _ (s : Skeleton) (c : ℕ) (z : IsVertexClass s c) where
   four_flags k m h g (inl e) = inl (same_side k m h g e)
   four_flags k m h g (inr e) = inr (same_side k (mate s.rows m) h (mate_in s c z m g) e)
 
-  -- heights fit at an edge, whatever the flag
+  -- the equation of the heights at an edge holds at each of its flags, or at none
   level_turn : (xs : List ℕ) (h : ℕ → ℕ) (m : Corner) → IsLevel s xs h m → IsLevel s xs h (turn m)
   level_turn xs h m e = e ∙ ap (λ (l : Corner). h (triangle_of l) + quads xs l) (sym (mate-turn s.rows m))
 

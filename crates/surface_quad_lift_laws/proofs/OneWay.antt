@@ -1,4 +1,4 @@
--- Steps round an edge never lead from a corner to the same corner in the other direction.
+-- Steps around an edge never reach, from a corner, the same corner in the other direction.
 use Rattle.std.proofs.Common.{◌≡◌, ℕ, zero, suc, ◌+◌, ◌-◌, Bool, true, false, not, List, length, Some, inl, inr, refl, sym, ap, ◌∙◌, subst, arith}
 use Rattle.std.specs.Prelude.{◌==◌, IsTrue, option_and_then}
 use Rattle.std.proofs.lemmas.Bool.{cases_lt, eq-eqb, and_from}
@@ -38,7 +38,7 @@ module _ (rows : List Row) (table : IsTable rows) where
   stays_in : (k l : Corner) → HasFourVertices (length rows) k → step rows k ≡ Some l → HasFourVertices (length rows) l
   stays_in k l four e = let w = step_is rows k l e in subst (HasFourVertices (length rows)) w.is (behind_in rows table k w.on.g four w.on.glued)
 
-  -- the step into the reversed corner comes from the reversed next one
+  -- the corner before a reversed corner is the reverse of the next one
   comes_from : (k m y : Corner) → HasFourVertices (length rows) y → step rows k ≡ Some m → step rows y ≡ Some (flip k) → y ≡ flip m
   comes_from k m y four e f =
       let w : IsStep rows k m = step_is rows k m e in

@@ -1,4 +1,5 @@
--- Heights that fit at the sides of the tree of triangles fit at all sides: the tree of ends is peeled, the last end first.
+-- Heights that satisfy the equations at the sides of the tree of triangles satisfy them at all sides: the ends are
+-- removed from their tree one by one, the last end first.
 use Rattle.table_definitions.specs.Table.{glue}
 use Rattle.std.proofs.Common.{◌≡◌, ◌≢◌, ℕ, ◌+◌, ◌*◌, List, [], ◌∷◌, length, ◌⊎◌, inl, inr, refl, sym, ap, ◌∙◌, subst, None}
 use Rattle.std.specs.Prelude.{sum_by}
@@ -42,14 +43,14 @@ module _ (s : Skeleton) (c : ℕ) (z : IsVertexClass s c) (directions : List ℕ
   abbrev Level : Corner → Type 0
   Level k = IsLevel s xs h k
 
-  -- the two sides of a flag's equation
+  -- the two sides of the equation at a flag
   abbrev here : Corner → ℕ
   here k = h (triangle_of k) + quads xs k
 
   abbrev there : Corner → ℕ
   there k = h (beyond s k) + quads xs (mate s.rows k)
 
-  -- round a cycle they add up to the same
+  -- around a cycle both sides have the same sum
   cycle_sums : (ks : List Corner) → IsCycle s.rows xs ks → sum_by here ks ≡ sum_by there ks
   cycle_sums ks w =
       sum_by_plus (λ k. h (triangle_of k)) (quads xs) here (λ k. refl) ks
@@ -58,15 +59,15 @@ module _ (s : Skeleton) (c : ℕ) (z : IsVertexClass s c) (directions : List ℕ
       ∙ sym (moved_sum (λ k. h (triangle_of k) + quads xs (flip k)) (next s.rows) ks w.apart w.closed (λ k l a b e. next_once s.rows (z.skeleton).table k l (w.four k a) (w.on k a) (w.four l b) (w.on l b) e))
       ∙ sum_by_same (λ k. h (triangle_of (next s.rows k)) + quads xs (flip (next s.rows k))) there ks (λ k a. ap (λ (l : Corner). h (triangle_of l) + quads xs l) (sym (mate-next s.rows k (w.on k a))))
 
-  -- so where all others fit, one fits
+  -- if the equation holds at all other flags of a cycle, it holds at the remaining one
   last_level : (ks : List Corner) → IsCycle s.rows xs ks → (k : Corner) → Among k ks → ((l : Corner) → Among l ks → l ≢ k → Level l) → Level k
   last_level ks w k a others = one_left here there k ks w.apart a others (cycle_sums ks w)
 
-  -- heights fit at a boundary side
+  -- the equation holds at a boundary side
   free_level : (m : Corner) → glue s.rows (left_through m) ≡ None → Level m
   free_level m e = ap (λ o. let l : Corner = where_led mate_behind m o in h (triangle_of l) + quads xs l) (sym e)
 
-  -- no cycle has a flag and its mate
+  -- no cycle contains both a flag and its mate
   never_mate : (ks : List Corner) → IsCycle s.rows xs ks → (k : Corner) → Among k ks → Among (mate s.rows k) ks → ⊥
   never_mate ks w k a b = w.forward (next s.rows k) (w.closed k a) (subst (λ (u : Corner). Among u ks) (mate-next s.rows k (w.on k a)) b)
 
@@ -82,7 +83,7 @@ module _ (s : Skeleton) (c : ℕ) (z : IsVertexClass s c) (directions : List ℕ
     module _ (k : Corner) (older : List Corner) (flag : IsFlag s c z k) (new : Among (end k) (ends_seen s c z directions count numbered ds firsts older) → ⊥)
         (old : Among (other k) (ends_seen s c z directions count numbered ds firsts older)) (joined_older : AreJoined s c z directions count numbered ds firsts older)
         (rest : (m : Corner) → Among m gs → Among m (k ∷ older) ⊎ Level m) where
-      -- another flag of the cycle is of an edge at which the heights fit
+      -- the equation holds at each other flag of the cycle
       at_other : (ks : List Corner) → IsCycle s.rows xs ks → (one : Corner) → Among one ks → (one ≡ k) ⊎ (one ≡ mate s.rows k) → (l : Corner) → Among l ks → IsFlag s c z l → end l ≡ end k → l ≢ one → Level l
       at_other ks w one in_cycle which l a f e off = by_edge (covered l f)
         where

@@ -8,7 +8,7 @@ use Rattle.table_definitions.proofs.Listed.{among_has}
 use Rattle.surface_laws.proofs.LinkingLemmas.{test_any}
 use Rattle.surface_quad_laws.proofs.InnerEdges.{any_nowhere}
 
--- a test passes somewhere in a list, or nowhere
+-- some item of a list passes a test, or none does
 pub search_list : {A : Type 0} (t : A → Bool) (xs : List A) → ((x : A) × Among x xs × (t x ≡ true)) ⊎ ((x : A) → Among x xs → t x ≡ false)
 search_list {A} t xs = go (list_any t xs) refl
   where
@@ -19,7 +19,7 @@ search_list {A} t xs = go (list_any t xs) refl
 pub has_not : (ns : List ℕ) (m : ℕ) → has ns m ≡ false → Among m ns → ⊥
 has_not ns m e a = let w : false ≡ true = sym e ∙ among_has ns m a in absurd cc
 
--- what a test of two parts says
+-- a failed test of two conditions, one of which is known
 pub fails_second : (a b : Bool) → (not a && b) ≡ false → b ≡ true → a ≡ true
 fails_second true b h e = refl
 fails_second false b h e = absurd (let w : true ≡ false = sym e ∙ h in cc)

@@ -1,4 +1,4 @@
--- Where the link of a class is a sphere or a disc, the solutions of the quad equations have heights there.
+-- If the link of a class is a sphere or a disc, the solutions of the quad equations have heights at the class.
 use Rattle.surface_laws.proofs.Solved.{other_is}
 use Rattle.table_definitions.proofs.DistinctLists.{AreApart}
 use Rattle.surface_quad_lift_laws.proofs.FreeEnds.{free_end_list, free_end_apart, free_end_within, free_end_listed, few_ends}
@@ -109,7 +109,7 @@ module _ (s : Skeleton) (c : ℕ) (skeleton : IsSkeleton s) (low_c : c < s.verti
       let b : true ≡ false = ap (λ (o : Option Gluing). is_none o) (sym e) ∙ ap (λ t. is_boundary s.rows (face_at t k.c)) (sym d) ∙ free in
       absurd cc
 
-  -- and an open one has one
+  -- a link that is not closed has a boundary side
   some_free : is_closed_link s.rows s.vertices.classes c ≡ false → (k : Corner) × IsFlag s c z k × (glue s.rows (left_through k) ≡ None)
   some_free open_ =
       let m = some_fails (λ x. not (is_boundary s.rows x)) (sides s.vertices.classes c) open_ in

@@ -1,4 +1,4 @@
--- A table has few columns.
+-- A table has fewer than 2^32 columns.
 use Rattle.std.proofs.Common.{ℕ, ◌*◌, ◌<◌, ◌≤◌, arith}
 use Rattle.std.proofs.Math.Nat.{mul-le-mul}
 use Rattle.surface_definitions.specs.declared.Coords.{Coords}

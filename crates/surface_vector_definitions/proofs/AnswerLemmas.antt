@@ -1,4 +1,4 @@
--- What is answered of the vectors of a document is determined where what is answered of each is.
+-- The answer for the vectors of a document is unique if the answer for each vector is.
 use Rattle.std.proofs.Common.{◌≡◌, ℕ, zero, suc, ◌<◌, ◌≤◌, List, [], ◌∷◌, length, inl, inr, Some, None, Result, Ok, Err, refl, sym, ap, ◌∙◌, subst, arith}
 use Rattle.std.specs.Prelude.{sum}
 use Rattle.std.specs.List.{AllZip, slice_index_or}
@@ -39,7 +39,7 @@ module _ {A : Type 0} (IsTold : List ℕ → Result A Refusal → Type 0) (one :
   told_list (xs ∷ vectors) (c ∷ cs) [] f g = absurd g
   told_list (xs ∷ vectors) (c ∷ cs) (d ∷ ds) f g = ap (λ x. x ∷ cs) (ok_same c d (one xs (Ok c) (Ok d) f.0 g.0)) ∙ ap (λ ys. d ∷ ys) (told_list vectors cs ds f.1 g.1)
 
-  -- each vector of a list that is told was told
+  -- if a list of vectors has answers, each of its vectors has one
   told_at : (vectors : List (List ℕ)) (cs : List A) (v : ℕ) → v < length vectors → AllZip (λ xs a. IsTold xs (Ok a)) vectors cs → (a : A) × IsTold (slice_index_or vectors v []) (Ok a)
   told_at [] cs v l f = absurd (omega arith)
   told_at (xs ∷ vectors) [] v l f = absurd f

@@ -1,4 +1,4 @@
--- The components of a vector are determined.
+-- The components of a vector are unique.
 use Rattle.std.proofs.Common.{◌≡◌, ℕ, ◌<◌, ◌↔◌, Bool, true, false, List, [], ◌∷◌, length, inl, inr, Result, Ok, Err, IsTrue, refl, sym, ap, ◌∙◌, subst, arith, ext_get_or}
 use Rattle.std.specs.Prelude.{slice_index}
 use Rattle.std.specs.List.{AllZip}
@@ -20,7 +20,7 @@ module _ (n : ℕ) (Same : ℕ → ℕ → Type 0) where
       let inside : slice_index one i.0 < k = a.in_range i.0 i.1 in
       omega (arith, same, i.2)
 
-  -- two numberings of the same classes have as many
+  -- two numberings of the same classes have equally many
   pub counts_agree : (one other : List ℕ) (k m : ℕ) → IsNumbering n Same one k → IsNumbering n Same other m → k ≡ m
   counts_agree one other k m a b = elim (cases_order k m) [
     | inl e ↦ e
@@ -28,12 +28,12 @@ module _ (n : ℕ) (Same : ℕ → ℕ → Type 0) where
     | inr (inr more) ↦ absurd (no_more other one m k b a more)
   ]
 
-  -- and are the same
+  -- two numberings of the same classes are equal
   pub numberings_same : (one other : List ℕ) (k m : ℕ) → IsNumbering n Same one k → IsNumbering n Same other m → one ≡ other
   numberings_same one other k m a b =
       ext_get_or 0 one other (a.one_each ∙ sym b.one_each) (λ i l. let h : i < n = omega (arith, a.one_each) in numberings_agree n Same one other k m a b i h)
 
--- a truth value that is true if and only if P holds is determined
+-- a truth value that is true if and only if P holds is unique
 one_truth : (a b : Bool) (P : Type 0) → IsTrue a ↔ P → IsTrue b ↔ P → a ≡ b
 one_truth true true P f g = refl
 one_truth true false P f g = absurd (false≢true (g.1 (f.0 refl)))

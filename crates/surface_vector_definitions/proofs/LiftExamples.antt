@@ -1,4 +1,4 @@
--- Lifts: one that is, a class that has none, and one of large numbers.
+-- Examples of lifts: one that exists, a class that has none, and one that exceeds the limit.
 use Rattle.surface_definitions.proofs.Computed.{computed}
 use Rattle.std.proofs.Common.{◌≡◌, ℕ, zero, suc, ◌+◌, ◌*◌, ◌<◌, Bool, true, List, [], ◌∷◌, Contains, Ok, Err, refl, sym, ap, ◌∙◌, arith}
 use Rattle.std.specs.Prelude.{◌==◌, slice_index, sum_by, map}
@@ -48,7 +48,8 @@ large : IsLiftAnswer limit (skeleton_of sphere) (limit ∷ 0 ∷ 0 ∷ []) (Err 
 unfolding computed
 large = ltb-true limit (4 * limit) refl
 
--- across face 0 of tetrahedron 0 the height at vertex 3 falls by 1, across face 1 it stays, and both come to vertex 3 of tetrahedron 1
+-- across face 0 of tetrahedron 0 the height at vertex 3 decreases by 1, across face 1 it stays the same, and both reach
+-- vertex 3 of tetrahedron 1
 falls : (a b q r s t : ℕ) → 0 + a + q ≡ 0 + b + r → 0 + a + s ≡ 0 + b + t → q ≡ 0 → r ≡ 1 → s ≡ 0 → t ≡ 0 → ⊥
 falls a b q r s t e f eq er es et = omega arith
 

@@ -14,7 +14,7 @@ use Rattle.surface_vector_definitions.specs.Components.{IsComponent, IsPiecesAns
 abbrev one_quad : List ℕ
 one_quad = 0 ∷ 0 ∷ 0 ∷ 0 ∷ 0 ∷ 1 ∷ 0 ∷ []
 
--- one thing is numbered 0
+-- one item has number 0
 one_class : (Same : ℕ → ℕ → Type 0) → Same 0 0 → IsNumbering 1 Same (0 ∷ []) 1
 one_class Same s = record {
   one_each = refl;
@@ -41,7 +41,7 @@ one_class Same s = record {
     none_empty zero l = (0, l, refl)
     none_empty (suc c) l = absurd (omega arith)
 
--- the arc round vertex 2 of face 0, where the quad meets itself with its other side
+-- the arc around vertex 2 of face 0, where the quad meets its own other side
 arc : Arc
 arc = record { tet = 0; face = 0; vertex = 2; place = 0 }
 

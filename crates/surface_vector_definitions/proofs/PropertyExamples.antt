@@ -22,14 +22,14 @@ jj = (refl, refl, refl)
 of_sphere : List ℕ → Result Properties PropertyFault
 of_sphere xs = answer limit (skeleton_of sphere) Standard xs
 
--- four times the limit of triangles: the points pass it, and so would the others
+-- four times the limit of triangles: the points exceed the limit, and so would the other sums
 on_sphere : (of_sphere (1 ∷ 1 ∷ 0 ∷ 0 ∷ 1 ∷ 0 ∷ 0 ∷ []) ≡ Ok (record { points = 2; arcs = 5; pieces = 3; euler = pos 0; linking = false; boundary = false }))
     × (of_sphere (limit ∷ limit ∷ limit ∷ limit ∷ 0 ∷ 0 ∷ 0 ∷ []) ≡ Err (Large Points))
     × (answer limit (skeleton_of sphere) Octagon (0 ∷ 0 ∷ 1 ∷ 1 ∷ 0 ∷ 0 ∷ 0 ∷ 1 ∷ 0 ∷ 0 ∷ []) ≡ Ok (record { points = 6; arcs = 7; pieces = 3; euler = pos 2; linking = false; boundary = false }))
 unfolding computed of_sphere
 on_sphere = (refl, refl, refl)
 
--- one tetrahedron that is glued nowhere: the zero vector, a triangle, and a limit of which only a later sum passes
+-- one tetrahedron without gluings: the zero vector, a triangle, and a limit that only a later sum exceeds
 of_one : ℕ → List ℕ → Result Properties PropertyFault
 of_one max xs = answer max (skeleton_of (row free free free free ∷ [])) Standard xs
 

@@ -1,4 +1,4 @@
--- Walks that end, and walks that come back.
+-- Walks that end, and walks that return to their start.
 use Rattle.std.proofs.Common.{◌≡◌, ◌≢◌, ℕ, suc, ◌+◌, ◌-◌, ◌<◌, ◌≤◌, inl, inr, List, length, slice_index, Option, Some, None, sym, ap, ◌∙◌, arith}
 use Rattle.std.proofs.lemmas.Bool.{cases_order, cases_lt}
 use Rattle.table_walk_laws.specs.Walks.{after, Reaches, IsInjectiveBelow, IsSource, GoesOn, IsOrbit, last_of}
@@ -8,11 +8,11 @@ use Rattle.table_walk_laws.proofs.Places.{place_of}
 use Rattle.table_walk_laws.proofs.Steps.{after_below, after_both, after_end, meet}
 use Rattle.table_walk_laws.proofs.OrbitLemmas.{after_walk, at_length, orbit_exists, orbit_holds_reached}
 
--- where the last number of an orbit is
+-- the last number of an orbit is reached by one step fewer than its length
 last_there : (step : ℕ → Option ℕ) (start : ℕ) (places : List ℕ) → IsOrbit step start places → after step start (length places - 1) ≡ Some (last_of places)
 last_there step start places o = let one : 1 ≤ length places = o.walk.some in after_walk step start places o.walk (length places - 1) (omega arith)
 
--- an orbit whose start has a next number, and so on, leads back
+-- if each number that the start reaches has a next one, the orbit returns to its start
 pub going_on_has_cycle : (step : ℕ → Option ℕ) (start : ℕ) → GoesOn step start → (places : List ℕ) → IsOrbit step start places → step (last_of places) ≡ Some start
 going_on_has_cycle step start on places o = elim o.last [
   | inl back ↦ back

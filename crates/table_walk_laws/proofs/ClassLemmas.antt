@@ -122,7 +122,7 @@ numbered_more members classes class i l m h x k = elim (cases_eq x (slice_index 
   ]
 ]
 
--- and what is no member is as it was
+-- the class of a number that is not a member does not change
 pub others_kept : (members classes : List ℕ) (class i : ℕ) → i < length members → (x : ℕ) → ¬ Contains members x → slice_index (set classes (slice_index members i) class) x ≡ slice_index classes x
 others_kept members classes class i l x none = get_or-set_other classes (slice_index members i) x class 0 (λ e. none (contains_at members i x l (sym e)))
 

@@ -1,4 +1,4 @@
--- Paths, put together and turned round.
+-- Paths, joined and reversed.
 use Rattle.std.proofs.Common.{◌≡◌, ◌<◌, ◌↔◌, ℕ, zero, suc, inl, inr, List, [], ◌∷◌, ◌++◌, length, slice_index, Contains, Option, None, Some, refl, sym, ap, subst, ◌∙◌, arith}
 use Rattle.std.specs.Prelude.{option_to_list}
 use Rattle.basic_lemmas.proofs.Members.{contains_at}
@@ -58,7 +58,7 @@ module _ (neighbours : ℕ → List ℕ) where
     joined = λ turn x y p. (p.0, leads_too (IsLink neighbours) (λ a b. Contains (neighbours a) b) (straight turn) x y p.0 p.1);
   }
 
--- a step is the relation to its one number
+-- the list of an optional number contains its number alone
 at_option : (o : Option ℕ) (x : ℕ) → o ≡ Some x → Contains (option_to_list o) x
 at_option o x e = subst (λ a. Contains (option_to_list a) x) (sym e) (contains_at (x ∷ []) 0 x (omega arith) refl)
 

@@ -69,7 +69,7 @@ members_are_component neighbours before marked members start turn closed l new s
       | inr c ↦ c
     ]
 
--- the members from place i on are pending, so the next turn is that of the member at i
+-- the members from index i onwards are pending, so the next step is that of the member at i
 pub next_member : (members : List ℕ) (i x : ℕ) → i < length members → x ≡ slice_index_or members i x → drop i members ≡ x ∷ drop (i + 1) members
 next_member members i x l e = drop_more members i x l ∙ ap (λ a. a ∷ drop (i + 1) members) (sym e)
 

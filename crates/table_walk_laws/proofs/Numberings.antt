@@ -1,4 +1,4 @@
--- What symmetric neighbours join is numbered: by searches, one component after another.
+-- The components of a symmetric relation have a numbering, by searches for one component after another.
 use Rattle.std.proofs.Common.{◌≡◌, ℕ, zero, suc, ◌<◌, ◌≤◌, ◌↔◌, Bool, true, false, List, [], ◌∷◌, ◌++◌, length, map, replicate, set, Contains, All, inl, inr, refl, sym, ap, ◌∙◌, subst, arith, append_assoc, append-nil, length-set}
 use Rattle.std.specs.Prelude.{if◌then◌else◌, slice_index, All}
 use Rattle.std.specs.List.{slice_index_or}
@@ -21,7 +21,7 @@ from_has : (ns : List ℕ) (n : ℕ) → has ns n ≡ true → Contains ns n
 from_has ns n h = let a = there ns n h in (a.0, a.1, sym a.2)
 
 module _ (n : ℕ) (neighbours : ℕ → List ℕ) (symmetric : IsSymmetric neighbours) (below_n : HasNeighboursBelow n neighbours) where
-  -- a turn that is done
+  -- a step of a search that is finished
   record IsTurned (before first : List Bool) (x work : ℕ) : Type 0 where
     marked : List Bool
     pending : List ℕ
@@ -59,7 +59,7 @@ module _ (n : ℕ) (neighbours : ℕ → List ℕ) (symmetric : IsSymmetric neig
           subst (IsTurned before first x) (has_few_turns.mark marked pending y ly f)
           (rest_done (set marked y true) (pending ++ y ∷ []) (members ++ y ∷ []) (turn_marks neighbours first x done marked pending y t near ly f) (members_grow before marked members y m ly f) (length-set marked y true ∙ size))
 
-  -- a search that is done
+  -- a search that is finished
   record IsSearched (before first : List Bool) : Type 0 where
     marked : List Bool
     members : List ℕ
@@ -155,7 +155,7 @@ module _ (n : ℕ) (neighbours : ℕ → List ℕ) (symmetric : IsSymmetric neig
     pub count : ℕ
     pub numbered : IsNumbering n Same classes count
 
-  -- what is joined if and only if it is the same is numbered
+  -- if numbers are joined if and only if they are related by `Same`, `Same` has a numbering
   pub numbering_exists : (Same : ℕ → ℕ → Type 0) → ((i j : ℕ) → i < n → j < n → IsJoined neighbours i j ↔ Same i j) → HasNumbering Same
   numbering_exists Same joined =
       let c : IsClassedUpTo n = classed n (omega arith) in

@@ -1,4 +1,4 @@
--- Each start has one orbit, and it holds what the start reaches.
+-- Each start has exactly one orbit, which contains the numbers that the start reaches.
 use Rattle.std.proofs.Common.{◌≡◌, ◌≢◌, ℕ, zero, suc, ◌+◌, ◌-◌, ◌<◌, ◌≤◌, ◌↔◌, inl, inr, List, [], ◌∷◌, ◌++◌, length, slice_index, All, Contains, Option, Some, None, refl, sym, ap, subst, ◌∙◌, arith}
 use Rattle.std.specs.Prelude.{option_and_then}
 use Rattle.std.specs.List.{slice_index_or}
@@ -24,12 +24,12 @@ module _ (step : ℕ → Option ℕ) (start : ℕ) where
     distinct = λ i j d less l. absurd (omega arith);
   }
 
-  -- the k-th number is where k steps lead
+  -- the number at index k is reached after k steps
   pub after_walk : (places : List ℕ) → IsWalk step start places → (k : ℕ) → k < length places → after step start k ≡ Some (slice_index places k)
   after_walk places w zero l = ap Some (sym w.first)
   after_walk places w (suc k) l = ap (option_and_then step) (after_walk places w k (omega arith)) ∙ w.steps k l
 
-  -- two numbers of a walk that come after the same number of steps
+  -- the start occurs at index 0 alone
   at_start : (places : List ℕ) → IsWalk step start places → (k : ℕ) → k < length places → slice_index places k ≡ start → k ≡ 0
   at_start places w k l e = one_place places w.distinct k 0 0 l w.some (e ∙ sym w.first)
 
@@ -45,7 +45,7 @@ module _ (step : ℕ → Option ℕ) (start : ℕ) where
     pub walk_size : (places : List ℕ) → IsWalk step start places → length places ≤ n
     walk_size places w = distinct_below n places (walk_below places w) w.distinct
 
-    -- a number to which the last one leads is new, if it is not the start
+    -- the number after the last one is new, if it is not the start
     fresh : (places : List ℕ) → IsWalk step start places → (y : ℕ) → step (last_of places) ≡ Some y → y ≢ start → (k d : ℕ) → k < length places → slice_index_or places k d ≢ y
     fresh places w y s new zero d l e = new (sym e ∙ get_or_default places 0 d 0 l ∙ w.first)
     fresh places w y s new (suc k) d l e = let p : k < length places = omega arith in let q : length places - 1 < length places = omega arith in
@@ -74,7 +74,7 @@ module _ (step : ℕ → Option ℕ) (start : ℕ) where
               ap step (old k (omega arith) ∙ ap (slice_index places) f) ∙ s ∙ ap Some (sym (get_or_push places y 0 (suc k) g))
         ]
 
-    -- the same for code that keeps the walk and its last place
+    -- a walk with one more number, for code that stores the walk and its last number
     pub walk_on : (places : List ℕ) (place y : ℕ) (more : List ℕ) → IsWalk step start places → place ≡ last_of places → step place ≡ Some y → y ≢ start →
         more ≡ places ++ y ∷ [] → IsWalk step start more × (y ≡ last_of more)
     walk_on places place y more w at s new e = (

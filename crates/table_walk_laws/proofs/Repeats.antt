@@ -1,4 +1,4 @@
--- More than n numbers below n repeat one.
+-- Of more than n numbers below n two are equal.
 use Rattle.std.proofs.Common.{◌≡◌, ◌≢◌, ℕ, zero, suc, ◌<◌, ◌≤◌, ◌⊎◌, inl, inr, List, [], ◌∷◌, length, slice_index, All, AllPairs, arith}
 use Rattle.std.specs.List.{slice_index_or}
 use Rattle.std.proofs.lemmas.Bool.{cases_eq, eqb-true}
@@ -13,7 +13,7 @@ pub distinct_below : (n : ℕ) (xs : List ℕ) → All (λ x. x < n) xs → AllP
 distinct_below n xs below distinct = length-le_from_distinct_below xs n (IsDistinct-from_AllPairs Decides-eqb xs distinct)
     (λ q any. All-contains (λ x. x < n) xs q below (Contains-from_any eqb-true q xs any))
 
--- a number stands in a list, or differs from each of its numbers
+-- a number occurs in a list, or differs from each of its numbers
 found_or_not : (x : ℕ) (xs : List ℕ) → ((k : ℕ) × (k < length xs) × (x ≡ slice_index xs k)) ⊎ ((k d : ℕ) → k < length xs → x ≢ slice_index_or xs k d)
 found_or_not x [] = inr (λ k d h. absurd (omega arith))
 found_or_not x (y ∷ ys) = elim (cases_eq x y) [

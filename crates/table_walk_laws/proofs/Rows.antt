@@ -31,7 +31,7 @@ present_contains (Some x ∷ row) zero y e = contains_at (x ∷ present row) 0 y
 present_contains (Some x ∷ row) (suc i) y e = let p = place_of (present row) y (present_contains row i y e) in
     let l : p.0 < length (present row) = p.1 in contains_at (x ∷ present row) (suc p.0) y (omega arith) p.2
 
--- the entry at i, in a turn at x, whose row this is
+-- the entry at i, in a step at x, of which this is the row
 module _ (neighbours : ℕ → List ℕ) (first : List Bool) (x : ℕ) (row : List (Option ℕ)) (same : neighbours x ≡ present row) (i : ℕ) (l : i < length row)
     (marked : List Bool) (pending : List ℕ) (t : IsSearchStep neighbours first x (present (take i row)) marked pending) (marked' : List Bool) (pending' : List ℕ) where
   one_more : (done : List ℕ) → present (take (i + 1) row) ≡ done → IsSearchStep neighbours first x done marked' pending' → IsSearchStep neighbours first x (present (take (i + 1) row)) marked' pending'

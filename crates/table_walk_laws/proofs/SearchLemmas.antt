@@ -1,4 +1,4 @@
--- A search, turn by turn.
+-- A search, step by step.
 use Rattle.std.proofs.Common.{◌≡◌, ◌≢◌, ℕ, zero, suc, ◌+◌, ◌*◌, ◌<◌, ◌⊎◌, ◌↔◌, inl, inr, List, [], ◌∷◌, ◌++◌, length, slice_index, Bool, true, false, not, cond, All, AllPairs, Contains, replicate, set, count_by, refl, sym, ap, subst, ◌∙◌, arith}
 use Rattle.std.specs.List.{slice_index_or}
 use Rattle.std.proofs.lemmas.Bool.{cases_eq, cases_lt, false≢true, false_from_ne_true}
@@ -173,11 +173,11 @@ module _ (neighbours : ℕ → List ℕ) where
       IsSearchStep neighbours first x done marked pending → neighbours x ≡ done → IsSearch neighbours first marked pending
   turn_ends first x done marked pending t e = search_leaves first marked pending x t.search (All-same (IsMarked marked) (neighbours x) done e t.done_marked)
 
-  -- the number whose turn it is has a mark, so it is within the marks
+  -- the number of the current step has a mark, so it is below the number of marks
   pub turn_below : (first : List Bool) (x : ℕ) (done : List ℕ) (marked : List Bool) (pending : List ℕ) → IsSearchStep neighbours first x done marked pending → x < length marked
   turn_below first x done marked pending t = marked_below marked x (t.search.pending_marked x (contains_at (x ∷ pending) 0 x (omega arith) refl))
 
-  -- where nothing is pending, the marks are closed
+  -- if nothing is pending, the marks are closed under neighbours
   search_closed : (first marked : List Bool) → IsSearch neighbours first marked [] → IsClosed neighbours marked
   search_closed first marked s a b m c = elim (s.pending_or_marked a b m c) [
     | inl held ↦ absurd (let l : held.0 < 0 = held.1 in omega arith)
@@ -190,7 +190,7 @@ module _ (neighbours : ℕ → List ℕ) where
     closed = search_closed first marked s;
   }
 
-  -- the same for one start
+  -- a search from one start marks exactly what is joined to it
   pub one_start_ends : (n start : ℕ) (marked : List Bool) → start < n → IsSearch neighbours (set (replicate n false) start true) marked [] →
       (x : ℕ) → IsMarked marked x ↔ IsJoined neighbours start x
   one_start_ends n start marked l s x = (
@@ -206,7 +206,7 @@ module _ (neighbours : ℕ → List ℕ) where
   new_start_is_apart marked turn closed start x new p = false_from_ne_true (slice_index_or marked x false)
       (λ m. false≢true (sym new ∙ closed_holds_joined x marked m closed start ((joins_like_equals neighbours).back turn start x p)))
 
--- one number less is unmarked
+-- after a mark, one number fewer is unmarked
 unmarked_set : (marked : List Bool) (y : ℕ) → y < length marked → slice_index_or marked y false ≡ false → suc (count_by not (set marked y true)) ≡ count_by not marked
 unmarked_set marked y l new = let f : Bool → ℕ = λ b. cond (not b) 1 0 in
     let a : count_by not (set marked y true) + f (slice_index_or marked y false) ≡ count_by not marked + 0 = sum_by-set f marked y true false l in

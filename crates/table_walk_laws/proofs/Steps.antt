@@ -1,4 +1,4 @@
--- After how many steps a walk is where.
+-- The number that a walk reaches after a number of steps.
 use Rattle.std.proofs.Common.{◌≡◌, ℕ, zero, suc, ◌+◌, ◌-◌, ◌<◌, inl, inr, Option, Some, None, refl, sym, ap, ◌∙◌, arith}
 use Rattle.std.specs.Prelude.{option_and_then}
 use Rattle.std.proofs.lemmas.Bool.{cases_order}
@@ -28,12 +28,12 @@ module _ (step : ℕ → Option ℕ) where
   after_none start i (suc j) e = let z : suc j + i ≡ suc (j + i) = omega arith in
       ap (after step start) z ∙ ap (option_and_then step) (after_none start i j e)
 
-  -- a walk that has ended is nowhere later
+  -- after its end a walk reaches no number
   pub after_end : (start i j x : ℕ) → after step start i ≡ Some x → step x ≡ None → i < j → after step start j ≡ None
   after_end start i j x e stops less = let z : j ≡ (j - suc i) + suc i = omega arith in
       ap (after step start) z ∙ after_none start (suc i) (j - suc i) (ap (option_and_then step) e ∙ stops)
 
-  -- what ends the walk ends it for good
+  -- a walk has one end
   pub one_end_lem : (start x y : ℕ) → Reaches step start x → Reaches step start y → step x ≡ None → step y ≡ None → x ≡ y
   one_end_lem start x y p q ex ey = elim (cases_order p.0 q.0) [
     | inl e ↦ let f : after step start p.0 ≡ Some y = ap (after step start) e ∙ q.1 in let g : Some x ≡ Some y = sym p.1 ∙ f in cc
@@ -47,7 +47,7 @@ module _ (step : ℕ → Option ℕ) where
     after_below start (suc k) x l e = let b = after_before start k x e in
         h.within b.0 x (after_below start k b.0 l b.1) b.2
 
-    -- where the walks from two sources meet, they have been the same
+    -- if the walks from two sources meet, the sources are equal, and so are the numbers of steps
     pub meet : (a b i j x : ℕ) → IsSource n step a → IsSource n step b → after step a i ≡ Some x → after step b j ≡ Some x → (a ≡ b) × (i ≡ j)
     meet a b zero zero x p q e f = let s : a ≡ b = cc in (s, refl)
     meet a b zero (suc j) x p q e f = let c = after_before b j x f in

@@ -8,7 +8,7 @@ use Rattle.table_definitions.specs.declared.TextFault.{TextFault}
 use Rattle.table_definitions.specs.declared.TextFault.TheVariants.{NoMemory, Lex}
 use Rattle.table_definitions.specs.TableText.{lexed}
 
--- the values so far, before those that a reading gives
+-- the values so far, before those of a reading
 abbrev pub with_fronts : {A : Type 0} → List A → Result (List A × Reading) LexFault → Result (List A × Reading) LexFault
 with_fronts {A} front read = read >>= λ (others : List A × Reading). Ok (front ++ others.0, others.1)
 
@@ -20,16 +20,16 @@ with_fronts-first : {A : Type 0} (front : List A) (x : A) (r : Result (List A ×
 with_fronts-first {A} front x (Ok y) = ap (λ (zs : List A). Ok (zs, y.1)) (append_assoc front (x ∷ []) y.0)
 with_fronts-first front x (Err e) = refl
 
--- a fault of a line is one of the text
+-- a fault of a line is a fault of the text
 pub fault_lexed : {A : Type 0} (r : Result A LexFault) (f : LexFault) → r ≡ Err f → lexed r ≡ Err (Lex f)
 fault_lexed {A} r f same = ap (λ (q : Result A LexFault). lexed q) same
 
 module _ {A : Type 0} (form : Reading → Result (A × Reading) LexFault) where
-  -- what a line and the later lines give
+  -- the values of a line and of the later lines
   abbrev line_then : List Line → Result (A × Reading) LexFault → Result (List A × Reading) LexFault
   line_then ls read = read >>= λ (first : A × Reading). with_first first.0 (each_line_from form ls first.1)
 
-  -- the first of the lines that are left, and those behind it
+  -- the first of the lines that are left, and the lines after it
   first_line : (c : Reading) (l : Line) (ls : List Line) → c.later ≡ l ∷ ls → each_line_from form c.later c ≡ line_then ls (form (begun l ls c))
   unfolding each_line_from
   first_line c l ls same = ap (λ (us : List Line). each_line_from form us c) same

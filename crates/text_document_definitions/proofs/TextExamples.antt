@@ -34,7 +34,7 @@ too_wide_entry : each_line_from vector_at (lines_of (10 ∷ codes "vec 170141183
 unfolding computed
 too_wide_entry = refl
 
--- the first fault of a document, where it has one
+-- the first fault of a document, if it has one
 fault_of : Result (List Row × List (List ℕ)) TextFault → Option TextFault
 fault_of (Ok x) = None
 fault_of (Err e) = Some e

@@ -1,4 +1,4 @@
--- What stands first behind spaces and tabs.
+-- The first byte after spaces and tabs.
 use Rattle.std.proofs.Common.{◌≡◌, ◌==◌, ℕ, ◌+◌, ◌-◌, ◌<◌, ◌≤◌, true, false, cond, List, [], ◌∷◌, length, take, drop, get_or, refl, sym, ap, ◌∙◌, ⊎_elim, arith}
 use Rattle.std.specs.List.{prefix_len}
 use Rattle.std.proofs.lemmas.Bool.{cond-true, cond-false, cases_Bool}
@@ -10,7 +10,7 @@ use Rattle.text_definitions.proofs.Tokens.{tokens_from-blank, tokens_from-stray,
 use Rattle.text_io.specs.Front.{drop_blanks, IsFront}
 use Rattle.text_io.specs.declared.front.Front.TheVariants.{End, Stray, Word}
 
--- no more is left than there was
+-- the rest after the blanks is at most as long as the bytes
 length-drop_blanks : (bs rest : List ℕ) → rest ≡ drop_blanks bs → length rest ≤ length bs
 length-drop_blanks [] rest e = rw e (omega arith)
 length-drop_blanks (b ∷ bs) rest e =
@@ -19,7 +19,7 @@ length-drop_blanks (b ∷ bs) rest e =
     (λ unspaced. rw (e ∙ cond-false (is_blank b) _ _ unspaced) (omega arith))
     (cases_Bool (is_blank b))
 
--- spaces and tabs are passed
+-- spaces and tabs do not change the tokens
 tokens_from-drop_blanks : (c : ℕ) (bs rest : List ℕ) → rest ≡ drop_blanks bs → tokens_from c bs ≡ tokens_from (c + (length bs - length rest)) rest
 tokens_from-drop_blanks c [] rest e = rw e (ap (λ k. tokens_from k []) (omega arith))
 tokens_from-drop_blanks c (b ∷ bs) rest e =
@@ -33,7 +33,7 @@ tokens_from-drop_blanks c (b ∷ bs) rest e =
     rw whole (ap (λ k. tokens_from k (b ∷ bs)) (omega arith)))
     (cases_Bool (is_blank b))
 
--- what is left begins with no space or tab
+-- the rest does not begin with a space or tab
 unspaced_front : (bs : List ℕ) (b : ℕ) (more : List ℕ) → b ∷ more ≡ drop_blanks bs → is_blank b ≡ false
 unspaced_front [] b more e = cc
 unspaced_front (x ∷ bs) b more e =
@@ -42,12 +42,12 @@ unspaced_front (x ∷ bs) b more e =
     (λ unspaced. let same : b ∷ more ≡ x ∷ bs = e ∙ cond-false (is_blank x) _ _ unspaced in let at : b ≡ x = cc in rw at unspaced)
     (cases_Bool (is_blank x))
 
--- no bytes, no tokens
+-- without bytes there are no tokens
 no_tokens : (c : ℕ) → tokens_from c [] ≡ []
 unfolding tokens_from
 no_tokens c = refl
 
--- nothing is left
+-- no bytes are left
 pub front_end : (c : ℕ) (bs rest : List ℕ) → rest ≡ drop_blanks bs → length rest ≡ 0 → IsFront c bs (c + (length bs - length rest)) End
 front_end c bs [] e none = (tokens_from-drop_blanks c bs [] e ∙ no_tokens _, omega arith)
 front_end c bs (b ∷ more) e none = absurd (omega arith)
@@ -55,7 +55,7 @@ front_end c bs (b ∷ more) e none = absurd (omega arith)
 no_word_byte : (b : ℕ) (more : List ℕ) → prefix_len is_word_byte (b ∷ more) ≡ 0 → is_word_byte b ≡ false
 no_word_byte b more e = elim (is_word_byte b) as (λ v. cond v (1 + prefix_len is_word_byte more) 0 ≡ 0 → v ≡ false) [ true ↦ λ f. absurd (omega arith) | false ↦ λ f. refl ] e
 
--- a byte that is none of words
+-- a byte that does not occur in words
 pub front_stray : (c : ℕ) (bs rest : List ℕ) → rest ≡ drop_blanks bs → 0 < length rest → prefix_len is_word_byte rest ≡ 0 → IsFront c bs (c + (length bs - length rest)) Stray
 front_stray c bs [] e some no_word = absurd (omega arith)
 front_stray c bs (b ∷ more) e some no_word = (
@@ -85,7 +85,7 @@ front_word c bs (b ∷ more) w behind n e count front back some =
       omega (arith, length-drop_blanks bs (b ∷ more) e),
     )
 
--- a line without a first byte behind its blanks is skipped
+-- a line of spaces and tabs alone is skipped
 pub is_skipped-blank : (bs rest : List ℕ) → rest ≡ drop_blanks bs → length rest ≡ 0 → is_skipped bs ≡ true
 is_skipped-blank [] rest e none = refl
 is_skipped-blank (b ∷ bs) rest e none =
@@ -94,7 +94,7 @@ is_skipped-blank (b ∷ bs) rest e none =
     (λ unspaced. absurd (omega (arith, ap length (e ∙ cond-false (is_blank b) _ _ unspaced))))
     (cases_Bool (is_blank b))
 
--- and so is one whose first byte behind its blanks is `#`
+-- a line with another byte is skipped if and only if its first byte after spaces and tabs is `#`
 pub is_skipped-first : (bs rest : List ℕ) → rest ≡ drop_blanks bs → 0 < length rest → is_skipped bs ≡ (get_or rest 0 0 == 35)
 is_skipped-first [] rest e some = absurd (omega (arith, ap length e))
 is_skipped-first (b ∷ bs) rest e some =

@@ -4,7 +4,7 @@ use Rattle.std.proofs.lemmas.List.{length-take-le, take-append-le, take-take, ta
 use Rattle.std.proofs.Math.Seq.{take-append-add, take-add}
 use Rattle.text_io.specs.Causes.{TakesBytes, Grows}
 
--- nothing is taken
+-- no bytes are taken
 pub takes_none : (a : Option (List ℕ)) → TakesBytes a a []
 takes_none None = tt
 takes_none (Some x) = refl
@@ -25,7 +25,7 @@ grows_more (Some x) None c xs ys h k = absurd h
 grows_more (Some x) (Some y) None xs ys h k = k
 grows_more (Some x) (Some y) (Some z) xs ys h k = k ∙ ap (λ t. t ++ ys) h ∙ append_assoc x xs ys
 
--- the front of the buffer d, and the bytes that were read behind it
+-- the first bytes of the buffer d, and the bytes that were read after them
 filled : (d buf p q : List ℕ) (len count v : ℕ) → len ≤ length d → count ≤ length buf → len + count ≤ v →
     take (len + count) (take v ((take len d ++ (buf ++ p)) ++ q)) ≡ take len d ++ take count buf
 filled d buf p q len count v in_d in_buf in_v =
@@ -36,18 +36,18 @@ filled d buf p q len count v in_d in_buf in_v =
     ∙ take-append-add (take len d) (buf ++ (p ++ q)) count
     ∙ ap (λ t. take len d ++ t) (take-append-le count buf (p ++ q) in_buf)
 
--- a read into the buffer behind its front
+-- a read into the buffer after its first bytes
 pub read_more : (a b c : Option (List ℕ)) (d buf p q : List ℕ) (len count v : ℕ) → len ≤ length d → count ≤ length buf → len + count ≤ v →
     TakesBytes a b (take len d) → TakesBytes b c (take count buf) → TakesBytes a c (take (len + count) (take v ((take len d ++ (buf ++ p)) ++ q)))
 read_more a b c d buf p q len count v in_d in_buf in_v h k =
     subst (TakesBytes a c) (sym (filled d buf p q len count v in_d in_buf in_v)) (takes_more a b c (take len d) (take count buf) h k)
 
--- what stands in front of the room that was made for a read
+-- the bytes before the room that was made for a read do not change
 pub front_kept : (front whole fill : List ℕ) (len more : ℕ) → length front ≡ len → whole ≡ take (len + more) front ++ fill → take len whole ≡ front
 front_kept front whole fill len more count is =
     ap (take len) (is ∙ ap (λ t. t ++ fill) (take_all (len + more) front (omega arith))) ∙ take_at front fill len count
 
--- a write of the bytes behind those that were written
+-- a write of the bytes after those that were written
 pub write_more : (a b c : Option (List ℕ)) (bs : List ℕ) (written count : ℕ) → count ≤ length bs - written →
     Grows a b (take written bs) → Grows b c (take count (take (length bs - written) (drop written bs))) → Grows a c (take (written + count) bs)
 write_more a b c bs written count within h k =

@@ -1,4 +1,4 @@
--- What a lexer's fields stand for, before and after each step.
+-- What the fields of a lexer represent, before and after each step.
 use Rattle.std.proofs.Common.{◌≡◌, ℕ, ◌+◌, List, length, sym, ap, ◌∙◌, Ok, Err}
 use Rattle.text_definitions.specs.declared.LexKind.TheVariants.{BadByte, MissingWord, ExtraWord}
 use Rattle.text_definitions.specs.Text.{tokens_from, lines_from, pieces}

@@ -1,4 +1,4 @@
--- The entries so far are done.
+-- The entries so far are processed.
 use Rattle.std.proofs.Common.{take}
 use Rattle.table_walk_laws.specs.Joined.{present}
 use Rattle.finite_walks.specs.Rows.{IsRowMarked}

@@ -1,4 +1,4 @@
--- A solution inside a link has no quads, so it is so many of the link.
+-- A solution inside a link has no quads, so it is a multiple of the link.
 use Rattle.surface_agreement_laws.proofs.LinkSurfaces.{link_vertex}
 use Rattle.surface_agreement_laws.proofs.links_are_vertex_surfaces.Goals as goal
 

@@ -1,4 +1,4 @@
--- Both lists ascend and have the same vectors.
+-- Both lists are ascending and have the same vectors.
 use Rattle.surface_agreement_laws.proofs.Lists.{lists_agree}
 use Rattle.surface_agreement_laws.proofs.lists_agree.Goals as goal
 

@@ -1,4 +1,5 @@
--- The quads are an admissible solution of the quad equations, and a primitive one where the surface is a canonical vertex surface.
+-- The quads are an admissible solution of the quad equations, and a primitive one if the surface is a canonical vertex
+-- surface.
 use Rattle.std.specs.Prelude.{length}
 use Rattle.surface_quad_laws.specs.SolutionLaws.{quads_of}
 use Rattle.surface_quad_laws.proofs.QuadRows.{quads_solve}

@@ -1,4 +1,4 @@
--- With octagons 0 the equations, the clashing columns and the supports are the same.
+-- If all octagons are 0, the equations, the clashing columns and the supports are the same.
 use Rattle.surface_agreement_laws.proofs.SameSurfaces.{vertices_in_octagons, vertices_without_octagons}
 use Rattle.surface_agreement_laws.proofs.surfaces_without_octagons_are_standard.Goals as goal
 use Rattle.surface_agreement_laws.proofs.SameCharacteristic.{same_characteristic}

@@ -1,4 +1,5 @@
--- A link inside a vertex surface is that; where none is, it is canonical, and so the lift of its quads.
+-- A link inside a vertex surface is the surface; if there is none, the surface is canonical, so it is the lift of its
+-- quads.
 use Rattle.surface_agreement_laws.proofs.LinkSurfaces.{link_or_canonical, linking_is_link, link_is_linking}
 use Rattle.surface_agreement_laws.proofs.LinksOrLifts.{link_or_lift}
 use Rattle.surface_agreement_laws.proofs.vertex_surfaces_are_links_or_lifts.Goals as goal

@@ -1,4 +1,4 @@
--- There are as many arcs behind the triangles as pieces of the one column that has them.
+-- The arcs after those of the triangles are as many as the pieces of the one column that has them.
 use Rattle.surface_laws.proofs.ComponentSurfaces.{piece_there}
 use Rattle.surface_laws.proofs.arcs_are_pieces.Goals as goal
 

@@ -1,4 +1,4 @@
--- As many arcs stand on both sides of a gluing.
+-- There are equally many arcs on both sides of a gluing.
 use Rattle.surface_laws.proofs.MeetingArcs.{meets_back}
 use Rattle.surface_laws.proofs.arcs_meet_back.Goals as goal
 

@@ -1,4 +1,4 @@
--- The test looks at each face.
+-- The test checks each face.
 use Rattle.surface_laws.proofs.LinkingLemmas.{boundary}
 use Rattle.surface_laws.proofs.boundary_has_arcs.Goals as goal
 

@@ -1,4 +1,4 @@
--- A chain ends since no two steps lead to one face, and each step is determined.
+-- A chain has an end, since no two steps reach the same face, and has one, since each step is determined.
 use Rattle.surface_laws.proofs.Chains.{has_one_end}
 use Rattle.surface_laws.proofs.chains_have_one_end.Goals as goal
 

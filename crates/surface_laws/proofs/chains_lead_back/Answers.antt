@@ -1,4 +1,4 @@
--- A chain is read backwards, and no chain leads back to its first face.
+-- A chain can be read backwards, and no chain returns to its first face.
 use Rattle.surface_laws.proofs.ChainsBack.{IsReadBack, chain_back}
 use Rattle.surface_laws.proofs.NoReturn.{chain_elsewhere}
 use Rattle.surface_laws.proofs.chains_lead_back.Goals as goal

@@ -1,4 +1,4 @@
--- Chains are joined, and read backwards across the gluings that lead back.
+-- Chains of arcs can be joined, and read backwards across the inverse gluings.
 use Rattle.surface_laws.proofs.PieceChains.{chains_of_arcs}
 use Rattle.surface_laws.proofs.chains_of_arcs_join.Goals as goal
 

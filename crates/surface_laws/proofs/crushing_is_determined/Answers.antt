@@ -1,4 +1,4 @@
--- A vector is fit or not, and the crushed rows are determined.
+-- A vector is accepted or not, and the crushed table is unique.
 use Rattle.surface_laws.proofs.AnswerLemmas.{crushed_along_once}
 use Rattle.surface_laws.proofs.crushing_is_determined.Goals as goal
 

@@ -1,4 +1,4 @@
--- The crushed rows are made by following each face of a tetrahedron that stays.
+-- The crushed table is computed by following each face of a tetrahedron that stays.
 use Rattle.surface_definitions.proofs.SurfaceEvaluators.{crushed}
 use Rattle.surface_laws.proofs.CrushedRows.{crushed_once, crushed_is_table, crushed_are}
 use Rattle.surface_laws.proofs.crushing_makes_tables.Goals as goal

@@ -1,4 +1,4 @@
--- The classes are looked at one after another.
+-- The classes are checked one after another.
 use Rattle.surface_laws.proofs.Spreading.{lift_answer}
 use Rattle.surface_laws.proofs.lift_answers_exist.Goals as goal
 

@@ -1,4 +1,4 @@
--- Heights are spread along chains, and each equation is looked at.
+-- Heights are spread along chains, and each equation is checked.
 use Rattle.surface_laws.proofs.Spreading.{lift_decided}
 use Rattle.surface_laws.proofs.lifts_are_decided.Goals as goal
 

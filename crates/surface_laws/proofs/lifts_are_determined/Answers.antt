@@ -1,4 +1,4 @@
--- Two lifts differ by as much all over a class, and each is 0 somewhere in it.
+-- Two lifts differ by a constant on each class, and each is 0 somewhere in it.
 use Rattle.surface_laws.proofs.Lifts.{one_lift}
 use Rattle.surface_laws.proofs.lifts_are_determined.Goals as goal
 

@@ -1,4 +1,4 @@
--- Each equation belongs to a class, and quads clash as they do alone.
+-- Each equation belongs to a class, and two quads clash if and only if they clash in quad coordinates.
 use Rattle.surface_laws.proofs.LiftLemmas.{lift_solves, lift_projects, quads_admissible}
 use Rattle.surface_laws.proofs.lifts_are_surfaces.Goals as goal
 use Rattle.std.proofs.Common.{◌≡◌, length}

@@ -1,4 +1,4 @@
--- Each vertex has its height in the lift at its own class.
+-- The height of each vertex is that of the lift at its class.
 use Rattle.surface_laws.proofs.Heights.{lifts_join as all_join}
 use Rattle.surface_laws.proofs.lifts_join.Goals as goal
 

@@ -1,4 +1,4 @@
--- What is answered of each vector is determined, and so is the first that is refused.
+-- The answer for each vector is unique, and so is the first vector that is refused.
 use Rattle.surface_laws.proofs.AnswerLemmas.{lifted_each}
 use Rattle.surface_laws.proofs.lifts_of_vectors_are_determined.Goals as goal
 

@@ -1,4 +1,4 @@
--- The test looks at each column.
+-- The test checks each column.
 use Rattle.surface_laws.proofs.LinkingLemmas.{linking}
 use Rattle.surface_laws.proofs.linking_has_no_quads.Goals as goal
 

@@ -1,4 +1,4 @@
--- The list of pieces is made column by column, and its pieces are different.
+-- The list of pieces is built column by column, and its pieces are different.
 use Rattle.surface_laws.proofs.Offsets.{piece_numbers}
 use Rattle.surface_laws.proofs.pieces_are_numbered.Goals as goal
 

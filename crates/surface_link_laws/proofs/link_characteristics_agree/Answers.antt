@@ -1,4 +1,4 @@
--- No edge is counted once more.
+-- If no edge is invalid, no edge class is counted twice.
 use Rattle.surface_link_laws.proofs.Agreement.{vertices_and_euler}
 use Rattle.surface_link_laws.proofs.link_characteristics_agree.Goals as goal
 

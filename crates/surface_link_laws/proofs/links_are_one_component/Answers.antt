@@ -1,4 +1,4 @@
--- Chains of gluings carry its triangles to one another.
+-- Chains of gluings join the link's triangles to one another.
 use Rattle.surface_link_laws.proofs.Described.{described}
 use Rattle.surface_link_laws.proofs.links_are_one_component.Goals as goal
 

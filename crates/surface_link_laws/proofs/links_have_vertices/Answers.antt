@@ -1,4 +1,4 @@
--- Each edge has two ends, which are two vertices of the link or, where it is invalid, one.
+-- Each edge has two ends, which are two vertices of the link or, if the edge is invalid, one.
 use Rattle.surface_link_laws.proofs.Agreement.{vertices_and_more}
 use Rattle.surface_link_laws.proofs.links_have_vertices.Goals as goal
 

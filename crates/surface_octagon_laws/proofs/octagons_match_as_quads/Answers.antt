@@ -1,4 +1,4 @@
--- In each face there are as many arcs.
+-- In each face the octagons and the quads that replace them have equally many arcs.
 use Rattle.surface_octagon_laws.proofs.AsQuads.{match_as_quads}
 use Rattle.surface_octagon_laws.proofs.octagons_match_as_quads.Goals as goal
 

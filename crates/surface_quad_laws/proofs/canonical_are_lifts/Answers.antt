@@ -1,4 +1,4 @@
--- Each part of a lift is a part of a canonical solution.
+-- Each condition of a lift is one of a canonical solution.
 use Rattle.surface_quad_laws.specs.SolutionLaws.{quads_of}
 use Rattle.surface_quad_laws.proofs.Canonical.{canonical_lift, lift_canonical}
 use Rattle.surface_quad_laws.proofs.canonical_are_lifts.Goals as goal

@@ -1,4 +1,4 @@
--- So do points, arcs and pieces.
+-- The points, arcs and pieces of the components add up to those of the surface.
 use Rattle.surface_quad_laws.proofs.Characteristics.{characteristics_add_up}
 use Rattle.surface_quad_laws.proofs.component_characteristics_add_up.Goals as goal
 

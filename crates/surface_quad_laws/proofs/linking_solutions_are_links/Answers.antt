@@ -1,4 +1,4 @@
--- A gluing joins as many triangles, so there are as many all over a class.
+-- There are equally many triangles on both sides of a gluing, so their number is constant on a class.
 use Rattle.surface_quad_laws.proofs.LinkSums.{linking_links}
 use Rattle.surface_quad_laws.proofs.linking_solutions_are_links.Goals as goal
 

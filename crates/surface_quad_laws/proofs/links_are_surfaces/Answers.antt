@@ -1,4 +1,4 @@
--- A gluing keeps the class, so the triangles on both sides are as many.
+-- A gluing keeps the class, so there are equally many triangles on both sides.
 use Rattle.surface_quad_laws.proofs.Canonical.{no_link_is_canonical}
 use Rattle.surface_quad_laws.proofs.VertexLinks.{link_surface}
 use Rattle.surface_quad_laws.proofs.links_are_surfaces.Goals as goal

@@ -1,4 +1,4 @@
--- Quads alone clash as they do in the vector.
+-- Two quads clash in quad coordinates if and only if they clash in standard ones.
 use Rattle.surface_quad_laws.proofs.QuadClashes.{quads_decide}
 use Rattle.surface_quad_laws.proofs.quads_decide_admissibility.Goals as goal
 

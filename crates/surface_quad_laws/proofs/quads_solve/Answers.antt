@@ -1,4 +1,4 @@
--- The triangles go round the edge, and what is left are its quads.
+-- The triangles cancel around the edge, and what is left are its quads.
 use Rattle.surface_quad_laws.proofs.QuadRows.{quads_solve}
 use Rattle.surface_quad_laws.proofs.quads_solve.Goals as goal
 

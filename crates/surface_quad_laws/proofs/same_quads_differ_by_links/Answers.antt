@@ -1,4 +1,4 @@
--- Both are the same lift with links.
+-- Both vectors are sums of the same lift and links.
 use Rattle.surface_quad_laws.proofs.LiftsAndLinks.{differ_by_links}
 use Rattle.surface_quad_laws.proofs.same_quads_differ_by_links.Goals as goal
 

@@ -1,4 +1,4 @@
--- Heights differ by the same along each chain.
+-- The difference of two families of heights is constant along each chain.
 use Rattle.surface_quad_laws.proofs.Differences.{one_integer}
 use Rattle.surface_quad_laws.proofs.triangles_differ_by_class.Goals as goal
 

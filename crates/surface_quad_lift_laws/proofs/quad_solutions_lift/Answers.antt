@@ -1,4 +1,4 @@
--- The triangles hang on a tree, and the ends on a tree of the other sides: these are all sides.
+-- The triangles are joined by a tree of sides, and the ends by a tree of other sides: these are all sides.
 use Rattle.surface_quad_lift_laws.proofs.SpheresAndDiscs.{link_lift}
 use Rattle.surface_quad_lift_laws.proofs.quad_solutions_lift.Goals as goal
 

@@ -1,4 +1,4 @@
--- The lift is admissible where its quads are.
+-- The lift is admissible if its quads are.
 use Rattle.surface_quad_lift_laws.proofs.Correspondence.{one_surface}
 use Rattle.surface_quad_lift_laws.proofs.quad_surfaces_lift.Goals as goal
 

@@ -1,4 +1,4 @@
--- Each class has a lift, and lifts join.
+-- Each class has a lift, and lifts of all classes are a lift of the vector.
 use Rattle.surface_quad_lift_laws.proofs.Correspondence.{correspond}
 use Rattle.surface_quad_lift_laws.proofs.solutions_correspond.Goals as goal
 

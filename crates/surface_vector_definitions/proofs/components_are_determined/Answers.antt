@@ -1,4 +1,4 @@
--- The components are determined, and the number of pieces is.
+-- The components are unique, and so is the number of pieces.
 use Rattle.surface_vector_definitions.proofs.Determined.{one_answer}
 use Rattle.surface_vector_definitions.proofs.components_are_determined.Goals as goal
 

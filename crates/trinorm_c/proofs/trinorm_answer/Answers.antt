@@ -1,4 +1,4 @@
--- What is told where an outcome was handed out.
+-- What is returned if there is an outcome.
 use Rattle.std.proofs.Common.{ℕ, ◌<◌, List, arith, subst}
 use Rattle.outcome_definitions.specs.Answers.{IsOutcome}
 use Rattle.trinorm_c.specs.Calls.{words_of}

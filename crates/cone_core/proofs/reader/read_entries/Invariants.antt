@@ -1,4 +1,4 @@
--- what is read so far, before the coefficients of the columns that are left, is what all of them give
+-- the coefficients so far, followed by those of the columns that are left, are those of all columns
 use Rattle.std.proofs.Common.{◌≡◌, ◌-◌}
 use Rattle.cone_text_definitions.specs.ConeText.{coefficients_at}
 use Rattle.cone_arithmetic.specs.Sparse.{IsSparse, IsInRange}

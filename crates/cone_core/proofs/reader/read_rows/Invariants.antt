@@ -1,4 +1,4 @@
--- the rows so far, before those of the lines that are left, are what all lines give
+-- the rows so far, followed by those of the lines that are left, are those of all lines
 use Rattle.std.proofs.Common.{◌≡◌, ◌-◌, length}
 use Rattle.cone_text_definitions.specs.ConeText.{cone_rows_at}
 use Rattle.cone_core.specs.ConeReads.{sparse_rows_at}

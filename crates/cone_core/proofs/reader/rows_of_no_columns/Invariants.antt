@@ -1,4 +1,4 @@
--- so many rows without entries stand
+-- the rows so far are the expected number of rows without entries
 use Rattle.std.proofs.Common.{◌≡◌, length, replicate, []}
 use Rattle.cone_core.proofs.reader.rows_of_no_columns.Given as goal
 

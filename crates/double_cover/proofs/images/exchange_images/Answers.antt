@@ -1,4 +1,4 @@
--- An image more.
+-- One more image.
 use Rattle.std.proofs.Common.{ap, ap₂, ◌∙◌}
 use Rattle.cover_definitions.specs.Cover.{above, over, other_sheet, sheet}
 use Rattle.table_definitions.proofs.ListFacts.{map_below_more}

@@ -1,4 +1,4 @@
--- A gluing leads to a tetrahedron that is there.
+-- The tetrahedron of a gluing is one of the table.
 use Rattle.std.proofs.Common.{◌<◌, length, sym, ◌∙◌, arith}
 use Rattle.double_cover.proofs.rows.cover_glue.Goals as goal
 

@@ -1,4 +1,4 @@
--- A row more, and in the end all of them.
+-- One more row, and in the end all of them.
 use Rattle.std.proofs.Common.{◌≡◌, ◌*◌, length, arith}
 use Rattle.cover_definitions.specs.Cover.{cover_row}
 use Rattle.table_definitions.proofs.ListFacts.{map_below_more}

@@ -1,4 +1,4 @@
--- A tetrahedron that is marked stays as it is, and another one is marked.
+-- A tetrahedron that has a mark keeps it, and any other is marked.
 use Rattle.std.proofs.Common.{◌<◌, refl, sym, ap, subst}
 use Rattle.table_definitions.specs.Table.{Gluing}
 use Rattle.edge_group.proofs.Grown.{face_passes, face_grows}

@@ -1,4 +1,4 @@
--- A face more, and in the end all four.
+-- One more face, and in the end all four.
 use Rattle.std.proofs.Common.{◌<◌, arith}
 use Rattle.edge_group.specs.Searches.{IsFaceBelow}
 use Rattle.edge_group.proofs.Grown.{has_nothing, faces_more, faces_all}

@@ -1,4 +1,4 @@
--- A tetrahedron more.
+-- One more tetrahedron.
 use Rattle.std.proofs.Common.{[]}
 use Rattle.edge_group.proofs.Grown.{tets_more}
 use Rattle.edge_group.proofs.distances.next_level.Goals as goal

@@ -1,4 +1,4 @@
--- A place with a new class is its least face.
+-- A face with a new class is the least face of the class.
 use Rattle.std.proofs.Common.{◌≡◌, ◌+◌, ◌*◌, ◌<◌, ℕ, List, Vec, Global, [], ◌∷◌, ◌++◌, length, length-append, ap, sym, subst, arith, ◌∙◌}
 use Rattle.std.specs.Prelude.{slice_index}
 use Rattle.table_definitions.specs.Table.{Face}

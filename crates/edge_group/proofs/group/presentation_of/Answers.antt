@@ -1,4 +1,4 @@
--- What is kept of a group.
+-- The invariant of the group that is returned.
 use Rattle.std.proofs.Common.{◌<◌, ℕ, List, All, length, map, ap, sym, subst, subst₂, ◌∙◌}
 use Rattle.std.proofs.lemmas.Slice.Zip.{AllZip-long}
 use Rattle.table_definitions.specs.Table.{Row}

@@ -1,4 +1,4 @@
--- An edge class more, and in the end all of them.
+-- One more edge class, and in the end all of them.
 use Rattle.std.proofs.Common.{◌≡◌, ◌+◌, ◌<◌, ℕ, List, [], ◌∷◌, ◌++◌, All, Vec, Global, length, length-append, ap, sym, subst, arith, ◌∙◌}
 use Rattle.std.proofs.lemmas.List.Elements.{All-push, All-weaker}
 use Rattle.edge_group.proofs.Relating.{edge_passes, edge_grows}

@@ -1,4 +1,4 @@
--- A face whose other side does not lie closer.
+-- A face whose other side is not in a closer tetrahedron.
 use Rattle.std.proofs.Common.{sym, ap, subst₂, ◌∙◌}
 use Rattle.std.proofs.lemmas.Bool.{false≢true}
 use Rattle.table_definitions.specs.Table.{Gluing, Face}

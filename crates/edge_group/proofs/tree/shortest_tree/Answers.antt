@@ -1,4 +1,4 @@
--- In a connected table the least faces that lead closer are tree faces.
+-- In a connected table the least faces that are glued to a tetrahedron from a closer one are tree faces.
 use Rattle.edge_group.proofs.Closer.{closer_tree}
 use Rattle.edge_group.proofs.tree.shortest_tree.Goals as goal
 

@@ -1,4 +1,4 @@
--- A face more, and in the end all four.
+-- One more face, and in the end all four.
 use Rattle.std.proofs.Common.{◌≡◌, arith, subst}
 use Rattle.edge_group.specs.Behind.{IsLeastCloser}
 use Rattle.edge_group.proofs.Closer.{least_more}

@@ -9,7 +9,7 @@ use Rattle.presentation_laws.proofs.Marking.{tree_face_is, tree_root_is, tree_fa
 use Rattle.edge_group.proofs.Paths.{IsPathOn, distance_or, differ_is, path_steps, path_ends, path_falls}
 use Rattle.edge_group.proofs.turning.is_path_odd.Goals as goal
 
--- the tree face of the tetrahedron on the way
+-- the tree face of the tetrahedron that the path has reached
 on_tree : (c : goal.In-Some) → IsTreeFace c.args.table.now c.path.tet c.in-Some.face
 on_tree c = tree_face_is c.args.table.now c.args.tree.now.faces.items c.path.tet c.index.result.now c.in-Some.face c.requires.tree.tree
     (subst (λ n. c.path.tet < n) (sym c.requires.tree.tree.one_each) c.path.invariant.in_range) (sym c.index.ensures ∙ c.in-Some.is)
@@ -17,7 +17,7 @@ on_tree c = tree_face_is c.args.table.now c.args.tree.now.faces.items c.path.tet
 pub is_even-odd-requires : goal.is_even-odd-requires
 is_even-odd-requires c = glued_tet c.args.table.now c.in-Some.face (on_tree c).leads.gluing (on_tree c).leads.glued
 
--- the same behind it
+-- the tetrahedron of this face, and the tree face as it was read
 module _ (c : goal.After-face) where
   there : c.face.inside.tet ≡ c.in-Some.face.tet
   there = ap (λ (x : Face). x.tet) c.face.view_is

@@ -1,4 +1,4 @@
--- No row that was looked at leads to the target.
+-- No row that was read is glued to the target.
 use Rattle.std.proofs.Common.{◌≡◌, ℕ, ◌<◌, None, get_or}
 use Rattle.table_definitions.specs.Replaceable.{row_back}
 use Rattle.gluing_table.proofs.FirstBack.{Numbered}

@@ -1,4 +1,4 @@
--- No face that was looked at leads to the target.
+-- No face that was read is glued to the target.
 use Rattle.std.proofs.Common.{◌≡◌, ℕ, ◌<◌, None}
 use Rattle.std.specs.Prelude.{option_and_then}
 use Rattle.std.specs.List.{slice_index_or}

@@ -1,4 +1,4 @@
--- No row that was looked at has the number.
+-- No row so far has the number.
 use Rattle.std.proofs.Common.{◌≡◌, ℕ, ◌<◌, get_or}
 use Rattle.table_definitions.specs.Replaceable.{numbers_of}
 use Rattle.gluing_table.proofs.replacing.fresh_row.Given as goal

@@ -1,4 +1,4 @@
--- The number is opened up over those that were looked at.
+-- The number is raised above those of the removed rows so far.
 use Rattle.gluing_table.proofs.Opened.{IsOpened}
 use Rattle.gluing_table.proofs.replacing.opened_number.Given as goal
 

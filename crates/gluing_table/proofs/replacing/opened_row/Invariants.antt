@@ -1,4 +1,4 @@
--- The number is opened up over those that were looked at.
+-- The number is raised above those so far.
 use Rattle.table_definitions.specs.Replaceable.{numbers_of}
 use Rattle.gluing_table.proofs.Opened.{IsOpened}
 use Rattle.gluing_table.proofs.replacing.opened_row.Given as goal

@@ -5,7 +5,7 @@ use Rattle.gluing_table.specs.Exchanges.{Exchange}
 use Rattle.gluing_table.proofs.RetainedCode.{closed_fits, glued_back_by, glued_on_by}
 use Rattle.gluing_table.proofs.replacing.retained_glue.Goals as goal
 
--- what is answered for a face, where its row was kept
+-- the gluing that is returned for a face of a retained row
 abbrev Keeps : Exchange → Option Gluing → Face → ℕ → Type 0
 Keeps e r y t = r ≡ kept_gluing e.rows e.by y (glue e.rows (record { tet = t; face = y.face }))
 

@@ -1,4 +1,4 @@
--- Where the heights agree they are a lift, and the least class at which they do not has none.
+-- If the heights agree with the quads they are a lift, and the least class at which they do not has none.
 use Rattle.std.proofs.Common.{◌∙◌, subst, arith}
 use Rattle.surface_laws.specs.LiftLaws.{IsLiftOf}
 use Rattle.quad_lift.specs.Agreements.{IsLeastWrong, AreLeastHeights, lifted_entry}

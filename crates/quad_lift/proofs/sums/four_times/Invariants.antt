@@ -1,4 +1,4 @@
--- The sum so far, which fits.
+-- The sum so far, which is within the range of the code's numbers.
 use Rattle.std.proofs.Common.{◌≡◌, ◌≤◌, take}
 use Rattle.std.specs.Prelude.{sum}
 use Rattle.quad_lift.proofs.sums.four_times.Given as goal

@@ -1,4 +1,4 @@
--- Each turn leads on, and what is computed in it is within the limit.
+-- Each step continues the decomposition, and its numbers are within the limit.
 use Rattle.std.proofs.Common.{◌≡◌, length, refl, sym, ap, ◌∙◌, arith, subst₂, ◌∷◌, ◌++◌, [], map}
 use Rattle.cone_definitions.specs.Vectors.{IsInside, multiple}
 use Rattle.sum_definitions.specs.Sums.{repeated, difference}

@@ -1,4 +1,4 @@
--- The vectors are lent to the two steps, and stand in their places again.
+-- The vectors are passed to the two steps, and put back in their positions.
 use Rattle.std.proofs.Common.{length, ap, ap₂, ◌∙◌, sym}
 use Rattle.std.proofs.lemmas.List.{length-map}
 use Rattle.cone_definitions.specs.Vectors.{multiple}

@@ -6,7 +6,7 @@ use Rattle.skeleton_class_laws.specs.Rounds.{next_corner}
 use Rattle.skeleton_class_laws.proofs.RoundLemmas.{none_past, no_next, table_injective}
 use Rattle.skeleton.proofs.corners.next_corners.Goals as goal
 
--- none follows past the last corner
+-- corners beyond the last one have no next corner
 all_steps : (rows : List Row) (next : List (Option ℕ)) (place : ℕ) → length next ≡ place → 24 * length rows ≤ place → ((k : ℕ) → k < place → step_of next k ≡ next_corner rows k)
     → (k : ℕ) → step_of next k ≡ next_corner rows k
 all_steps rows next place size all steps k = elim (cases_lt k place) [

@@ -22,7 +22,7 @@ classes-requires c = (
   ),
 )
 
--- classes by what the table joins
+-- the classes are those that the table of neighbours joins
 by_classes : (t t' : List (List (Option ℕ))) (n : ℕ) (classes : List ℕ) (count : ℕ) → t' ≡ t → length t ≡ n → IsNumbering (length t') (IsJoined (neighbours_of t')) classes count →
     IsNumbering n (IsJoined (neighbours_of t)) classes count
 by_classes t t' n classes count e l a = subst (λ m. IsNumbering m (IsJoined (neighbours_of t)) classes count) l

@@ -1,4 +1,4 @@
--- The first of a tetrahedron is the first of all where those before it have none.
+-- The first accepted move of a tetrahedron is the first of all, if no tetrahedron before it has one.
 use Rattle.std.proofs.Common.{◌∙◌, sym, ap, arith}
 use Rattle.std.specs.Prelude.{length, Option, option_map}
 use Rattle.move_definitions.specs.Certificates.{is_accepted}

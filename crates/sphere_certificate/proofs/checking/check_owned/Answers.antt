@@ -1,4 +1,4 @@
--- What is told of the last table is told of the moves.
+-- What is returned for the last table is returned for the moves.
 use Rattle.std.proofs.Common.{Err}
 use Rattle.move_laws.proofs.Played.{all_led_table}
 use Rattle.sphere_certificate.specs.Checks.{told}

@@ -1,4 +1,4 @@
--- The signature of the standard sphere tells its relabellings.
+-- A table with the signature of the standard sphere is isomorphic to it.
 use Rattle.std.proofs.Common.{◌∙◌, sym}
 use Rattle.certificate_laws.proofs.Checked.{text_standard}
 use Rattle.sphere_certificate.proofs.checking.judge.Goals as goal

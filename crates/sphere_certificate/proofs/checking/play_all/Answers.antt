@@ -1,4 +1,4 @@
--- A move that is played leads on, and one that is refused is the first.
+-- Moves that can be played are played in order, and the first that cannot be is returned.
 use Rattle.certificate_laws.proofs.Loops.{checks_go_on_lem, checks_refuse_lem}
 use Rattle.sphere_certificate.proofs.checking.play_all.Goals as goal
 

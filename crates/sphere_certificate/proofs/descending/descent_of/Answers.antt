@@ -1,4 +1,4 @@
--- Each turn plays the move of the descent, which lessens the table, and the last one has none.
+-- Each pass plays the move of the descent, which makes the table smaller; the last pass has no move.
 use Rattle.certificate_laws.proofs.Descents.{descents_lessen_lem}
 use Rattle.certificate_laws.proofs.Answered.{descent_accepted}
 use Rattle.sphere_certificate.proofs.Descents.{ends_here, one_more, ended, ended_certifies, ended_fewer}

@@ -1,4 +1,4 @@
--- The moves so far lead to the table, and whether it is standard is known.
+-- The moves so far reach the table, and it is known whether the table is standard.
 use Rattle.std.specs.Prelude.{◌≡◌, ◌↔◌, true, length}
 use Rattle.move_definitions.specs.Certificates.{IsStandard}
 use Rattle.certificate_definitions.specs.SoFar.{DescendsSoFar}

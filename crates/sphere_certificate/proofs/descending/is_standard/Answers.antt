@@ -1,4 +1,4 @@
--- The signature tells it.
+-- The signature determines whether the table is standard.
 use Rattle.std.proofs.Common.{◌≡◌, List, ℕ, subst}
 use Rattle.std.specs.Prelude.{◌↔◌, true}
 use Rattle.certificate_definitions.specs.Answers.{sphere_text}

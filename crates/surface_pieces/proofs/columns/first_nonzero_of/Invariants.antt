@@ -1,4 +1,4 @@
--- What is found is found behind the columns so far.
+-- The first nonzero column is among those that are left.
 use Rattle.std.proofs.Common.{◌≡◌, drop}
 use Rattle.surface_pieces.proofs.columns.first_nonzero_of.Given as goal
 use Rattle.surface_laws.specs.PieceLaws.{first_nonzero}

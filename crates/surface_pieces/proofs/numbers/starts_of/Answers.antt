@@ -1,11 +1,11 @@
--- One sum more.
+-- One more sum.
 use Rattle.std.proofs.Common.{◌≡◌, ℕ, ◌+◌, ◌<◌, ◌≤◌, List, [], ◌∷◌, ◌++◌, length, get_or, take, inl, inr, sum, slice_index, refl, sym, ap, ◌∙◌, arith, length-append}
 use Rattle.std.proofs.lemmas.Bool.{cases_lt}
 use Rattle.std.proofs.lemmas.List.{get_or_append_left, get_or_push}
 use Rattle.std.proofs.lemmas.List.Sums.{sum_by_more, sum_by-take-le}
 use Rattle.surface_pieces.proofs.numbers.starts_of.Goals as goal
 
--- what stands before a column stays when one more is listed
+-- the number of pieces before a column does not change if one more is listed
 starts_more : (xs starts next : List ℕ) (k before : ℕ) → length starts ≡ k → before ≡ sum (take k xs) → next ≡ starts ++ before ∷ []
     → ((c : ℕ) → c < k → slice_index starts c ≡ sum (take c xs)) → (c : ℕ) → c < k + 1 → slice_index next c ≡ sum (take c xs)
 starts_more xs starts next k before size all is each c l = elim (cases_lt c k) [

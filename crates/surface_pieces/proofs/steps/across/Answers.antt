@@ -1,4 +1,4 @@
--- A gluing carries a vertex of a face to one.
+-- A gluing maps a vertex of a face to a vertex of the other face.
 use Rattle.std.proofs.Common.{sym, ◌∙◌}
 use Rattle.table_definitions.proofs.PermutationLaws.{images_apart}
 use Rattle.surface_pieces.proofs.steps.across.Goals as goal

@@ -1,4 +1,4 @@
--- The first sum that exceeds the limit is large; where none does all sums are exact.
+-- The first sum that exceeds the limit is returned as large; if none does, all sums are exact.
 use Rattle.std.proofs.Common.{◌≡◌, ℕ, ◌+◌, ◌<◌, ◌≤◌, List, subst, sym, ap, ◌∙◌, arith}
 use Rattle.std.specs.Prelude.{sum, pos, ◌-ℤ◌}
 use Rattle.std.proofs.Common.{rules}

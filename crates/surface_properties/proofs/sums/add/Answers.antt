@@ -1,4 +1,4 @@
--- What passes the greatest 128 bits exceeds the limit too.
+-- A sum that exceeds the greatest number of 128 bits exceeds the limit too.
 use Rattle.std.proofs.Common.{arith}
 use Rattle.surface_properties.specs.Capped.{capped}
 use Rattle.surface_properties.proofs.sums.add.Goals as goal

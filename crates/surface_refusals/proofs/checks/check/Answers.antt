@@ -1,4 +1,4 @@
--- A vector that passes is as wide as the table has columns, which are few.
+-- A vector that is accepted has as many entries as the table has columns, so fewer than 2^32.
 use Rattle.std.proofs.Common.{ℕ, ◌<◌, ◌≤◌, length, sym, ◌∙◌, subst}
 use Rattle.surface_refusals.proofs.Columns.{few_columns}
 use Rattle.surface_refusals.proofs.checks.check.Goals as goal

@@ -1,4 +1,4 @@
--- The blanks that were passed are blanks, and no more is left than before.
+-- The bytes that were skipped are blanks, and at most as many are left as before.
 use Rattle.std.proofs.Common.{◌≡◌, ◌≤◌, length}
 use Rattle.text_io.specs.Front.{drop_blanks}
 use Rattle.text_io.proofs.front.without_blanks.Given as goal

@@ -1,4 +1,4 @@
--- The lines that were passed are blank or comments.
+-- The lines that were skipped are blank or comments.
 use Rattle.std.proofs.Common.{◌≡◌, ◌+◌, ◌≤◌, length}
 use Rattle.text_definitions.specs.Text.{lines_from, pieces}
 use Rattle.text_io.proofs.lines.first_line.Given as goal

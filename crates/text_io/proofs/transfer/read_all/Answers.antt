@@ -53,7 +53,7 @@ long_not_failed e = cc
 long_not_memory : {V : Type 0} → IsErrOf {T = V} {E = the_data} (Err TooLong) NoMemory → ⊥
 long_not_memory e = cc
 
--- a source that gave too many bytes had too many
+-- a source from which too many bytes were read has too many
 had_more : (a b : Option (List ℕ)) (taken : List ℕ) (limit : ℕ) → TakesBytes a b taken → limit < length taken → IfSome a (λ bytes. limit < length bytes)
 had_more None b taken limit h l = tt
 had_more (Some xs) None taken limit h l = absurd h

@@ -1,4 +1,4 @@
--- The bytes at hand are those that were taken, there is room for the rest, and no call failed.
+-- The bytes in memory are those that were taken, there is room for the rest, and no call failed.
 use Rattle.std.proofs.Common.{◌≡◌, ◌+◌, ◌-◌, ◌≤◌, vec_len, vec_capacity}
 use Rattle.text_io.specs.Causes.{TakesBytes}
 use Rattle.text_io.proofs.transfer.read_all.Given as goal

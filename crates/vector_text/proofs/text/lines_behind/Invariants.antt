@@ -1,4 +1,4 @@
--- the lines so far are written behind the text
+-- the lines so far are written after the text
 use Rattle.std.proofs.Common.{◌≡◌, ◌++◌, take}
 use Rattle.cone_text_definitions.specs.VectorText.{list_text}
 use Rattle.vector_text.proofs.text.lines_behind.Given as goal

@@ -1,4 +1,4 @@
--- The entries that are left come behind those so far.
+-- The entries that are left are written after those so far.
 use Rattle.std.proofs.Common.{◌≡◌, ℕ, ◌-◌, ◌++◌, List, length, length-drop, take, drop, subst, Result, Ok, Err, arith}
 use Rattle.std.specs.Prelude.{OnOk}
 use Rattle.std.proofs.lemmas.List.{take_all}
@@ -10,7 +10,7 @@ so : {T E : Type 0} {P Q : Type 0} (result : Result T E) → (P → Q) → OnOk 
 so (Ok x) f h = f h
 so (Err e) f h = h
 
--- the slice from a column on is all that is left
+-- the slice from a column onwards is all that is left
 slice_on : (x : List ℕ) (column : ℕ) → take (length x - column) (drop column x) ≡ drop column x
 slice_on x column = take_all (length x - column) (drop column x) (let e = length-drop column x in omega (arith, e))
 

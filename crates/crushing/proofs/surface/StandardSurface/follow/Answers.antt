@@ -1,4 +1,5 @@
--- The chain begins at a face that stays, each turn goes on by a tetrahedron, and what it comes to is its only end.
+-- The chain begins at a face that stays, each pass continues it through one tetrahedron, and what it reaches is its
+-- only end.
 use Rattle.std.proofs.Common.{sym, subst}
 use Rattle.std.proofs.lemmas.Bool.{not_from_false}
 use Rattle.surface_definitions.specs.Crushing.{is_removed}

@@ -1,4 +1,4 @@
--- What is reached is a place of the chain; each turn passes a tetrahedron that is taken out.
+-- The gluing that was reached is one of the chain; each pass goes through a tetrahedron that is taken out.
 use Rattle.crushing.proofs.Following.{IsFollowed, left_of}
 use Rattle.crushing.proofs.surface.StandardSurface.follow.Given as goal
 

@@ -1,4 +1,4 @@
--- The images are those of the exchange.
+-- The images are those of the deck transformation.
 use Rattle.std.proofs.Common.{◌≡◌, ◌*◌, ℕ, List, length, map, sym, ap, ◌∙◌, subst, arith}
 use Rattle.table_definitions.specs.Lists.{below}
 use Rattle.table_definitions.specs.Table.{Row}

@@ -1,4 +1,4 @@
--- The images are those of the split by the orientation that is kept.
+-- The images are those of the split by the stored orientation.
 use Rattle.std.proofs.Common.{◌≡◌, ◌*◌, ℕ, Bool, List, length, map, Vec, Global, Option, Some, sym, ap, ◌∙◌, subst, subst₂, arith}
 use Rattle.std.specs.Option.{option_map}
 use Rattle.table_definitions.specs.Lists.{below}

@@ -1,4 +1,4 @@
--- A class more, and in the end all of them.
+-- One more class, and in the end all of them.
 use Rattle.std.proofs.Common.{◌≡◌, ◌+◌, ℕ, List, [], ◌∷◌, ◌++◌, Vec, Global, length, length-append, ap, sym, subst, arith, ◌∙◌}
 use Rattle.std.proofs.lemmas.Bool.{false≢true}
 use Rattle.presentation_laws.specs.Classes.{AreGeneratorsBelow}

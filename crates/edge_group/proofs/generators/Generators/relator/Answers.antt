@@ -1,4 +1,4 @@
--- A corner more.
+-- One more corner.
 use Rattle.std.proofs.Common.{◌≡◌, ◌+◌, ◌*◌, Vec, Global, sym, ap, ap₂, ◌∙◌}
 use Rattle.std.specs.List.{slice_index_or}
 use Rattle.skeleton_definitions.specs.Corners.{Corner, left_through}

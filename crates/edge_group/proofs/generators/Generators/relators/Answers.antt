@@ -1,4 +1,4 @@
--- An edge class more.
+-- One more edge class.
 use Rattle.std.proofs.Common.{map, ap, subst, All, ◌∙◌}
 use Rattle.std.proofs.lemmas.List.{map_push}
 use Rattle.std.specs.Prelude.{slice_index}

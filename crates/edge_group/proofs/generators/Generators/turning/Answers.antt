@@ -1,4 +1,4 @@
--- A generator more, by the least face of its class.
+-- One more generator, by the least face of its class.
 use Rattle.std.proofs.Common.{◌≡◌, ℕ, ◌*◌, ◌/◌, ◌<◌, List, length, take_all, ap, sym, subst, subst₂, arith, ◌∙◌}
 use Rattle.std.specs.Prelude.{slice_index, IsSome}
 use Rattle.std.specs.List.{AllZip}

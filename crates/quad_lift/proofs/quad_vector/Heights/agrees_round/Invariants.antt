@@ -1,4 +1,4 @@
--- The heights agree at each face that was passed.
+-- The heights agree at each face so far.
 use Rattle.std.proofs.Common.{ℕ, ◌<◌}
 use Rattle.quad_lift.specs.Agreements.{Agrees}
 use Rattle.quad_lift.proofs.quad_vector.Heights.agrees_round.Given as goal

@@ -1,4 +1,4 @@
--- A vertex of a lesser class at which they do not agree makes that class the least.
+-- If heights and quads do not agree at a vertex of a smaller class, this class becomes the least.
 use Rattle.std.proofs.Common.{◌≡◌, length, ap, ◌∙◌, refl, arith}
 use Rattle.std.specs.Prelude.{slice_index}
 use Rattle.quad_lift.proofs.LeastWrong.{wrong_all, wrong_stays, wrong_falls}

@@ -1,4 +1,4 @@
--- No lesser class was wrong at a vertex that was passed.
+-- No vertex so far shows an error in a smaller class.
 use Rattle.quad_lift.proofs.LeastWrong.{IsLeastWrongBefore}
 use Rattle.quad_lift.proofs.quad_vector.Heights.least_wrong.Given as goal
 

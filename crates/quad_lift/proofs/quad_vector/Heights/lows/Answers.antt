@@ -1,4 +1,4 @@
--- A lesser height becomes the least.
+-- A smaller height becomes the least.
 use Rattle.std.proofs.Common.{◌≡◌, ℕ, ◌+◌, List, Vec, Global, set, length, replicate, sym, ap, ◌∙◌, subst, arith}
 use Rattle.std.specs.Prelude.{slice_index}
 use Rattle.std.proofs.lemmas.List.{length-replicate, get_or-replicate, get_or_default}

@@ -1,4 +1,4 @@
--- The least heights of the vertices that were passed, where a class has one.
+-- The least height of each class, of the vertices so far.
 use Rattle.quad_lift.proofs.LeastHeights.{AreLowsBefore}
 use Rattle.quad_lift.proofs.quad_vector.Heights.lows.Given as goal
 

@@ -1,4 +1,4 @@
--- The tetrahedron behind the face is one of the table, and different vertices go to different ones.
+-- The tetrahedron across the face is one of the table, and the gluing maps different vertices to different ones.
 use Rattle.std.proofs.Common.{◌/◌, ◌%◌, sym, ap, ◌∙◌, arith}
 use Rattle.table_definitions.specs.Permutation.{image}
 use Rattle.table_definitions.specs.Table.{Gluing, Face}

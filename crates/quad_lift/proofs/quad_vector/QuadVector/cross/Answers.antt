@@ -1,4 +1,4 @@
--- The vertex across the face is passed, or gets the height that the crossing gives it.
+-- The vertex across the face is skipped, or gets the height that follows from the crossing.
 use Rattle.std.proofs.Common.{set, true, ap, ◌∙◌, arith}
 use Rattle.table_walk_laws.specs.Search.{work_left}
 use Rattle.table_walk_laws.proofs.SearchLemmas.{has_few_turns}

@@ -1,4 +1,4 @@
--- Each face goes on with the turn.
+-- Crossing one more face continues the step at the vertex.
 use Rattle.std.proofs.Common.{◌∙◌, arith}
 use Rattle.quad_lift.proofs.RoundTurns.{turn_over}
 use Rattle.quad_lift.proofs.quad_vector.QuadVector.cross_all.Goals as goal

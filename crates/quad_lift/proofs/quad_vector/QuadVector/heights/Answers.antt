@@ -1,4 +1,4 @@
--- Each vertex without a height begins a class.
+-- Each vertex without a height begins the search of its class.
 use Rattle.std.proofs.Common.{◌≡◌, ℕ, ◌+◌, ◌*◌, ◌<◌, List, Bool, Vec, Global, false, true, length, replicate, sym, ap, ◌∙◌, subst, subst₂, arith, below_more}
 use Rattle.std.specs.List.{slice_index_or}
 use Rattle.std.proofs.lemmas.List.{get_or_default, with_items_is, length-replicate}

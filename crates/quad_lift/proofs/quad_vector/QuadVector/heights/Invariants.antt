@@ -1,4 +1,4 @@
--- The vertices that were passed are marked, and with each its class.
+-- The vertices so far are marked, each with its whole class.
 use Rattle.std.proofs.Common.{ℕ, ◌<◌}
 use Rattle.table_walk_laws.specs.Search.{IsMarked, IsClosed}
 use Rattle.quad_lift.specs.Spreads.{vertices_round, AreSpread}

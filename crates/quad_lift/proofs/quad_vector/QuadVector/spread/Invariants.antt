@@ -1,4 +1,4 @@
--- A search is under way, and the heights are spread.
+-- The state of a search, whose marked vertices have heights.
 use Rattle.std.proofs.Common.{true, set}
 use Rattle.table_walk_laws.specs.Search.{IsSearch, work_left}
 use Rattle.quad_lift.specs.Spreads.{vertices_round, AreSpread}

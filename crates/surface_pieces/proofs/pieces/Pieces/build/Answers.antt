@@ -1,4 +1,4 @@
--- The vector is one of a surface, with few pieces.
+-- The vector is one of a surface, with at most `MOST_PIECES` pieces.
 use Rattle.std.proofs.Common.{◌≡◌, ℕ, List, sym, ap, ◌∙◌, subst, arith}
 use Rattle.std.specs.Prelude.{sum}
 use Rattle.table_definitions.specs.Table.{Row}

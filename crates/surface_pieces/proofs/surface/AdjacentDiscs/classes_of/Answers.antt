@@ -1,4 +1,4 @@
--- The rows are fit for the search, and so are their classes those of what is joined.
+-- The rows fulfil the conditions of the search, so their classes are those of joined pieces.
 use Rattle.std.proofs.Common.{ℕ, List, Option, length, ap, sym, subst, arith}
 use Rattle.table_walk_laws.specs.Joined.{IsJoined, HasNeighboursBelow, IsSymmetric, neighbours_of}
 use Rattle.table_definitions.specs.Classes.{IsNumbering}

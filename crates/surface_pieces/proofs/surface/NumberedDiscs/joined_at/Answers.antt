@@ -16,7 +16,7 @@ corner_at-requires-clause-place c =
     let low : c.piece.inside.column % columns_each c.args.self.now.surface.coords.system < 10 = place_low c.args.self.now.surface.coords.system c.piece.inside.column in
     omega (arith, c.place_of-place.ensures)
 
--- the vertex of the slot, by the column of the piece that is passed
+-- the vertex of the slot, by the column of the given piece
 vertex_is : (coords : Coords) (column : ℕ) (p : NormalDisc) (place slot : ℕ) → column ≡ p.column → place ≡ column % columns_each coords → slot_vertex place slot ≡ vertex_of_slot coords p slot
 vertex_is coords column p place slot e is = ap (λ k. slot_vertex k slot) (is ∙ ap (λ k. k % columns_each coords) e)
 

@@ -51,7 +51,7 @@ returns-clause-some c =
     meant : ℕ
     meant = further_column c.args.self.now.coords.system c.args.self.now.entries.now (arc_at c.tet_of-tet.result c.args.corner.face c.args.corner.vertex 0)
 
-    -- the same by the column that is meant
+    -- the index of the arc, by the column of its piece
     place : c.triangles.result + c.number_from_end-place.result ≡ slice_index c.args.self.now.entries.now (tri_column c.args.self.now.coords.system c.tet_of-tet.result c.args.corner.vertex)
         + (if keeps_by_zero (type_in c.args.self.now.coords.system meant) c.args.corner.vertex then c.args.piece.number else slice_index c.args.self.now.entries.now meant - 1 - c.args.piece.number)
     place = (λ i. c.triangles.ensures i + counted i)

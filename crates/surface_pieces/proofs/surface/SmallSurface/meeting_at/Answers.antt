@@ -1,4 +1,4 @@
--- The arc meets the one across its gluing, where it has one.
+-- The arc meets the arc across its gluing, if it has one.
 use Rattle.std.proofs.Common.{◌≡◌, ◌<◌, length, IfNone, sym, ap, ◌∙◌, subst}
 use Rattle.table_definitions.specs.Permutation.{is_odd}
 use Rattle.table_definitions.specs.Table.{Gluing, glue}

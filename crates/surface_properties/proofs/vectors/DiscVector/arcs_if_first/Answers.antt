@@ -1,4 +1,4 @@
--- A face that is not the lesser one counts nothing.
+-- A face that is not the first of its glued pair counts nothing.
 use Rattle.std.proofs.Common.{sym, ap, ◌∙◌}
 use Rattle.std.specs.Prelude.{if◌then◌else◌}
 use Rattle.surface_definitions.specs.Characteristic.{arcs_in}

@@ -1,4 +1,4 @@
--- The arcs round the three vertices of the face.
+-- The arcs around the three vertices of the face.
 use Rattle.std.proofs.Common.{ℕ, sym, ap, ◌∙◌}
 use Rattle.std.specs.Prelude.{slice_index}
 use Rattle.table_definitions.specs.Permutation.{others}

@@ -1,4 +1,4 @@
--- The columns round a vertex of a face are columns of the vector.
+-- The columns around a vertex of a face are columns of the vector.
 use Rattle.std.proofs.Common.{◌≡◌, ◌<◌, List, ℕ, length, sym, ap, ◌∙◌, subst, arith}
 use Rattle.std.specs.Prelude.{All, sum_by, slice_index}
 use Rattle.table_definitions.specs.Permutation.{others}
