@@ -42,11 +42,7 @@ fn partners_end(space: Space, first: u32) -> u32
 }
 
 /// Appends the pairs of `first` with each later column of `space` that it clashes with.
-fn push_partners(
-    space: Space,
-    first: u32,
-    clashes: &mut Vec<(u32, u32)>,
-) -> Result<(), NoMemory>
+fn push_partners(space: Space, first: u32, clashes: &mut Vec<(u32, u32)>) -> Result<(), NoMemory>
     requires { first < coordinates.columns space.coords space.tets }
     ensures { OnOk result (clashes.new.items ≡ clashes.old.items ++ partners space.coords space.tets first) }
 {
