@@ -7,6 +7,7 @@ ghost use Rattle.surface_definitions.specs.Verdict.{both_nonzero};
 ghost use Rattle.ray_steps.specs.Clashes.{AreClashes};
 ghost use Rattle.quad_condition.specs.Partners.{partners};
 
+use crate::space::Space;
 use normal_discs::{columns, columns_each, is_octagon, is_quad_or_octagon, tet_of};
 use out_of_memory::NoMemory;
 use std::alloc::Global;
@@ -24,35 +25,29 @@ fn do_clash(coords: Coords, first: u32, second: u32) -> bool
         && is_quad_or_octagon(coords, second)
 }
 
-/// An end of the columns after `first` that it may clash with: those of its tetrahedron, or all columns for an octagon.
-fn partners_end(coords: Coords, tets: u32, first: u32) -> u32
-    requires tets { tets ≤ max_tets }
-    requires in_range { first < coordinates.columns coords tets }
+/// An end of the columns of `space` after `first` that it may clash with: those of its tetrahedron, or all columns for
+/// an octagon.
+fn partners_end(space: Space, first: u32) -> u32
+    requires { first < coordinates.columns space.coords space.tets }
     ensures above { first + 1 ≤ result }
-    ensures within { result ≤ coordinates.columns coords tets }
-    ensures beyond { (k : ℕ) → result ≤ k → k < coordinates.columns coords tets → coordinates.clash_test coords first k ≡ false }
+    ensures within { result ≤ coordinates.columns space.coords space.tets }
+    ensures beyond { (k : ℕ) → result ≤ k → k < coordinates.columns space.coords space.tets → coordinates.clash_test space.coords first k ≡ false }
 {
-    if is_octagon(coords, first) {
-        columns(coords, tets)
+    if is_octagon(space.coords, first) {
+        columns(space.coords, space.tets)
     } else {
-        let each = columns_each(coords);
+        let each = columns_each(space.coords);
         (first / each + 1) * each
     }
 }
 
-/// Appends the pairs of `first` with each later column that it clashes with.
-fn push_partners(
-    coords: Coords,
-    tets: u32,
-    first: u32,
-    clashes: &mut Vec<(u32, u32)>,
-) -> Result<(), NoMemory>
-    requires tets { tets ≤ max_tets }
-    requires in_range { first < coordinates.columns coords tets }
-    ensures { OnOk result (clashes.new.items ≡ clashes.old.items ++ partners coords tets first) }
+/// Appends the pairs of `first` with each later column of `space` that it clashes with.
+fn push_partners(space: Space, first: u32, clashes: &mut Vec<(u32, u32)>) -> Result<(), NoMemory>
+    requires { first < coordinates.columns space.coords space.tets }
+    ensures { OnOk result (clashes.new.items ≡ clashes.old.items ++ partners space.coords space.tets first) }
 {
-    for second in first + 1..partners_end(coords, tets, first) {
-        if do_clash(coords, first, second) {
+    for second in first + 1..partners_end(space, first) {
+        if do_clash(space.coords, first, second) {
             clashes.push((first, second))?;
         }
     }
@@ -67,23 +62,23 @@ pub fn clash_list(alloc: Global, coords: Coords, tets: u32) -> Result<Vec<(u32, 
 {
     let mut clashes = Vec::new(alloc);
     for first in 0..columns(coords, tets) {
-        push_partners(coords, tets, first, &mut clashes)?;
+        push_partners(Space { coords, tets }, first, &mut clashes)?;
     }
     Ok(clashes)
 }
 
-/// The first nonzero column after `first` that clashes with it, or `None`, also if `x` is 0 at `first`.
-fn first_clashing(coords: Coords, tets: u32, x: &[u128], first: u32) -> Option<u32>
-    requires tets { tets ≤ max_tets }
-    requires width { length x.now ≡ coordinates.columns coords tets }
+/// The first column after `first` at which `x`, a vector of `space`, is nonzero and that clashes with `first`. `None`
+/// if there is none, also if `x` is 0 at `first`.
+fn first_clashing(space: Space, x: &[u128], first: u32) -> Option<u32>
+    requires width { length x.now ≡ coordinates.columns space.coords space.tets }
     requires in_range { first < length x.now }
-    ensures { option_map (λ second. (first, second)) result ≡ find (both_nonzero x.now) (partners coords tets first) }
+    ensures { option_map (λ second. (first, second)) result ≡ find (both_nonzero x.now) (partners space.coords space.tets first) }
 {
     if x[first as usize] == 0 {
         return None;
     }
-    for second in first + 1..partners_end(coords, tets, first) {
-        if x[second as usize] != 0 && do_clash(coords, first, second) {
+    for second in first + 1..partners_end(space, first) {
+        if x[second as usize] != 0 && do_clash(space.coords, first, second) {
             return Some(second);
         }
     }
@@ -98,7 +93,7 @@ pub fn first_clash(coords: Coords, tets: u32, x: &[u128]) -> Option<(u32, u32)>
     ensures { result ≡ find (both_nonzero x.now) (coordinates.clash_list coords tets) }
 {
     for first in 0..columns(coords, tets) {
-        if let Some(second) = first_clashing(coords, tets, x, first) {
+        if let Some(second) = first_clashing(Space { coords, tets }, x, first) {
             return Some((first, second));
         }
     }

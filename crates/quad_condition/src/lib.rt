@@ -9,6 +9,7 @@ mod check;
 mod clashes;
 mod masked;
 mod masks;
+mod space;
 mod words;
 
 pub use check::check_vector;

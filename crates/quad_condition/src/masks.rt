@@ -8,6 +8,7 @@ ghost use Rattle.ray_steps.specs.Clashes.{IsClashFree};
 ghost use Rattle.quad_condition.specs.Marks as marks;
 ghost use Rattle.quad_condition.specs.Marks.{AreMarks, AreDistanceMasks, HasPairAtDistance};
 
+use crate::space::Space;
 use crate::words::{has_pair_ahead, has_two};
 use normal_discs::{before_octagons, columns, columns_each, triangles_each};
 use out_of_memory::NoMemory;
@@ -49,37 +50,29 @@ fn is_marked(coords: Coords, least: u32, distance: u32, column: u32) -> bool
     least <= place && place + distance < each
 }
 
-/// The mask of the columns that `is_marked` selects for `least` and `distance`.
-fn mask(
-    alloc: Global,
-    coords: Coords,
-    tets: u32,
-    least: u32,
-    distance: u32,
-) -> Result<Vec<u64>, NoMemory>
-    requires tets { tets ≤ max_tets }
-    requires distance { distance ≤ 10 }
-    ensures { IfOk result (λ words. AreMarks coords tets least distance words.items) }
+/// The mask of the columns of `space` that `is_marked` selects for `least` and `distance`.
+fn mask(alloc: Global, space: Space, least: u32, distance: u32) -> Result<Vec<u64>, NoMemory>
+    requires { distance ≤ 10 }
+    ensures { IfOk result (λ words. AreMarks space.coords space.tets least distance words.items) }
 {
-    let count = columns(coords, tets);
+    let count = columns(space.coords, space.tets);
     let mut words = vec![in alloc; 0u64; (count as usize).div_ceil(64)]?;
     for column in 0..count {
-        if is_marked(coords, least, distance, column) {
+        if is_marked(space.coords, least, distance, column) {
             set_bit(&mut words, column);
         }
     }
     Ok(words)
 }
 
-/// The masks for `tets` tetrahedra of the distances within a tetrahedron, from 1 on.
-fn distance_masks(alloc: Global, coords: Coords, tets: u32) -> Result<Vec<Vec<u64>>, NoMemory>
-    requires { tets ≤ max_tets }
-    ensures { IfOk result (λ near. AreDistanceMasks coords tets near.items) }
+/// The masks of the columns of `space` for the distances within a tetrahedron, from 1 on.
+fn distance_masks(alloc: Global, space: Space) -> Result<Vec<Vec<u64>>, NoMemory>
+    ensures { IfOk result (λ near. AreDistanceMasks space.coords space.tets near.items) }
 {
-    let least = triangles_each(coords);
+    let least = triangles_each(space.coords);
     let mut near = Vec::new(alloc);
-    for distance in 1..columns_each(coords) - least {
-        near.push(mask(alloc, coords, tets, least, distance)?)?;
+    for distance in 1..columns_each(space.coords) - least {
+        near.push(mask(alloc, space, least, distance)?)?;
     }
     Ok(near)
 }
@@ -105,8 +98,9 @@ impl Masks {
         requires { tets ≤ max_tets }
         ensures { IfOk result (λ masks. masks ≡ record { coords = coords; tets = tets }) }
     {
-        let near = distance_masks(alloc, coords, tets)?;
-        let octagons = mask(alloc, coords, tets, before_octagons(coords), 0)?;
+        let space = Space { coords, tets };
+        let near = distance_masks(alloc, space)?;
+        let octagons = mask(alloc, space, before_octagons(coords), 0)?;
         Ok(Masks {
             coords,
             tets,

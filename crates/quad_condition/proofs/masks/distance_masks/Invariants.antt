@@ -7,5 +7,5 @@ use Rattle.quad_condition.proofs.masks.distance_masks.Given as goal
 abbrev pub invariant-loop-distance : goal.invariant-loop-distance
 invariant-loop-distance l = record {
   so_far : length l.near.items + 1 ≡ l.distance;
-  each : (k : ℕ) (d : Vec ℕ Global) → k < length l.near.items → AreMarks l.coords l.tets (triangles_each l.coords) (k + 1) (get_or l.near.items k d).items;
+  each : (k : ℕ) (d : Vec ℕ Global) → k < length l.near.items → AreMarks l.space.coords l.space.tets (triangles_each l.space.coords) (k + 1) (get_or l.near.items k d).items;
 }

@@ -7,6 +7,6 @@ use Rattle.quad_condition.proofs.masks.mask.Given as goal
 
 abbrev pub invariant-loop-column : goal.invariant-loop-column
 invariant-loop-column l = record {
-  count : length l.words.items ≡ (columns l.fn.coords l.tets + 63) / 64;
-  bits : (k : ℕ) → bit_of l.words.items k ≡ (nat_lt k l.column && is_marked l.fn.coords l.least l.distance k);
+  count : length l.words.items ≡ (columns l.fn.space.coords l.space.tets + 63) / 64;
+  bits : (k : ℕ) → bit_of l.words.items k ≡ (nat_lt k l.column && is_marked l.fn.space.coords l.least l.distance k);
 }
