@@ -15,19 +15,24 @@ use std::process::Abort;
 use std::test::Fail;
 use support_bits::Support;
 
-/// Without clashing pairs: asserts the list `vectors` of the cone `text`, or what exceeds `limit`, and the order `rows`
-/// of the rows up to there.
+/// What an enumeration returns: the vectors of its list, or the one with an entry that exceeds the limit, and the rows
+/// up to there, in the order in which they were processed.
+struct Expected<'a> {
+    vectors: &'a [&'a [u128]],
+    rows: &'a [u32],
+}
+
+/// Without clashing pairs: asserts that the enumeration of the cone `text` by `order` returns `expected`, and returns
+/// whether no number exceeds `limit`.
 fn rays_are(
     rt: &impl Abort,
     alloc: Global,
     text: &[u8],
     order: NamedOrder,
     limit: u128,
-    vectors: &[&[u128]],
-    rows: &[u32],
+    expected: Expected<'_>,
 ) -> Result<bool, Fail>
     requires text { length text.now ≤ max_text }
-    requires some_limit { 1 ≤ limit }
     requires most_limit { limit ≤ MAX_ENTRY }
 {
     let system = cone(rt, alloc, text)?;
@@ -40,15 +45,15 @@ fn rays_are(
     let picker = Picker::new(rule, |s: &System, rows: &[u32]| choice(rule, s, rows));
     match enumerate(alloc, &system, &permit, &picker, limit) {
         Ok(rays) => {
-            are_rays(rt, &rays.list, vectors);
-            assert_eq!(rt; rays.order.as_slice(), rows);
+            are_rays(rt, &rays.list, expected.vectors);
+            assert_eq!(rt; rays.order.as_slice(), expected.rows);
             Ok(true)
         }
         Err(Failure::Fault(LargeStep { order, kind })) => {
-            assert_eq!(rt; order.as_slice(), rows);
+            assert_eq!(rt; order.as_slice(), expected.rows);
             match kind {
-                LargeKind::Value(x) => are_rays(rt, &[x], vectors),
-                LargeKind::Pair(u, w) => are_rays(rt, &[u, w], vectors),
+                LargeKind::Value(x) => are_rays(rt, &[x], expected.vectors),
+                LargeKind::Pair(u, w) => are_rays(rt, &[u, w], expected.vectors),
             }
             Ok(false)
         }
@@ -67,11 +72,25 @@ fn small_cones(rt: HostRuntime) -> Result<(), Fail> {
             one,
             NamedOrder::GIVEN,
             MAX_ENTRY,
-            &[&[1, 2]],
-            &[0]
+            Expected {
+                vectors: &[&[1, 2]],
+                rows: &[0]
+            }
         )?
     );
-    assert!(rt; !rays_are(&rt, alloc, one, NamedOrder::GIVEN, 1, &[&[1, 0]], &[0])?);
+    assert!(rt;
+        !rays_are(
+            &rt,
+            alloc,
+            one,
+            NamedOrder::GIVEN,
+            1,
+            Expected {
+                vectors: &[&[1, 0]],
+                rows: &[0]
+            }
+        )?
+    );
     let two = b"cone 3 2\n1 -2 0\n0 1 -2";
     assert!(rt;
         rays_are(
@@ -80,8 +99,10 @@ fn small_cones(rt: HostRuntime) -> Result<(), Fail> {
             two,
             NamedOrder::ZEROS,
             4,
-            &[&[4, 2, 1]],
-            &[1, 0]
+            Expected {
+                vectors: &[&[4, 2, 1]],
+                rows: &[1, 0]
+            }
         )?
     );
     assert!(rt;
@@ -91,8 +112,10 @@ fn small_cones(rt: HostRuntime) -> Result<(), Fail> {
             two,
             NamedOrder::GIVEN,
             2,
-            &[&[2, 1, 0], &[0, 0, 1]],
-            &[0, 1]
+            Expected {
+                vectors: &[&[2, 1, 0], &[0, 0, 1]],
+                rows: &[0, 1]
+            }
         )?
     );
     assert!(rt;
@@ -102,12 +125,26 @@ fn small_cones(rt: HostRuntime) -> Result<(), Fail> {
             two,
             NamedOrder::ZEROS,
             2,
-            &[&[0, 2, 1]],
-            &[1, 0]
+            Expected {
+                vectors: &[&[0, 2, 1]],
+                rows: &[1, 0]
+            }
         )?
     );
     let short = b"cone 3 2\n1 1 -1\n2 -1 0";
-    assert!(rt; !rays_are(&rt, alloc, short, NamedOrder::SHORT, 1, &[&[1, 0, 0]], &[1])?);
+    assert!(rt;
+        !rays_are(
+            &rt,
+            alloc,
+            short,
+            NamedOrder::SHORT,
+            1,
+            Expected {
+                vectors: &[&[1, 0, 0]],
+                rows: &[1]
+            }
+        )?
+    );
     assert!(rt;
         !rays_are(
             &rt,
@@ -115,8 +152,10 @@ fn small_cones(rt: HostRuntime) -> Result<(), Fail> {
             short,
             NamedOrder::GIVEN,
             1,
-            &[&[1, 0, 1]],
-            &[0, 1]
+            Expected {
+                vectors: &[&[1, 0, 1]],
+                rows: &[0, 1]
+            }
         )?
     );
     Ok(())

@@ -17,7 +17,6 @@ fn are_surfaces(
     limit: u128,
     vectors: &[&[u128]],
 ) -> Result<(), Fail>
-    requires some_limit { 1 ≤ limit }
     requires most_limit { limit ≤ MAX_ENTRY }
 {
     let skeleton = skeleton_of(alloc, signature)?;
