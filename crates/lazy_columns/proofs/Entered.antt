@@ -6,7 +6,7 @@ use Rattle.cone_definitions.specs.Rows.{Row}
 use Rattle.cone_definitions.specs.Vectors.{unit}
 use Rattle.ray_steps.specs.Rays.{rays_of}
 use Rattle.cone_definitions.specs.Unordered.{HasSurfaces}
-use Rattle.lazy_columns.specs.declared.entering.LateRays.{LateRays}
+use Rattle.lazy_columns.specs.declared.late_rays.LateRays.{LateRays}
 use Rattle.lazy_columns.specs.Late.{IsUnseen, held_rows, AreSeen, HaveEntered}
 use Rattle.lazy_columns.specs.Fresh.{IsLone}
 use Rattle.lazy_columns.proofs.Held.{unseen_after}

@@ -21,7 +21,7 @@ use Rattle.cone_definitions.specs.Unordered.{HasSurfaces}
 use Rattle.ray_steps.proofs.RayLemmas.{length-rays_of, ray_at-rays_of}
 use Rattle.cone_definitions.proofs.Unordered.{place_of}
 use Rattle.cone_row_laws.specs.Fresh.{IsUntouched}
-use Rattle.lazy_columns.specs.declared.entering.LateRays.{LateRays}
+use Rattle.lazy_columns.specs.declared.late_rays.LateRays.{LateRays}
 use Rattle.lazy_columns.specs.declared.fresh.NewColumn.{NewColumn}
 use Rattle.lazy_columns.specs.Late.{IsUnseen, held_rows, AreLate, AreSeen}
 use Rattle.lazy_columns.specs.Fresh.{oriented, IsFreshColumn}

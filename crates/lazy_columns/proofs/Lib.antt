@@ -8,3 +8,4 @@ pub mod LateSteps
 pub mod SortedSurfaces
 pub mod Oriented
 pub mod Passed
+pub mod Coefficients

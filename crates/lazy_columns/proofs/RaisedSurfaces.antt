@@ -16,7 +16,7 @@ use Rattle.ray_steps.proofs.SurfaceSteps.{the_step, sign_at_place, pair_stands}
 use Rattle.cone_row_laws.specs.Fresh.{IsUntouched, IsFresh, IsRaised, ComesFromOthers}
 use Rattle.cone_row_laws.proofs.Fresh.{fresh_next}
 use Rattle.lazy_columns.specs.Late.{IsUnseen, held_rows}
-use Rattle.lazy_columns.specs.Fresh.{IsFree}
+use Rattle.ray_steps.specs.Clashes.{IsFree}
 use Rattle.lazy_columns.specs.Raised.{IsLeft, ComesFromRaised, IsFreshStepAt, IsRaisedFrom}
 use Rattle.lazy_columns.proofs.Held.{held_solution, unseen_after, untouched_held}
 use Rattle.lazy_columns.proofs.Faces.{surface_of_face, surface_in_face, gone_in_face, column_face}

@@ -6,7 +6,7 @@ use Rattle.cone_definitions.specs.Surfaces.{Clash, PairsAreOfTwoColumns}
 use Rattle.ray_steps.specs.Rays.{rays_of}
 use Rattle.cone_definitions.specs.Unordered.{HasSurfaces}
 use Rattle.cone_row_laws.specs.Fresh.{IsUntouched}
-use Rattle.lazy_columns.specs.declared.entering.LateRays.{LateRays}
+use Rattle.lazy_columns.specs.declared.late_rays.LateRays.{LateRays}
 
 -- the column has not entered; columns beyond the last count as entered
 abbrev pub IsUnseen : List Bool → ℕ → Type 0

@@ -7,7 +7,7 @@ use Rattle.ray_steps.specs.Clashes.{ClashData}
 use Rattle.ray_steps.specs.Faults.{IsFirstLargeValue}
 use Rattle.ray_steps.specs.Rays.{rays_of}
 use Rattle.ray_steps.specs.Steps.{StepData, IsStepOf, IsFirstLargeOf}
-use Rattle.lazy_columns.specs.declared.entering.LateRays.{LateRays}
+use Rattle.lazy_columns.specs.declared.late_rays.LateRays.{LateRays}
 use Rattle.lazy_columns.specs.Late.{AreLate}
 use Rattle.lazy_columns.specs.Fresh.{oriented}
 

@@ -1,7 +1,6 @@
 //! Runs all steps, in the order of the rows.
 
 ghost use Rattle.std.specs.Prelude.{◌≡◌, ℕ, List, IfOk, IfErr, IfSome, IfNone};
-ghost use Rattle.cone_arithmetic.specs.Sparse.{IsInRange};
 ghost use Rattle.cone_definitions.specs.Rows.{Row};
 ghost use Rattle.cone_definitions.specs.Surfaces.{Clash, IsSurfaceList};
 ghost use Rattle.cone_definitions.specs.Unordered.{HasSurfaces};
@@ -12,32 +11,37 @@ ghost use Rattle.lazy_columns.specs.Fresh.{IsFreeColumn};
 ghost use Rattle.lazy_columns.specs.Passing.{PassesNext, HasPassedStep};
 
 use crate::elimination::next_rays;
-use crate::entering::{LateRays, enter_all, enter_others, enter_row, none_seen};
+use crate::entering::{enter_all, enter_others, enter_row, none_seen};
 use crate::fresh::{NewColumn, free_column};
+use crate::late_rays::LateRays;
 use crate::raising::raised_rays;
-use cone_arithmetic::{PackedRay, SparseRow, System};
+use crate::row_step::RowStep;
+use cone_arithmetic::{PackedRay, System};
 use out_of_memory::NoMemory;
 use ray_steps::{
     Clashes, Compatible, RayWithSupport, StepFault, StepInput, sort_rays, without_supports,
 };
 use std::alloc::Global;
 
-/// Processes `row`, all of whose columns enter before. Fails with `Large` at a ray or pair at which a number exceeds
-/// `MAX_ENTRY`.
-fn eliminate_row<C: Compatible>(
-    alloc: Global,
-    clashes: &Clashes<C>,
-    row: &SparseRow,
-    mut late: LateRays,
-    most: u64,
-) -> Result<LateRays, StepFault>
-    requires in_range { IsInRange clashes.now.columns row.now }
-    requires late { AreLateOfFew clashes.now.columns most clashes.now.pairs late }
-    ensures ok { IfOk result (AreNextLate clashes.now.columns clashes.now.pairs row.now late) }
-    ensures err { IfErr result (IfLarge (PassesNext clashes.now row.now late)) }
+/// Processes the row of `step`, all of whose columns enter before. Fails with `Large` at a ray or pair at which a number
+/// exceeds `MAX_ENTRY`.
+fn eliminate_row<C: Compatible>(alloc: Global, step: RowStep<C>) -> Result<LateRays, StepFault>
+    requires late { AreLateOfFew step.clashes.now.columns step.most step.clashes.now.pairs step.late }
+    ensures ok { IfOk result (AreNextLate step.entry.clashes.now.columns step.entry.clashes.now.pairs step.entry.row.now step.entry.late) }
+    ensures err { IfErr result (IfLarge (PassesNext step.entry.clashes.now step.entry.row.now step.entry.late)) }
 {
-    enter_row(alloc, clashes.columns(), row, &mut late)?;
-    let LateRays { ray_list, seen } = late;
+    let RowStep {
+        clashes,
+        row,
+        mut late,
+        most,
+    } = step;
+    enter_row(alloc, row, &mut late)?;
+    let LateRays {
+        columns,
+        ray_list,
+        seen,
+    } = late;
     let input = StepInput {
         clashes,
         row,
@@ -46,28 +50,36 @@ fn eliminate_row<C: Compatible>(
     };
     let next = next_rays(alloc, input)?;
     Ok(LateRays {
+        columns,
         ray_list: next,
         seen,
     })
 }
 
-/// Processes `row`, whose column `fresh` is free, after its other columns have entered. Fails as `eliminate_row`.
+/// Processes the row of `step`, whose column `fresh` is free, after its other columns have entered. Fails as
+/// `eliminate_row`.
 fn eliminate_with_fresh<C: Compatible>(
     alloc: Global,
-    clashes: &Clashes<C>,
-    row: &SparseRow,
+    step: RowStep<C>,
     fresh: NewColumn,
-    mut late: LateRays,
-    most: u64,
 ) -> Result<LateRays, StepFault>
-    requires in_range { IsInRange clashes.now.columns row.now }
-    requires late { AreLateOfFew clashes.now.columns most clashes.now.pairs late }
-    requires fresh { IsFreeColumn clashes.now.columns row.now clashes.now.pairs late.seen.items fresh }
-    ensures ok { IfOk result (AreNextLate clashes.now.columns clashes.now.pairs row.now late) }
-    ensures err { IfErr result (IfLarge (PassesNext clashes.now row.now late)) }
+    requires late { AreLateOfFew step.clashes.now.columns step.most step.clashes.now.pairs step.late }
+    requires fresh { IsFreeColumn step.clashes.now.columns step.row.now step.clashes.now.pairs step.late.seen.items fresh }
+    ensures ok { IfOk result (AreNextLate step.entry.clashes.now.columns step.entry.clashes.now.pairs step.entry.row.now step.entry.late) }
+    ensures err { IfErr result (IfLarge (PassesNext step.entry.clashes.now step.entry.row.now step.entry.late)) }
 {
-    enter_others(alloc, clashes.columns(), row, fresh.column, &mut late)?;
-    let LateRays { ray_list, mut seen } = late;
+    let RowStep {
+        clashes,
+        row,
+        mut late,
+        most,
+    } = step;
+    enter_others(alloc, row, fresh.column, &mut late)?;
+    let LateRays {
+        columns,
+        ray_list,
+        mut seen,
+    } = late;
     let input = StepInput {
         clashes,
         row,
@@ -77,27 +89,21 @@ fn eliminate_with_fresh<C: Compatible>(
     let next = raised_rays(alloc, input, fresh)?;
     seen[fresh.column as usize] = true;
     Ok(LateRays {
+        columns,
         ray_list: next,
         seen,
     })
 }
 
-/// Processes `row`, by a free column if it has one. Fails as `eliminate_row`.
-fn next_late<C: Compatible>(
-    alloc: Global,
-    clashes: &Clashes<C>,
-    row: &SparseRow,
-    late: LateRays,
-    most: u64,
-) -> Result<LateRays, StepFault>
-    requires in_range { IsInRange clashes.now.columns row.now }
-    requires late { AreLateOfFew clashes.now.columns most clashes.now.pairs late }
-    ensures ok { IfOk result (AreNextLate clashes.now.columns clashes.now.pairs row.now late) }
-    ensures err { IfErr result (IfLarge (PassesNext clashes.now row.now late)) }
+/// Processes the row of `step`, by a free column if it has one. Fails as `eliminate_row`.
+fn next_late<C: Compatible>(alloc: Global, step: RowStep<C>) -> Result<LateRays, StepFault>
+    requires late { AreLateOfFew step.clashes.now.columns step.most step.clashes.now.pairs step.late }
+    ensures ok { IfOk result (AreNextLate step.entry.clashes.now.columns step.entry.clashes.now.pairs step.entry.row.now step.entry.late) }
+    ensures err { IfErr result (IfLarge (PassesNext step.entry.clashes.now step.entry.row.now step.entry.late)) }
 {
-    match free_column(alloc, clashes.columns(), clashes.pairs(), row, &late.seen)? {
-        Some(fresh) => eliminate_with_fresh(alloc, clashes, row, fresh, late, most),
-        None => eliminate_row(alloc, clashes, row, late, most),
+    match free_column(&step) {
+        Some(fresh) => eliminate_with_fresh(alloc, step, fresh),
+        None => eliminate_row(alloc, step),
     }
 }
 
@@ -117,10 +123,16 @@ fn all_rows<C: Compatible>(
     for number in 0..system.len() {
         // the union of an adjacent pair has at most two columns more than rows were processed
         let most = u64::from(number) + 2;
-        late = next_late(alloc, clashes, system.row(number), late, most)?;
+        let step = RowStep {
+            clashes,
+            row: system.row(number),
+            late,
+            most,
+        };
+        late = next_late(alloc, step)?;
     }
-    enter_all(alloc, clashes.columns(), &mut late)?;
-    let LateRays { ray_list, seen: _ } = late;
+    enter_all(alloc, &mut late)?;
+    let LateRays { ray_list, .. } = late;
     Ok(ray_list)
 }
 

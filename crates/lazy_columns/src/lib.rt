@@ -11,6 +11,8 @@ mod elimination;
 mod engine;
 mod entering;
 mod fresh;
+mod late_rays;
 mod raising;
+mod row_step;
 
 pub use engine::vertex_surfaces;

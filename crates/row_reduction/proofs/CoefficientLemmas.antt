@@ -1,6 +1,6 @@
 -- The coefficient of a row at a column, and the terms that are cancelled there.
-use Rattle.std.proofs.Common.{◌≡◌, ℕ, ◌<◌, inl, inr, ℤ, pos, negsuc, List, [], length, get_or, subst, sym, ap, ◌∙◌, arith, Contains, w32, of_z, FitsSigned}
-use Rattle.std.specs.Prelude.{unsigned_abs}
+use Rattle.std.proofs.Common.{◌≡◌, ℕ, ◌<◌, inl, inr, ℤ, pos, negsuc, List, [], length, get_or, subst, sym, ap, ◌∙◌, arith, refl, Contains, w32, of_z, FitsSigned}
+use Rattle.std.specs.Prelude.{unsigned_abs, Option, Some, None, IsNone}
 use Rattle.std.proofs.lemmas.Int.{ints}
 use Rattle.std.proofs.lemmas.Bool.{cases_lt}
 use Rattle.std.proofs.lemmas.List.{get_or_default}
@@ -59,30 +59,33 @@ not_zero : (unit : ℤ) → IsUnit unit → unit ≡ pos 0 → ⊥
 not_zero unit (inl u) e = omega (arith, ints, u, e)
 not_zero unit (inr u) e = omega (arith, ints, u, e)
 
+-- the coefficient of a pivot row at its column
+pub unit_of : (row : Row) (column : ℕ) (unit : ℤ) → IsUnitAt column row → (IsUnitAt column row → IsUnit unit) → ((unit ≡ pos 0 → ⊥) → Contains row (column, unit)) →
+    Contains row (column, unit) × IsUnit unit
+unit_of row column unit has is found = let u = is has in (found (not_zero unit u), u)
+
 -- by a pivot row
-cancels_by : (row : Row) (coefficient factor : ℤ) (pivot : Row) (column : ℕ) (unit : ℤ) → Contains row (column, coefficient) → ((unit ≡ pos 0 → ⊥) → Contains pivot (column, unit)) →
-    IsUnit unit → (IsUnit unit → IsCoefficientSum coefficient factor unit (pos 0)) → CancelsAt column row factor pivot
-cancels_by row coefficient factor pivot column unit has found is sum = record {
+pub cancels_by : (row : Row) (coefficient factor : ℤ) (pivot : Row) (column : ℕ) (unit : ℤ) → ((coefficient ≡ pos 0 → ⊥) → Contains row (column, coefficient)) →
+    (of_z w32 coefficient ≡ 0 → ⊥) → Contains pivot (column, unit) → IsUnit unit → (IsUnit unit → IsCoefficientSum coefficient factor unit (pos 0)) → CancelsAt column row factor pivot
+cancels_by row coefficient factor pivot column unit has nonzero pivot_has is sum = record {
   coefficient = coefficient;
   other_coefficient = unit;
-  has = has;
-  other_has = found (not_zero unit is);
+  has = has (λ e. nonzero (ap (of_z w32) e));
+  other_has = pivot_has;
   none_left = sum is;
 }
 
--- by a pivot row, from the row at a place
-pub cancels_at : (rows : List Row) (i : ℕ) (row : Row) (coefficient factor : ℤ) (pivot : Row) (column : ℕ) (unit : ℤ) → i < length rows → row ≡ get_or rows i row →
-    ((coefficient ≡ pos 0 → ⊥) → Contains row (column, coefficient)) → (of_z w32 coefficient ≡ 0 → ⊥) → ((unit ≡ pos 0 → ⊥) → Contains pivot (column, unit)) →
-    IsUnit unit → (IsUnit unit → IsCoefficientSum coefficient factor unit (pos 0)) → CancelsAt column (get_or rows i []) factor pivot
-cancels_at rows i row coefficient factor pivot column unit within is has nonzero found unit_is sum =
-    subst (λ r. CancelsAt column r factor pivot) (is ∙ sym (get_or_default rows i [] row within))
-    (cancels_by row coefficient factor pivot column unit (has (λ e. nonzero (ap (of_z w32) e))) found unit_is sum)
+pub none_left : (row : Row) (column : ℕ) (coefficient : ℤ) → FitsSigned w32 coefficient → (coefficient ≡ pos 0 → HasNoTerm row column) → of_z w32 coefficient ≡ 0 → HasNoTerm row column
+none_left row column coefficient fits none zero_now = none (omega (arith, ints, fits, zero_now))
 
--- the row at a place has no term, where its coefficient is 0
-pub same_none : (rows : List Row) (i : ℕ) (row : Row) (coefficient : ℤ) (column : ℕ) → i < length rows → row ≡ get_or rows i row → FitsSigned w32 coefficient →
-    (coefficient ≡ pos 0 → HasNoTerm row column) → of_z w32 coefficient ≡ 0 → HasNoTerm (get_or rows i []) column
-same_none rows i row coefficient column within is fits none zero_now =
-    subst (λ r. HasNoTerm r column) (is ∙ sym (get_or_default rows i [] row within)) (none (omega (arith, ints, fits, zero_now)))
+-- the row at a place
+module _ (rows : List Row) (i : ℕ) (row : Row) (column : ℕ) (within : i < length rows) (is : row ≡ get_or rows i row) where
+  pub cancels_at : (factor : ℤ) (pivot : Row) → CancelsAt column row factor pivot → CancelsAt column (get_or rows i []) factor pivot
+  cancels_at factor pivot = subst (λ r. CancelsAt column r factor pivot) (is ∙ sym (get_or_default rows i [] row within))
+
+  pub none_at : (factor : Option ℤ) → ((f : ℤ) → factor ≡ Some f → ⊥) → (IsNone factor → HasNoTerm row column) → HasNoTerm (get_or rows i []) column
+  none_at None other none = subst (λ r. HasNoTerm r column) (is ∙ sym (get_or_default rows i [] row within)) (none refl)
+  none_at (Some f) other none = absurd (other f refl)
 
 -- by a row that has the same coefficient there, or the opposite one
 pub thins_shared : (row other : Row) (i j : ℕ) (factor : ℤ) → i < length row → j < length other → (term_at other j).0 ≡ (term_at row i).0 → IsUnit factor →

@@ -108,6 +108,11 @@ zeros_reordered rows others p x = (All-permutation P rows others p, All-permutat
     P : Row → Type 0
     P row = IsZeroAt row x
 
+-- rows without repetition, made sparser and then reordered
+pub zeros_ordered : (rows distinct thinned ordered : List Row) → HaveSameZeros rows distinct → HaveSameZeros distinct thinned → IsPermutation thinned ordered → HaveSameZeros rows ordered
+zeros_ordered rows distinct thinned ordered a b p =
+    zeros_follow rows thinned ordered (zeros_follow rows distinct thinned a b) (zeros_reordered thinned ordered p)
+
 pub back_reordered : (front back others : List Row) → IsPermutation back others → HaveSameZeros (front ++ back) (front ++ others)
 back_reordered front back others p x = (
   λ z. let k = all_split P front back z in All-append P front others k.0 (All-permutation P back others p k.1),

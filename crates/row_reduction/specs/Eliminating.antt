@@ -15,6 +15,11 @@ row_at rows i = slice_index_or rows i []
 abbrev pub IsUnit : ℤ → Type 0
 IsUnit number = (number ≡ pos 1) ⊎ (number ≡ negsuc 0)
 
+-- a pivot row, and the column that it clears
+pub record PivotData : Type 0 where
+  pub row : Row
+  pub column : ℕ
+
 -- the row has no term at the column
 abbrev pub HasNoTerm : Row → ℕ → Type 0
 HasNoTerm row column = (coefficient : ℤ) → ¬ Contains row (column, coefficient)

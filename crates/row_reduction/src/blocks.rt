@@ -1,28 +1,28 @@
 //! Brings a system into solved form: rows without a pivot first, then one row for each pivot.
 
-ghost use Rattle.std.specs.Prelude.{◌≡◌, ◌<◌, ◌+◌, ◌++◌, length, Contains, IfOk, OnOk, IfErr};
-ghost use Rattle.std.specs.List.{All};
-ghost use Rattle.cone_arithmetic.specs.Sparse.{IsInRange};
+ghost use Rattle.std.specs.Prelude.{◌≡◌, ◌<◌, ◌+◌, ◌++◌, length, IfOk, OnOk, IfErr};
 ghost use Rattle.cone_row_laws.specs.Solutions.{HaveSameZeros, HaveSameSolutions};
 ghost use Rattle.row_reduction.specs.Clearing.{AddsRow};
 ghost use Rattle.row_reduction.specs.Eliminating.{IsPivotBelow, AreSolvedFor, AreEliminated, KeepsRow, AreKept};
 ghost use Rattle.row_reduction.specs.Passing.{PassesFor, PassesAtPivot, PassesAmong, HasPassedSum, IfPassed};
 
-use crate::clear::{clear_rows, coefficient_at, copy};
+use crate::clear::{Pivot, clear_rows, coefficient_at, copy};
 use crate::fault::SolveFault;
 use crate::known::contains_up_to_sign;
 use crate::late::{named_columns, put_further_last};
 use crate::order::in_cheapest_order;
-use crate::thin::sparsify;
+use crate::rows::RowList;
+use crate::thin::{Thinned, sparsify};
 use cone_arithmetic::{SparseRow, System};
 use out_of_memory::NoMemory;
 use std::alloc::Global;
 
-/// The rows without a pivot, and the pivot rows.
+/// The rows without a pivot, and the pivot rows, over the same columns.
 #[derive(Drop)]
 struct Blocks {
-    unsolved: Vec<SparseRow>,
-    solved: Vec<SparseRow>,
+    unsolved: RowList,
+    solved: RowList,
+    ghost same_columns: { solved.columns ≡ unsolved.columns },
 }
 
 /// Which of `place` and `best` has fewer terms, `best` if both have the same number; `best` if the coefficient of row
@@ -59,58 +59,54 @@ fn pivot_place(rows: &[SparseRow], column: u32) -> Option<usize>
 }
 
 /// Copies the rows of `system`.
-fn rows_of(alloc: Global, system: &System) -> Result<Vec<SparseRow>, NoMemory>
-    ensures same { IfOk result (λ rows. rows.items ≡ system.now.rows) }
-    ensures in_range { IfOk result (λ rows. All (IsInRange system.now.columns) rows.items) }
+fn rows_of(alloc: Global, system: &System) -> Result<RowList, NoMemory>
+    ensures columns { IfOk result (λ list. list.columns ≡ system.now.columns) }
+    ensures same { IfOk result (λ list. list.rows.items ≡ system.now.rows) }
 {
     let mut rows = Vec::with_capacity(alloc, system.len() as usize)?;
     for i in 0..system.len() {
         rows.push(copy(alloc, system.row(i))?)?;
     }
-    Ok(rows)
+    let columns = system.columns();
+    Ok(RowList { columns, rows })
 }
 
 /// Eliminates `column`, if an unsolved row has the coefficient 1 or -1 there: that row becomes a pivot row, and the
 /// column is cleared from all other rows. Fails with `Passed` if a coefficient exceeds 1,000,000.
-fn solve_column(
-    alloc: Global,
-    columns: u32,
-    blocks: &mut Blocks,
-    column: u32,
-) -> Result<(), SolveFault>
-    requires unsolved { All (IsInRange columns) blocks.old.unsolved.items }
-    requires solved { All (IsInRange columns) blocks.old.solved.items }
-    ensures same { OnOk result (HaveSameZeros (blocks.old.unsolved.items ++ blocks.old.solved.items) (blocks.new.unsolved.items ++ blocks.new.solved.items)) }
-    ensures unsolved { OnOk result (All (IsInRange columns) blocks.new.unsolved.items) }
-    ensures solved { OnOk result (All (IsInRange columns) blocks.new.solved.items) }
-    ensures solves { OnOk result (AreSolvedFor column blocks.old.unsolved.items blocks.old.solved.items blocks.new.unsolved.items blocks.new.solved.items) }
-    ensures passed { IfErr result (IfPassed (PassesFor column blocks.old.unsolved.items blocks.old.solved.items)) }
+fn solve_column(alloc: Global, blocks: &mut Blocks, column: u32) -> Result<(), SolveFault>
+    ensures columns { blocks.new.unsolved.columns ≡ blocks.old.unsolved.columns }
+    ensures same { OnOk result (HaveSameZeros (blocks.old.unsolved.rows.items ++ blocks.old.solved.rows.items) (blocks.new.unsolved.rows.items ++ blocks.new.solved.rows.items)) }
+    ensures solves { OnOk result (AreSolvedFor column blocks.old.unsolved.rows.items blocks.old.solved.rows.items blocks.new.unsolved.rows.items blocks.new.solved.rows.items) }
+    ensures passed { IfErr result (IfPassed (PassesFor column blocks.old.unsolved.rows.items blocks.old.solved.rows.items)) }
 {
-    let Some(place) = pivot_place(&blocks.unsolved, column) else {
+    let Some(place) = pivot_place(&blocks.unsolved.rows, column) else {
         return Ok(());
     };
-    let pivot = blocks.unsolved.remove(place);
-    clear_rows(alloc, columns, &mut blocks.unsolved, &pivot, column)?;
-    clear_rows(alloc, columns, &mut blocks.solved, &pivot, column)?;
-    blocks.solved.push(pivot)?;
+    let row = blocks.unsolved.rows.remove(place);
+    let unit = coefficient_at(&row, column);
+    let pivot = Pivot { row, column, unit };
+    clear_rows(alloc, &mut blocks.unsolved, &pivot)?;
+    clear_rows(alloc, &mut blocks.solved, &pivot)?;
+    blocks.solved.rows.push(pivot.row)?;
     Ok(())
 }
 
 /// Eliminates the columns `pivots` from the rows of `system`, one by one. Fails with `Passed` if a coefficient exceeds
 /// 1,000,000.
 fn solve_columns(alloc: Global, system: &System, pivots: &[u32]) -> Result<Blocks, SolveFault>
-    ensures same { IfOk result (λ blocks. HaveSameZeros system.now.rows (blocks.unsolved.items ++ blocks.solved.items)) }
-    ensures unsolved { IfOk result (λ blocks. All (IsInRange system.now.columns) blocks.unsolved.items) }
-    ensures solved { IfOk result (λ blocks. All (IsInRange system.now.columns) blocks.solved.items) }
-    ensures eliminated { IfOk result (λ blocks. AreEliminated system.now.rows pivots.now blocks.unsolved.items blocks.solved.items) }
+    ensures columns { IfOk result (λ blocks. blocks.unsolved.columns ≡ system.now.columns) }
+    ensures same { IfOk result (λ blocks. HaveSameZeros system.now.rows (blocks.unsolved.rows.items ++ blocks.solved.rows.items)) }
+    ensures eliminated { IfOk result (λ blocks. AreEliminated system.now.rows pivots.now blocks.unsolved.rows.items blocks.solved.rows.items) }
     ensures passed { IfErr result (IfPassed (PassesAtPivot system.now.rows pivots.now)) }
 {
-    let mut blocks = Blocks {
-        unsolved: rows_of(alloc, system)?,
-        solved: Vec::new(alloc),
+    let unsolved = rows_of(alloc, system)?;
+    let solved = RowList {
+        columns: unsolved.columns,
+        rows: Vec::new(alloc),
     };
+    let mut blocks = Blocks { unsolved, solved };
     for column in pivots {
-        solve_column(alloc, system.columns(), &mut blocks, *column)?;
+        solve_column(alloc, &mut blocks, *column)?;
     }
     Ok(blocks)
 }
@@ -126,46 +122,48 @@ fn push_distinct(rows: &mut Vec<SparseRow>, row: SparseRow) -> Result<(), NoMemo
     Ok(())
 }
 
-/// The rows without empty ones and without repetition, a row and its negative counted as one.
-fn distinct_rows(alloc: Global, rows: Vec<SparseRow>) -> Result<Vec<SparseRow>, NoMemory>
-    ensures same { IfOk result (λ kept. HaveSameZeros rows.items kept.items) }
-    ensures stand { IfOk result (λ kept. All (Contains rows.items) kept.items) }
-    ensures kept { IfOk result (λ kept. AreKept rows.items kept.items) }
+/// The rows of `list` without empty ones and without repetition, a row and its negative counted as one.
+fn distinct_rows(alloc: Global, list: RowList) -> Result<RowList, NoMemory>
+    ensures columns { IfOk result (λ kept. kept.columns ≡ list.columns) }
+    ensures same { IfOk result (λ kept. HaveSameZeros list.rows.items kept.rows.items) }
+    ensures kept { IfOk result (λ kept. AreKept list.rows.items kept.rows.items) }
 {
+    let RowList { columns, rows } = list;
     let mut kept = Vec::with_capacity(alloc, rows.len())?;
     for row in rows {
         push_distinct(&mut kept, row)?;
     }
-    Ok(kept)
+    Ok(RowList {
+        columns,
+        rows: kept,
+    })
 }
 
-/// The rows `unsolved`, without repetition, made sparser and then ordered. Fails with `Passed` if a coefficient exceeds
-/// 1,000,000.
-fn ordered_rows(
-    alloc: Global,
-    columns: u32,
-    each: u32,
-    unsolved: Vec<SparseRow>,
-) -> Result<Vec<SparseRow>, SolveFault>
-    requires { All (IsInRange columns) unsolved.items }
-    ensures same { IfOk result (λ rows. HaveSameZeros unsolved.items rows.items) }
-    ensures in_range { IfOk result (λ rows. All (IsInRange columns) rows.items) }
-    ensures passed { IfErr result (IfPassed (PassesAmong unsolved.items)) }
+/// The rows `unsolved` without repetition, made sparser and then ordered; rows that become empty or equal are dropped.
+/// Fails with `Passed` if a coefficient exceeds 1,000,000.
+fn ordered_rows(alloc: Global, each: u32, unsolved: RowList) -> Result<RowList, SolveFault>
+    ensures columns { IfOk result (λ list. list.columns ≡ unsolved.columns) }
+    ensures same { IfOk result (λ list. HaveSameZeros unsolved.rows.items list.rows.items) }
+    ensures passed { IfErr result (IfPassed (PassesAmong unsolved.rows.items)) }
 {
-    let mut rows = distinct_rows(alloc, unsolved)?;
-    sparsify(alloc, columns, &mut rows)?;
-    Ok(in_cheapest_order(alloc, each, rows)?)
+    let distinct = distinct_rows(alloc, unsolved)?;
+    let Thinned { list, is_changed } = sparsify(alloc, distinct)?;
+    let ordered = in_cheapest_order(alloc, each, list)?;
+    if is_changed {
+        Ok(distinct_rows(alloc, ordered)?)
+    } else {
+        Ok(ordered)
+    }
 }
 
-/// A system of the distinct nonempty rows among `rows`.
-fn system_of(alloc: Global, columns: u32, rows: Vec<SparseRow>) -> Result<System, NoMemory>
-    requires { All (IsInRange columns) rows.items }
-    ensures columns { IfOk result (λ system. system.columns ≡ columns) }
-    ensures rows { IfOk result (λ system. HaveSameZeros rows.items system.rows) }
+/// A system of the rows of `list`.
+fn system_of(alloc: Global, list: RowList) -> Result<System, NoMemory>
+    ensures columns { IfOk result (λ system. system.columns ≡ list.columns) }
+    ensures rows { IfOk result (λ system. system.rows ≡ list.rows.items) }
 {
-    let kept = distinct_rows(alloc, rows)?;
+    let RowList { columns, rows } = list;
     let mut system = System::new(alloc, columns);
-    for row in kept {
+    for row in rows {
         // never: there are at most as many rows as in the system that they come from
         if system.len() == u32::MAX {
             return Err(NoMemory);
@@ -191,14 +189,15 @@ pub fn solve(
     ensures same { IfOk result (λ solved. HaveSameSolutions system.now.columns system.now.rows solved.rows) }
     ensures passed { IfErr result (IfPassed (HasPassedSum system.now.rows pivots.now)) }
 {
-    let columns = system.columns();
-    let Blocks {
-        unsolved,
-        mut solved,
-    } = solve_columns(alloc, system, pivots)?;
-    let mut rows = ordered_rows(alloc, columns, each, unsolved)?;
+    let Blocks { unsolved, solved } = solve_columns(alloc, system, pivots)?;
+    let RowList {
+        rows: mut solved,
+        ..
+    } = solved;
+    let RowList { columns, mut rows } = ordered_rows(alloc, each, unsolved)?;
     let named = named_columns(alloc, columns, pivots, &rows)?;
     put_further_last(&named, &mut solved)?;
+    // each pivot row has a column that is in no other row, so it is not empty, and equal to none
     rows.append(&mut solved)?;
-    Ok(system_of(alloc, columns, rows)?)
+    Ok(system_of(alloc, RowList { columns, rows })?)
 }

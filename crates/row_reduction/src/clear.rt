@@ -1,18 +1,39 @@
 //! Clears a column from rows by a pivot row.
 
-ghost use Rattle.std.specs.Prelude.{◌≡◌, ◌≤◌, ◌≢◌, ◌⊎◌, [], pos, negsuc, Contains, ◌<◌, length, slice_index_or, IfOk, OnOk, IfErr, unsigned_abs};
-ghost use Rattle.std.specs.List.{All};
+ghost use Rattle.std.specs.Prelude.{◌≡◌, ◌≤◌, ◌≢◌, ◌⊎◌, [], pos, negsuc, Contains, ◌<◌, length, slice_index_or, IfOk, OnOk, IfErr, IfSome, IsNone, unsigned_abs};
 ghost use Rattle.cone_arithmetic.specs.Sparse.{IsInRange};
 ghost use Rattle.row_reduction.specs.Merging.{IsCoefficientSum};
 ghost use Rattle.row_reduction.specs.Clearing.{AreClearedBy, AddsMultipleAt, IsUnitAt};
-ghost use Rattle.row_reduction.specs.Eliminating.{IsUnit, HasNoTerm, AreCleared};
+ghost use Rattle.row_reduction.specs.Eliminating.{IsUnit, HasNoTerm, CancelsAt, AreCleared};
 ghost use Rattle.row_reduction.specs.Passing.{PassesAtColumn, PassesClearing, IfPassed};
 
 use crate::fault::SolveFault;
-use crate::merge::add_multiple;
+use crate::merge::{RowPair, add_multiple};
+use crate::rows::RowList;
 use cone_arithmetic::SparseRow;
 use out_of_memory::NoMemory;
 use std::alloc::Global;
+use std::marker::Model;
+
+/// A row that clears its pivot column from others. Invariant: `unit`, which is 1 or -1, is the coefficient of `row` at
+/// `column`.
+#[derive(Drop)]
+pub(crate) struct Pivot {
+    pub row: SparseRow,
+    pub column: u32,
+    pub unit: i32,
+}
+
+impl Model for Pivot {
+    ghost use Rattle.std.specs.Prelude.{Contains};
+    ghost use Rattle.row_reduction.specs.Eliminating.{IsUnit, PivotData};
+
+    ghost Value = { PivotData };
+
+    ghost view = { λ p. record { row = p.row; column = p.column } };
+
+    ghost invariant = { λ p. Contains p.row (p.column, p.unit) × IsUnit p.unit };
+}
 
 /// The coefficient of `row` at `column`, 0 if it has no term there.
 pub(crate) fn coefficient_at(row: &SparseRow, column: u32) -> i32
@@ -47,47 +68,64 @@ fn clearing_factor(coefficient: i32, unit: i32) -> i32
     if unit < 0 { coefficient } else { -coefficient }
 }
 
+impl Pivot {
+    /// The factor by which the pivot row is added to `row` to cancel its term at the pivot column, or `None` if it has
+    /// no term there.
+    fn factor_for(&self, row: &SparseRow) -> Option<i32>
+        ensures cancels { IfSome result (λ factor. CancelsAt self.now.column row.now factor self.now.row) }
+        ensures none { IsNone result → HasNoTerm row.now self.now.column }
+    {
+        let coefficient = coefficient_at(row, self.column);
+        if coefficient == 0 {
+            return None;
+        }
+        Some(clearing_factor(coefficient, self.unit))
+    }
+
+    /// The pivot row.
+    fn row(&self) -> &SparseRow
+        ensures { result.now ≡ self.now.row }
+    {
+        &self.row
+    }
+}
+
 /// Adds `factor` times `other` to row `i`. Fails with `Passed` if a coefficient of the sum exceeds 1,000,000.
 pub(crate) fn add_at(
     alloc: Global,
-    columns: u32,
-    rows: &mut Vec<SparseRow>,
+    list: &mut RowList,
     i: usize,
     factor: i32,
     other: &SparseRow,
 ) -> Result<(), SolveFault>
-    requires place { i < length rows.old.items }
-    requires in_range { All (IsInRange columns) rows.old.items }
-    requires other_in_range { IsInRange columns other.now }
-    ensures adds { OnOk result (AddsMultipleAt columns rows.old.items i factor other.now rows.new.items) }
-    ensures passed { IfErr result (IfPassed (PassesAtColumn (slice_index_or rows.old.items i []) factor other.now)) }
+    requires place { i < length list.old.rows.items }
+    requires other_in_range { IsInRange list.old.columns other.now }
+    ensures columns { list.new.columns ≡ list.old.columns }
+    ensures adds { OnOk result (AddsMultipleAt list.old.columns list.old.rows.items i factor other.now list.new.rows.items) }
+    ensures passed { IfErr result (IfPassed (PassesAtColumn (slice_index_or list.old.rows.items i []) factor other.now)) }
 {
-    let sum = add_multiple(alloc, columns, &rows[i], factor, other)?;
-    rows[i] = sum;
+    let pair = RowPair {
+        columns: list.columns,
+        row: list.rows[i].entries(),
+        other: other.entries(),
+    };
+    let sum = add_multiple(alloc, &pair, factor)?;
+    list.rows[i] = sum;
     Ok(())
 }
 
-/// Clears `column` from `rows` by adding multiples of `pivot`. Rows that become empty are retained. Fails with `Passed`
-/// if a coefficient exceeds 1,000,000.
-pub(crate) fn clear_rows(
-    alloc: Global,
-    columns: u32,
-    rows: &mut Vec<SparseRow>,
-    pivot: &SparseRow,
-    column: u32,
-) -> Result<(), SolveFault>
-    requires in_range { All (IsInRange columns) rows.old.items }
-    requires pivot_in_range { IsInRange columns pivot.now }
-    ensures cleared { OnOk result (AreClearedBy pivot.now rows.old.items rows.new.items) }
-    ensures in_range { OnOk result (All (IsInRange columns) rows.new.items) }
-    ensures each { IsUnitAt column pivot.now → OnOk result (AreCleared pivot.now column rows.old.items rows.new.items) }
-    ensures passed { IsUnitAt column pivot.now → IfErr result (IfPassed (PassesClearing pivot.now column rows.old.items)) }
+/// Clears the column of `pivot` from the rows of `list` by adding multiples of the pivot row. Rows that become empty
+/// are retained. Fails with `Passed` if a coefficient exceeds 1,000,000.
+pub(crate) fn clear_rows(alloc: Global, list: &mut RowList, pivot: &Pivot) -> Result<(), SolveFault>
+    requires { IsInRange list.old.columns pivot.now.row }
+    ensures columns { list.new.columns ≡ list.old.columns }
+    ensures cleared { OnOk result (AreClearedBy pivot.now.row list.old.rows.items list.new.rows.items) }
+    ensures each { OnOk result (AreCleared pivot.now.row pivot.now.column list.old.rows.items list.new.rows.items) }
+    ensures passed { IfErr result (IfPassed (PassesClearing pivot.now.row pivot.now.column list.old.rows.items)) }
 {
-    for i in 0..rows.len() {
-        let coefficient = coefficient_at(&rows[i], column);
-        if coefficient != 0 {
-            let factor = clearing_factor(coefficient, coefficient_at(pivot, column));
-            add_at(alloc, columns, rows, i, factor, pivot)?;
+    for i in 0..list.rows.len() {
+        if let Some(factor) = pivot.factor_for(&list.rows[i]) {
+            add_at(alloc, list, i, factor, pivot.row())?;
         }
     }
     Ok(())

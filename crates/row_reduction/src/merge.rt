@@ -10,6 +10,19 @@ use crate::fault::SolveFault;
 use cone_arithmetic::{MAX_COEFFICIENT, SparseRow};
 use std::alloc::Global;
 
+/// The terms of two rows. Invariant: in each, the columns ascend strictly and are below `columns`, and no coefficient
+/// is 0 or exceeds 1,000,000.
+#[derive(Clone, Copy)]
+pub(crate) struct RowPair<'a> {
+    pub columns: u32,
+    pub row: &'a [(u32, i32)],
+    pub other: &'a [(u32, i32)],
+    pub ghost sparse: { IsSparse row.now },
+    pub ghost other_sparse: { IsSparse other.now },
+    pub ghost in_range: { IsInRange columns row.now },
+    pub ghost other_in_range: { IsInRange columns other.now },
+}
+
 /// The coefficient of a row at a column, and the index of its next term.
 #[derive(Clone, Copy)]
 struct EntryAt {
@@ -28,15 +41,13 @@ fn column_at(terms: &[(u32, i32)], place: usize, columns: u32) -> u32
     }
 }
 
-/// The least column among the terms of `row` from `i` on and of `other` from `j` on, at least one of which has a term
-/// left.
-fn least_column(columns: u32, row: &[(u32, i32)], i: usize, other: &[(u32, i32)], j: usize) -> u32
-    requires left { (i < length row.now) ⊎ (j < length other.now) }
-    requires in_range { IsInRange columns row.now }
-    requires other_in_range { IsInRange columns other.now }
-    ensures { IsLeastColumn columns row.now i other.now j result }
+/// The least column among the terms of the row from `i` on and of the other from `j` on, at least one of which has a
+/// term left.
+fn least_column(pair: &RowPair<'_>, i: usize, j: usize) -> u32
+    requires left { (i < length pair.now.row.now) ⊎ (j < length pair.now.other.now) }
+    ensures { IsLeastColumn pair.now.columns pair.now.row.now i pair.now.other.now j result }
 {
-    column_at(row, i, columns).min(column_at(other, j, columns))
+    column_at(pair.row, i, pair.columns).min(column_at(pair.other, j, pair.columns))
 }
 
 /// The coefficient of the term with index `place` if that is at `column`, and else 0; and the index of the term that
@@ -91,29 +102,20 @@ fn push_sum(
 }
 
 /// The terms of `row + factor * other`, by ascending column. Fails with `Passed` if a coefficient exceeds 1,000,000.
-fn merge_rows(
-    alloc: Global,
-    columns: u32,
-    row: &[(u32, i32)],
-    factor: i32,
-    other: &[(u32, i32)],
-) -> Result<Vec<(u32, i32)>, SolveFault>
-    requires sparse { IsSparse row.now }
-    requires other_sparse { IsSparse other.now }
-    requires in_range { IsInRange columns row.now }
-    requires other_in_range { IsInRange columns other.now }
-    ensures sum { IfOk result (λ terms. IsSumWith row.now factor other.now terms.items) }
+fn merge_rows(alloc: Global, pair: &RowPair<'_>, factor: i32) -> Result<Vec<(u32, i32)>, SolveFault>
+    ensures sum { IfOk result (λ terms. IsSumWith pair.now.row.now factor pair.now.other.now terms.items) }
     ensures sparse { IfOk result (λ terms. IsSparse terms.items) }
-    ensures in_range { IfOk result (λ terms. IsInRange columns terms.items) }
-    ensures passed { IfErr result (IfPassed (PassesAtColumn row.now factor other.now)) }
+    ensures in_range { IfOk result (λ terms. IsInRange pair.now.columns terms.items) }
+    ensures passed { IfErr result (IfPassed (PassesAtColumn pair.now.row.now factor pair.now.other.now)) }
 {
-    let mut terms = Vec::with_capacity(alloc, row.len().saturating_add(other.len()))?;
+    let most = pair.row.len().saturating_add(pair.other.len());
+    let mut terms = Vec::with_capacity(alloc, most)?;
     let mut i = 0;
     let mut j = 0;
-    while i < row.len() || j < other.len() {
-        let column = least_column(columns, row, i, other, j);
-        let one = take_at(row, i, column);
-        let two = take_at(other, j, column);
+    while i < pair.row.len() || j < pair.other.len() {
+        let column = least_column(pair, i, j);
+        let one = take_at(pair.row, i, column);
+        let two = take_at(pair.other, j, column);
         push_sum(&mut terms, column, one.coefficient, factor, two.coefficient)?;
         i = one.place;
         j = two.place;
@@ -124,18 +126,14 @@ fn merge_rows(
 /// The row `row + factor * other`. Fails with `Passed` if a coefficient exceeds 1,000,000.
 pub(crate) fn add_multiple(
     alloc: Global,
-    columns: u32,
-    row: &SparseRow,
+    pair: &RowPair<'_>,
     factor: i32,
-    other: &SparseRow,
 ) -> Result<SparseRow, SolveFault>
-    requires in_range { IsInRange columns row.now }
-    requires other_in_range { IsInRange columns other.now }
-    ensures sum { IfOk result (λ sum. IsSumWith row.now factor other.now sum) }
-    ensures in_range { IfOk result (IsInRange columns) }
+    ensures sum { IfOk result (λ sum. IsSumWith pair.now.row.now factor pair.now.other.now sum) }
+    ensures in_range { IfOk result (IsInRange pair.now.columns) }
     ensures sparse { IfOk result IsSparse }
-    ensures passed { IfErr result (IfPassed (PassesAtColumn row.now factor other.now)) }
+    ensures passed { IfErr result (IfPassed (PassesAtColumn pair.now.row.now factor pair.now.other.now)) }
 {
-    let terms = merge_rows(alloc, columns, row.entries(), factor, other.entries())?;
+    let terms = merge_rows(alloc, pair, factor)?;
     Ok(SparseRow::new(alloc, &terms)?)
 }

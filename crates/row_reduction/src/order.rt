@@ -1,8 +1,9 @@
 //! A greedy order of rows: each next row has columns in the fewest blocks that no earlier row names.
 
-ghost use Rattle.std.specs.Prelude.{◌<◌, IfOk, length};
+ghost use Rattle.std.specs.Prelude.{◌≡◌, ◌<◌, IfOk, length};
 ghost use Rattle.std.specs.List.Sorted.{IsPermutation};
 
+use crate::rows::RowList;
 use cone_arithmetic::SparseRow;
 use out_of_memory::NoMemory;
 use std::alloc::Global;
@@ -196,16 +197,19 @@ fn rows_in_turn(
     Ok(ordered)
 }
 
-/// Reorders `rows` so that blocks of `each` columns occur as late as possible: the cheapest of the greedy orders. Any
-/// order is correct.
+/// Reorders the rows of `list` so that blocks of `each` columns occur as late as possible: the cheapest of the greedy
+/// orders. Any order is correct.
 pub(crate) fn in_cheapest_order(
     alloc: Global,
     each: u32,
-    rows: Vec<SparseRow>,
-) -> Result<Vec<SparseRow>, NoMemory>
-    ensures { IfOk result (λ ordered. IsPermutation rows.items ordered.items) }
+    list: RowList,
+) -> Result<RowList, NoMemory>
+    ensures columns { IfOk result (λ ordered. ordered.columns ≡ list.columns) }
+    ensures permutation { IfOk result (λ ordered. IsPermutation list.rows.items ordered.rows.items) }
 {
-    let all = blocks_of_all(alloc, each, &rows)?;
+    let all = blocks_of_all(alloc, each, &list.rows)?;
     let order = cheapest(alloc, &all)?;
-    rows_in_turn(alloc, rows, &order.positions)
+    let RowList { columns, rows } = list;
+    let rows = rows_in_turn(alloc, rows, &order.positions)?;
+    Ok(RowList { columns, rows })
 }

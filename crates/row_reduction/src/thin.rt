@@ -1,8 +1,6 @@
 //! Makes rows sparser: a row is replaced by its sum or difference with another if that has fewer terms.
 
-ghost use Rattle.std.specs.Prelude.{◌≡◌, ◌<◌, ◌≢◌, ◌≤◌, ◌⊎◌, pos, negsuc, length, IfSome, OnOk, IfErr};
-ghost use Rattle.std.specs.List.{All};
-ghost use Rattle.cone_arithmetic.specs.Sparse.{IsInRange};
+ghost use Rattle.std.specs.Prelude.{◌≡◌, ◌<◌, ◌≢◌, ◌≤◌, ◌⊎◌, pos, negsuc, length, IfSome, IfOk, OnOk, IfErr};
 ghost use Rattle.cone_row_laws.specs.Solutions.{HaveSameZeros};
 ghost use Rattle.row_reduction.specs.Merging.{IsCoefficientSum};
 ghost use Rattle.row_reduction.specs.Eliminating.{Thins, AreThinned};
@@ -10,7 +8,7 @@ ghost use Rattle.row_reduction.specs.Passing.{PassesThinned, IfPassed};
 
 use crate::clear::{add_at, copy};
 use crate::fault::SolveFault;
-use cone_arithmetic::SparseRow;
+use crate::rows::RowList;
 use std::alloc::Global;
 
 /// The greatest number of passes over all pairs of rows.
@@ -85,35 +83,6 @@ fn thinning_factor(row: &[(u32, i32)], other: &[(u32, i32)]) -> Option<i32>
     }
 }
 
-/// Makes row `i` sparser by row `j` if that leaves fewer terms, and returns whether it did. Fails with `Passed` if a
-/// coefficient exceeds 1,000,000.
-fn sparsify_by(
-    alloc: Global,
-    columns: u32,
-    rows: &mut Vec<SparseRow>,
-    i: usize,
-    j: usize,
-) -> Result<bool, SolveFault>
-    requires place { i < length rows.old.items }
-    requires other_place { j < length rows.old.items }
-    requires apart { i ≢ j }
-    requires in_range { All (IsInRange columns) rows.old.items }
-    ensures count { OnOk result (length rows.new.items ≡ length rows.old.items) }
-    ensures same { OnOk result (HaveSameZeros rows.old.items rows.new.items) }
-    ensures in_range { OnOk result (All (IsInRange columns) rows.new.items) }
-    ensures thinned { OnOk result (AreThinned rows.old.items rows.new.items) }
-    ensures passed { IfErr result (IfPassed (PassesThinned rows.old.items)) }
-{
-    match thinning_factor(rows[i].entries(), rows[j].entries()) {
-        Some(factor) => {
-            let other = copy(alloc, &rows[j])?;
-            add_at(alloc, columns, rows, i, factor, &other)?;
-            Ok(true)
-        }
-        None => Ok(false),
-    }
-}
-
 /// Whether row `i` became sparser in pass `round` or in the one before.
 fn is_recent(rounds: &[u32], i: usize, round: u32) -> bool {
     match rounds.get(i) {
@@ -129,100 +98,107 @@ fn note(rounds: &mut [u32], i: usize, round: u32) {
     }
 }
 
-/// As `sparsify_by`, with the same errors, but tries only if row `i` or row `j` changed since this pair was tried last.
-fn sparsify_pair(
-    alloc: Global,
-    columns: u32,
-    rows: &mut Vec<SparseRow>,
-    i: usize,
-    j: usize,
+/// Rows that are made sparser in passes: `rounds[i]` is the last pass in which row `i` became sparser, 0 if there is
+/// none, and `round` the number of the current pass.
+#[derive(Drop)]
+struct Thinning {
+    list: RowList,
+    rounds: Vec<u32>,
     round: u32,
-    rounds: &mut [u32],
-) -> Result<bool, SolveFault>
-    requires place { i < length rows.old.items }
-    requires other_place { j < length rows.old.items }
-    requires apart { i ≢ j }
-    requires in_range { All (IsInRange columns) rows.old.items }
-    ensures count { OnOk result (length rows.new.items ≡ length rows.old.items) }
-    ensures same { OnOk result (HaveSameZeros rows.old.items rows.new.items) }
-    ensures in_range { OnOk result (All (IsInRange columns) rows.new.items) }
-    ensures thinned { OnOk result (AreThinned rows.old.items rows.new.items) }
-    ensures passed { IfErr result (IfPassed (PassesThinned rows.old.items)) }
-{
-    if !is_recent(rounds, i, round) && !is_recent(rounds, j, round) {
-        return Ok(false);
-    }
-    let thinner = sparsify_by(alloc, columns, rows, i, j)?;
-    if thinner {
-        note(rounds, i, round);
-    }
-    Ok(thinner)
 }
 
-/// Makes row `i` sparser by each other row, and returns whether it changed. Fails as `sparsify_by`.
-fn sparsify_row(
-    alloc: Global,
-    columns: u32,
-    rows: &mut Vec<SparseRow>,
-    i: usize,
-    round: u32,
-    rounds: &mut [u32],
-) -> Result<bool, SolveFault>
-    requires place { i < length rows.old.items }
-    requires in_range { All (IsInRange columns) rows.old.items }
-    ensures count { OnOk result (length rows.new.items ≡ length rows.old.items) }
-    ensures same { OnOk result (HaveSameZeros rows.old.items rows.new.items) }
-    ensures in_range { OnOk result (All (IsInRange columns) rows.new.items) }
-    ensures thinned { OnOk result (AreThinned rows.old.items rows.new.items) }
-    ensures passed { IfErr result (IfPassed (PassesThinned rows.old.items)) }
-{
-    let mut thinner = false;
-    for j in 0..rows.len() {
-        if j != i {
-            thinner |= sparsify_pair(alloc, columns, rows, i, j, round, rounds)?;
+impl Thinning {
+    /// Whether row `i` or row `j` may have changed since this pair was tried last.
+    fn is_due(&self, i: usize, j: usize) -> bool {
+        is_recent(&self.rounds, i, self.round) || is_recent(&self.rounds, j, self.round)
+    }
+
+    /// Makes row `i` sparser by row `j` if that leaves fewer terms, and returns whether it did. Fails with `Passed` if a
+    /// coefficient exceeds 1,000,000.
+    fn sparsify_by(&mut self, alloc: Global, i: usize, j: usize) -> Result<bool, SolveFault>
+        requires place { i < length self.old.list.rows.items }
+        requires other_place { j < length self.old.list.rows.items }
+        requires apart { i ≢ j }
+        ensures columns { OnOk result (self.new.list.columns ≡ self.old.list.columns) }
+        ensures count { OnOk result (length self.new.list.rows.items ≡ length self.old.list.rows.items) }
+        ensures same { OnOk result (HaveSameZeros self.old.list.rows.items self.new.list.rows.items) }
+        ensures thinned { OnOk result (AreThinned self.old.list.rows.items self.new.list.rows.items) }
+        ensures passed { IfErr result (IfPassed (PassesThinned self.old.list.rows.items)) }
+    {
+        let rows = &self.list.rows;
+        match thinning_factor(rows[i].entries(), rows[j].entries()) {
+            Some(factor) => {
+                let other = copy(alloc, &rows[j])?;
+                add_at(alloc, &mut self.list, i, factor, &other)?;
+                note(&mut self.rounds, i, self.round);
+                Ok(true)
+            }
+            None => Ok(false),
         }
     }
-    Ok(thinner)
-}
 
-/// One pass: makes each of `rows` sparser by all others, and returns whether a row changed. Fails as `sparsify_by`.
-fn sparsify_pass(
-    alloc: Global,
-    columns: u32,
-    rows: &mut Vec<SparseRow>,
-    round: u32,
-    rounds: &mut [u32],
-) -> Result<bool, SolveFault>
-    requires in_range { All (IsInRange columns) rows.old.items }
-    ensures same { OnOk result (HaveSameZeros rows.old.items rows.new.items) }
-    ensures in_range { OnOk result (All (IsInRange columns) rows.new.items) }
-    ensures thinned { OnOk result (AreThinned rows.old.items rows.new.items) }
-    ensures passed { IfErr result (IfPassed (PassesThinned rows.old.items)) }
-{
-    let mut thinner = false;
-    for i in 0..rows.len() {
-        thinner |= sparsify_row(alloc, columns, rows, i, round, rounds)?;
+    /// Makes row `i` sparser by each other row, and returns whether it changed. Fails as `sparsify_by`.
+    fn sparsify_row(&mut self, alloc: Global, i: usize) -> Result<bool, SolveFault>
+        requires { i < length self.old.list.rows.items }
+        ensures columns { OnOk result (self.new.list.columns ≡ self.old.list.columns) }
+        ensures count { OnOk result (length self.new.list.rows.items ≡ length self.old.list.rows.items) }
+        ensures same { OnOk result (HaveSameZeros self.old.list.rows.items self.new.list.rows.items) }
+        ensures thinned { OnOk result (AreThinned self.old.list.rows.items self.new.list.rows.items) }
+        ensures passed { IfErr result (IfPassed (PassesThinned self.old.list.rows.items)) }
+    {
+        let mut thinner = false;
+        for j in 0..self.list.rows.len() {
+            if j != i && self.is_due(i, j) {
+                thinner |= self.sparsify_by(alloc, i, j)?;
+            }
+        }
+        Ok(thinner)
     }
-    Ok(thinner)
+
+    /// One pass: makes each row sparser by all others, and returns whether a row changed. Fails as `sparsify_by`.
+    fn sparsify_pass(&mut self, alloc: Global) -> Result<bool, SolveFault>
+        ensures columns { OnOk result (self.new.list.columns ≡ self.old.list.columns) }
+        ensures same { OnOk result (HaveSameZeros self.old.list.rows.items self.new.list.rows.items) }
+        ensures thinned { OnOk result (AreThinned self.old.list.rows.items self.new.list.rows.items) }
+        ensures passed { IfErr result (IfPassed (PassesThinned self.old.list.rows.items)) }
+    {
+        let mut thinner = false;
+        for i in 0..self.list.rows.len() {
+            thinner |= self.sparsify_row(alloc, i)?;
+        }
+        Ok(thinner)
+    }
 }
 
-/// Makes `rows` sparser, in passes, until a pass changes nothing or `ROUNDS` are done.
-pub(crate) fn sparsify(
-    alloc: Global,
-    columns: u32,
-    rows: &mut Vec<SparseRow>,
-) -> Result<(), SolveFault>
-    requires in_range { All (IsInRange columns) rows.old.items }
-    ensures same { OnOk result (HaveSameZeros rows.old.items rows.new.items) }
-    ensures in_range { OnOk result (All (IsInRange columns) rows.new.items) }
-    ensures thinned { OnOk result (AreThinned rows.old.items rows.new.items) }
-    ensures passed { IfErr result (IfPassed (PassesThinned rows.old.items)) }
+/// Rows that were made sparser, and whether one of them changed.
+#[derive(Drop)]
+pub(crate) struct Thinned {
+    pub list: RowList,
+    pub is_changed: bool,
+}
+
+/// Makes the rows of `list` sparser, in passes, until a pass changes nothing or `ROUNDS` are done. Fails with `Passed`
+/// if a coefficient exceeds 1,000,000.
+pub(crate) fn sparsify(alloc: Global, list: RowList) -> Result<Thinned, SolveFault>
+    ensures columns { IfOk result (λ thinned. thinned.list.columns ≡ list.columns) }
+    ensures same { IfOk result (λ thinned. HaveSameZeros list.rows.items thinned.list.rows.items) }
+    ensures thinned { IfOk result (λ thinned. AreThinned list.rows.items thinned.list.rows.items) }
+    ensures passed { IfErr result (IfPassed (PassesThinned list.rows.items)) }
 {
-    let mut rounds = vec![in alloc; 0u32; rows.len()]?;
+    let rounds = vec![in alloc; 0u32; list.rows.len()]?;
+    let mut thinning = Thinning {
+        list,
+        rounds,
+        round: 0,
+    };
+    let mut is_changed = false;
     for round in 0..ROUNDS {
-        if !sparsify_pass(alloc, columns, rows, round + 1, &mut rounds)? {
+        thinning.round = round + 1;
+        if !thinning.sparsify_pass(alloc)? {
             break;
         }
+        is_changed = true;
     }
-    Ok(())
+    let Thinning { list, .. } = thinning;
+    Ok(Thinned { list, is_changed })
 }

@@ -1,4 +1,4 @@
-use Rattle.std.proofs.Common.{take, take_all, subst, arith, []}
+use Rattle.std.proofs.Common.{take, take_all, subst, sym, ◌∙◌, arith, []}
 use Rattle.std.proofs.lemmas.List.{length-take-le}
 use Rattle.std.proofs.lemmas.Result.{err_from_is_err_and}
 use Rattle.lazy_columns.specs.Late.{AreLate, HaveEntered}
@@ -22,17 +22,19 @@ returns-clause-ok g c =
     let rows = c.args.system.now.rows in
     let pairs = c.args.clashes.now.pairs in
     let columns = c.args.clashes.now.columns in
-    let entered = subst (λ n. HaveEntered n c.loop-number.late c.enter_all.new.late) c.columns-2.ensures c.in_ok-enter_all.ensures.entered in
+    let entered = subst (λ n. HaveEntered n c.loop-number.late c.enter_all.new.late) (sym c.loop-number.late.width ∙ c.loop-number.invariant.count) c.in_ok-enter_all.ensures.entered in
     all_seen columns rows pairs c.enter_all.new.late c.in_ok-enter_all.ensures.seen
     (entered.late rows pairs (pairs_apart columns pairs c.pairs-pairs.ensures.different)
     (subst (λ taken. AreLate columns taken pairs c.loop-number.late) (take_all c.loop-number.number rows (omega (arith, c.len-number-end.ensures, c.loop-number-test.false))) c.loop-number.invariant))
 
-pub next_late-requires-clause-late : goal.next_late-requires-clause-late
-next_late-requires-clause-late g c = record {
-  apart = pairs_apart c.args.clashes.now.columns c.args.clashes.now.pairs c.pairs-pairs.ensures.different;
-  rows = take c.loop-number.number c.args.system.now.rows;
-  few = (let rows = c.args.system.now.rows in let n = length-take-le c.loop-number.number rows (omega (arith, c.len-number-end.ensures, c.loop-number-test.true)) in omega (arith, n, c.from-most.ensures));
-  so_far = c.loop-number.invariant;
+pub next_late-requires : goal.next_late-requires
+next_late-requires g c = record {
+  late = record {
+    apart = pairs_apart c.args.clashes.now.columns c.args.clashes.now.pairs c.pairs-pairs.ensures.different;
+    rows = take c.loop-number.number c.args.system.now.rows;
+    few = (let rows = c.args.system.now.rows in let n = length-take-le c.loop-number.number rows (omega (arith, c.len-number-end.ensures, c.loop-number-test.true)) in omega (arith, n, c.from-most.ensures));
+    so_far = c.loop-number.invariant;
+  };
 }
 
 pub returns-in_err-late-2-clause-err : goal.returns-in_err-late-2-clause-err

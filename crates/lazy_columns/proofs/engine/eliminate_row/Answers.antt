@@ -10,32 +10,32 @@ use Rattle.lazy_columns.proofs.engine.eliminate_row.Goals as goal
 
 pub next_rays-requires : goal.next_rays-requires
 next_rays-requires g c =
-    let columns = c.args.clashes.now.columns in
-    let pairs = c.args.clashes.now.pairs in
+    let columns = c.args.step.clashes.now.columns in
+    let pairs = c.args.step.clashes.now.pairs in
     let h = c.requires.late in
     let late = c.enter_row.new.late in
-    let all = subst (λ n. HaveEntered n c.args.late late) c.columns.ensures c.in_ok-enter_row.ensures.entered in
+    let all = subst (λ n. HaveEntered n c.args.step.late late) c.args.step.width c.in_ok-enter_row.ensures.entered in
     let entered = all.late h.rows pairs h.apart h.so_far in
     record {
       widths = late_widths columns h.rows pairs late entered;
-      small = few_unions columns c.args.most h.rows pairs late h.few entered;
+      small = few_unions columns c.args.step.most h.rows pairs late h.few entered;
       singles = single_pairs columns (h.rows ++ held_rows 0 late.seen.items) pairs (rays_of late.ray_list.items) entered.surfaces;
     }
 
 pub returns-clause-ok : goal.returns-clause-ok
 returns-clause-ok g c rows late =
-    let pairs = c.args.clashes.now.pairs in
-    let all = subst (λ n. HaveEntered n c.args.late c.enter_row.new.late) c.columns.ensures c.in_ok-enter_row.ensures.entered in
-    late_eliminated c.args.clashes.now.columns rows pairs c.args.row.now c.enter_row.new.late _ c.in_ok-enter_row.ensures.seen refl c.in_ok-next.ensures.ok
+    let pairs = c.args.step.clashes.now.pairs in
+    let all = subst (λ n. HaveEntered n c.args.step.late c.enter_row.new.late) c.args.step.width c.in_ok-enter_row.ensures.entered in
+    late_eliminated c.args.step.clashes.now.columns rows pairs c.args.step.row.now c.enter_row.new.late _ c.in_ok-enter_row.ensures.seen refl c.in_ok-next.ensures.ok
     (all.late rows pairs c.requires.late.apart late)
 
 pub returns-in_err-next-clause-err : goal.returns-in_err-next-clause-err
 returns-in_err-next-clause-err g c =
-    let clashes = c.args.clashes.now in
-    let row = c.args.row.now in
+    let clashes = c.args.step.clashes.now in
+    let row = c.args.step.row.now in
     let late = c.enter_row.new.late in
-    let all = subst (λ n. HaveEntered n c.args.late late) c.columns.ensures c.in_ok-enter_row.ensures.entered in
+    let all = subst (λ n. HaveEntered n c.args.step.late late) c.args.step.width c.in_ok-enter_row.ensures.entered in
     let p = err_from_is_err_and c.from_residual-in_err-next.result c.from_residual-in_err-next.ensures.1 in
     rw (p.1, p.2) (fault_weaker (PassesAt clashes row (rays_of late.ray_list.items))
-    (PassesNext clashes row c.args.late)
+    (PassesNext clashes row c.args.step.late)
     (λ named h before are. record { late = late; are_late = all.late before clashes.pairs c.requires.late.apart are; passes = h }) _ c.in_err-next.ensures.err)

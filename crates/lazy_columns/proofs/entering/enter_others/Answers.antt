@@ -1,5 +1,6 @@
 use Rattle.std.proofs.Common.{take_all, subst, ◌∙◌, arith}
 use Rattle.lazy_columns.specs.Fresh.{IsLone}
+use Rattle.lazy_columns.specs.Late.{HaveEntered}
 use Rattle.lazy_columns.proofs.Entered.{entered_more, lone_more}
 use Rattle.lazy_columns.proofs.entering.enter_others.Goals as goal
 
@@ -8,10 +9,11 @@ loop-other-preserved c =
     let old = c.loop-other.late in
     let new = c.enter_other.new.late in
     let h = c.in_ok-enter_other.ensures in
+    let entered = subst (λ n. HaveEntered n old new) c.loop-other.invariant.columns h.entered in
     record {
-      count = h.count;
-      entered = entered_more c.args.columns c.args.late.now old new c.loop-other.invariant.entered h.entered;
-      lone = lone_more c.args.columns old new c.entries-other-items.result.now c.loop-other.other-index _ c.args.column h.entered (omega arith) c.loop-other.invariant.lone h.seen;
+      columns = h.columns ∙ c.loop-other.invariant.columns;
+      entered = entered_more c.args.late.now.columns c.args.late.now old new c.loop-other.invariant.entered entered;
+      lone = lone_more c.args.late.now.columns old new c.entries-other-items.result.now c.loop-other.other-index _ c.args.column entered (omega arith) c.loop-other.invariant.lone h.seen;
       unseen = h.unseen;
     }
 

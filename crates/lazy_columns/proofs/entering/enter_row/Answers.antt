@@ -1,5 +1,5 @@
 use Rattle.std.proofs.Common.{take_all, subst, ◌∙◌, arith}
-use Rattle.lazy_columns.specs.Late.{AreSeen}
+use Rattle.lazy_columns.specs.Late.{AreSeen, HaveEntered}
 use Rattle.lazy_columns.proofs.Entered.{entered_more, seen_more}
 use Rattle.lazy_columns.proofs.entering.enter_row.Goals as goal
 
@@ -8,10 +8,11 @@ loop-column-preserved c =
     let old = c.loop-column.late in
     let new = c.enter_unseen.new.late in
     let h = c.in_ok-enter_unseen.ensures in
+    let entered = subst (λ n. HaveEntered n old new) c.loop-column.invariant.columns h.entered in
     record {
-      count = h.count;
-      entered = entered_more c.args.columns c.args.late.now old new c.loop-column.invariant.entered h.entered;
-      seen = seen_more c.args.columns old new c.entries-column-items.result.now c.loop-column.column-index _ h.entered (omega arith) c.loop-column.invariant.seen h.seen;
+      columns = h.columns ∙ c.loop-column.invariant.columns;
+      entered = entered_more c.args.late.now.columns c.args.late.now old new c.loop-column.invariant.entered entered;
+      seen = seen_more c.args.late.now.columns old new c.entries-column-items.result.now c.loop-column.column-index _ entered (omega arith) c.loop-column.invariant.seen h.seen;
     }
 
 pub returns-clause-seen : goal.returns-clause-seen

@@ -20,6 +20,3 @@ pub returns-clause-same : goal.returns-clause-same
 returns-clause-same c =
     let past : length c.args.system.now.rows ≤ c.loop-i.i = omega (arith, c.loop-i-test.false, c.len-i-end.ensures) in
     c.loop-i.invariant.same ∙ take_all c.loop-i.i c.args.system.now.rows past
-
-pub returns-clause-in_range : goal.returns-clause-in_range
-returns-clause-in_range c = c.loop-i.invariant.in_range

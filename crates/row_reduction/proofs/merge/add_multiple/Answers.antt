@@ -8,8 +8,8 @@ use Rattle.row_reduction.proofs.merge.add_multiple.Goals as goal
 pub returns-clause-sum : goal.returns-clause-sum
 returns-clause-sum c =
     let h = c.ranges.factor in
-    let sum = simp (to_z-of_z, c.entries.ensures.entries, c.entries-2.ensures.entries) at c.in_ok-terms.ensures.sum in
-    subst (λ r. IsSumWith c.args.row.now c.args.factor c.args.other.now r) (sym (c.in_ok-new.ensures.keeps ∙ c.deref.ensures.value)) sum
+    let sum = simp to_z-of_z at c.in_ok-terms.ensures.sum in
+    subst (λ r. IsSumWith c.args.pair.now.row.now c.args.factor c.args.pair.now.other.now r) (sym (c.in_ok-new.ensures.keeps ∙ c.deref.ensures.value)) sum
 
 pub returns-clause-in_range : goal.returns-clause-in_range
-returns-clause-in_range c = subst (IsInRange c.args.columns) (sym (c.in_ok-new.ensures.keeps ∙ c.deref.ensures.value)) c.in_ok-terms.ensures.in_range
+returns-clause-in_range c = subst (IsInRange c.args.pair.now.columns) (sym (c.in_ok-new.ensures.keeps ∙ c.deref.ensures.value)) c.in_ok-terms.ensures.in_range

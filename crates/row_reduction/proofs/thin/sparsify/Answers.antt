@@ -1,4 +1,5 @@
 -- One round more.
+use Rattle.std.proofs.Common.{◌∙◌, refl}
 use Rattle.std.proofs.lemmas.Result.{err_from_is_err_and}
 use Rattle.row_reduction.specs.Eliminating.{as_they_are}
 use Rattle.row_reduction.proofs.EliminatingLemmas.{thinned_again, passes_again}
@@ -8,34 +9,34 @@ use Rattle.row_reduction.proofs.thin.sparsify.Goals.{else-loop-round-test, then-
 
 pub loop-round-preserved : goal.loop-round-preserved
 loop-round-preserved c = record {
+  columns = c.in_ok-sparsify_pass.ensures.columns ∙ c.loop-round.invariant.columns;
   same = zeros_follow _ _ _ c.loop-round.invariant.same c.in_ok-sparsify_pass.ensures.same;
-  in_range = c.in_ok-sparsify_pass.ensures.in_range;
   thinned = thinned_again _ _ _ c.loop-round.invariant.thinned c.in_ok-sparsify_pass.ensures.thinned;
 }
 
 pub returns-clause-same : goal.returns-clause-same
 returns-clause-same c = elim c.loop-round-test.branch [
-  | else-loop-round-test w ↦ rw w.rows-is c.loop-round.invariant.same
-  | then-loop-round-test+in_ok-sparsify_pass+then-not-branch w ↦ rw w.rows-is (zeros_follow _ _ _ c.loop-round.invariant.same w.in_ok-sparsify_pass.ensures.same)
+  | else-loop-round-test w ↦ rw w.thinning-is c.loop-round.invariant.same
+  | then-loop-round-test+in_ok-sparsify_pass+then-not-branch w ↦ rw w.thinning-is (zeros_follow _ _ _ c.loop-round.invariant.same w.in_ok-sparsify_pass.ensures.same)
 ]
 
-pub returns-clause-in_range : goal.returns-clause-in_range
-returns-clause-in_range c = elim c.loop-round-test.branch [
-  | else-loop-round-test w ↦ rw w.rows-is c.loop-round.invariant.in_range
-  | then-loop-round-test+in_ok-sparsify_pass+then-not-branch w ↦ rw w.rows-is w.in_ok-sparsify_pass.ensures.in_range
+pub returns-clause-columns : goal.returns-clause-columns
+returns-clause-columns c = elim c.loop-round-test.branch [
+  | else-loop-round-test w ↦ rw w.thinning-is c.loop-round.invariant.columns
+  | then-loop-round-test+in_ok-sparsify_pass+then-not-branch w ↦ rw w.thinning-is (w.in_ok-sparsify_pass.ensures.columns ∙ c.loop-round.invariant.columns)
 ]
 
 pub loop-round-init : goal.loop-round-init
 loop-round-init c = record {
+  columns = refl;
   same = λ x. (λ z. z, λ z. z);
-  in_range = c.requires.in_range;
   thinned = as_they_are;
 }
 
 pub returns-clause-thinned : goal.returns-clause-thinned
 returns-clause-thinned c = elim c.loop-round-test.branch [
-  | else-loop-round-test w ↦ rw w.rows-is c.loop-round.invariant.thinned
-  | then-loop-round-test+in_ok-sparsify_pass+then-not-branch w ↦ rw w.rows-is (thinned_again _ _ _ c.loop-round.invariant.thinned w.in_ok-sparsify_pass.ensures.thinned)
+  | else-loop-round-test w ↦ rw w.thinning-is c.loop-round.invariant.thinned
+  | then-loop-round-test+in_ok-sparsify_pass+then-not-branch w ↦ rw w.thinning-is (thinned_again _ _ _ c.loop-round.invariant.thinned w.in_ok-sparsify_pass.ensures.thinned)
 ]
 
 pub returns-in_err-sparsify_pass-clause-passed : goal.returns-in_err-sparsify_pass-clause-passed

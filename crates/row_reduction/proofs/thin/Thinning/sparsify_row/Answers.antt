@@ -4,30 +4,25 @@ use Rattle.std.proofs.lemmas.Result.{err_from_is_err_and}
 use Rattle.row_reduction.specs.Eliminating.{as_they_are}
 use Rattle.row_reduction.proofs.EliminatingLemmas.{thinned_again, passes_again}
 use Rattle.row_reduction.proofs.RowLemmas.{zeros_follow}
-use Rattle.row_reduction.proofs.thin.sparsify_row.Goals as goal
-use Rattle.row_reduction.proofs.thin.sparsify_row.Goals.{then-j-i+in_ok-thinner, else-j-i}
+use Rattle.row_reduction.proofs.thin.Thinning.sparsify_row.Goals as goal
+use Rattle.row_reduction.proofs.thin.Thinning.sparsify_row.Goals.{then-j-i+then-is_due+in_ok-thinner, else-j-i}
 
 pub loop-j-preserved : goal.loop-j-preserved
 loop-j-preserved c = elim c.if-j-i.branch [
-  | then-j-i+in_ok-thinner w ↦ rw w.rows-is (record {
+  | then-j-i+then-is_due+in_ok-thinner w ↦ rw w.self-is (record {
+    columns = w.in_ok-thinner.ensures.columns ∙ c.loop-j.invariant.columns;
     count = w.in_ok-thinner.ensures.count ∙ c.loop-j.invariant.count;
     same = zeros_follow _ _ _ c.loop-j.invariant.same w.in_ok-thinner.ensures.same;
-    in_range = w.in_ok-thinner.ensures.in_range;
     thinned = thinned_again _ _ _ c.loop-j.invariant.thinned w.in_ok-thinner.ensures.thinned;
   })
-  | else-j-i w ↦ rw w.rows-is (record {
-    count = c.loop-j.invariant.count;
-    same = c.loop-j.invariant.same;
-    in_range = c.loop-j.invariant.in_range;
-    thinned = c.loop-j.invariant.thinned;
-  })
+  | else-j-i w ↦ rw w.self-is c.loop-j.invariant
 ]
 
 pub loop-j-init : goal.loop-j-init
 loop-j-init c = record {
+  columns = refl;
   count = refl;
   same = λ x. (λ z. z, λ z. z);
-  in_range = c.requires.in_range;
   thinned = as_they_are;
 }
 
