@@ -1,5 +1,5 @@
 -- Facts of lists.
-use Rattle.std.proofs.Common.{◌≡◌, Bool, true, false, cond, List, [], ◌∷◌, Some, refl, sym, ap, ◌∙◌, ◌≢◌, take, get_or, get_or-take, length-take, ⊎_elim, inl, inr, AllPairs, arith, ℕ, ◌+◌, ◌++◌, length, zero, ◌<◌, ◌≤◌}
+use Rattle.std.proofs.Common.{◌≡◌, Bool, true, false, cond, List, [], ◌∷◌, Some, refl, sym, ap, ◌∙◌, ◌≢◌, take, drop, get_or, get_or-take, length-take, ⊎_elim, inl, inr, AllPairs, arith, ℕ, ◌+◌, ◌++◌, length, zero, suc, ◌<◌, ◌≤◌}
 use Rattle.std.specs.Prelude.{find}
 use Rattle.std.proofs.lemmas.Bool.{cases_lt, cases_order}
 use Rattle.std.proofs.lemmas.List.{get_or_past}
@@ -22,6 +22,12 @@ no_items (x ∷ xs) h = absurd (omega arith)
 pub take_none : {A : Type 0} (xs : List A) → take zero xs ≡ []
 take_none [] = refl
 take_none (x ∷ xs) = refl
+
+-- a list is the items before an index, the item there, and those after it
+pub split_at : (i : ℕ) (xs : List ℕ) → i < length xs → xs ≡ take i xs ++ get_or xs i 0 ∷ drop (suc i) xs
+split_at i [] h = absurd (omega arith)
+split_at zero (x ∷ xs) h = refl
+split_at (suc i) (x ∷ xs) h = ap (λ (ys : List ℕ). x ∷ ys) (split_at i xs (omega arith))
 
 -- in a list of different items each is at one index
 pub one_place : {A : Type 0} (xs : List A) → AllPairs (λ x y. x ≢ y) xs → (i j : ℕ) (d : A) → i < length xs → j < length xs → get_or xs i d ≡ get_or xs j d → i ≡ j

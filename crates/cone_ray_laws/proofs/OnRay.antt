@@ -1,4 +1,4 @@
--- What lies on the ray of a solution is a multiple of one primitive solution with it.
+-- A solution, and each solution on its ray, are multiples of one primitive solution.
 use Rattle.std.proofs.Common.{◌≡◌, ℕ, ◌*◌, ◌≤◌, inl, inr, List, length, slice_index, sym, ap, ◌∙◌, arith}
 use Rattle.std.proofs.lemmas.Bool.{cases_eq}
 use Rattle.cone_definitions.specs.Vectors.{IsNonzero}

@@ -23,7 +23,7 @@ one_not_extreme = (
   λ h. let e : 1 ≡ 0 = h.least y_surface two_solution (1, λ z. absurd (omega arith)) inside_one 0 refl in absurd (omega arith),
 )
 
--- a solution whose entries are those of 0 or of 1 1 1
+-- a solution whose entries are all 0 or all 1
 all_same : (a b c d e f : ℕ) → 1 ≡ a + d → 1 ≡ b + e → 1 ≡ c + f → a + b ≡ 2 * c → ((a ≡ 0) × (b ≡ 0) × (c ≡ 0)) ⊎ ((a ≡ 1) × (b ≡ 1) × (c ≡ 1))
 all_same a b c d e f p q r s = elim (cases_eq c 0) [
   | inl z ↦ inl (omega arith, omega arith, z)

@@ -1,4 +1,4 @@
--- Extreme solutions and the parts of their multiples.
+-- Extreme solutions, and sums of two solutions that are multiples of them.
 use Rattle.std.proofs.Common.{◌≡◌, ◌≢◌, ℕ, ◌+◌, ◌*◌, ◌≤◌, inl, inr, List, [], length, slice_index, sym, ap, ◌∙◌, arith}
 use Rattle.std.proofs.lemmas.List.Elements.{All-nil}
 use Rattle.cone_definitions.specs.Vectors.{IsInside, multiple, sum_of}
@@ -11,7 +11,7 @@ use Rattle.cone_definitions.proofs.OneRay.{proportional}
 use Rattle.cone_definitions.proofs.Extreme.{descent_lem}
 use Rattle.cone_ray_laws.specs.Rays.{IsOnRay, SpansRay}
 
--- by entries
+-- vectors on one ray, by their entries
 pub on_ray : (x y : List ℕ) (m c : ℕ) → length x ≡ length y → 1 ≤ m → ((j : ℕ) → m * slice_index y j ≡ c * slice_index x j) → IsOnRay x y
 on_ray x y m c e some h = record {
   y_times = m;
@@ -48,7 +48,7 @@ extreme_spans columns rows x ex = record {
   );
 }
 
--- a vector on the ray of x that is 0 where x is not is 0 everywhere
+-- a vector on the ray of x that is 0 at a column at which x is not 0 is 0
 zero_on_ray : (x y : List ℕ) → IsOnRay x y → (k : ℕ) → slice_index y k ≡ 0 → slice_index x k ≢ 0 → (j : ℕ) → slice_index y j ≡ 0
 zero_on_ray x y r k gone was j = mul_cancel r.y_times (slice_index y j) 0 r.some_y (on_ray_entry x y r j ∙ rw none (omega arith))
   where

@@ -1,4 +1,4 @@
--- What is defined by solutions alone is the same where the solutions are.
+-- Rows with equal solutions agree in all that is defined by solutions.
 use Rattle.std.proofs.Common.{ℕ, List, slice_index_or}
 use Rattle.std.specs.Prelude.{◌↔◌}
 use Rattle.cone_definitions.specs.Rows.{Row, IsExtreme}
@@ -23,7 +23,7 @@ surface_over columns rows others pairs x h s = record {
   primitive = s.primitive;
 }
 
--- lists in any order, and those in ascending order
+-- lists in any order, and lists in ascending order
 pub same_surfaces : (columns : ℕ) (rows others : List Row) (pairs : List Clash) (rays : List (List ℕ)) → HaveSameSolutions columns rows others →
     HasSurfaces columns rows pairs rays → HasSurfaces columns others pairs rays
 same_surfaces columns rows others pairs rays same h = record {

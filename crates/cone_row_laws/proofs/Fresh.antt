@@ -1,4 +1,4 @@
--- Fresh columns.
+-- Columns that no row before the step has.
 use Rattle.std.proofs.Common.{◌≡◌, ◌≢◌, ℕ, ◌+◌, ◌*◌, ◌-◌, ◌/◌, ◌<◌, ◌≤◌, ◌⊎◌, inl, inr, List, [], ◌∷◌, ◌++◌, All, length, slice_index, slice_index_or, slice_set, sym, subst, ap, refl, arith, ◌∙◌, div-one, length-set, get_or-set_same, get_or-set_other}
 use Rattle.std.specs.Int.{◌∣◌}
 use Rattle.std.proofs.Math.Nat.{one-dvd}
@@ -68,7 +68,8 @@ module _ (step : Step) (column : ℕ) (h : IsFresh step column) where
   at_unit : List ℕ
   at_unit = unit step.columns column
 
-  -- a ray without the column, negative at the row, and the unit vector make it with the column set
+  -- a ray that is 0 in the column, at which the row is negative, and the unit vector combine to the ray with the column
+  -- set
   module _ (w : List ℕ) (hw : IsRay step w) (without : slice_index w column ≡ 0) (negative : IsNegativeAt step.row w) where
     left : ℕ
     left = minus_part step.row w - plus_part step.row w
@@ -148,7 +149,7 @@ module _ (step : Step) (column : ℕ) (h : IsFresh step column) where
     unfolding raised_reduced
     reduced_width = made_width
 
-  -- ---- both ways
+  -- ---- both directions
 
   unit_positive : IsPositiveAt step.row (unit step.columns column)
   unit_positive = omega (arith, h.plus, h.minus)

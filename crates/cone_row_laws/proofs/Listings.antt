@@ -1,4 +1,4 @@
--- Where all numbers are bounded.
+-- Surface lists if all numbers are bounded.
 use Rattle.std.proofs.Common.{◌≢◌, ℕ, Bool, List, length}
 use Rattle.std.specs.List.{range_with_len}
 use Rattle.std.specs.List.Sorted.{IsPermutation}

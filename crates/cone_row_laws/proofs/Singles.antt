@@ -1,4 +1,4 @@
--- A ray with one column, and another.
+-- A ray with a single column, and another ray.
 use Rattle.std.proofs.Common.{◌≡◌, ℕ, ◌⊎◌, inl, inr, List, slice_index, sym, subst}
 use Rattle.std.proofs.lemmas.Bool.{cases_eq}
 use Rattle.cone_definitions.specs.Vectors.{IsInsideUnion}

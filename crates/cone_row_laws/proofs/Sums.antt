@@ -1,4 +1,4 @@
--- A row plus a multiple of another, and a row with its signs turned.
+-- A row plus a multiple of another, and a negated row.
 use Rattle.std.proofs.Common.{◌≡◌, ℕ, zero, suc, ◌+◌, ◌*◌, ℤ, pos, negsuc, neg_ℤ, List, [], ◌∷◌, ◌++◌, Contains, refl, ◌∙◌, sym, ap, arith}
 use Rattle.std.specs.Prelude.{◌↔◌}
 use Rattle.std.proofs.lemmas.List.Sums.{sum_by-append, sum_by-cons}
@@ -9,7 +9,7 @@ use Rattle.cone_row_laws.specs.Solutions.{HaveSameSolutions}
 use Rattle.cone_row_laws.specs.Operations.{multiple_plus, multiple_minus, IsSumWith, turned}
 use Rattle.cone_row_laws.proofs.Zeros.{row_replaced, row_dropped}
 
--- where the other row is 0, so are its multiples
+-- a multiple of a row is 0 at each vector at which the row is
 multiples_zero : (factor : ℤ) (other : Row) (x : List ℕ) → IsZeroAt other x → multiple_plus factor other x ≡ multiple_minus factor other x
 multiples_zero factor other x z = let h : plus_part other x ≡ minus_part other x = z in
     omega (arith, ap (λ n. positive_coefficient factor * n) h, ap (λ n. negative_coefficient factor * n) h)
@@ -26,7 +26,7 @@ pub multiple_added : (columns : ℕ) (front back : List Row) (row other sum : Ro
 multiple_added columns front back row other sum factor h s = row_replaced columns front back row sum
     (λ x z. sum_zero_alike row factor other sum s x (All-contains (λ r. IsZeroAt r x) (front ++ back) other z h))
 
--- ---- turned signs
+-- ---- negated rows
 
 positive-turned : (z : ℤ) → positive_coefficient (neg_ℤ z) ≡ negative_coefficient z
 positive-turned (pos zero) = refl

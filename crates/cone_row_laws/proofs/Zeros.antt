@@ -1,4 +1,4 @@
--- The rows of a list that are 0 at a vector, one row in the middle apart.
+-- The rows of a list that are 0 at a vector, with one row in the middle considered by itself.
 use Rattle.std.proofs.Common.{ℕ, List, [], ◌∷◌, ◌++◌, Contains, refl}
 use Rattle.std.specs.Prelude.{◌↔◌}
 use Rattle.std.specs.List.{All}
@@ -38,7 +38,7 @@ module _ {X : Type 0} (P : X → Type 0) where
   all_joined (one ∷ front) back middle p h =
       All-cons P one (front ++ middle ∷ back) (All-head P one (front ++ back) h) (all_joined front back middle p (All-tail P one (front ++ back) h))
 
--- where the other rows are 0, the new one is 0 just where the old one is
+-- a row may be replaced by another if, at each vector at which the other rows are 0, both are 0 or neither is
 pub row_replaced : (columns : ℕ) (front back : List Row) (row other : Row) →
     ((x : List ℕ) → AreZeroAt (front ++ back) x → IsZeroAt row x ↔ IsZeroAt other x) →
     HaveSameSolutions columns (front ++ row ∷ back) (front ++ other ∷ back)
@@ -47,7 +47,7 @@ row_replaced columns front back row other h = same_from_zeros columns (front ++ 
   λ z. let k = all_apart (λ r. IsZeroAt r x) front back other z in all_joined (λ r. IsZeroAt r x) front back row ((h x k.1).1 k.0) k.1,
 ))
 
--- a row is dropped that is 0 wherever the others are
+-- a row may be removed if it is 0 wherever the others are
 pub row_dropped : (columns : ℕ) (front back : List Row) (row : Row) → ((x : List ℕ) → AreZeroAt (front ++ back) x → IsZeroAt row x) →
     HaveSameSolutions columns (front ++ row ∷ back) (front ++ back)
 row_dropped columns front back row h = same_from_zeros columns (front ++ row ∷ back) (front ++ back) (λ x. (

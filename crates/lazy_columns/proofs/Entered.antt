@@ -1,4 +1,4 @@
--- Columns that entered.
+-- Columns that have entered.
 use Rattle.std.proofs.Common.{◌≡◌, ℕ, ℤ, ◌+◌, ◌<◌, [], ◌∷◌, ◌++◌, true, true≢false, ⊎_elim, take, set, length, length-set, slice_index_or, get_or, subst, subst₂, sym, ap, ◌∙◌, arith}
 use Rattle.std.proofs.lemmas.Bool.{cases_Bool, cases_lt}
 use Rattle.std.proofs.lemmas.List.Elements.{All-more, All-weaker}
@@ -34,18 +34,18 @@ entered_more columns old middle new first then = record {
   unseen = λ j h. first.unseen j (then.unseen j h);
 }
 
--- what is seen stays so
+-- a column that has entered remains so
 pub seen_still : (columns : ℕ) (old new : LateRays) (j : ℕ) → HaveEntered columns old new → slice_index_or old.seen.items j true ≡ true → slice_index_or new.seen.items j true ≡ true
 seen_still columns old new j entered seen = ⊎_elim (λ e. e) (λ unseen. absurd (true≢false (sym seen ∙ entered.unseen j unseen))) (cases_Bool (slice_index_or new.seen.items j true))
 
--- one column of the row more
+-- one more column of the row
 pub seen_more : (columns : ℕ) (old new : LateRays) (row : Row) (k : ℕ) (d : ℕ × ℤ) → HaveEntered columns old new → k < length row → AreSeen old.seen.items (take k row) →
     slice_index_or new.seen.items (get_or row k d).0 true ≡ true → AreSeen new.seen.items (take (k + 1) row)
 seen_more columns old new row k d entered within before now =
     All-more (λ term. slice_index_or new.seen.items term.0 true ≡ true) row k d within
     (All-weaker (λ term. slice_index_or old.seen.items term.0 true ≡ true) (λ term. slice_index_or new.seen.items term.0 true ≡ true) (λ term seen. seen_still columns old new term.0 entered seen) (take k row) before) now
 
--- of the columns below a number one more
+-- one more of the columns below n
 pub seen_below : (columns : ℕ) (old new : LateRays) (n : ℕ) → HaveEntered columns old new → ((j : ℕ) → j < n → slice_index_or old.seen.items j true ≡ true) →
     slice_index_or new.seen.items n true ≡ true → (j : ℕ) → j < n + 1 → slice_index_or new.seen.items j true ≡ true
 seen_below columns old new n entered before now j less = ⊎_elim
@@ -53,7 +53,7 @@ seen_below columns old new n entered before now j less = ⊎_elim
     (λ not_earlier. subst (λ i. slice_index_or new.seen.items i true ≡ true) {x = n} {y = j} (omega arith) now)
     (cases_lt j n)
 
--- one column of the row more that is seen or is the lone one
+-- one more column of the row, which has entered or is the only one that has not
 pub lone_more : (columns : ℕ) (old new : LateRays) (row : Row) (k : ℕ) (d : ℕ × ℤ) (column : ℕ) → HaveEntered columns old new → k < length row → IsLone (take k row) old.seen.items column →
     (IsUnseen new.seen.items (get_or row k d).0 → (get_or row k d).0 ≡ column) → IsLone (take (k + 1) row) new.seen.items column
 lone_more columns old new row k d column entered within before now =

@@ -1,4 +1,4 @@
--- Solutions without some columns: their vertex surfaces are those without these columns.
+-- Solutions that are 0 in some columns: their vertex surfaces are the vertex surfaces that are 0 there.
 use Rattle.std.proofs.Common.{◌≡◌, ℕ, inl, inr, subst, sym, List, ◌++◌, Bool, true, set, slice_index}
 use Rattle.std.specs.Prelude.{◌↔◌}
 use Rattle.std.proofs.lemmas.Bool.{cases_eq}
@@ -7,7 +7,7 @@ use Rattle.cone_definitions.specs.Surfaces.{Clash, IsVertexSurface}
 use Rattle.lazy_columns.specs.Late.{IsUnseen, held_rows}
 use Rattle.lazy_columns.proofs.Held.{held_solution, unseen_after, unseen_still}
 
--- the solutions of the others are the rows' solutions without these columns
+-- the solutions of the others are the solutions of the rows that are 0 in these columns
 abbrev pub IsFace : ℕ → List Row → List Row → (ℕ → Type 0) → Type 0
 IsFace columns rows others S = (x : List ℕ) → IsSolution columns others x ↔ (IsSolution columns rows x × ((j : ℕ) → S j → slice_index x j ≡ 0))
 
@@ -37,11 +37,11 @@ module _ (columns : ℕ) (rows others : List Row) (S : ℕ → Type 0) (face : I
   pub gone_in_face : (pairs : List Clash) (x : List ℕ) → IsVertexSurface columns others pairs x → (j : ℕ) → S j → slice_index x j ≡ 0
   gone_in_face pairs x h = ((face x).0 h.extreme.solution).1
 
--- the unseen columns are held
+-- the columns that have not entered are held at 0
 pub held_face : (columns : ℕ) (rows : List Row) (seen : List Bool) → IsFace columns rows (rows ++ held_rows 0 seen) (IsUnseen seen)
 held_face columns rows seen x = held_solution columns rows seen x
 
--- before a column was seen it was held too
+-- a column that enters was held at 0 before
 pub column_face : (columns : ℕ) (rows : List Row) (seen : List Bool) (column : ℕ) → IsUnseen seen column →
     IsFace columns (rows ++ held_rows 0 (set seen column true)) (rows ++ held_rows 0 seen) (λ j. j ≡ column)
 column_face columns rows seen column unseen x = (

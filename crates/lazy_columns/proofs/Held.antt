@@ -10,11 +10,11 @@ use Rattle.cone_row_laws.specs.Fresh.{IsUntouched}
 use Rattle.cone_row_laws.proofs.RedundantRows.{all_behind}
 use Rattle.lazy_columns.specs.Late.{IsUnseen, held_rows}
 
--- the row that is 0 where a column is
+-- the row that is 0 if and only if the column is
 abbrev pub at_column : ℕ → Row
 at_column column = (column, pos 1) ∷ []
 
--- what holds of each row that holds a column
+-- what holds for each column that has not entered holds of all rows that hold columns
 pub held_all : (P : Row → Type 0) (i : ℕ) (seen : List Bool) → ((j : ℕ) → IsUnseen seen j → P (at_column (i + j))) → All P (held_rows i seen)
 unfolding held_rows
 held_all P i [] h = All-nil P
@@ -23,7 +23,7 @@ held_all P i (false ∷ seen) h = All-cons P (at_column i) (held_rows (i + 1) se
     (subst (λ n. P (at_column n)) {x = i + 0} {y = i} (omega arith) (h 0 refl))
     (held_all P (i + 1) seen (λ j unseen. subst (λ n. P (at_column n)) {x = i + suc j} {y = i + 1 + j} (omega arith) (h (suc j) unseen)))
 
--- and of all of them, of each
+-- what holds of all rows that hold columns holds for each column that has not entered
 pub held_each : (P : Row → Type 0) (i : ℕ) (seen : List Bool) (j : ℕ) → All P (held_rows i seen) → IsUnseen seen j → P (at_column (i + j))
 unfolding held_rows
 held_each P i [] j h unseen = absurd (true≢false unseen)
@@ -37,11 +37,11 @@ all_front : (P : Row → Type 0) (xs ys : List Row) → All P (xs ++ ys) → All
 all_front P [] ys h = All-nil P
 all_front P (x ∷ xs) ys h = All-cons P x xs (All-head P x (xs ++ ys) h) (all_front P xs ys (All-tail P x (xs ++ ys) h))
 
--- it is 0 at the vectors without the column
+-- the row is 0 at the vectors that are 0 in the column
 column_zero : (column : ℕ) (x : List ℕ) → IsZeroAt (at_column column) x ↔ (slice_index x column ≡ 0)
 column_zero column x = (λ z. omega (arith, z), λ z. omega (arith, z))
 
--- the solutions of further rows that hold columns
+-- the solutions of rows together with rows that hold columns
 pub held_solution : (columns : ℕ) (rows : List Row) (seen : List Bool) (x : List ℕ) →
     IsSolution columns (rows ++ held_rows 0 seen) x ↔ (IsSolution columns rows x × ((j : ℕ) → IsUnseen seen j → slice_index x j ≡ 0))
 held_solution columns rows seen x = (
@@ -57,14 +57,14 @@ held_solution columns rows seen x = (
   },
 )
 
--- ---- seen columns
+-- ---- columns that have entered
 
 pub seen_before : (seen : List Bool) (column : ℕ) → IsUnseen seen column → column < length seen
 seen_before [] column unseen = absurd (true≢false unseen)
 seen_before (one ∷ seen) zero unseen = omega arith
 seen_before (one ∷ seen) (suc column) unseen = let l = seen_before seen column unseen in omega arith
 
--- once a column is seen, the others that weren't are unseen still
+-- once a column enters, the columns that have not entered are others, and had not entered before
 pub unseen_after : (seen : List Bool) (column j : ℕ) → IsUnseen seen column → IsUnseen (set seen column true) j → IsUnseen seen j × (j ≢ column)
 unseen_after seen column j unseen h = (sym (get_or-set_other seen column j true true differs) ∙ h, differs)
   where
@@ -86,7 +86,7 @@ parts_without columns column (term ∷ row) h =
       sum_by-cons (λ t. negative_coefficient t.1 * slice_index (unit columns column) t.0) term row ∙ rw (gone, rest.1) (omega arith),
     )
 
--- rows that hold other columns have none of it
+-- rows that hold other columns have no term of the column
 pub untouched_held : (columns : ℕ) (rows : List Row) (seen : List Bool) (column : ℕ) → IsUntouched columns rows column → ((j : ℕ) → IsUnseen seen j → j ≢ column) →
     IsUntouched columns (rows ++ held_rows 0 seen) column
 untouched_held columns rows seen column h others = record {

@@ -1,4 +1,4 @@
--- One row more.
+-- One more row.
 use Rattle.std.proofs.Common.{◌≡◌, ◌≢◌, ℕ, ◌+◌, ◌<◌, ◌≤◌, inl, inr, List, [], ◌∷◌, ◌++◌, Bool, true, false, true≢false, set, All, take, length, length-set, slice_index, slice_index_or, subst, sym, ap, ◌∙◌, arith}
 use Rattle.std.specs.Prelude.{◌↔◌}
 use Rattle.std.proofs.lemmas.List.{take_more}
@@ -61,7 +61,7 @@ pub few_unions : (columns most : ℕ) (rows : List Row) (pairs : List Clash) (la
 few_unions columns most rows pairs late few h i j i_in j_in face =
     let small = small_unions columns rows pairs late.seen.items (rays_of late.ray_list.items) h.surfaces i j i_in j_in face in omega (arith, small, few)
 
--- the clashing columns differ
+-- the columns of a clashing pair differ
 pub pairs_apart : (columns : ℕ) (pairs : List Clash) → AreClashes columns pairs → PairsAreOfTwoColumns pairs
 pairs_apart columns pairs h = All-weaker (λ (pair : Clash). (pair.0 < columns) × (pair.1 < columns) × (pair.0 ≢ pair.1)) (λ (pair : Clash). pair.0 ≢ pair.1) (λ pair k. k.2) pairs h
 
@@ -83,7 +83,7 @@ have_room columns rows pairs late column h unseen k d within =
           (gone columns rows pairs late.seen.items (rays_of late.ray_list.items) h.surfaces k in_rays column unseen);
     }
 
--- ---- the row behind the rows that hold columns, and before them
+-- ---- the row after the rows that hold columns, and before them
 
 same_zeros : (columns : ℕ) (rows : List Row) (row other : Row) (seen : List Bool) → ((x : List ℕ) → IsZeroAt other x ↔ IsZeroAt row x) →
     HaveSameSolutions columns ((rows ++ held_rows 0 seen) ++ other ∷ []) ((rows ++ row ∷ []) ++ held_rows 0 seen)
@@ -106,7 +106,7 @@ untouched_more columns rows row column h differs = let parts = parts_without col
 
 -- ---- the two kinds of steps
 
--- all columns of the row are seen
+-- all columns of the row have entered
 pub late_eliminated : (columns : ℕ) (rows : List Row) (pairs : List Clash) (row : Row) (late next : LateRays) → AreSeen late.seen.items row → next.seen.items ≡ late.seen.items →
     ((before : List Row) → HasSurfaces columns before pairs (rays_of late.ray_list.items) → HasSurfaces columns (before ++ row ∷ []) pairs (rays_of next.ray_list.items)) →
     AreLate columns rows pairs late → AreLate columns (rows ++ row ∷ []) pairs next
@@ -125,7 +125,7 @@ oriented_zero : (turn : Bool) (row : Row) (x : List ℕ) → IsZeroAt (oriented 
 oriented_zero true row x = ((turned_zero row x).1, (turned_zero row x).0)
 oriented_zero false row x = (λ z. z, λ z. z)
 
--- the row has a fresh column
+-- the row has a column that has not entered
 pub late_extended : (limit columns : ℕ) (rows : List Row) (pairs : List Clash) (row : Row) (fresh : NewColumn) (late next : LateRays) → IsFreshColumn columns row pairs late.seen.items fresh →
     next.seen.items ≡ set late.seen.items fresh.column true →
     AreRaised limit pairs (oriented fresh.is_turned row) fresh.column (rays_of late.ray_list.items) (rays_of next.ray_list.items) → AreLate columns rows pairs late → AreLate columns (rows ++ row ∷ []) pairs next
@@ -145,13 +145,13 @@ late_extended limit columns rows pairs row fresh late next f same raised h = rec
 
 -- ---- all rows
 
--- the rows taken are those before and the row
+-- the rows done are those before and the row
 pub late_taken : (columns : ℕ) (rows : List Row) (pairs : List Clash) (number : ℕ) (row : Row) (late : LateRays) → number < length rows → row ≡ slice_index_or rows number [] →
     AreLate columns (take number rows ++ row ∷ []) pairs late → AreLate columns (take (number + 1) rows) pairs late
 late_taken columns rows pairs number row late less is h =
     subst (λ taken. AreLate columns taken pairs late) (ap (λ r. take number rows ++ r ∷ []) is ∙ sym (take_more rows number [] less)) h
 
--- with all columns seen
+-- all columns have entered
 pub all_seen : (columns : ℕ) (rows : List Row) (pairs : List Clash) (late : LateRays) → ((column : ℕ) → slice_index_or late.seen.items column true ≡ true) → AreLate columns rows pairs late →
     HasSurfaces columns rows pairs (rays_of late.ray_list.items)
 all_seen columns rows pairs late seen h = same_surfaces columns (rows ++ held_rows 0 late.seen.items) rows pairs (rays_of late.ray_list.items)

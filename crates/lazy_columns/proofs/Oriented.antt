@@ -1,4 +1,4 @@
--- The step of a row with all its signs turned, and rays that leave room for a column.
+-- The step of a negated row, and rays that are 0 in a column.
 use Rattle.std.proofs.Common.{◌≡◌, ℕ, ◌<◌, List, length, get_or, slice_index, subst, sym, ap, ◌∙◌}
 use Rattle.std.specs.List.{All}
 use Rattle.cone_definitions.specs.Rows.{Row}
@@ -22,7 +22,7 @@ turned_step_of limit clashes row rays step after h is = subst (IsStepOf limit cl
   signed = signs-turned limit rays step.signs row h.signed;
 })
 
--- the same rays leave the same room
+-- equal rays are 0 in the same column
 pub room_of_rays : (column : ℕ) (ray_list others : List RayWithSupport) → rays_of ray_list ≡ rays_of others → All (HasRoom column) others → All (HasRoom column) ray_list
 room_of_rays column ray_list others same h k d less =
     let within : k < length others = subst (λ n. k < n) (sym (length-rays_of ray_list) ∙ ap length same ∙ length-rays_of others) less in

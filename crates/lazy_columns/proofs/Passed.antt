@@ -1,4 +1,4 @@
--- Where a number passes the greatest entry: at a row turned back, and at the next of some rows.
+-- A number that exceeds the greatest entry: at a negated row, and at the next of some rows.
 use Rattle.std.proofs.Common.{◌≡◌, ℕ, zero, suc, ◌+◌, ◌<◌, inl, inr, ℤ, pos, negsuc, neg_ℤ, List, [], ◌∷◌, ◌++◌, Bool, true, false, take, drop, length, slice_index_or, refl, subst, sym, ap, ap₂, ◌∙◌}
 use Rattle.std.proofs.lemmas.List.{take-append-drop, drop_more}
 use Rattle.cone_arithmetic.specs.declared.numbers.TheConstants.{MAX_ENTRY}
@@ -18,7 +18,7 @@ pub fault_weaker : (P Q : Named → Type 0) → ((named : Named) → P named →
 fault_weaker P Q f (Large named) h = f named h
 fault_weaker P Q f NoMemory h = h
 
--- ---- a row turned twice
+-- ---- a row negated twice
 
 back : (z : ℤ) → neg_ℤ (neg_ℤ z) ≡ z
 back (pos zero) = refl
@@ -29,7 +29,7 @@ turned_back : (row : Row) → turned (turned row) ≡ row
 turned_back [] = refl
 turned_back ((column, z) ∷ row) = ap₂ (λ (z : ℤ) (row : Row). (column, z) ∷ row) (back z) (turned_back row)
 
--- the pair is one of the step, or of the step turned once more
+-- the pair is one of the step, or of the step of the negated row
 pub pair_either_way : (clashes : ClashData) (row : Row) (is_turned : Bool) (rays : List (List ℕ)) (step : StepData) → IsStepOf MAX_ENTRY clashes (oriented is_turned row) rays step →
     (named : Named) → IsFirstLargeEitherWay step named → PassesAtPair clashes row rays named
 pair_either_way clashes row is_turned rays step h named (inl first) = record { is_turned = is_turned; step = step; is = h; passes = first }

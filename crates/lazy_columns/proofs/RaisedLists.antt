@@ -1,4 +1,4 @@
--- The rays with what is left for a column beside what the pairs give, one ray on.
+-- The rays with the entry left for a column, together with the combinations of pairs, with one more ray.
 use Rattle.std.proofs.Common.{◌≡◌, ◌≢◌, ℕ, ◌+◌, ◌<◌, ◌≤◌, ◌⊎◌, inl, inr, ⊎_elim, List, [], ◌∷◌, ◌++◌, Contains, length, slice_index, slice_index_or, slice_set, length-set, get_or-set_same, get_or-set_other, subst, ap, sym, ◌∙◌, refl, arith}
 use Rattle.std.proofs.lemmas.List.Elements.{All-push, All-weaker, Contains-push, Contains-append_left}
 use Rattle.std.proofs.lemmas.List.Quantifiers.{all_pairs_push}
@@ -21,7 +21,7 @@ use Rattle.ray_steps.proofs.CombinationLemmas.{sign_read, comes_read}
 use Rattle.cone_row_laws.proofs.Fresh.{set_zero}
 use Rattle.lazy_columns.specs.Raised.{IsLeft, HasRoom, AppendsRaised, ComesFromRaised, IsFreshStepAt, IsRaisedFrom}
 
--- vectors without a column are the same where they are with it set
+-- vectors that are 0 in a column are equal if they are with an entry set there
 unset : (x y : List ℕ) (column a b : ℕ) → slice_index x column ≡ 0 → slice_index y column ≡ 0 → slice_set x column a ≡ slice_set y column b → x ≡ y
 unset x y column a b x_gone y_gone same = same_vectors x y (sym (length-set x column a) ∙ ap length same ∙ length-set y column b) (λ j. elim (cases_eq j column) [
   | inl e ↦ subst (λ i. slice_index x i ≡ slice_index y i) (sym e) (x_gone ∙ sym y_gone)
@@ -29,7 +29,7 @@ unset x y column a b x_gone y_gone same = same_vectors x y (sym (length-set x co
 ])
 
 module _ (limit : ℕ) (pairs : List Clash) (rays : List (List ℕ)) (signs : List Sign) (column : ℕ) where
-  -- what the pairs give, and no ray yet
+  -- the combinations of all pairs, and no ray yet
   pub raised_none : (made : List (List ℕ)) → IsMadeUpTo limit pairs rays signs (length rays) 0 made → IsRaisedFrom limit pairs rays signs column (length rays) made
   raised_none made h = record {
     comes = All-weaker (ComesFromPlaces limit pairs rays signs (length rays) 0) (λ x. ComesFromRaised rays signs column (length rays) x ⊎ ComesFromPlaces limit pairs rays signs (length rays) 0 x)
@@ -44,7 +44,7 @@ module _ (limit : ℕ) (pairs : List Clash) (rays : List (List ℕ)) (signs : Li
   weaker m x (inl z) = inl (record { place = z.place; from = let f = z.from in omega arith; in_range = z.in_range; left = z.left; leaves = z.leaves; is = z.is })
   weaker m x (inr c) = inr c
 
-  -- a ray for which less than nothing is left is left out
+  -- a ray that leaves no entry is left out
   pub raised_skip : (m : ℕ) (next : List (List ℕ)) → ((left : ℕ) → ¬ IsLeft (slice_index_or signs m Zero) left) → IsRaisedFrom limit pairs rays signs column (m + 1) next →
       IsRaisedFrom limit pairs rays signs column m next
   raised_skip m next none h = record {
@@ -72,7 +72,7 @@ module _ (limit : ℕ) (pairs : List Clash) (rays : List (List ℕ)) (signs : Li
     column_in : (k : ℕ) → k < length rays → column < length (ray_at rays k)
     column_in k within = let w = (fresh.step.surfaces.vertex_surfaces k [] within).extreme.solution.width in let c = fresh.in_range in omega arith
 
-    -- a ray that was raised is none that was made
+    -- a ray with the entry left for the column is no combination
     raised_unmade : (k left : ℕ) (x : List ℕ) (sign : Sign) → k < length rays → slice_index_or signs k Zero ≡ sign → IsLeft sign left → (sign ≡ Zero) ⊎ (1 ≤ left) → x ≡ slice_set (ray_at rays k) column left →
         ComesFromPair (step_of pairs fresh.step.columns fresh.step.before fresh.step.row) x → ⊥
     raised_unmade k left x sign within is leaves (inr some) same c =
@@ -98,7 +98,7 @@ module _ (limit : ℕ) (pairs : List Clash) (rays : List (List ℕ)) (signs : Li
         (subst (ComesFromPair (step_of pairs fresh.step.columns fresh.step.before fresh.step.row)) same
         (comes_read limit pairs rays signs fresh.step c.u c.w y c.pair c.reduced))
 
-  -- a ray is appended with what is left
+  -- a ray is appended with the entry left for the column
   pub raised_push : (m left : ℕ) (sign : Sign) (next : List (List ℕ)) (x : List ℕ) → m < length rays → slice_index_or signs m Zero ≡ sign → IsLeft sign left → (sign ≡ Zero) ⊎ (1 ≤ left) →
       x ≡ slice_set (ray_at rays m) column left → IsRaisedFrom limit pairs rays signs column (m + 1) next → IsRaisedFrom limit pairs rays signs column m (next ++ x ∷ [])
   raised_push m left sign next x within is leaves some raised h = record {
@@ -117,7 +117,7 @@ module _ (limit : ℕ) (pairs : List Clash) (rays : List (List ℕ)) (signs : Li
         (λ k d less same. not_again fresh m left x (slice_index_or next k d) sign within is leaves some raised (h.comes k d less) same);
   }
 
-  -- a ray by its sign
+  -- a ray is appended or left out by its sign
   pub raised_one : (m : ℕ) (sign : Sign) (kept : RayWithSupport) (old new : List RayWithSupport) → m < length rays → slice_index_or signs m Zero ≡ sign → kept.ray ≡ ray_at rays m → HasRoom column kept →
       IsBoundedSign limit sign → AppendsRaised column sign kept old new → IsRaisedFrom limit pairs rays signs column (m + 1) (rays_of old) → IsRaisedFrom limit pairs rays signs column m (rays_of new)
   raised_one m Zero kept old new within sign is room bounded appends h =

@@ -1,4 +1,4 @@
--- The rays raised by a row with a fresh column are the vertex surfaces of one row more.
+-- The rays raised by a row with a column that has not entered are the vertex surfaces of one more row.
 use Rattle.std.proofs.Common.{◌≡◌, ℕ, ◌-◌, ◌≤◌, ◌⊎◌, inl, inr, List, [], ◌∷◌, ◌++◌, Bool, true, set, Contains, length, slice_index, slice_index_or, slice_set, subst, sym, ap, refl, ◌∙◌, arith}
 use Rattle.cone_definitions.specs.Vectors.{ray_at, unit}
 use Rattle.cone_definitions.specs.Rows.{Row, plus_part, minus_part}
@@ -21,7 +21,7 @@ use Rattle.lazy_columns.specs.Raised.{IsLeft, ComesFromRaised, IsFreshStepAt, Is
 use Rattle.lazy_columns.proofs.Held.{held_solution, unseen_after, untouched_held}
 use Rattle.lazy_columns.proofs.Faces.{surface_of_face, surface_in_face, gone_in_face, column_face}
 
--- what is left for the column by the sign of a row that has 1 there
+-- the entry that a row with coefficient 1 in the column leaves for it, by its sign
 left_of : (row : Row) (x : List ℕ) (sign : Sign) (left : ℕ) → IsSignAt row x sign → IsLeft sign left → (plus_part row x ≤ minus_part row x) × (left ≡ minus_part row x - plus_part row x)
 left_of row x Zero left at is = (omega (arith, at), omega (arith, at, is))
 left_of row x (Positive value) left at is = absurd is
@@ -35,7 +35,7 @@ left_from row x (Negative value) at few = sym at.1
 module _ (limit columns : ℕ) (rows : List Row) (pairs : List Clash) (row : Row) (seen : List Bool) (rays next : List (List ℕ)) (signs : List Sign) (column : ℕ) (unseen : IsUnseen seen column)
     (untouched : IsUntouched columns rows column) (plus : plus_part row (unit columns column) ≡ 1) (minus : minus_part row (unit columns column) ≡ 0) (free : IsFree pairs column)
     (surfaces : HasSurfaces columns (rows ++ held_rows 0 seen) pairs rays) (signed : AreSigns limit row rays signs) (raised : IsRaisedFrom limit pairs rays signs column 0 next) where
-  -- the column was held before, and now is not
+  -- the column was held at 0 before, and is not now
   abbrev before : List Row
   before = rows ++ held_rows 0 seen
 
@@ -66,7 +66,8 @@ module _ (limit columns : ℕ) (rows : List Row) (pairs : List Clash) (row : Row
     gone = λ x s. ((held_solution columns rows seen x).0 s).1 column unseen;
   }
 
-  -- a pair of rays without the column is one of the step with the column held
+  -- rays that are 0 in the column are a pair of the step if and only if they are one of the step with the column held
+  -- at 0
   wider_pair : (u w : List ℕ) → IsPair (step_of pairs columns before row) u w → IsPair (step_of pairs columns now row) u w
   wider_pair u w p = record {
     u_ray = outer u p.u_ray;

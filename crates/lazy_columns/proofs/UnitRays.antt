@@ -1,4 +1,4 @@
--- A column enters: its unit vector joins the rays.
+-- A column enters: its unit vector is added to the rays.
 use Rattle.std.proofs.Common.{◌≡◌, ◌≢◌, ℕ, ◌<◌, inl, inr, List, [], ◌∷◌, ◌++◌, Bool, true, false, set, length, replicate, slice_index, slice_index_or, Contains, subst, sym, ap, refl, arith}
 use Rattle.std.proofs.lemmas.Bool.{cases_eq}
 use Rattle.std.proofs.lemmas.List.{get_or-replicate, length-replicate}
@@ -52,7 +52,7 @@ module _ (columns : ℕ) (rows : List Row) (pairs : List Clash) (seen : List Boo
     complete = found;
   }
 
--- with no column seen there is no ray
+-- no column has entered yet
 none_seen_at : (columns j : ℕ) → j < columns → IsUnseen (replicate columns false) j
 none_seen_at columns j within = get_or-replicate columns j false true within
 

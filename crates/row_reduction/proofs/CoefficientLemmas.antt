@@ -30,7 +30,8 @@ unit_found : (row : Row) (column : ℕ) (coefficient : ℤ) → IsSparse row →
 unit_found row column coefficient sparse c (inl u) = inl (same_coefficient row column coefficient (pos 1) sparse c u)
 unit_found row column coefficient sparse c (inr u) = inr (same_coefficient row column coefficient (negsuc 0) sparse c u)
 
--- no term is of the column, where those before the place come before it, and the one at the place after it
+-- no term is of the column if those before the index are of columns before it, and the one at the index is of a later
+-- one
 none_found : (row : Row) (place column : ℕ) (coefficient : ℤ) → IsSparse row → AreBefore row place column → (place < length row → column < (term_at row place).0) → Contains row (column, coefficient) → ⊥
 none_found row place column coefficient sparse before after c =
     let k = c.0 in
@@ -87,7 +88,7 @@ module _ (rows : List Row) (i : ℕ) (row : Row) (column : ℕ) (within : i < le
   none_at None other none = subst (λ r. HasNoTerm r column) (is ∙ sym (get_or_default rows i [] row within)) (none refl)
   none_at (Some f) other none = absurd (other f refl)
 
--- by a row that has the same coefficient there, or the opposite one
+-- by a row that has an equal or opposite coefficient there
 pub thins_shared : (row other : Row) (i j : ℕ) (factor : ℤ) → i < length row → j < length other → (term_at other j).0 ≡ (term_at row i).0 → IsUnit factor →
     IsCoefficientSum (term_at row i).1 factor (term_at other j).1 (pos 0) → Thins row factor other
 thins_shared row other i j factor within other_within same unit sum = record {
@@ -106,7 +107,7 @@ pub unit_at : (row : Row) (place column : ℕ) → IsSparse row → place < leng
 unit_at row place column sparse within is u = unit_found row column (term_at row place).1 sparse
     (place, within, get_or_default row place (column, (term_at row place).1) (0, pos 0) within ∙ ap (λ n. (n, (term_at row place).1)) is) u
 
--- ---- the row at a place has 1 or -1 at the column, or has not
+-- ---- the row at an index has coefficient 1 or -1 at the column, or has not
 
 one_abs : (number : ℤ) → unsigned_abs number ≡ 1 → IsUnit number
 one_abs (pos n) e = inl (ap (λ m. pos m) e)

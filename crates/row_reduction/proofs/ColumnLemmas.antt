@@ -1,4 +1,4 @@
--- The coefficients of two rows at the column of a merge, and those of the sum that passes there.
+-- The coefficients of two rows at the column of a merge, and the sum there that exceeds the limit.
 use Rattle.std.proofs.Common.{◌≡◌, ℕ, ◌<◌, ◌≤◌, ◌⊎◌, inl, inr, ℤ, pos, length, sym, ap, ap₂, ◌∙◌, arith}
 use Rattle.std.specs.Prelude.{unsigned_abs}
 use Rattle.std.proofs.lemmas.Bool.{cases_lt}
@@ -11,7 +11,7 @@ use Rattle.row_reduction.specs.Merging.{next_column, term_at, IsTaken, IsLeastCo
 use Rattle.row_reduction.specs.Passing.{IsCoefficientAt, PassesSum, PassesAtColumn, IfPassed}
 use Rattle.row_reduction.proofs.PlaceLemmas.{next_within, next_past, taken_before}
 
--- the terms before the place are of columns before this one
+-- the terms before the index are of columns before this one
 abbrev pub AreBefore : Row → ℕ → ℕ → Type 0
 AreBefore row place column = (k : ℕ) → k < place → (term_at row k).0 < column
 
@@ -65,7 +65,7 @@ fault_at_column row factor other column one two is other_is Passed p =
     record { column = column; coefficient = one; other_coefficient = two; is = is; other_is = other_is; passes = p }
 fault_at_column row factor other column one two is other_is NoMemory p = tt
 
--- one column more of a merge
+-- one more column of a merge
 module _ (columns : ℕ) (row : Row) (i : ℕ) (other : Row) (j column : ℕ) (one : ℤ) (after_i : ℕ) (two : ℤ) (after_j : ℕ)
     (taken : IsTaken row i column one after_i) (taken_other : IsTaken other j column two after_j) (least : IsLeastColumn columns row i other j column)
     (sparse : IsSparse row) (other_sparse : IsSparse other) (range : IsInRange columns row) (other_range : IsInRange columns other) (within : i ≤ length row) (other_within : j ≤ length other)

@@ -1,8 +1,9 @@
--- Rows that are cleared, eliminated, kept and made sparser step by step.
+-- Rows that are cleared, eliminated, retained and made sparser step by step.
 use Rattle.std.proofs.Common.{◌≡◌, ℕ, ◌<◌, ◌≤◌, ◌+◌, inl, inr, ℤ, List, [], ◌∷◌, ◌++◌, length, get_or, take, drop, zero, suc, subst, subst₂, sym, ap, ◌∙◌, refl, arith, Contains, Option, Some, None, Bool, true, ◌==◌}
 use Rattle.std.specs.List.{remove}
 use Rattle.std.proofs.lemmas.Bool.{cases_lt, eqb-true}
 use Rattle.std.proofs.lemmas.List.{take_more, length-set, get_or-set_other, get_or-set_same, get_or_default}
+use Rattle.basic_lemmas.proofs.Lists.{split_at}
 use Rattle.cone_definitions.specs.Rows.{Row}
 use Rattle.cone_arithmetic.specs.Sparse.{IsSparse}
 use Rattle.cone_row_laws.specs.Operations.{IsSumWith}
@@ -12,7 +13,7 @@ use Rattle.row_reduction.specs.Clearing.{AddsMultipleAt, IsUnitAt}
 use Rattle.row_reduction.specs.Eliminating.{row_at, HasNoTerm, CancelsAt, IsCleared, AreCleared, IsPivotBelow, AreSolvedFor, AreEliminated, no_columns, column_more, AreKept, Thins, AreThinned, as_they_are, row_more}
 use Rattle.row_reduction.specs.Passing.{PassesAtColumn, PassesClearing, PassesFor, PassesAtPivot, PassesThinned, PassesAmong, HasPassedSum, IfPassed}
 
--- ---- the place of a pivot row
+-- ---- the index of a pivot row
 
 module _ (column : ℕ) (rows : List Row) (n : ℕ) where
   here : (i : ℕ) → i < n + 1 → n ≤ i → i ≡ n
@@ -48,7 +49,7 @@ module _ (column : ℕ) (rows : List Row) (n : ℕ) where
 
 -- ---- a column is cleared
 
--- the first n rows are cleared, and the others are as they were
+-- the first n rows are cleared, and the others are unchanged
 pub record AreClearedBelow (pivot : Row) (column : ℕ) (rows now : List Row) (n : ℕ) : Type 0 where
   pub count : length now ≡ length rows
   pub each : (i : ℕ) → i < length rows → i < n → IsCleared pivot column (row_at rows i) (row_at now i)
@@ -118,11 +119,6 @@ module _ (pivot : Row) (column : ℕ) (rows : List Row) where
     passes_clearing factor cancels NoMemory p = tt
 
 -- ---- columns one by one
-
-split_at : (i : ℕ) (xs : List ℕ) → i < length xs → xs ≡ take i xs ++ get_or xs i 0 ∷ drop (suc i) xs
-split_at i [] h = let no : ⊥ = omega (arith, h) in absurd no
-split_at zero (x ∷ xs) h = refl
-split_at (suc i) (x ∷ xs) h = ap (λ (ys : List ℕ). x ∷ ys) (split_at i xs (omega (arith, h)))
 
 pub columns_none : (rows others none : List Row) → others ≡ rows → none ≡ [] → AreEliminated rows [] others none
 columns_none rows others none e n = rw (e, n) no_columns

@@ -1,4 +1,4 @@
--- One column more of the merge of two rows.
+-- One more column of the merge of two rows.
 use Rattle.std.proofs.Common.{◌≡◌, ℕ, ◌+◌, ◌*◌, ◌-◌, ◌<◌, ◌≤◌, inl, inr, ℤ, pos, ◌+ℤ◌, ◌*ℤ◌, List, [], ◌∷◌, ◌++◌, take, length, sym, ap, ◌∙◌, arith, subst}
 use Rattle.std.specs.Prelude.{slice_index, unsigned_abs, SomeIff, IfSome, Option, Some, None}
 use Rattle.std.specs.List.{All, AllPairs}
@@ -23,7 +23,7 @@ checked_sum P number factor other product None e h = tt
 checked_sum P number factor other product (Some s) e h =
     subst (IsCoefficientSum number factor other) (sym (h.1 ∙ ap (λ z. z +ℤ number) e)) (coefficient_sum number factor other)
 
--- ---- parts
+-- ---- positive and negative parts
 
 pub plus-one : (column : ℕ) (coefficient : ℤ) (x : List ℕ) → plus_part ((column, coefficient) ∷ []) x ≡ positive_coefficient coefficient * slice_index x column
 plus-one column coefficient x = omega arith
@@ -39,7 +39,7 @@ pub minus-push : (row : Row) (column : ℕ) (coefficient : ℤ) (x : List ℕ) �
     minus_part (row ++ (column, coefficient) ∷ []) x ≡ minus_part row x + negative_coefficient coefficient * slice_index x column
 minus-push row column coefficient x = minus-append row ((column, coefficient) ∷ []) x ∙ ap (λ n. minus_part row x + n) (minus-one column coefficient x)
 
--- the row up to the next place
+-- the row up to the next index
 taken_row : (row : Row) (place column : ℕ) (coefficient : ℤ) (next : ℕ) → IsTermAt row place column coefficient next →
     take next row ≡ take place row ++ (column, coefficient) ∷ []
 taken_row row place column coefficient next t =
@@ -68,7 +68,7 @@ minus-appended : (old : Row) (column : ℕ) (sum : ℤ) (new : Row) (x : List �
 minus-appended old column sum new x (inl a) = rw (a.0, a.1) (omega arith)
 minus-appended old column sum new x (inr a) = ap (λ r. minus_part r x) a.0 ∙ minus-push old column sum x
 
--- one column more, over plain numbers
+-- one more column, for numbers
 sum_step : (pt nt pa na pb nb pc nc pz nz pu nu pv nv e : ℕ) → pt + (na + (pc * nb + nc * pb)) ≡ nt + (pa + (pc * pb + nc * nb)) →
     pz + (nu + (pc * nv + nc * pv)) ≡ nz + (pu + (pc * pv + nc * nv)) →
     (pt + pz * e) + ((na + nu * e) + (pc * (nb + nv * e) + nc * (pb + pv * e))) ≡ (nt + nz * e) + ((pa + pu * e) + (pc * (pb + pv * e) + nc * (nb + nv * e)))

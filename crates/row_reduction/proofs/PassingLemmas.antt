@@ -1,4 +1,4 @@
--- A sum that passes.
+-- A sum that exceeds the greatest coefficient.
 use Rattle.std.proofs.Common.{◌≡◌, ◌<◌, ◌≤◌, inl, inr, ℤ, ◌+ℤ◌, ◌*ℤ◌, subst, sym, arith, w32, FitsSigned}
 use Rattle.std.specs.Prelude.{unsigned_abs, SomeIff, Option, Some, None, IsNone}
 use Rattle.std.proofs.lemmas.Bool.{cases_lt, false≢true}
@@ -29,7 +29,7 @@ sum_passes number factor other product e h = record {
   passes = subst (λ p. 1000000 < unsigned_abs (p +ℤ number)) e (let l = past_32_bits (product +ℤ number) h in omega (arith, l));
 }
 
--- the second step gives nothing
+-- the second operation has no result
 pub none_passes : (number factor other product : ℤ) (sum : Option ℤ) → product ≡ factor *ℤ other → SomeIff sum (FitsSigned w32 (product +ℤ number)) (product +ℤ number) → IsNone sum →
     PassesSum number factor other
 none_passes number factor other product None e h none = sum_passes number factor other product e h

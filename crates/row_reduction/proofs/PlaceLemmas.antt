@@ -1,4 +1,4 @@
--- What is taken at a place of a row: its column comes before those that are left, and a place moves on.
+-- The term read at an index of a row: its column comes before those that are left, and the index advances.
 use Rattle.std.proofs.Common.{◌≡◌, ℕ, ◌+◌, ◌<◌, ◌≤◌, ◌⊎◌, inl, inr, ℤ, pos, map, length, sym, ap, ◌∙◌, arith, min}
 use Rattle.std.proofs.lemmas.Bool.{cases_lt}
 use Rattle.std.proofs.lemmas.List.{get_or-map, get_or_past, length-map}
@@ -20,7 +20,7 @@ next_past columns row place h = get_or_past (map column_of row) place columns (l
 pub next_in_range : (columns : ℕ) (row : Row) (place : ℕ) → IsInRange columns row → place < length row → next_column columns row place < columns
 next_in_range columns row place h l = let e = next_within columns row place l in let k = h place (0, pos 0) l in omega (arith, e, k)
 
--- the columns that are left come after the one that was taken
+-- the columns that are left come after the one that was read
 pub taken_before : (columns : ℕ) (row : Row) (place column : ℕ) (coefficient : ℤ) (next : ℕ) → IsSparse row → IsTaken row place column coefficient next →
     column ≤ next_column columns row place → column < columns → column < next_column columns row next
 taken_before columns row place column coefficient next sparse (inl t) low less = elim (cases_lt next (length row)) [
@@ -43,7 +43,7 @@ pub taken_within : (row : Row) (place column : ℕ) (coefficient : ℤ) (next : 
 taken_within row place column coefficient next h (inl t) = let a = t.after in let r = t.in_range in (omega arith, omega arith)
 taken_within row place column coefficient next h (inr t) = let s = t.stays in (omega arith, omega arith)
 
--- at its own column a place moves on
+-- the index advances at the column of its term
 pub taken_moves : (columns : ℕ) (row : Row) (place column : ℕ) (coefficient : ℤ) (next : ℕ) → IsTaken row place column coefficient next →
     column ≡ next_column columns row place → column < columns → (place < length row) × (next ≡ place + 1)
 taken_moves columns row place column coefficient next (inl t) is less = (t.in_range, t.after)

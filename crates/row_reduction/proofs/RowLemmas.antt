@@ -1,4 +1,4 @@
--- One row more, and one column solved.
+-- One more row, and one column eliminated.
 use Rattle.std.proofs.Common.{◌≡◌, ℕ, inl, inr, List, [], ◌∷◌, ◌++◌, length, get_or, take, sym, ap, ap₂, ◌∙◌, subst, arith, ◌<◌, ◌+◌, append-nil, slice_set, zero, suc, ℤ, Contains}
 use Rattle.std.specs.Prelude.{◌↔◌}
 use Rattle.std.specs.List.{All, remove}
@@ -20,11 +20,11 @@ all_split P (one ∷ front) back h = let k = all_split P front back (All-tail P 
 pub all_last : {X : Type 0} (P : X → Type 0) (front : List X) (last : X) → All P (front ++ last ∷ []) → P last
 all_last P front last h = All-head P last [] (all_split P front (last ∷ []) h).1
 
--- what holds of all rows holds of those that stand among them
+-- what holds of all rows holds of all that are among them
 pub all_of_these : (P : Row → Type 0) (rows others : List Row) → All (Contains rows) others → All P rows → All P others
 all_of_these P rows others h all = All-weaker (Contains rows) P (λ row c. All-contains P rows row all c) others h
 
--- a row more is added, or left out because it says nothing new
+-- one more row is appended, or left out if it is 0 wherever the others are
 pub distinct_more : (rows kept : List Row) (row : Row) (new : List Row) → HaveSameZeros rows kept → AddsRow kept row new → HaveSameZeros (rows ++ row ∷ []) new
 distinct_more rows kept row new same (inl is) x = (
   λ z. rw is (All-push P kept row ((same x).0 (all_split P rows (row ∷ []) z).0) (all_last P rows row z)),
@@ -41,13 +41,13 @@ distinct_more rows kept row new same (inr left) x = (
     P : Row → Type 0
     P r = IsZeroAt r x
 
--- what holds of all rows holds of one that is taken out, and of the rest
+-- what holds of all rows holds of one that is removed, and of the others
 pub taken_out : (P : Row → Type 0) (rows : List Row) (place : ℕ) (row : Row) → place < length rows → row ≡ get_or rows place row → All P rows → P row × All P (remove rows place)
 taken_out P rows place row within is all =
     let k = All-permutation P rows (row ∷ remove rows place) (IsPermutation-remove rows place row within is) all in
     (All-head P row (remove rows place) k, All-tail P row (remove rows place) k)
 
--- a column is solved: the pivot row is taken out of the unsolved rows
+-- a column is eliminated: the pivot row is removed from the unsolved rows
 pub column_solved : (unsolved rest solved rest_after solved_after : List Row) (pivot : Row) → IsPermutation unsolved (pivot ∷ rest) → AreClearedBy pivot rest rest_after →
     AreClearedBy pivot solved solved_after → HaveSameZeros (unsolved ++ solved) (rest_after ++ (solved_after ++ pivot ∷ []))
 column_solved unsolved rest solved rest_after solved_after pivot same a b x = (
@@ -73,7 +73,7 @@ set_back P (x ∷ xs) zero y d l back h = All-cons P x xs (back (All-head P y xs
 set_back P (x ∷ xs) (suc i) y d l back h = All-cons P x xs (All-head P x (slice_set xs i y) h)
     (set_back P xs i y d (omega arith) back (All-tail P x (slice_set xs i y) h))
 
--- a multiple of the pivot row is added to the row at a place
+-- a multiple of the pivot row is added to the row at an index
 pub cleared_at : (columns : ℕ) (pivot : Row) (start rows : List Row) (i : ℕ) (factor : ℤ) (new : List Row) → i < length rows →
     AddsMultipleAt columns rows i factor pivot new → AreClearedBy pivot start rows → AreClearedBy pivot start new
 cleared_at columns pivot start rows i factor new h adds same x p = rw adds.replaced (
@@ -136,7 +136,7 @@ front_replaced front others back h x = (
 pub rows_pushed : (rows old new : List Row) (i : ℕ) (row : Row) → i < length rows → old ≡ take i rows → new ≡ old ++ row ∷ [] → row ≡ get_or rows i [] → new ≡ take (i + 1) rows
 rows_pushed rows old new i row l so_far is same = is ∙ ap₂ (λ xs r. xs ++ r ∷ []) so_far same ∙ sym (take_more rows i [] l)
 
--- one row more is added, or left out
+-- one more row is appended, or left out
 pub stand_more : (rows kept : List Row) (row : Row) (new : List Row) → All (Contains rows) kept → AddsRow kept row new → All (Contains (rows ++ row ∷ [])) new
 stand_more rows kept row new h adds = elim adds [
   | inl is ↦ rw is (All-push (Contains (rows ++ row ∷ [])) kept row still (all_last (Contains (rows ++ row ∷ [])) rows row (All-contains_itself (rows ++ row ∷ []))))

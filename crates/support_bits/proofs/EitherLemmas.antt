@@ -58,7 +58,7 @@ zero_word : (n j : ℕ) → get_or {A = ℕ} (replicate n 0) j 0 ≡ 0
 zero_word n j = let nothing : ℕ = 0 in ⊎_elim (λ less. get_or-replicate n j nothing nothing less)
     (λ past. get_or_past (replicate n nothing) j nothing (let e = length-replicate n nothing in omega (arith, e))) (cases_lt j n)
 
--- words without a bit spell the support of no column
+-- words in which no bit is set spell the empty support
 pub none_spelled : (columns n : ℕ) (words : List ℕ) → words ≡ replicate n 0 → spelled columns words ≡ replicate columns false
 none_spelled columns n words is =
     ext_get_or false (spelled columns words) (replicate columns false) (length-spelled columns words ∙ sym (length-replicate columns false))

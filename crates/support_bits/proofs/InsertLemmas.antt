@@ -1,4 +1,4 @@
--- Lemmas on words in which the bit of one column more is set.
+-- Lemmas on words in which the bit of one more column is set.
 use Rattle.std.proofs.Common.{◌≡◌, ◌≢◌, ℕ, ◌<◌, true, false, List, length, get_or, set, length-set, get_or-set_other, get_or-set_same, ⊎_elim, sym, ◌∙◌, ap, arith}
 use Rattle.std.proofs.lemmas.Bool.{cases_eq}
 use Rattle.std.proofs.lemmas.List.{ext_get_or}

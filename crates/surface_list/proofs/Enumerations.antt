@@ -30,7 +30,7 @@ use Rattle.surface_list.specs.Surfaces.{AreTableSurfaces, IsTableRefused}
 no_triangles : (column : ℕ) → is_free Quad column ≡ false
 no_triangles column = grind (arith, nat_tests)
 
--- the quads of a tetrahedron clash, so that their equations bound all numbers where they have small sums of squares
+-- the quads of a tetrahedron clash, so their equations bound all numbers if the sums of squares are within the bound
 module _ (limit : ℕ) (rows : List Row) (system : System) (pairs : List Clash) (width : system.columns ≡ columns Quad (length rows)) (clashing : pairs ≡ clash_list Quad (length rows))
     (equations : AreEquations Quad rows system.rows) (table : IsTable rows) where
   quads_clash : DoTriplesClash system pairs
@@ -56,13 +56,13 @@ module _ (limit : ℕ) (coords : Coords) (rows : List Row) (system : System) (pa
   table_refused A (Err NoMemory) h = tt
   table_refused A (Err (Fault large)) h = (system.rows, equations, subst (λ e. IsPastLimit e large.order.items large.kind) same h)
 
-  -- where the bound is within the limit, so are all numbers
+  -- if the bound is within the limit, so are all numbers
   pub numbers_within : (n : ℕ) → n ≡ length rows → IsTable rows → number_bound coords n ≤ limit → AreAlwaysWithin limit system pairs
   numbers_within n count table room =
       within coords rows (enumeration_of system pairs order limit) (record { table = table; equations = equations; columns = width; pairs = clashing })
       (subst (λ m. number_bound coords m ≤ limit) count room)
 
-  -- and so are they where the sums of squares in quad coordinates are small
+  -- if the sums of squares in quad coordinates are within the bound, all numbers are within the limit
   pub bounded_within : (n : ℕ) → n ≡ length rows → IsTable rows → AreNumbersBounded coords n system limit → AreAlwaysWithin limit system pairs
   bounded_within n count table (inl room) = numbers_within n count table room
   bounded_within n count table (inr h) =

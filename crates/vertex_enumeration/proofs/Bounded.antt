@@ -1,4 +1,4 @@
--- What bounds the columns of a system bounds all numbers, whatever the order of its rows.
+-- A bound of the columns of a system bounds all numbers, in any order of its rows.
 use Rattle.std.proofs.Common.{ℕ, []}
 use Rattle.cone_definitions.specs.Systems.{System}
 use Rattle.cone_definitions.specs.declared.Order.{Order}

@@ -1,4 +1,4 @@
--- From what the two ways give to the list of an enumeration.
+-- From the results of the two methods to the list of an enumeration.
 use Rattle.std.proofs.Common.{◌≡◌, ℕ, List, subst}
 use Rattle.std.specs.Prelude.{Result, Ok, Err, IfOk, IfErr}
 use Rattle.std.proofs.lemmas.List.Sorted.{IsPermutation-refl}
@@ -26,7 +26,7 @@ named_turns order post system taken h k l =
     let t = h k l in
     record { left = t.left; left_of = t.left_of; position = t.position; in_range = t.in_range; is = t.is; named = t.named }
 
--- the order of the engine is that which was asked for
+-- the order of the engine is the requested one
 module _ (limit : ℕ) (system : System) (pairs : List Clash) (order other : Order) (post : Bor System → Bor (List ℕ) → ℕ → Type 0) (same_order : order ≡ other) where
   moved : (P : Enumeration → Type 0) → P (enumeration_of system pairs order limit) → P (enumeration_of system pairs other limit)
   moved P h = subst (λ o. P (enumeration_of system pairs o limit)) same_order h
@@ -41,7 +41,7 @@ module _ (limit : ℕ) (system : System) (pairs : List Clash) (order other : Ord
   are_refused (Err (Fault large)) h =
       moved (λ e. AreRefused e (Fault large)) (record { step = h.step; count = h.count; named = named_turns order post system large.order.items h.turns; large = h.large })
 
--- a list is the only one
+-- a list of an enumeration is unique
 pub only_listing : (e : Enumeration) (taken : List ℕ) (list : List (List ℕ)) → IsListed e taken list → IsOnlyListing e list
 only_listing e taken list h = record {
   taken = taken;
@@ -49,7 +49,7 @@ only_listing e taken list h = record {
   only = λ others also. one_surface_list_lem e.system.columns e.system.rows e.system.rows e.pairs others list (IsPermutation-refl e.system.rows) also h.surfaces;
 }
 
--- where no number exceeds the limit in any order, however it was found
+-- if no number exceeds the limit in any order, each surface list is that of the enumeration
 pub found_listing : (e : Enumeration) (list : List (List ℕ)) → AreAlwaysWithin e.limit e.system e.pairs → IsSurfaceList e.system.columns e.system.rows e.pairs list → IsOnlyListing e list
 found_listing e list within surfaces =
     let t = some_rows_taken e.order e.system in

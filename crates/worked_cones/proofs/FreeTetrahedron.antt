@@ -1,4 +1,4 @@
--- A tetrahedron of which no face is glued has no equations, so a vector is a surface where it has quads of one type.
+-- A tetrahedron without glued faces has no equations, so a vector is a surface if it has quads of at most one type.
 use Rattle.std.proofs.Common.{◌≡◌, ℕ, inl, inr, refl, sym, subst, List, [], ◌∷◌, None}
 use Rattle.std.specs.Prelude.{◌⊎◌, slice_index}
 use Rattle.std.specs.List.{AllByRecursion}
@@ -25,7 +25,7 @@ three_clashes : clash_list Standard 1 ≡ (4, 5) ∷ (4, 6) ∷ (5, 6) ∷ []
 unfolding clash_list
 three_clashes = refl
 
--- of a pair of columns, one is 0
+-- at least one column of the pair is 0
 abbrev IsApart : ℕ × ℕ → Type 0
 IsApart pair = (slice_index three_pieces pair.0 ≡ 0) ⊎ (slice_index three_pieces pair.1 ≡ 0)
 

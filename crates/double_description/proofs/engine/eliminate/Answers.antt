@@ -111,7 +111,7 @@ returns-in-Err-Large-clause-err g c =
     large_as_shown c.args.limit system pairs c.args.picker.now.order _ taken _ number c.in-Err-Large.kind _ (rays_of c.loop-left.rays.items) h.taken turn h.within h.surfaces named
     c.in_ok-push.ensures.items c.in-Err-Large.kind-is
 
--- the last list, whatever the order of the rows
+-- the last list is the surface list in any order of the rows
 surfaces_given : (columns : ℕ) (rows : List Row) (order : List ℕ) (pairs : List Clash) (last given : List (List ℕ)) → IsPermutation (range_with_len 0 (length rows)) order →
     IsSurfaceList columns (in_order rows order) pairs last → given ≡ last → IsSurfaceList columns rows pairs given
 surfaces_given columns rows order pairs last given all surfaces is = subst (IsSurfaceList columns rows pairs) (sym is) (order_is_free_lem columns rows order pairs last all surfaces)

@@ -1,4 +1,4 @@
--- The row at the place has no unit at the column, or is the first that has one.
+-- The row at the index has no coefficient 1 or -1 at the column, or is the first that has one.
 use Rattle.std.proofs.Common.{rules, subst, w32, FitsSigned}
 use Rattle.std.proofs.lemmas.Int.{to_z-of_z}
 use Rattle.row_reduction.specs.Eliminating.{IsPivotBelow}

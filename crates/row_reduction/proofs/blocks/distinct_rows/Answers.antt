@@ -1,4 +1,4 @@
--- One row more is kept, or left out.
+-- One more row is retained, or left out.
 use Rattle.std.proofs.Common.{◌∙◌, subst, sym, Contains, []}
 use Rattle.std.specs.List.{All}
 use Rattle.std.proofs.lemmas.Iterator.Adapters.{YieldsList-from_vec}

@@ -1,4 +1,4 @@
--- the rows that are kept of those so far
+-- the rows that are retained of those so far
 use Rattle.std.proofs.Common.{Contains}
 use Rattle.std.specs.List.{All}
 use Rattle.cone_row_laws.specs.Solutions.{HaveSameZeros}

@@ -1,4 +1,4 @@
--- Each step keeps where the rows are 0.
+-- Each step preserves the vectors at which the rows are 0.
 use Rattle.std.proofs.lemmas.Result.{err_from_is_err_and}
 use Rattle.row_reduction.proofs.EliminatingLemmas.{passes_among}
 use Rattle.row_reduction.proofs.RowLemmas.{zeros_follow, zeros_ordered}

@@ -1,4 +1,4 @@
--- All rows are seen.
+-- All rows are compared.
 use Rattle.std.proofs.Common.{rules, ◌≡◌, length, subst}
 use Rattle.row_reduction.specs.Eliminating.{IsPivotBelow}
 use Rattle.row_reduction.proofs.blocks.pivot_place.Goals as goal

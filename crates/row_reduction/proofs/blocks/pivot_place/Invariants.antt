@@ -1,4 +1,4 @@
--- the best place of the rows so far
+-- the best index of the rows so far
 use Rattle.row_reduction.specs.Eliminating.{IsPivotBelow}
 use Rattle.row_reduction.proofs.blocks.pivot_place.Given as goal
 

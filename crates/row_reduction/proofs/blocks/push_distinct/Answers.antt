@@ -1,4 +1,4 @@
--- The row is empty, or stands among the others.
+-- The row is empty, or is among the others.
 use Rattle.std.proofs.Common.{inl, inr, refl}
 use Rattle.row_reduction.proofs.EliminatingLemmas.{no_entries}
 use Rattle.row_reduction.proofs.blocks.push_distinct.Goals as goal

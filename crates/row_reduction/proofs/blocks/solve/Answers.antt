@@ -1,4 +1,4 @@
--- Both blocks have the solutions of the system, and each step keeps them.
+-- Both blocks have the solutions of the system, and each step preserves them.
 use Rattle.std.proofs.Common.{◌++◌, ◌∙◌, subst, sym}
 use Rattle.std.specs.List.{All}
 use Rattle.std.proofs.lemmas.Result.{err_from_is_err_and}

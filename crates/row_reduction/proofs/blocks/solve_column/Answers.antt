@@ -1,4 +1,4 @@
--- The pivot row is taken out of the unsolved rows.
+-- The pivot row is removed from the unsolved rows.
 use Rattle.std.proofs.Common.{rules, ◌<◌, length, inl, refl, w32, FitsSigned}
 use Rattle.std.proofs.lemmas.Int.{to_z-of_z}
 use Rattle.std.proofs.lemmas.List.Sorted.{IsPermutation-remove}

@@ -1,4 +1,4 @@
--- The terms before the place are of columns before this one, and those after it of later columns.
+-- The terms before the index are of columns before this one, and those after it of later columns.
 use Rattle.std.proofs.Common.{rules, ◌≤◌, length, subst, sym, arith, w32, FitsSigned}
 use Rattle.std.proofs.lemmas.Int.{to_z-of_z}
 use Rattle.cone_arithmetic.specs.Sparse.{IsSparse}

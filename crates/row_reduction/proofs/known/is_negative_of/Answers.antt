@@ -1,4 +1,4 @@
--- One term more is turned.
+-- One more term is negated.
 use Rattle.std.proofs.Common.{rules, ◌≡◌, ◌<◌, ℕ, ℤ, pos, length, get_or, ◌∙◌, ap, sym, arith, FitsSigned, w32, w64, to_z, of_z, ◌+ℤ◌, neg_ℤ}
 use Rattle.std.proofs.lemmas.Int.{ints}
 use Rattle.std.proofs.lemmas.List.{take_more_same, get_or-map, length-map}

@@ -1,4 +1,4 @@
--- the terms so far are turned
+-- the terms so far are negated
 use Rattle.std.proofs.Common.{◌≡◌, length, take}
 use Rattle.cone_row_laws.specs.Operations.{turned}
 use Rattle.row_reduction.proofs.known.is_negative_of.Given as goal

@@ -1,4 +1,4 @@
--- The row that is made keeps the merged terms.
+-- The new row has the merged terms.
 use Rattle.std.proofs.Common.{subst, sym, ◌∙◌}
 use Rattle.std.proofs.lemmas.Int.{to_z-of_z}
 use Rattle.cone_arithmetic.specs.Sparse.{IsInRange}

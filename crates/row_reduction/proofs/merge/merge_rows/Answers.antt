@@ -1,4 +1,4 @@
--- Each column takes one place at least, and keeps what is merged.
+-- Each pass of the loop reads at least one term, and preserves what is merged.
 use Rattle.std.proofs.Common.{rules, w32, FitsSigned, inl, inr, arith}
 use Rattle.std.proofs.lemmas.Int.{to_z-of_z}
 use Rattle.row_reduction.proofs.PlaceLemmas.{taken_within}

@@ -1,4 +1,4 @@
--- the terms so far are the merge of both rows up to their places, whose columns come before those that are left
+-- the terms so far are the merge of both rows up to their indices, and their columns come before those that are left
 use Rattle.std.proofs.Common.{length, ◌-◌, ◌+◌, ◌≤◌}
 use Rattle.row_reduction.specs.Merging.{IsMergedTo, next_column}
 use Rattle.row_reduction.proofs.ColumnLemmas.{AreBefore}

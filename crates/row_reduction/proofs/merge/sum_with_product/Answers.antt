@@ -1,4 +1,4 @@
--- Both steps fit, so they are the product and the sum.
+-- Both results are in range, so they are the product and the sum.
 use Rattle.std.proofs.Common.{rules, w32, FitsSigned}
 use Rattle.std.proofs.lemmas.Int.{to_z-of_z}
 use Rattle.row_reduction.proofs.MergeLemmas.{checked_sum}

@@ -1,4 +1,4 @@
--- One row more is taken.
+-- One more row is moved to the new order.
 use Rattle.std.proofs.Common.{rules}
 use Rattle.std.proofs.lemmas.List.Sorted.{IsPermutation-more}
 use Rattle.row_reduction.proofs.order.rows_in_turn.Goals as goal

@@ -1,4 +1,4 @@
--- the rows that are taken and those that are left
+-- the rows in the new order and those that are left are a permutation of all rows
 use Rattle.std.proofs.Common.{◌++◌}
 use Rattle.std.specs.List.Sorted.{IsPermutation}
 use Rattle.row_reduction.proofs.order.rows_in_turn.Given as goal

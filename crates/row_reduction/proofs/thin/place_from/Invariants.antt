@@ -1,4 +1,4 @@
--- the place is within the terms
+-- the index is within the terms
 use Rattle.std.proofs.Common.{length, ◌-◌, ◌≤◌}
 use Rattle.row_reduction.proofs.thin.place_from.Given as goal
 

@@ -1,4 +1,4 @@
--- One column more that both rows have.
+-- One more column that both rows have.
 use Rattle.std.proofs.Common.{rules, pos, negsuc, inl, inr, refl, w32, FitsSigned}
 use Rattle.std.proofs.lemmas.Int.{to_z-of_z}
 use Rattle.row_reduction.specs.Merging.{term_at}

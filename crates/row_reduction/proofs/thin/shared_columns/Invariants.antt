@@ -1,4 +1,4 @@
--- the place is within the other row, and what is counted is there
+-- the index is within the other row, and each counted column is there
 use Rattle.std.proofs.Common.{length, ◌≤◌, ◌<◌, pos, negsuc}
 use Rattle.row_reduction.specs.Eliminating.{Thins}
 use Rattle.row_reduction.proofs.thin.shared_columns.Given as goal

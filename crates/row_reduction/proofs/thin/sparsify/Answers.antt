@@ -1,4 +1,4 @@
--- One round more.
+-- One more pass.
 use Rattle.std.proofs.Common.{◌∙◌, refl}
 use Rattle.std.proofs.lemmas.Result.{err_from_is_err_and}
 use Rattle.row_reduction.specs.Eliminating.{as_they_are}

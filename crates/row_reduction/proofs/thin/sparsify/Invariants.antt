@@ -1,4 +1,4 @@
--- the rows are 0 where they were
+-- the rows are 0 at the vectors at which they were
 use Rattle.std.proofs.Common.{◌≡◌}
 use Rattle.cone_row_laws.specs.Solutions.{HaveSameZeros}
 use Rattle.row_reduction.specs.Eliminating.{AreThinned}

@@ -1,4 +1,4 @@
--- the words so far have the bits of both, and the others are as they were
+-- the words so far have the bits of both, and the others are unchanged
 use Rattle.support_bits.proofs.EitherLemmas.{AreEitherBelow}
 use Rattle.support_bits.proofs.bits.add_bits.Given as goal
 

@@ -1,4 +1,4 @@
--- The skeleton has the rows of the table, which are those of one tetrahedron with no face glued.
+-- The skeleton has the rows of the table, which has one tetrahedron and no glued face.
 use Rattle.std.proofs.Common.{◌≡◌, ◌∙◌, sym, subst, List, rules}
 use Rattle.table_definitions.specs.Table.{Row, IsTable}
 use Rattle.worked_cones.proofs.FreeTetrahedron.{free, free_surface}

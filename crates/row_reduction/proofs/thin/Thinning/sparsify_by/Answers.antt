@@ -1,4 +1,4 @@
--- The other row stays as it is.
+-- The other row is unchanged.
 use Rattle.std.proofs.Common.{rules, [], sym, ◌∙◌, subst₂, w32, FitsSigned}
 use Rattle.std.proofs.lemmas.Int.{to_z-of_z}
 use Rattle.std.proofs.lemmas.List.{get_or_default}

@@ -1,4 +1,4 @@
--- One row more is made sparser.
+-- One more row is made sparser.
 use Rattle.std.proofs.Common.{◌∙◌, refl}
 use Rattle.std.proofs.lemmas.Result.{err_from_is_err_and}
 use Rattle.row_reduction.specs.Eliminating.{as_they_are}
