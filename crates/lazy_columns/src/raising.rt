@@ -38,44 +38,45 @@ fn oriented_step<'a, C: Compatible>(
     Ok(turned)
 }
 
-/// The ray `kept` with entry `left` in `column`.
-fn raise_ray(
-    alloc: Global,
+/// A ray, and a column whose entry a row leaves. Invariant: the ray has that entry, and it is 0.
+#[derive(Drop)]
+struct RayToRaise {
     kept: RayWithSupport,
     column: u32,
-    left: u128,
-) -> Result<RayWithSupport, NoMemory>
-    requires room { HasRoom column kept }
+    ghost room: { HasRoom column kept },
+}
+
+/// The ray of `before` with entry `left` in its column.
+fn raise_ray(alloc: Global, before: RayToRaise, left: u128) -> Result<RayWithSupport, NoMemory>
     requires some { 1 ≤ left }
     requires most { left ≤ MAX_ENTRY }
-    ensures { IfOk result (λ after. after.ray ≡ slice_set kept.ray column left) }
+    ensures { IfOk result (λ after. after.ray ≡ slice_set before.kept.ray before.column left) }
 {
+    let RayToRaise { kept, column } = before;
     let RayWithSupport { ray, mut support } = kept;
     let ray = ray.with_new_entry(alloc, column, left)?;
     support.insert(column);
     Ok(RayWithSupport { ray, support })
 }
 
-/// Appends the ray `kept` with the entry that the row leaves for `column`, unless that is negative.
+/// Appends the ray of `before` with the entry that the row leaves for its column, unless that is negative.
 fn raise(
     alloc: Global,
-    kept: RayWithSupport,
+    before: RayToRaise,
     sign: Sign,
-    column: u32,
     next: &mut Vec<RayWithSupport>,
 ) -> Result<(), NoMemory>
-    requires room { HasRoom column kept }
     requires bounded { IsBoundedSign MAX_ENTRY sign }
-    ensures { OnOk result (AppendsRaised column sign kept next.old.items next.new.items) }
+    ensures { OnOk result (AppendsRaised before.column sign before.kept next.old.items next.new.items) }
 {
     match sign {
         Sign::Zero => {
-            next.push(kept)?;
+            next.push(before.kept)?;
             Ok(())
         }
         Sign::Positive(_) => Ok(()),
         Sign::Negative(left) => {
-            let after = raise_ray(alloc, kept, column, left)?;
+            let after = raise_ray(alloc, before, left)?;
             next.push(after)?;
             Ok(())
         }
@@ -97,7 +98,8 @@ fn raise_all(
         → IsRaisedFrom MAX_ENTRY pairs (rays_of ray_list.items) signs.now column 0 (rays_of next.new.items)) }
 {
     while let Some(kept) = ray_list.pop() {
-        raise(alloc, kept, signs[ray_list.len()], column, next)?;
+        let before = RayToRaise { kept, column };
+        raise(alloc, before, signs[ray_list.len()], next)?;
     }
     Ok(())
 }

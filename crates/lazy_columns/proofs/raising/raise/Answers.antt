@@ -4,5 +4,5 @@ use Rattle.lazy_columns.proofs.raising.raise.Goals as goal
 
 pub returns-in_ok-push-in-Negative : goal.returns-in_ok-push-in-Negative
 returns-in_ok-push-in-Negative c =
-    subst (λ sign. AppendsRaised c.args.column sign c.args.kept c.args.next.now.items c.push-in-Negative.new.self.items) (sym c.in-Negative.is)
+    subst (λ sign. AppendsRaised c.args.before.column sign c.args.before.kept c.args.next.now.items c.push-in-Negative.new.self.items) (sym c.in-Negative.is)
     (c.in_ok-after-in-Negative.after, c.in_ok-after-in-Negative.ensures, c.in_ok-push-in-Negative.ensures.items)

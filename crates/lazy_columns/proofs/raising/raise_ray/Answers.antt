@@ -5,8 +5,8 @@ use Rattle.lazy_columns.proofs.raising.raise_ray.Goals as goal
 
 pub invariant_of-result : goal.invariant_of-result
 invariant_of-result c =
-    let kept = c.args.kept in
+    let kept = c.args.before.kept in
     record {
       matches = subst (λ ray. c.insert.new.self ≡ support_of ray) (sym c.in_ok-ray.ensures)
-          (c.insert.ensures ∙ ap (λ s. set s c.args.column true) kept.matches ∙ inserted kept.ray c.args.column c.args.left c.requires.room.in_range c.requires.some);
+          (c.insert.ensures ∙ ap (λ s. set s c.args.before.column true) kept.matches ∙ inserted kept.ray c.args.before.column c.args.left c.args.before.room.in_range c.requires.some);
     }
