@@ -118,8 +118,8 @@ def entries() -> List[Entry]:
 def documents() -> Dict[str, str]:
     """The document that each command reads."""
     names, found = {entry.request: entry.name for entry in entries()}, {}
-    for request, rest in re.findall(r"^IsAnswerTo \(?(\w+)(.*)$", definitions("outcome_definitions", "Answers"), re.M):
-        document = re.search(r"\b(\w+)_document bytes", rest)
+    for request, rest in re.findall(r"^meaning_of \(?(\w+)(.*)$", definitions("outcome_definitions", "Answers"), re.M):
+        document = re.search(r"\b(\w+)_document\b", rest)
         found[names.get(request, "")] = DOCUMENTS[document[1]] if document else "none"
     return found
 

@@ -8,14 +8,11 @@ use Rattle.surface_definitions.specs.declared.Coords.{Coords}
 use Rattle.surface_definitions.specs.declared.VectorFault.{VectorFault}
 use Rattle.cone_definitions.specs.Listings.{Enumeration}
 use Rattle.signature_definitions.specs.declared.InputFault.{InputFault}
-use Rattle.text_document_definitions.specs.Documents.{worded, table_document, two_tables_document, tables_document, vectors_document, vector_document, steps_document, moves_document, cone_document}
-use Rattle.text_document_definitions.specs.Blocks.{Block, blocks_document}
+use Rattle.text_document_definitions.specs.Blocks.{Block}
 use Rattle.command_definitions.specs.declared.Request.{Request}
 use Rattle.command_definitions.specs.declared.Request.TheVariants.{Verify, Info, Surfaces, Rays, Describe, Lift, Crush, Play, Sig, Same, Group, Check, Descend, Make, Bulk, Decompose, Addup, Cover, Pi1, Csig, Csame}
 use Rattle.outcome_definitions.specs.Outcomes.{Outcome, IsReadOutcome, IsOwnStatus, fault_outcome}
-use Rattle.outcome_definitions.specs.Enumerations.{IsEnumerationAnswer, IsSurfacesAnswer, ray_enumeration, list_outcome, large_outcome}
-use Rattle.outcome_definitions.specs.Information.{IsInformationAnswer}
-use Rattle.outcome_definitions.specs.Scripts.{IsScriptAnswer}
+use Rattle.outcome_definitions.specs.Enumerations.{IsEnumerationAnswer, ray_enumeration, list_outcome, large_outcome}
 use Rattle.outcome_definitions.specs.Canonical.{IsNotConnected, IsSignatureAnswer, IsCompared, IsSameAnswer, IsGroupAnswer}
 use Rattle.surface_definitions.specs.declared.VectorFault.TheVariants as faults
 use Rattle.surface_vector_definitions.specs.Answers.{Description}
@@ -27,18 +24,18 @@ use Rattle.cover_definitions.specs.declared.LargeCover.{LargeCover}
 use Rattle.presentation_definitions.specs.Groups.{HasGroup}
 use Rattle.surface_vector_definitions.specs.declared.Refusal.{Refusal}
 use Rattle.surface_vector_definitions.specs.declared.Refusal.TheVariants.{Unfit, LargeSum, TooManyPieces, LargeLift, NoLift}
-use Rattle.outcome_definitions.specs.Vectors.{refusal_outcome, crush_outcome, IsCrushAnswer, lift_outcome, IsLiftsAnswer, describe_outcome, IsDescribeAnswer, IsInvalidAnswered}
+use Rattle.outcome_definitions.specs.Vectors.{refusal_outcome, crush_outcome, lift_outcome, describe_outcome, IsDescribeAnswer, IsInvalidAnswered}
 use Rattle.outcome_definitions.specs.declared.SumRefusal.{SumRefusal}
 use Rattle.outcome_definitions.specs.declared.SumRefusal.TheVariants as sums
 use Rattle.outcome_definitions.specs.declared.SumRefusal.TheVariants.{UnfitTerm, LargeTimes, NoSum}
-use Rattle.outcome_definitions.specs.Sums.{sum_refusal_outcome, sums_outcome, IsDecomposed, IsDecomposeAnswer, addup_outcome, IsAddupAnswer}
-use Rattle.outcome_definitions.specs.Covers.{IsCoverAnswered, IsCoverAnswer, large_cover_outcome}
-use Rattle.outcome_definitions.specs.Presented.{IsPresented, IsPresentationAnswer}
-use Rattle.outcome_definitions.specs.Parts.{IsComponentSignatureAnswer, IsSamePartsAnswer}
-use Rattle.outcome_definitions.specs.Certificates.{IsCheckAnswer, IsDescendAnswer}
+use Rattle.outcome_definitions.specs.Sums.{sum_refusal_outcome, sums_outcome, IsDecomposed, IsDecomposeAnswer, addup_outcome}
+use Rattle.outcome_definitions.specs.Covers.{IsCoverAnswered, large_cover_outcome}
+use Rattle.outcome_definitions.specs.Presented.{IsPresented}
+use Rattle.outcome_definitions.specs.Parts.{IsSamePartsAnswer}
 use Rattle.outcome_definitions.specs.Makings.{IsBulkAnswer}
 use Rattle.outcome_definitions.proofs.CertificateStatus.{check_own, descend_own}
-use Rattle.outcome_definitions.specs.Answers.{IsVerdictsAnswer, IsAnswerTo}
+use Rattle.outcome_definitions.specs.Meanings.{CommandMeaning, Reads, Alone, IsOutcomeBy}
+use Rattle.outcome_definitions.specs.Answers.{meaning_of, IsAnswerTo}
 
 -- an outcome that is this one
 is_own : (o p : Outcome) → o ≡ p → IsOwnStatus p.status → IsOwnStatus o.status
@@ -155,27 +152,38 @@ bulk_own seed moves o h = elim h.summary.told [
   | inr g ↦ is_own o _ g.3 tt
 ]
 
+-- each right outcome by this meaning has one of the statuses of accepted words, unless no document was read
+abbrev HasOwnStatus : CommandMeaning → Type 0
+HasOwnStatus (Reads {A = A} document IsAnswer) = (value : A) (o : Outcome) → IsAnswer value o → IsOwnStatus o.status
+HasOwnStatus (Alone IsAnswer) = (o : Outcome) → IsAnswer o → IsOwnStatus o.status
+
+own_by : (meaning : CommandMeaning) → HasOwnStatus meaning → (bytes : List ℕ) (o : Outcome) → IsOutcomeBy meaning bytes o → IsOwnStatus o.status
+own_by (Reads document IsAnswer) own bytes o h = read_own (document bytes) IsAnswer o (λ value. own value o) h
+own_by (Alone IsAnswer) own bytes o h = own o h
+
+-- the right outcomes of each command
+each_own : (request : Request) → HasOwnStatus (meaning_of request)
+each_own (Verify coords) = λ d o h. is_own o _ h.2 tt
+each_own Info = λ rows o h. is_own o _ h.2 tt
+each_own (Surfaces coords order most) = λ rows o h. enumeration_own (codes "surfaces") _ o h.2
+each_own (Rays order most) = λ cone o h. enumeration_own (codes "rays") (ray_enumeration order most cone) o h
+each_own (Describe coords) = describe_own coords
+each_own Lift = λ d o h. is_own o (lift_outcome h.told) h.outcome (lift_own h.told)
+each_own Crush = λ d o h. is_own o (crush_outcome h.told) h.outcome (crush_own h.told)
+each_own Play = λ d o h. is_own o _ h.5 tt
+each_own Sig = signature_own
+each_own Same = same_own
+each_own Group = group_own
+each_own Check = check_own
+each_own Descend = descend_own
+each_own (Make seed moves) = λ o h. is_own o _ h.outcome tt
+each_own (Bulk seed moves) = bulk_own seed moves
+each_own (Decompose coords most) = decompose_own coords most
+each_own (Addup coords) = λ d o h. is_own o (addup_outcome h.told) h.outcome (addup_own h.told)
+each_own Cover = λ rows. cover_own (cover_fault rows) rows
+each_own Pi1 = λ rows o h. presented_own h.skeleton o h.told
+each_own Csig = λ rows o h. is_own o _ h.told tt
+each_own Csame = same_parts_own
+
 pub answer_own : (request : Request) (bytes : List ℕ) (o : Outcome) → IsAnswerTo request bytes o → IsOwnStatus o.status
-answer_own (Verify coords) bytes o h = read_own (vectors_document bytes) (IsVerdictsAnswer coords) o (λ d g. is_own o _ g.2 tt) h
-answer_own Info bytes o h = read_own (table_document bytes) IsInformationAnswer o (λ rows g. is_own o _ g.2 tt) h
-answer_own (Surfaces coords order most) bytes o h = read_own (table_document bytes) (IsSurfacesAnswer coords order most) o (λ rows g. enumeration_own (codes "surfaces") _ o g.2) h
-answer_own (Rays order most) bytes o h =
-    read_own (worded (cone_document bytes)) (λ cone. IsEnumerationAnswer (codes "rays") (ray_enumeration order most cone)) o
-    (λ cone g. enumeration_own (codes "rays") (ray_enumeration order most cone) o g) h
-answer_own (Describe coords) bytes o h = read_own (vectors_document bytes) (IsDescribeAnswer coords) o (λ d g. describe_own coords d o g) h
-answer_own Lift bytes o h = read_own (vectors_document bytes) IsLiftsAnswer o (λ d g. is_own o (lift_outcome g.told) g.outcome (lift_own g.told)) h
-answer_own Crush bytes o h = read_own (vector_document bytes) IsCrushAnswer o (λ d g. is_own o (crush_outcome g.told) g.outcome (crush_own g.told)) h
-answer_own Play bytes o h = read_own (steps_document bytes) IsScriptAnswer o (λ d g. is_own o _ g.5 tt) h
-answer_own Sig bytes o h = read_own (table_document bytes) IsSignatureAnswer o (λ rows g. signature_own rows o g) h
-answer_own Same bytes o h = read_own (two_tables_document bytes) IsSameAnswer o (λ pair g. same_own pair o g) h
-answer_own Group bytes o h = read_own (tables_document bytes) IsGroupAnswer o (λ tables g. group_own tables o g) h
-answer_own Check bytes o h = read_own (moves_document bytes) IsCheckAnswer o (λ d g. check_own d o g) h
-answer_own Descend bytes o h = read_own (table_document bytes) IsDescendAnswer o (λ rows g. descend_own rows o g) h
-answer_own (Make seed moves) bytes o h = is_own o _ h.outcome tt
-answer_own (Bulk seed moves) bytes o h = bulk_own seed moves o h
-answer_own (Decompose coords most) bytes o h = read_own (vectors_document bytes) (IsDecomposeAnswer coords most) o (λ d g. decompose_own coords most d o g) h
-answer_own (Addup coords) bytes o h = read_own (blocks_document bytes) (IsAddupAnswer coords) o (λ d g. is_own o (addup_outcome g.told) g.outcome (addup_own g.told)) h
-answer_own Cover bytes o h = read_own (table_document bytes) IsCoverAnswer o (λ rows g. cover_own (cover_fault rows) rows o g) h
-answer_own Pi1 bytes o h = read_own (table_document bytes) IsPresentationAnswer o (λ rows g. presented_own g.skeleton o g.told) h
-answer_own Csig bytes o h = read_own (table_document bytes) IsComponentSignatureAnswer o (λ rows g. is_own o _ g.told tt) h
-answer_own Csame bytes o h = read_own (two_tables_document bytes) IsSamePartsAnswer o (λ pair g. same_parts_own pair o g) h
+answer_own request bytes o h = own_by (meaning_of request) (each_own request) bytes o h

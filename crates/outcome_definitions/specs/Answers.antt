@@ -13,7 +13,8 @@ use Rattle.command_definitions.specs.declared.Request.TheVariants.{Verify, Info,
 use Rattle.command_definitions.specs.Requests.{reads_input}
 use Rattle.command_definitions.specs.Words.{accepted_request}
 use Rattle.outcome_definitions.specs.declared.Status.TheVariants.{Done}
-use Rattle.outcome_definitions.specs.Outcomes.{Outcome, usage_outcome, too_long_outcome, IsReadOutcome}
+use Rattle.outcome_definitions.specs.Outcomes.{Outcome, usage_outcome, too_long_outcome}
+use Rattle.outcome_definitions.specs.Meanings.{CommandMeaning, Reads, Alone, IsOutcomeBy}
 use Rattle.outcome_definitions.specs.Enumerations.{IsEnumerationAnswer, IsSurfacesAnswer, ray_enumeration}
 use Rattle.outcome_definitions.specs.Information.{IsInformationAnswer}
 use Rattle.outcome_definitions.specs.Scripts.{IsScriptAnswer}
@@ -38,30 +39,33 @@ verify_outcome coords rows equations vectors = record { status = Done; text = ve
 abbrev pub IsVerdictsAnswer : Coords → List Row × List (List ℕ) → Outcome → Type 0
 IsVerdictsAnswer coords d o = (equations : List EquationRow) × AreEquations coords d.0 equations × (o ≡ verify_outcome coords d.0 equations d.1)
 
--- The outcome of a command on an input that is not too long. That of `make` or `bulk`, which read nothing, is one of
--- the words alone.
+-- the meaning of each command, by the values of its options
+abbrev pub meaning_of : Request → CommandMeaning
+meaning_of (Verify coords) = Reads vectors_document (IsVerdictsAnswer coords)
+meaning_of Info = Reads table_document IsInformationAnswer
+meaning_of (Surfaces coords order most) = Reads table_document (IsSurfacesAnswer coords order most)
+meaning_of (Rays order most) = Reads (λ bytes. worded (cone_document bytes)) (λ cone. IsEnumerationAnswer (codes "rays") (ray_enumeration order most cone))
+meaning_of (Describe coords) = Reads vectors_document (IsDescribeAnswer coords)
+meaning_of Lift = Reads vectors_document IsLiftsAnswer
+meaning_of Crush = Reads vector_document IsCrushAnswer
+meaning_of Play = Reads steps_document IsScriptAnswer
+meaning_of Sig = Reads table_document IsSignatureAnswer
+meaning_of Same = Reads two_tables_document IsSameAnswer
+meaning_of Group = Reads tables_document IsGroupAnswer
+meaning_of Check = Reads moves_document IsCheckAnswer
+meaning_of Descend = Reads table_document IsDescendAnswer
+meaning_of (Make seed moves) = Alone (IsMakeAnswer seed moves)
+meaning_of (Bulk seed moves) = Alone (IsBulkAnswer seed moves)
+meaning_of (Decompose coords most) = Reads vectors_document (IsDecomposeAnswer coords most)
+meaning_of (Addup coords) = Reads blocks_document (IsAddupAnswer coords)
+meaning_of Cover = Reads table_document IsCoverAnswer
+meaning_of Pi1 = Reads table_document IsPresentationAnswer
+meaning_of Csig = Reads table_document IsComponentSignatureAnswer
+meaning_of Csame = Reads two_tables_document IsSamePartsAnswer
+
+-- the outcome of a command on an input that is not too long
 abbrev pub IsAnswerTo : Request → List ℕ → Outcome → Type 0
-IsAnswerTo (Verify coords) bytes o = IsReadOutcome (vectors_document bytes) (IsVerdictsAnswer coords) o
-IsAnswerTo Info bytes o = IsReadOutcome (table_document bytes) IsInformationAnswer o
-IsAnswerTo (Surfaces coords order most) bytes o = IsReadOutcome (table_document bytes) (IsSurfacesAnswer coords order most) o
-IsAnswerTo (Rays order most) bytes o = IsReadOutcome (worded (cone_document bytes)) (λ cone. IsEnumerationAnswer (codes "rays") (ray_enumeration order most cone)) o
-IsAnswerTo (Describe coords) bytes o = IsReadOutcome (vectors_document bytes) (IsDescribeAnswer coords) o
-IsAnswerTo Lift bytes o = IsReadOutcome (vectors_document bytes) IsLiftsAnswer o
-IsAnswerTo Crush bytes o = IsReadOutcome (vector_document bytes) IsCrushAnswer o
-IsAnswerTo Play bytes o = IsReadOutcome (steps_document bytes) IsScriptAnswer o
-IsAnswerTo Sig bytes o = IsReadOutcome (table_document bytes) IsSignatureAnswer o
-IsAnswerTo Same bytes o = IsReadOutcome (two_tables_document bytes) IsSameAnswer o
-IsAnswerTo Group bytes o = IsReadOutcome (tables_document bytes) IsGroupAnswer o
-IsAnswerTo Check bytes o = IsReadOutcome (moves_document bytes) IsCheckAnswer o
-IsAnswerTo Descend bytes o = IsReadOutcome (table_document bytes) IsDescendAnswer o
-IsAnswerTo (Make seed moves) bytes o = IsMakeAnswer seed moves o
-IsAnswerTo (Bulk seed moves) bytes o = IsBulkAnswer seed moves o
-IsAnswerTo (Decompose coords most) bytes o = IsReadOutcome (vectors_document bytes) (IsDecomposeAnswer coords most) o
-IsAnswerTo (Addup coords) bytes o = IsReadOutcome (blocks_document bytes) (IsAddupAnswer coords) o
-IsAnswerTo Cover bytes o = IsReadOutcome (table_document bytes) IsCoverAnswer o
-IsAnswerTo Pi1 bytes o = IsReadOutcome (table_document bytes) IsPresentationAnswer o
-IsAnswerTo Csig bytes o = IsReadOutcome (table_document bytes) IsComponentSignatureAnswer o
-IsAnswerTo Csame bytes o = IsReadOutcome (two_tables_document bytes) IsSamePartsAnswer o
+IsAnswerTo request bytes o = IsOutcomeBy (meaning_of request) bytes o
 
 -- whether a command that reads is given more bytes than an input may have
 abbrev pub is_too_long : Request → List ℕ → Bool

@@ -11,5 +11,6 @@ pub mod Presented
 pub mod Parts
 pub mod Certificates
 pub mod Makings
+pub mod Meanings
 pub mod Answers
 pub mod Laws

@@ -1,5 +1,5 @@
 -- What is answered of a check and of a descent is one text, and there is one.
-use Rattle.std.proofs.Common.{◌≡◌, ℕ, List, [], ◌∷◌, Result, Ok, Err, refl, sym, ap, ◌∙◌, subst}
+use Rattle.std.proofs.Common.{◌≡◌, ℕ, List, [], ◌∷◌, Result, Ok, refl, sym, ap, ◌∙◌, subst}
 use Rattle.std.specs.Prelude.{All}
 use Rattle.std.specs.List.{AllZip, AllByRecursion}
 use Rattle.std.proofs.lemmas.List.Elements.{All-from_recursion}
@@ -18,7 +18,7 @@ use Rattle.text_document_laws.proofs.Lawful.{moves_laws}
 use Rattle.certificate_laws.proofs.Checked.{answers_agree_lem}
 use Rattle.certificate_laws.proofs.Answered.{answers_exist_lem}
 use Rattle.certificate_laws.proofs.StayConnected.{descent_answers_exist_lem, descent_answers_agree_lem}
-use Rattle.outcome_definitions.specs.Outcomes.{Outcome, fault_outcome, IsReadOutcome}
+use Rattle.outcome_definitions.specs.Outcomes.{Outcome}
 use Rattle.outcome_laws.proofs.ReadPairs.{next_read}
 use Rattle.outcome_definitions.specs.Certificates.{check_outcome, IsCheckAnswer, descend_outcome, IsDescendAnswer}
 
@@ -71,15 +71,3 @@ pub moves_with_cores : (bytes : List ℕ) (d : List Row × List Move) → moves_
 moves_with_cores bytes d e =
     let lines = (moves_laws.reads bytes d).0 e in
     All-from_recursion (λ (m : Move). IsCore m.core) d.1 (line_cores lines.1 d.1 lines.4)
-
--- so each input has an answer
-
-pub answered : {A : Type 0} (document : Result A InputFault) (IsAnswer : A → Outcome → Type 0) → ((value : A) → document ≡ Ok value → (o : Outcome) × IsAnswer value o) → (o : Outcome) × IsReadOutcome document IsAnswer o
-answered (Ok value) IsAnswer some = some value refl
-answered (Err fault) IsAnswer some = (fault_outcome fault, refl)
-
-pub check_is_answered : (bytes : List ℕ) → (o : Outcome) × IsReadOutcome (moves_document bytes) IsCheckAnswer o
-check_is_answered bytes = answered (moves_document bytes) IsCheckAnswer (λ d e. some_check d (table_with_moves bytes d e) (moves_with_cores bytes d e))
-
-pub descend_is_answered : (bytes : List ℕ) → (o : Outcome) × IsReadOutcome (table_document bytes) IsDescendAnswer o
-descend_is_answered bytes = answered (table_document bytes) IsDescendAnswer (λ rows e. some_descend rows (table_alone bytes rows e))
