@@ -55,7 +55,6 @@ fn run_rays(
 pub fn rays(alloc: Global, order: Order, limit: u128, bytes: &[u8]) -> Result<Outcome, NoMemory>
     requires size { length bytes.now ≤ max_text }
     requires named { order ≢ Order.Free }
-    requires some_limit { 1 ≤ limit }
     requires most_limit { limit ≤ MAX_ENTRY }
     ensures { IfOk result (IsReadOutcome (worded (cone_document bytes.now)) (λ cone. IsEnumerationAnswer (codes "rays") (ray_enumeration order limit cone))) }
 {

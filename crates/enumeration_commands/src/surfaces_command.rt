@@ -44,7 +44,6 @@ pub fn surfaces(
 ) -> Result<Outcome, NoMemory>
     requires size { length bytes.now ≤ max_text }
     requires named { order ≢ Order.Free }
-    requires some_limit { 1 ≤ limit }
     requires most_limit { limit ≤ MAX_ENTRY }
     ensures { IfOk result (IsReadOutcome (table_document bytes.now) (IsSurfacesAnswer coords order limit)) }
 {
