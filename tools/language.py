@@ -8,6 +8,8 @@ errors: the comment of a function that may fail, other than by running out of me
 words: a comment uses the words of the subject, none of those in HOUSE
 width: a comment line has at most 120 columns
 
+The comments of proofs are held to the words, as those of public items are.
+
 Printed are, for each crate that breaks a rule, how often its public items break each rule, and then its private ones. --list
 prints each place. With --check the exit status is 1 if a public item of a crate in tools/language_done.txt breaks a rule, and
 only these places are printed.
@@ -122,10 +124,12 @@ def broken_by(comment: Comment) -> Iterator[Sequence[str]]:
 def places_of(top: Path, crate: str) -> Iterator[Place]:
     """The places in a crate where a rule is broken."""
     for path in files_of_crate(top / "crates" / crate):
-        if path.suffix in (".rt", ".antt") and "proofs" not in path.relative_to(top / "crates" / crate).parts:
+        if path.suffix in (".rt", ".antt"):
+            in_proofs = "proofs" in path.relative_to(top / "crates" / crate).parts
             for comment in comments_of(path.read_text("utf8")):
                 for rule, what in broken_by(comment):
-                    yield Place(rule, path.relative_to(top).as_posix(), comment.line, comment.is_public(), what)
+                    is_held = rule == "words" if in_proofs else comment.is_public()
+                    yield Place(rule, path.relative_to(top).as_posix(), comment.line, is_held, what)
 
 
 def crates_done() -> List[str]:

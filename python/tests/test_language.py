@@ -46,7 +46,7 @@ class Language(unittest.TestCase):
         self.assertEqual(self.found(f"// {'x' * 118}\nconst A: u8 = 1;\n"), [("width", 1, False)])
         self.found("")
         self.assertEqual(self.found("-- so many rows\npub size : ℕ\nsize = 1\n", "specs/Size.antt"), [("words", 1, True)])
-        self.assertEqual(self.found("-- so many rows\n", "proofs/Size.antt"), [("words", 1, True)])
+        self.assertEqual(self.found("-- so many rows\n", "proofs/Size.antt"), [("words", 1, True)] * 2)
 
     def test_the_crates_that_are_done(self):
         done = subprocess.run([sys.executable, str(REPOSITORY / "tools" / "language.py"), "--check"], capture_output=True, text=True, check=False)

@@ -1,4 +1,4 @@
--- An input has at most one move more than bytes.
+-- An input has at most one more move than bytes.
 use Rattle.std.proofs.Common.{◌≡◌, ℕ, ◌+◌, ◌≤◌, List, ◌++◌, length, ap, arith, Ok}
 use Rattle.std.proofs.Math.ListN.{length-append}
 use Rattle.std.proofs.lemmas.Slice.Zip.{AllZip-long}

@@ -1,4 +1,4 @@
--- The lines of a summary, and what is answered of a table.
+-- The lines of a summary, and the summary of a table.
 use Rattle.std.proofs.Common.{◌≡◌, ℕ, List, [], ◌++◌, length, inl, inr, ap, ◌∙◌, subst, append_assoc}
 use Rattle.std.specs.Prelude.{codes, count_by}
 use Rattle.text_definitions.specs.Written.{limit}
@@ -44,7 +44,7 @@ listed_told n rows list greatest o a g same =
 pub large_told : (n : Numbers) (rows : List Row) (large : LargeStep) (o : Outcome) → IsTableRefused limit Standard rows Given (Fault large) → o ≡ large_outcome large.order.items large.kind → IsSummary n rows o
 large_told n rows large o a same = record { equations = a.0; of_table = a.1; told = inr (large.order.items, large.kind, a.2, same) }
 
--- a summary of the table that was made
+-- the summary of the table that was made is the answer of `bulk`
 pub bulk_told : (seed moves : ℕ) (table : List Row) (certificate : List Move) (n : Numbers) (o : Outcome) → IsMade seed moves table certificate → IsCertificate table certificate
     → n ≡ record { seed = seed; moves = length certificate; tetrahedra = length table } → IsSummary n table o → IsBulkAnswer seed moves o
 bulk_told seed moves table certificate n o made accepted e h = record {

@@ -1,4 +1,4 @@
--- Where a further line is begun, the end of the document is looked for on it.
+-- If a further line is begun, the end of the document is expected on it.
 use Rattle.std.proofs.Common.{◌≡◌, List, [], ◌∷◌, Ok, refl, ap, ◌∙◌}
 use Rattle.text_definitions.specs.Text.{Line}
 use Rattle.text_definitions.specs.Reading.{Reading, begun, line_from, need_line_at, end_line_at}

@@ -1,4 +1,4 @@
--- The outcome of a fault that a reader answered is that of the input.
+-- The outcome of the error of a reader is that of the input.
 use Rattle.std.proofs.Common.{Result, sym, subst}
 use Rattle.text_definitions.specs.Reading.{Fails}
 use Rattle.signature_definitions.specs.declared.InputFault.{InputFault}

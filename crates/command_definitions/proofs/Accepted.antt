@@ -1,4 +1,4 @@
--- What an accepted request holds is in range.
+-- The values of an accepted request are in range.
 use Rattle.std.proofs.Common.{◌≡◌, ◌≢◌, ℕ, ◌≤◌, Bool, true, false, List, [], ◌∷◌, Option, Some, None, refl, subst, arith, nat_lt}
 use Rattle.std.proofs.Common.{ltb-false, ltb-true}
 use Rattle.std.specs.Prelude.{codes, if◌then◌else◌, ⊤}
@@ -19,7 +19,7 @@ use Rattle.command_definitions.specs.Values.{Values, has_pieces, coordinates_nam
 use Rattle.command_definitions.specs.Options.{options_of}
 use Rattle.command_definitions.specs.Words.{command_named, accepted_request}
 
--- what an option holds satisfies P
+-- the value of an option, if it has one, satisfies P
 abbrev pub Holds : {A : Type 0} → (A → Type 0) → Option A → Type 0
 Holds P None = ⊤
 Holds P (Some x) = P x
@@ -84,7 +84,7 @@ order_holds : (x : Option (List ℕ)) → Holds HasName (or_default Given order_
 order_holds None = given_named
 order_holds (Some w) = word_named w
 
--- coordinates in which surfaces have pieces
+-- coordinates that have triangles
 abbrev pub HasPieces : Coords → Type 0
 HasPieces coords = coords ≢ Quad
 
@@ -103,7 +103,7 @@ pieces_hold (Some w) = pieces_within (coordinates_named w)
 
 -- ---- what options and requests hold
 
--- what the value of an option is, where it is read
+-- the value of an option of this kind is in range
 abbrev pub IsValueInRange : (kind : Kind) → ValueOf kind → Type 0
 IsValueInRange Coordinates coords = ⊤
 IsValueInRange PieceCoordinates coords = HasPieces coords
@@ -120,7 +120,7 @@ value_holds Limit v = limit_holds v.max_entry
 value_holds Seed v = needed_within most_seed v.seed
 value_holds (Moves most) v = needed_within most v.moves
 
--- what a request holds is in range, a seed too
+-- all values of a request are in range, including the seed
 abbrev pub HoldsAll : Request → Type 0
 HoldsAll (Make seed moves) = (seed ≤ most_seed) × (moves ≤ most_moves)
 HoldsAll (Bulk seed moves) = (seed ≤ most_seed) × (moves ≤ most_bulk_moves)
@@ -131,7 +131,7 @@ holds_range (Make seed moves) h = h.1
 holds_range (Bulk seed moves) h = h.1
 holds_range r h = h
 
--- by values in range of these options the request holds what is in range
+-- with values of these options in range, the values of the request are in range
 abbrev HoldsBy : (kinds : List Kind) → RequestBy kinds → Type 0
 HoldsBy [] request = HoldsAll request
 HoldsBy (kind ∷ kinds) request = (value : ValueOf kind) → IsValueInRange kind value → HoldsBy kinds (request value)

@@ -80,7 +80,7 @@ module _ (r : Request) where
       ∙ ap (λ (o : Option (List Given)). o >>= λ given. request_given command given) read
       ∙ values_right is.options is.kinds is.request r (apart_of is.options is.apart) is.values
 
--- ---- words that spell nothing are refused, and words spell one request at most
+-- ---- refused words spell no request, and words spell at most one request
 
 pub refused_spell_none : (words : List Text) → accepted_request words ≡ None → (r : Request) → IsRequest words r → ⊥
 refused_spell_none words e r is = some≢none r (sym (spelled_accept r words is) ∙ e)

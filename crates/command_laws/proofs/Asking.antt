@@ -1,4 +1,4 @@
--- Words for each request, with all its options in words `--name=value`, and what is in range of a request that words spell.
+-- Words for each request, with all its options as words `--name=value`, and the range of a request that words spell.
 use Rattle.std.proofs.Common.{◌≡◌, ◌≢◌, ◌++◌, ℕ, ◌≤◌, true, inl, inr, refl, subst, List, [], ◌∷◌, map, Option, Some, codes, ◌^◌, arith}
 use Rattle.std.specs.Prelude.{nat_lt, decimal, ⊤}
 use Rattle.std.specs.Option.{unwrap_or}
@@ -67,7 +67,7 @@ order_read orders.Short named = refl
 order_read orders.Zeros named = refl
 order_read orders.Free named = absurd (named refl)
 
--- the word means this value of an option
+-- the word means this value of an option of the kind
 abbrev Means : (kind : Kind) → Text → ValueOf kind → Type 0
 Means Coordinates word coords = coordinates_named word ≡ Some coords
 Means PieceCoordinates word coords = (coordinates_named word ≡ Some coords) × (coords ≢ Quad)
@@ -137,7 +137,7 @@ each_has (kind ∷ kinds) request values options among =
       each_has kinds (request values.0) values.2 options (λ other m. among other (inr m)),
     )
 
--- the command of this name, or one without a name
+-- the command of this name, or the command without a name
 abbrev command_of : Text → Command
 command_of name = unwrap_or (row_of name commands) ([], ([], requests.Info))
 
@@ -192,7 +192,7 @@ words_for requests.Pi1 range seed = asking (codes "pi1") refl tt refl
 words_for requests.Csig range seed = asking (codes "csig") refl tt refl
 words_for requests.Csame range seed = asking (codes "csame") refl tt refl
 
--- ---- what words spell is in range
+-- ---- the request that words spell is in range
 
 short_seed : (r : Request) → HoldsAll r → HasShortSeed r
 short_seed (requests.Make seed moves) held = held.0

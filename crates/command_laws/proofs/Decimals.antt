@@ -1,4 +1,4 @@
--- A decimal that is written is a value of an option.
+-- The decimal of a number is a value of an option.
 use Rattle.std.proofs.Common.{◌≡◌, ◌∙◌, ◌^◌, ℕ, ◌<◌, ◌≤◌, true, refl, ap, subst, length, Some, None, cond, arith}
 use Rattle.std.specs.Prelude.{decimal, nat_lt, nat_le}
 use Rattle.std.specs.Char.{is_ascii_digit}

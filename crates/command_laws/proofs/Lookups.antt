@@ -1,4 +1,4 @@
--- List (Text × A) that are looked up by a name, of which no two are alike.
+-- Lists of names with values, with different names, in which a name is looked up.
 use Rattle.std.proofs.Common.{◌≡◌, ◌≢◌, ◌<◌, ◌&&◌, ◌||◌, ℕ, Bool, true, false, not, zero, suc, inl, inr, refl, sym, ap, ◌∙◌, subst, List, [], ◌∷◌, length, Option, Some, None, cond, true≢false, arith}
 use Rattle.std.specs.Prelude.{◌⊎◌, ⊤}
 use Rattle.std.specs.List.{AllByRecursion, AllPairs, Contains, find, list_any, slice_index_or}
@@ -36,7 +36,7 @@ module _ {X : Type 0} where
   all_member P (y ∷ ys) x all (inl e) = subst P e all.0
   all_member P (y ∷ ys) x all (inr m) = all_member P ys x all.1 m
 
--- ---- names among names
+-- ---- names in lists of names
 
 pub same_name : (one other : Text) → bytes_eq one other ≡ true → one ≡ other
 same_name one other = (bytes_eq-Decides one other).0
@@ -67,7 +67,7 @@ member_known [] name m = absurd m
 member_known (n ∷ ns) name (inl e) = or_left (bytes_eq n name) (list_any (λ m. bytes_eq m name) ns) (name_same n name e)
 member_known (n ∷ ns) name (inr m) = or_right (bytes_eq n name) (list_any (λ m. bytes_eq m name) ns) (member_known ns name m)
 
--- ---- rows with a name each
+-- ---- rows with names
 
 module _ {A : Type 0} where
   abbrev pub row_of : Text → List (Text × A) → Option (Text × A)
@@ -123,7 +123,7 @@ module _ {A : Type 0} where
   found_row (r ∷ rows) row apart (inr m) =
       ap (λ b. cond b (Some r) (row_of row.0 rows)) (name_other r.0 row.0 (all_member (λ (other : Text × A). r.0 ≢ other.0) rows row apart.0 m)) ∙ found_row rows row apart.1 m
 
-  -- whether no two rows have one name
+  -- whether all rows have different names
   abbrev pub are_apart : List (Text × A) → Bool
   are_apart [] = true
   are_apart (row ∷ rows) = not (list_any (λ other. bytes_eq other.0 row.0) rows) && are_apart rows

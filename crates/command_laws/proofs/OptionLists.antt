@@ -13,12 +13,12 @@ use Rattle.command_laws.proofs.Spellings.{IsWordOf, is_plain, name_read, value_r
 abbrev pub joined : List (List Text) → List Text
 joined spellings = flat_map (λ spelling. spelling) spellings
 
--- no two options have one name
+-- the options have different names
 abbrev pub AreApart : List Given → Type 0
 AreApart options = AllPairs (λ one other. one.0 ≢ other.0) options
 
 module _ (names : List Text) where
-  -- options that the words spell, behind those that were seen
+  -- the words spell options, which come after those seen before
   pub record Reads (words : List Text) (seen all : List Given) : Type 0 where
     pub given : List Given
     pub spellings : List (List Text)
@@ -28,12 +28,12 @@ module _ (names : List Text) where
     pub whole : all ≡ seen ++ given
     pub words_are : words ≡ joined spellings
 
-  -- the same, where the value of a known option is the next word
+  -- as `Reads`, if the value of a known option is the next word
   abbrev pub ReadsOn : List Text → List Given → Option Text → List Given → Type 0
   ReadsOn words seen None all = Reads words seen all
   ReadsOn words seen (Some name) all = (value : Text) × (rest : List Text) × (words ≡ value ∷ rest) × (is_hyphened value ≡ false) × Reads rest (seen ++ (name, value) ∷ []) all
 
-  -- what is read from the words is what they spell
+  -- the options that are read from the words are those that the words spell
   abbrev IsRight : List Text → Type 0
   IsRight words = (seen : List Given) (waiting : Option Text) → AreApart seen → (all : List Given) → options_from names words seen waiting ≡ Some all → ReadsOn words seen waiting all
 
@@ -52,7 +52,7 @@ module _ (names : List Text) where
   apart_push seen name value apart fresh =
       all_pairs_push (λ (one other : Given). one.0 ≢ other.0) seen (name, value) apart (λ k d less. All-from_recursion (λ (g : Given). g.0 ≢ name) seen (named_absent name seen fresh) k d less)
 
-  -- a value is taken, unless its option was seen
+  -- a value is accepted, unless its option was seen before
   value_taken : (name value : Text) (ws : List Text) (seen all : List Given) (b : Bool) → is_named seen name ≡ b → AreApart seen → IsRight ws
       → cond b None (options_from names ws (seen ++ (name, value) ∷ []) None) ≡ Some all → Reads ws (seen ++ (name, value) ∷ []) all
   value_taken name value ws seen all true fresh apart right e = absurd (some≢none all (sym e))
@@ -96,7 +96,7 @@ module _ (names : List Text) where
   read_right (w ∷ ws) seen None apart all e = option_taken w ws seen all (option_word w) refl apart (read_right ws) e
   read_right (w ∷ ws) seen (Some name) apart all e = waited name w ws seen all (is_hyphened w) refl apart (read_right ws) e
 
-  -- ---- the other way
+  -- ---- words that spell options are read as these
 
   one_word : (name value : Text) (ws : List Text) (seen : List Given) → is_plain name ≡ true → is_known names name ≡ true → is_named seen name ≡ false
       → options_from names ((codes "--" ++ name ++ codes "=" ++ value) ∷ ws) seen None ≡ options_from names ws (seen ++ (name, value) ∷ []) None
@@ -122,7 +122,7 @@ module _ (names : List Text) where
   option_step option spelling ws seen (inr e) plain known fresh =
       ap (λ (s : List Text). options_from names (s ++ ws) seen None) e.0 ∙ two_words option.0 option.1 ws seen plain known e.1 fresh
 
-  -- an option that comes behind others is not among them
+  -- an option is not among those before it
   others : (seen : List Given) (option : Given) (rest : List Given) → AreApart (seen ++ option ∷ rest) → is_named seen option.0 ≡ false
   others seen option rest apart = absent_named option.0 seen (recursion_from_All (λ (g : Given). g.0 ≢ option.0) seen (λ k d less.
       let differ = apart k (length seen) d less (let more : length seen < length (seen ++ option ∷ rest) = omega (arith, length-append seen (option ∷ rest)) in more) in

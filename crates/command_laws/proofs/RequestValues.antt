@@ -1,4 +1,4 @@
--- What a command's options ask for is a request that holds their values.
+-- The request for the options of a command holds their values.
 use Rattle.std.proofs.Common.{◌≡◌, ◌≢◌, Bool, true, false, inl, inr, refl, sym, ap, ◌∙◌, subst, List, [], ◌∷◌, Option, Some, None, codes}
 use Rattle.std.specs.Prelude.{if◌then◌else◌}
 use Rattle.std.proofs.lemmas.Bool.{true≢false}
@@ -75,7 +75,7 @@ module _ {A : Type 0} (name : Text) (meaning : Text → Option A) (given : List 
     value_right value apart (inl is) = ap (or_default default meaning) (found_value name is.0 given apart is.1) ∙ is.2
     value_right value apart (inr is) = ap (or_default default meaning) (missed_value name given is.0) ∙ ap (λ (x : A). Some x) (sym is.1)
 
--- ---- coordinates in which surfaces have pieces
+-- ---- coordinates that have triangles
 
 pieces_of : (m : Option Coords) (coords : Coords) → option_and_then has_pieces m ≡ Some coords → (m ≡ Some coords) × (coords ≢ Quad)
 pieces_of None coords e = absurd (some≢none coords (sym e))

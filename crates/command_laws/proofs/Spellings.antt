@@ -36,7 +36,7 @@ front_on x xs e = ap (λ b. take (cond (not b) (1 + place xs) 0) (x ∷ xs)) e �
 behind_on : (x : ℕ) (xs : Text) → (x == 61) ≡ false → behind (x ∷ xs) ≡ behind xs
 behind_on x xs e = ap (λ b. drop (cond (not b) (1 + place xs) 0 + 1) (x ∷ xs)) e ∙ ap (λ n. drop n (x ∷ xs)) (two_more (place xs))
 
--- a text is what stands before its first sign, the sign, and what stands behind it
+-- a text is what comes before its first equals sign, the sign, and what comes after it
 pub parted : (xs : Text) → has_sign xs ≡ true → xs ≡ front xs ++ (61 ∷ behind xs)
 parted [] e = absurd (true≢false (sym e))
 parted (x ∷ xs) e = go (x == 61) refl e (parted xs)
@@ -80,7 +80,7 @@ name_read (c ∷ cs) e =
     let none : has_sign (c ∷ cs) ≡ false = not-true _ e in
     λ i. Some (whole_front (c ∷ cs) none i, ap (λ b. cond b (Some (behind (c ∷ cs))) None) none i)
 
--- a word `--name=value` begins with two hyphens, and goes on with the name, the sign and the value
+-- a word `--name=value` begins with two hyphens and continues with the name, the equals sign and the value
 glued : (name value : Text) → codes "--" ++ name ++ codes "=" ++ value ≡ 45 ∷ 45 ∷ (name ++ (61 ∷ value))
 glued name value = ap (λ (xs : Text). 45 ∷ 45 ∷ xs) (append_assoc name (codes "=") value)
 
@@ -93,7 +93,7 @@ value_read (c ∷ cs) value e =
     ap (λ b. cond b (Some (behind xs)) None) (sign_of (c ∷ cs) value) ∙ ap (λ (v : Text). Some v) (behind_of (c ∷ cs) value none) in
     ap option_word (glued (c ∷ cs) value) ∙ (λ i. Some (front_of (c ∷ cs) value none i, some i))
 
--- how a word is spelled that is read as an option
+-- the spelling of a word that is read as an option
 abbrev pub IsWordOf : Text → Option Text → Text → Type 0
 IsWordOf name None w = w ≡ codes "--" ++ name
 IsWordOf name (Some value) w = w ≡ codes "--" ++ name ++ codes "=" ++ value

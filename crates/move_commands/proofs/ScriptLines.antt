@@ -25,7 +25,7 @@ pub on_ok : {E : Type 0} (r : Result (Unit {0}) E) (P Q : Type 0) → (P → Q) 
 on_ok (Ok u) P Q f h = f h
 on_ok (Err e) P Q f h = tt
 
--- a refused move is answered by its fault, and the session stays
+-- the answer to a refused move is its error, and the session is unchanged
 pub refused_step : (before after : Session) (m : moves.Move) (fault : MoveFault) (e : PlayFault) (written now : List ℕ) → e ≡ Illegal fault → (e ≢ NoMemory → IsRefusal before m e) → after ≡ before
     → now ≡ written ++ line (codes "illegal " ++ move_fault_text fault) → Steps before (text.play m) after written now
 refused_step before after m fault e written now is refusal same grown =
@@ -34,12 +34,12 @@ refused_step before after m fault e written now is refusal same grown =
     let equal : fault ≡ r.0 = cc in
     (illegal r.0, (r.2, same), grown ∙ ap (λ (f : MoveFault). written ++ line (codes "illegal " ++ move_fault_text f)) equal)
 
--- nothing is answered yet
+-- no step has an answer yet
 pub plays-none : (s : Session) (written : List ℕ) → written ≡ [] → Plays s [] s written
 unfolding answers_text
 plays-none s written e = ([], refl, e)
 
--- one step more
+-- one more step
 steps-more : (s : Session) (steps : List text.Step) (answers : List StepAnswer) (mid : Session) (step : text.Step) (a : StepAnswer) (last : Session) → AreSteps s steps answers mid → IsSessionStep mid step a last
     → AreSteps s (steps ++ step ∷ []) (answers ++ a ∷ []) last
 steps-more s [] [] mid step a last h k = (last, subst (λ (t : Session). IsSessionStep t step a last) (sym h) k, refl)

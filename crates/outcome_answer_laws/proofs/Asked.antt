@@ -1,4 +1,4 @@
--- The outcome of words that are accepted is the answer to what they ask for.
+-- The outcome of accepted words is the answer to their request.
 use Rattle.std.proofs.Common.{◌≡◌, ◌≤◌, ℕ, List, length, Bool, true, false, Option, Result, Ok, refl, ap, subst, arith, nat_lt}
 use Rattle.std.specs.Prelude.{◌<◌, ◌&&◌}
 use Rattle.std.proofs.lemmas.Bool.{ltb-true, false_from_ne_true}
@@ -10,7 +10,7 @@ use Rattle.outcome_definitions.specs.Outcomes.{Outcome, too_long_outcome, IsRead
 use Rattle.outcome_definitions.specs.Answers.{IsOutcomeOf, IsAnswerTo, is_too_long, most_bytes}
 use Rattle.outcome_answer_laws.specs.Requests.{IsOutcomeTo, Means}
 
--- an input that is not too long is answered
+-- the outcome of an input that is not too long is an answer to the request
 pub within : (b : Bool) (A : Type 0) (o : Outcome) → b ≡ false → MatchBool b (o ≡ too_long_outcome) A → A
 within true A o e h = absurd (let z : true ≡ false = e in cc)
 within false A o e h = h
@@ -26,11 +26,11 @@ pub answer_to : (r : Request) (words : List (List ℕ)) (bytes : List ℕ) (o : 
 answer_to r words bytes o h =
     within (is_too_long r bytes) (IsAnswerTo r bytes o) o (not_long r bytes h.within) (subst (λ (asked : Option Request). IsOutcomeOf asked bytes o) h.accepted h.outcome)
 
--- and to what was read
+-- the outcome of a document is an answer to the value that was read
 pub answer_to_value : {A : Type 0} (document : Result A InputFault) (value : A) (IsAnswer : A → Outcome → Type 0) (o : Outcome) → document ≡ Ok value → IsReadOutcome document IsAnswer o → IsAnswer value o
 answer_to_value document value IsAnswer o read h = subst (λ r. IsReadOutcome r IsAnswer o) read h
 
--- so what follows of an answer to what was read is what the outcome means
+-- what follows from each answer to the value that was read holds of the outcome
 pub means_by : {A : Type 0} (r : Request) (document : List ℕ → Result A InputFault) (IsAnswer IsMeant : A → Outcome → Type 0)
     → ((bytes : List ℕ) (o : Outcome) → IsAnswerTo r bytes o → IsReadOutcome (document bytes) IsAnswer o)
     → ((bytes : List ℕ) (d : A) (o : Outcome) → document bytes ≡ Ok d → IsAnswer d o → IsMeant d o) → Means r document IsMeant

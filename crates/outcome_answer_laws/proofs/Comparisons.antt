@@ -1,4 +1,4 @@
--- What is answered of two tables, and of many, says which of them are relabelled.
+-- The answers for two tables, and for many, say which of them are isomorphic.
 use Rattle.std.proofs.Common.{◌≡◌, ◌⊎◌, ℕ, List, slice_index, inl, inr, refl, sym, ◌∙◌, ap, arith}
 use Rattle.table_definitions.specs.Table.{Row}
 use Rattle.table_definitions.specs.Relabelling.{Relabelling, AreIsomorphic}
@@ -21,7 +21,7 @@ apart by e = letters (slice_index (relabelling_text by) 0) (slice_index differen
     letters : {Q : Type 0} (s d : ℕ) → s ≡ 115 → d ≡ 100 → s ≡ d → Q
     letters s d is_s is_d same = absurd (omega arith)
 
--- a relabelling is answered, or there is none
+-- the answer is a relabelling, or the tables are not isomorphic
 abbrev pub IsTold : List Row → List Row → Outcome → Type 0
 IsTold first second o =
     ((by : Relabelling) × Relabels first second by × (o ≡ done (relabelling_text by))) ⊎ ((AreIsomorphic first second → ⊥) × (o ≡ different_outcome))
@@ -46,7 +46,7 @@ told_is_done : (first second : List Row) (o : Outcome) → IsTold first second o
 told_is_done first second o (inl h) = status_of o (done (relabelling_text h.0)) h.2
 told_is_done first second o (inr h) = status_of o different_outcome h.1
 
--- a table that is not connected is refused
+-- the outcome for a table that is not connected is a refusal
 refused : {P : Type 0} (k : ℕ) (rows : List Row) (o : Outcome) → IsNotConnected k rows o → o.status ≡ Done → P
 refused k rows o h e = (let z : Refused ≡ Done = sym (status_of o (not_connected_outcome k h.0) h.2) ∙ e in absurd cc)
 

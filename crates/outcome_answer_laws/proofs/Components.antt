@@ -1,4 +1,4 @@
--- The components of two tables match up if and only if `csame` says `same`.
+-- The components of two tables correspond by isomorphisms if and only if `csame` says `same`.
 use Rattle.std.proofs.Common.{◌≡◌, ◌⊎◌, ◌<◌, ◌≤◌, ℕ, List, length, slice_index, IsPermutation, inl, inr, sym, ◌∙◌, ap, subst, arith}
 use Rattle.std.proofs.lemmas.Bool.{cases_lt}
 use Rattle.table_definitions.specs.Lists.{below}
@@ -18,7 +18,7 @@ use Rattle.outcome_answer_laws.specs.Comparisons.{SaysSame, AreCompared, Compone
 use Rattle.outcome_answer_laws.proofs.Asked.{means_by}
 use Rattle.outcome_answer_laws.proofs.Comparisons.{IsTold, compared_by}
 
--- where a number stands in an order of the numbers below m
+-- the index of a number in an order of the numbers below m
 module _ (m : ℕ) (order : List ℕ) (p : IsPermutation order (below m)) where
   place : (a : ℕ) → (a < m) ⊎ (m ≤ a) → ℕ
   place a (inl l) = (order_holds m order p a l).0

@@ -32,7 +32,7 @@ fit_or_not : {P : Type 0} (rows : List Row) (equations : List EquationRow) (xs :
 fit_or_not rows equations xs fault f g = (let z : solution ≡ Err fault = sym f ∙ g in absurd cc)
 
 module _ (s : Skeleton) (k : IsSkeleton s) (links : List Link) (h : HasSphereAndDiscLinks s links) (equations : List EquationRow) (of_table : AreEquations Quad s.rows equations) where
-  -- no vector is refused for want of a lift
+  -- no vector is refused because it has no lift
   never : (xs : List ℕ) (c : ℕ) → IsLifted s equations xs (Err (NoLift c)) → ⊥
   never xs c t =
       let accepted = accepted_by limit (columns Quad (length s.rows)) equations (clash_list Quad (length s.rows)) xs t.0 in
@@ -49,7 +49,7 @@ module _ (s : Skeleton) (k : IsSkeleton s) (links : List Link) (h : HasSphereAnd
   told_another vectors (Ok lifts) t = tt
   told_another vectors (Err refusal) t = another (slice_index_or vectors refusal.0 []) refusal.1 t.refused
 
-  -- a small solution is not refused
+  -- a solution with parts within the limit is not refused
   never_refused : (xs : List ℕ) (refusal : Refusal) → IsSmallSolution s.rows equations xs → IsLifted s equations xs (Err refusal) → ⊥
   never_refused xs (Unfit fault) small t = fit_or_not s.rows equations xs fault small.fit t
   never_refused xs (LargeSum n) small t = t

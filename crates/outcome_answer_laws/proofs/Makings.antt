@@ -1,4 +1,4 @@
--- A certificate has as many moves as are asked for.
+-- A certificate has as many moves as the request asks for.
 use Rattle.std.proofs.Common.{◌≡◌, ◌≤◌, ℕ, length, subst}
 use Rattle.command_definitions.specs.declared.Request.TheVariants.{Make, Bulk}
 use Rattle.outcome_definitions.specs.Outcomes.{Outcome}

@@ -1,4 +1,4 @@
--- Moves that are played lead to the table that is printed, and as many undos as steps lead back.
+-- Moves that are played end at the table that is printed, and equally many undos return to the first table.
 use Rattle.std.proofs.Common.{◌≡◌, ◌+◌, ◌-◌, ◌≤◌, ℕ, zero, suc, List, [], ◌∷◌, ◌++◌, length, map, take, replicate, refl, sym, ◌∙◌, ap, subst, arith, take_all, take-take, length-take-le}
 use Rattle.std.proofs.lemmas.List.{length_push, take-append-le}
 use Rattle.table_definitions.specs.Table.{Row}
@@ -14,7 +14,7 @@ use Rattle.outcome_laws.proofs.Scripted.{one_script}
 use Rattle.outcome_answer_laws.specs.Scripts.{MovesAreDone, MovesAreTakenBack, IsPlayed, ScriptsArePlayed}
 use Rattle.outcome_answer_laws.proofs.Asked.{means_by}
 
--- ---- a step keeps the first table, and plays one move more at most
+-- ---- a step retains the first table, and plays at most one more move
 
 record IsNext (s next : Session) : Type 0 where
   first : next.first ≡ s.first
@@ -73,7 +73,7 @@ left_behind (step ∷ before) undos s (a ∷ answers) last h =
 
 -- ---- moves
 
--- the session behind a move has the table to which it leads
+-- the table of the session after a move is the one that the move results in
 moved_on : (s : Session) (table : List Row) (m : Move) (next : List Row) → IsTableOf s table → Plays table m next → IsTableOf (with_move s m) next
 moved_on s table m next at p =
     let in_range : s.played ≤ length s.moves = at.in_range in
@@ -83,17 +83,17 @@ moved_on s table m next at p =
     let led : PlaysAll s.first (take s.played s.moves ++ m ∷ []) next = played_on s.first (take s.played s.moves) table m next at.reached p in
     record { in_range = omega arith; reached = subst (λ (moves : List Move). PlaysAll s.first moves next) (sym whole) led; others = (next, led) }
 
--- and keeps the moves that were played
+-- a move retains the moves played before it
 kept_behind : (s : Session) (m : Move) → s.played ≤ length s.moves → take s.played (take s.played s.moves ++ m ∷ []) ≡ take s.played s.moves
 kept_behind s m in_range =
     let size : length (take s.played s.moves) ≡ s.played = length-take-le s.played s.moves in_range in
     take-append-le s.played (take s.played s.moves) (m ∷ []) (omega arith) ∙ take-take s.played s.played s.moves (omega arith)
 
--- what is kept of a longer front is kept of a shorter one
+-- lists with an equal prefix have equal shorter prefixes
 shorter : (n : ℕ) (a b : List Move) → take (n + 1) a ≡ take (n + 1) b → take n a ≡ take n b
 shorter n a b e = sym (take-take n (n + 1) a (omega arith)) ∙ ap (λ (moves : List Move). take n moves) e ∙ take-take n (n + 1) b (omega arith)
 
--- the moves are all done, behind those that were played
+-- the session once all moves are played, after those played before
 record AreDone (s : Session) (moves : List Move) (end : List Row) : Type 0 where
   last : Session
   steps : AreSteps s (map play moves) (map (λ (m : Move). done) moves) last
@@ -114,7 +114,7 @@ all_done s table (m ∷ moves) end at led =
       kept = shorter s.played rest.last.moves (take s.played s.moves ++ m ∷ []) rest.kept ∙ kept_behind s m at.in_range;
     }
 
--- ---- moves that are taken back
+-- ---- moves that are undone
 
 abbrev played_to : Session → ℕ → Session
 played_to s n = record s { played = n }
@@ -130,7 +130,7 @@ steps_on s [] more (a ∷ answers) others next last h k = absurd h
 steps_on s (step ∷ steps) more [] others next last h k = absurd h
 steps_on s (step ∷ steps) more (a ∷ answers) others next last h k = (h.0, h.1, steps_on h.0 steps more answers others next last h.2 k)
 
--- what was played before is played then
+-- the session returned to the earlier number of moves has its earlier table
 back_at : (s : Session) (table : List Row) (moves : List Move) (end : List Row) (a : AreDone s moves end) → IsTableOf s table → IsTableOf (played_to a.last s.played) table
 back_at s table moves end a at = record {
   in_range = (let l : a.last.played ≤ length a.last.moves = a.at.in_range in let e : a.last.played ≡ s.played + length moves = a.played in omega arith);

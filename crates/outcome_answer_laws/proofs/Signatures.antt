@@ -1,4 +1,4 @@
--- A line tells its text, and a text its table.
+-- The lines of two signatures are equal if and only if the tables are isomorphic.
 use Rattle.std.proofs.Common.{◌≡◌, ◌↔◌, ℕ, List, [], ◌∷◌, inl, inr, sym, ◌∙◌, ap}
 use Rattle.std.proofs.lemmas.List.{append_cancel_right}
 use Rattle.text_definitions.specs.Written.{line}

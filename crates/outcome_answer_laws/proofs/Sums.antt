@@ -1,4 +1,4 @@
--- Sums that are told are sums of vertex surfaces, and sums are accepted if and only if they are true.
+-- The printed sums are sums of vertex surfaces, and sums are accepted if and only if they are true.
 use Rattle.std.proofs.Common.{◌≡◌, ◌↔◌, ◌≤◌, ℕ, List, [], ◌∷◌, length, map, None, Result, Ok, Err, inl, inr, refl, sym, ◌∙◌, arith}
 use Rattle.std.specs.List.{All, AllZip, AllByRecursion, slice_index_or}
 use Rattle.std.proofs.lemmas.List.Elements.{All-from_recursion, recursion_from_All}
@@ -111,7 +111,7 @@ decomposition coords most bytes d o read a = record {
 pub vectors_decomposed : VectorsAreDecomposed
 vectors_decomposed coords most = means_by (Decompose coords most) vectors_document (IsDecomposeAnswer coords most) (IsDecomposition coords most) (λ bytes o a. a) (decomposition coords most)
 
--- what is refused has another status than what is accepted
+-- the status of an unfit vector is not that of success
 unfit_apart : {P : Type 0} (fault : VectorFault) → unfit_status fault ≡ statuses.Done → P
 unfit_apart (faults.Length n) e = absurd cc
 unfit_apart (faults.Large i) e = absurd cc

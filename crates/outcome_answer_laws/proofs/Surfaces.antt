@@ -1,4 +1,4 @@
--- Nothing exceeds a limit that is at least the bound.
+-- No number exceeds a limit that is at least the bound.
 use Rattle.std.proofs.Common.{◌≡◌, ◌≤◌, ℕ, List, length, Ok, inl, inr}
 use Rattle.text_definitions.specs.Written.{limit}
 use Rattle.cone_definitions.specs.Rows.{Row as EquationRow}

@@ -1,4 +1,4 @@
--- The answers of `check` and of `descend` have statuses of their own.
+-- The answers of `check` and of `descend` have statuses of accepted words.
 use Rattle.std.proofs.Common.{List, Ok, Err, sym, subst}
 use Rattle.table_definitions.specs.Table.{Row}
 use Rattle.move_definitions.specs.Moves.{Move}

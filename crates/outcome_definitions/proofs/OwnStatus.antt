@@ -1,4 +1,4 @@
--- The answer to a request has a status of its own.
+-- The status of an answer is one of accepted words.
 use Rattle.std.proofs.Common.{◌≡◌, ℕ, List, Option, Some, None, Result, Ok, Err, inl, inr, sym, subst}
 use Rattle.std.specs.Prelude.{codes, ◌⊎◌, MatchOption}
 use Rattle.table_definitions.specs.Table.{Row}
@@ -37,11 +37,11 @@ use Rattle.outcome_definitions.proofs.CertificateStatus.{check_own, descend_own}
 use Rattle.outcome_definitions.specs.Meanings.{CommandMeaning, Reads, Alone, IsOutcomeBy}
 use Rattle.outcome_definitions.specs.Answers.{meaning_of, IsAnswerTo}
 
--- an outcome that is this one
+-- an outcome that equals one with a status of accepted words has such a status
 is_own : (o p : Outcome) → o ≡ p → IsOwnStatus p.status → IsOwnStatus o.status
 is_own o p e h = subst (λ (q : Outcome). IsOwnStatus q.status) (sym e) h
 
--- the outcome of a document, where the answer to each value has such a status
+-- the outcome of a document has a status of accepted words if the answer to each value has
 read_own : {A : Type 0} (document : Result A InputFault) (IsAnswer : A → Outcome → Type 0) (o : Outcome) →
     ((value : A) → IsAnswer value o → IsOwnStatus o.status) → IsReadOutcome document IsAnswer o → IsOwnStatus o.status
 read_own (Ok value) IsAnswer o own h = own value h

@@ -1,4 +1,4 @@
--- Where something is told of each of a list, it is told of all of it: the answer to each, or the first that is refused.
+-- If each item of a list has a result, so has the list: the answers to all items, or the first that is refused.
 use Rattle.std.proofs.Common.{ℕ, zero, suc, ◌<◌, List, [], ◌∷◌, length, Result, Ok, Err, refl, ap, arith}
 use Rattle.std.specs.List.{AllByRecursion, slice_index_or}
 use Rattle.std.proofs.lemmas.List.Elements.{All-nil, All-cons}
@@ -41,7 +41,7 @@ module _ {A B E : Type 0} (IsTold : A → Result B E → Type 0) where
       let rest = told_of P xs each all.1 in
       told_more x xs here.0 here.1 rest.0 rest.1
 
--- the same of vectors
+-- the result for a list of vectors
 module _ {A : Type 0} (IsTold : List ℕ → Result A Refusal → Type 0) where
   before_more : (x : List ℕ) (xs : List (List ℕ)) (v : ℕ) (a : A) → IsTold x (Ok a) → ((u : ℕ) → u < v → (b : A) × IsTold (slice_index_or xs u []) (Ok b))
       → (u : ℕ) → u < suc v → (b : A) × IsTold (slice_index_or (x ∷ xs) u []) (Ok b)

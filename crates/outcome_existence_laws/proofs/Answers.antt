@@ -1,4 +1,4 @@
--- There is an answer to each table and to each two.
+-- Each table, and each two tables, have an answer.
 use Rattle.std.proofs.Common.{List, ◌⊎◌, inl, inr, refl}
 use Rattle.table_definitions.specs.Table.{Row, IsTable}
 use Rattle.table_definitions.specs.Relabelling.{AreIsomorphic}

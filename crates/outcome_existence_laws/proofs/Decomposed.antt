@@ -1,4 +1,4 @@
--- Each table and vectors have an answer to `decompose`.
+-- Each table with vectors has an answer to `decompose`.
 use Rattle.std.proofs.Common.{ℕ, List, length, inl, inr, Result, Ok, Err, refl}
 use Rattle.cone_definitions.specs.Rows.{Row as EquationRow}
 use Rattle.cone_definitions.specs.Surfaces.{IsSurfaceList}
@@ -35,7 +35,7 @@ module _ (coords : Coords) (most : ℕ) (rows : List Row) (equations : List Equa
   by_answer list x (sum times terms) h = (Ok (record { vector = x; times = times; terms = terms }), (refl, h))
   by_answer list x (large turn column) h = (Err (record { turn = turn; column = column }), h)
 
-  -- a vector that is fit is told as a sum of the listed surfaces
+  -- an admissible solution within the limit is a sum of the listed surfaces, or the sum exceeds the limit
   summed : (list : List (List ℕ)) → IsSurfaceList (columns coords (length rows)) equations (clash_list coords (length rows)) list → (x : List ℕ) → IsFit coords rows equations x
       → (r : Result Block LargeTurn) × IsSummed most list x r
   summed list h x fit =

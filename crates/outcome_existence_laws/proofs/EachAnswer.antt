@@ -1,4 +1,4 @@
--- Each request has an answer to all bytes, and all words and bytes are due an outcome.
+-- Each request has an answer for all bytes, and all words and bytes have an outcome.
 use Rattle.std.proofs.Common.{◌≡◌, ℕ, Bool, true, false, List, Option, Some, None, Result, Ok, Err, refl}
 use Rattle.std.specs.Bool.{MatchBool}
 use Rattle.cone_text_definitions.specs.VectorText.{vector_at}
@@ -79,6 +79,6 @@ by_request (Some request) bytes range = by_length (is_too_long request bytes) re
 pub some_outcome : (words : List (List ℕ)) (bytes : List ℕ) → (o : Outcome) × IsOutcome words bytes o
 some_outcome words bytes = by_request (accepted_request words) bytes (accepted_hold words)
 
--- and there is no other
+-- all words and bytes have one outcome only
 pub one_outcome : (words : List (List ℕ)) (bytes : List ℕ) → (o : Outcome) × IsOutcome words bytes o × ((other : Outcome) → IsOutcome words bytes other → other ≡ o)
 one_outcome words bytes = let o = some_outcome words bytes in (o.0, o.1, λ other h. outcomes_agree_lem words bytes other o.0 h o.1)

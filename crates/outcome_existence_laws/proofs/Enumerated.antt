@@ -1,4 +1,4 @@
--- Each enumeration has an answer, and each table and vectors have verdicts.
+-- Each enumeration has an answer, and each table with vectors has verdicts.
 use Rattle.std.proofs.Common.{◌≢◌, ℕ, List, length, inl, inr, refl}
 use Rattle.std.specs.Prelude.{codes}
 use Rattle.std.proofs.lemmas.List.Elements.{All-nil}

@@ -21,7 +21,7 @@ use Rattle.outcome_definitions.specs.Canonical.{done, not_connected_outcome}
 use Rattle.outcome_definitions.specs.Information.{Information, AreValid, information_text, IsInformationAnswer}
 use Rattle.outcome_definitions.specs.Presented.{presentation_text, IsPresentationAnswer}
 
--- what is decided has a truth value
+-- a proposition that is decided has a truth value
 truth_of : {P : Type 0} → P ⊎ (P → ⊥) → (b : Bool) × (IsTrue b ↔ P)
 truth_of (inl p) = (true, (λ e. p, λ q. refl))
 truth_of (inr never) = (false, (λ e. absurd (false≢true e), λ p. absurd (never p)))
@@ -54,7 +54,7 @@ some_information rows table =
       ),
     )
 
--- the group of a skeleton
+-- the answer to `pi1` for a skeleton
 by_first : (s : Skeleton) → IsSkeleton s → IsConnected s.rows → (first : Option ℕ) → IsFirstInvalid s first → (o : Outcome) × Told s o
 by_first s k connected (Some c) h = (record { status = Refused; text = invalid_edge_line c }, inr (inl (connected, (c, h, refl))))
 by_first s k connected None h =

@@ -1,4 +1,4 @@
--- Of two connected tables, of which one can be relabelled to the other, a relabelling is answered.
+-- Two isomorphic connected tables have a least relabelling as their answer.
 use Rattle.std.proofs.Common.{◌≡◌, ℕ, zero, suc, ◌*◌, ◌%◌, ◌<◌, ◌≤◌, ◌⊎◌, inl, inr, Bool, true, false, List, [], ◌∷◌, length, sym, ap, ap₂, subst, refl, ◌∙◌, arith}
 use Rattle.std.specs.Prelude.{slice_index}
 use Rattle.std.specs.List.{slice_index_or}
@@ -22,7 +22,7 @@ use Rattle.signature_laws.proofs.Matching.{no_relabelling, first_match_is_least}
 use Rattle.signature_laws.proofs.Uniqueness.{neither_before}
 use Rattle.signature_laws.proofs.Walks.{walks_exist_lem}
 
--- texts are the same or not
+-- two texts are equal or not
 pub same_or_not : (xs ys : List ℕ) → (xs ≡ ys) ⊎ (xs ≡ ys → ⊥)
 same_or_not xs ys = go (is_list_before xs ys) (is_list_before ys xs) refl refl
   where
@@ -41,7 +41,7 @@ module _ (second target : List Row) (ts : IsTable second) (cs : IsConnected seco
   abbrev Found : ℕ → Type 0
   Found i = (by : Relabelling) × IsWalked second (numbered_start_back i) by target
 
-  -- the walk from a start leads to the target or not
+  -- the traversal from a start results in the target or not
   decide : (i : ℕ) → i < 24 * length second → IsNoMatch second target i ⊎ Found i
   decide i l =
       let w = walks_exist_lem second (numbered_start_back i) ts cs (omega arith) (inverse_permutes (slice_index_or words (i % 24) []) (words_permute (i % 24) (omega arith))) in
@@ -70,7 +70,7 @@ module _ (second target : List Row) (ts : IsTable second) (cs : IsConnected seco
     ]
   ]
 
--- where there are no tetrahedra nothing stands for the first
+-- a relabelling of no tetrahedra has the default values for tetrahedron 0
 no_stand : (by : Relabelling) → IsRelabelling 0 by → relabelled_place by 0 ≡ record { tet = 0; perm = [] }
 no_stand by h = (λ j. record { tet = image by.images (length-images 0 by h) j; perm = perm by.perms h.perms j })
   where

@@ -1,4 +1,4 @@
--- The parts of a table are signed, and put in order.
+-- The components of a table have signatures, and an order by these.
 use Rattle.std.proofs.Common.{◌≡◌, ℕ, zero, suc, ◌<◌, ◌≤◌, List, [], ◌∷◌, ◌++◌, length, All, ap, refl, ◌∙◌, arith}
 use Rattle.std.proofs.lemmas.List.{map-append}
 use Rattle.std.proofs.lemmas.List.Elements.{All-push, All-nil}
@@ -16,13 +16,13 @@ use Rattle.component_laws.specs.Ordered.{Entry, texts_of, numbers_of, AreInOrder
 use Rattle.component_laws.proofs.OrderLemmas.{signs}
 use Rattle.outcome_existence_laws.proofs.Sorting.{sort}
 
--- the first i parts, signed
+-- the signatures of the first i components
 record SignedUpTo (parts : List Part) (i : ℕ) : Type 0 where
   entries : List Entry
   each : All (λ (e : Entry). IsSignature (part_at parts e.number).rows e.text) entries
   numbers : numbers_of entries ≡ below i
 
--- the parts in order
+-- the components in the order of their signatures
 pub record InOrder (rows : List Row) : Type 0 where
   pub parts : List Part
   pub are_parts : AreParts rows parts

@@ -1,4 +1,4 @@
--- Of two tables, of which one can be relabelled to the other, a relabelling is answered part by part.
+-- Two isomorphic tables have a relabelling component by component as their answer.
 use Rattle.std.proofs.Common.{◌≡◌, ℕ, ◌<◌, ◌≤◌, ◌⊎◌, inl, inr, List, [], length, slice_index, slice_index_or, subst, sym, ap, refl, ◌∙◌, arith}
 use Rattle.std.proofs.lemmas.Bool.{cases_lt}
 use Rattle.std.proofs.lemmas.List.FromFn.{length-map-range_with_len}
@@ -32,7 +32,7 @@ same_texts first second P Q E F tf ts p q o o' r =
     (relabelled_same_text first second (component_text (texts_of E)) (component_text (texts_of F)) tf ts a b r)
 
 module _ (n : ℕ) (P : List Part) (E : List Entry) (Q : List Part) (F : List Entry) (m : AreMatched n P E Q F) where
-  -- what is answered of the parts at a place
+  -- the least relabelling of the components with index i in the order
   told_at : (i : ℕ) → i < length E → (r : Relabelling) × IsLeastRelabelling (part_in P E i).rows (part_in Q F i).rows r
   told_at i l =
       let k = there n P E Q F m i l in
@@ -55,7 +55,7 @@ module _ (n : ℕ) (P : List Part) (E : List Entry) (Q : List Part) (F : List En
   unfolding told
   told_is i l = chosen_is i (cases_lt i (length E)) l
 
-  -- the place of a part in the order
+  -- the index of a component in the order
   place : (a : ℕ) → (a < length P) ⊎ (length P ≤ a) → ℕ
   place a (inl l) = (order_holds (length P) (numbers_of E) (permutes P E m.in_order) a l).0
   place a (inr past) = 0

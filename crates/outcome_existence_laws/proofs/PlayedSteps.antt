@@ -1,4 +1,4 @@
--- Each table and steps have an answer to `play`.
+-- Each table with steps has an answer to `play`.
 use Rattle.std.proofs.Common.{◌≡◌, ℕ, zero, suc, ◌+◌, ◌≤◌, inl, inr, List, [], ◌∷◌, ◌++◌, length, take, Option, Some, None, refl, arith}
 use Rattle.std.specs.List.{AllByRecursion}
 use Rattle.std.proofs.lemmas.Bool.{cases_lt}
@@ -14,14 +14,14 @@ use Rattle.outcome_definitions.specs.Outcomes.{Outcome}
 use Rattle.outcome_definitions.specs.Scripts.{script_outcome, IsScriptAnswer}
 use Rattle.outcome_existence_laws.proofs.ReadTables.{HasCore}
 
--- moves that lead on do so up to each of them
+-- if all moves can be played, so can the first n
 played_before : (rows : List Row) (moves : List Move) (last : List Row) (n : ℕ) → PlaysAll rows moves last → (table : List Row) × PlaysAll rows (take n moves) table
 played_before rows [] last zero h = (rows, refl)
 played_before rows [] last (suc n) h = (rows, refl)
 played_before rows (m ∷ ms) last zero h = (rows, refl)
 played_before rows (m ∷ ms) last (suc n) h = let rest = played_before h.0 ms last n h.2 in (rest.0, (h.0, h.1, rest.1))
 
--- the first table is one, and the moves that are kept lead on from it
+-- the first table is one, and the moves of the session can be played on it
 record IsSound (s : Session) : Type 0 where
   table : IsTable s.first
   in_range : s.played ≤ length s.moves

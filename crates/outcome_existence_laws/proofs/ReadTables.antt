@@ -1,4 +1,4 @@
--- What is read of an input is a table, or all of it are tables, and the moves of steps have cores.
+-- The document of an input holds a table, or tables alone, and the moves of steps have cores.
 use Rattle.std.proofs.Common.{◌≡◌, List, [], ◌∷◌, Result, Ok, ap, subst}
 use Rattle.std.specs.Prelude.{ℕ, ⊤}
 use Rattle.std.specs.List.{AllZip, AllByRecursion}
@@ -55,7 +55,7 @@ all_are_tables bytes tables e =
     same : (xs : List (List Row)) → ◌≡◌ {A = Result (List (List Row)) InputFault} (Ok xs) (Ok tables) → xs ≡ tables
     same xs f = cc
 
--- a table and blocks
+-- the document holds a table and blocks
 pub table_with_blocks : (bytes : List ℕ) (d : List Row × List Block) → blocks_document bytes ≡ Ok d → IsTable d.0
 unfolding blocks_document
 table_with_blocks bytes d e =

@@ -1,4 +1,4 @@
--- Each table, each two and each list of tables have an answer to `sig`, `same` and `group`.
+-- Each table, each two tables and each list of tables have an answer to `sig`, `same` and `group`.
 use Rattle.std.proofs.Common.{◌≡◌, ◌≢◌, ℕ, zero, suc, ◌<◌, ◌≤◌, ◌⊎◌, inl, inr, List, [], ◌∷◌, ◌++◌, length, take, add-one, refl, sym, subst, arith}
 use Rattle.std.specs.List.{AllByRecursion}
 use Rattle.std.proofs.lemmas.Bool.{cases_lt}
@@ -36,7 +36,7 @@ some_same pair tf ts = elim (connected_or_unreached_lem pair.0 tf) [
   ]
 ]
 
--- a text has a place among signatures, or is put behind them
+-- a text is one of the signatures, or is appended to them
 placed : (before : List (List ℕ)) (text : List ℕ) → (class : ℕ) × (now : List (List ℕ)) × IsClassed before text class now
 placed before text = elim (all_or_one (λ c. signature_in before c ≢ text) (λ c. signature_in before c ≡ text) decide (length before)) [
   | inl nowhere ↦ (length before, before ++ text ∷ [], inr (record { last = refl; nowhere = nowhere; appended = refl }))

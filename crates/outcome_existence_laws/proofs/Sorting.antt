@@ -12,7 +12,7 @@ before e f = is_lt (compared e f)
 order : IsStrictWeakOrder before
 order = ranks_by (then_total (on_total (λ (e : Entry). e.text) nat_list_cmp_total) (on_total (λ (e : Entry). e.number) nat_cmp_total)) (λ (e : Entry). e)
 
--- no entry stands before an earlier one
+-- each entry is at least those before it
 Ascend : List Entry → Type 0
 Ascend [] = Unit {0}
 Ascend (e ∷ es) = All (λ f. before f e ≡ false) es × Ascend es
@@ -61,6 +61,6 @@ sorted (e ∷ f ∷ es) a zero d low h = All-head (λ g. before g e ≡ false) f
 sorted (e ∷ f ∷ es) a (suc k) d low h = let next : suc (k + 1) ≡ suc k + 1 = omega arith in
     subst (λ j. is_lt (compared (slice_index_or (e ∷ f ∷ es) j d) (slice_index_or (e ∷ f ∷ es) (suc k) d)) ≡ false) next (sorted (f ∷ es) a.1 k d (omega arith) (omega arith))
 
--- so they have an order
+-- each list of entries has an order
 pub sort : (es : List Entry) → (list : List Entry) × IsPermutation es list × IsSorted compared list
 sort es = let p = put es in (p.list, p.same, sorted p.list p.ascend)

@@ -1,4 +1,4 @@
--- Texts without full stops, joined by them, are what stands between them.
+-- Texts without full stops, joined by full stops, are the sections between these.
 use Rattle.std.proofs.Common.{◌≡◌, ◌≢◌, ℕ, ◌<◌, Bool, true, false, List, [], ◌∷◌, ◌++◌, length, subst, sym, ap, refl, ◌∙◌, arith}
 use Rattle.std.specs.Prelude.{◌==◌}
 use Rattle.std.specs.List.{onto_first}
@@ -22,12 +22,12 @@ no_stop b n = go (b == 46) refl
     go true e = absurd (n (eqb-true b 46 e))
     go false e = e
 
--- a text without a full stop is one piece
+-- a text without a full stop is a single section
 alone : (text : List ℕ) → HasNoStop text → between_stops text ≡ text ∷ []
 alone [] h = refl
 alone (b ∷ text) h = slice_split-cons_no (λ c. c == 46) b text (no_stop b h.0) ∙ ap (onto_first b) (alone text h.1)
 
--- and the first piece before one
+-- a text without a full stop, before a full stop, is the first section
 front : (text more : List ℕ) → HasNoStop text → between_stops (text ++ 46 ∷ more) ≡ text ∷ between_stops more
 front [] more h = refl
 front (b ∷ text) more h = slice_split-cons_no (λ c. c == 46) b (text ++ 46 ∷ more) (no_stop b h.0) ∙ ap (onto_first b) (front text more h.1)
@@ -37,7 +37,7 @@ split_joined [] l h = absurd (omega arith)
 split_joined (text ∷ []) l h = alone text h.0.no_stop
 split_joined (text ∷ next ∷ texts) l h = front text (component_text (next ∷ texts)) h.0.no_stop ∙ ap (λ (ts : List (List ℕ)). text ∷ ts) (split_joined (next ∷ texts) (omega arith) h.1)
 
--- a table of some tetrahedra has a part
+-- a table that is not empty has a component
 pub some_texts : (rows : List Row) (text : List ℕ) → IsTable rows → 0 < length rows → (a : IsComponentSignature rows text) → 0 < length a.ordered
 some_texts rows text table some a =
     let s = stands_at rows table a.parts a.are_parts 0 some in

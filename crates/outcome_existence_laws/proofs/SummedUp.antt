@@ -47,7 +47,7 @@ greatest_of (entry ∷ x) =
       )
     ]
 
--- the greatest entry of vectors
+-- the greatest entry of a list of vectors
 all_raised : (list : List (List ℕ)) (a b : ℕ) → a ≤ b → AreUpTo a list → AreUpTo b list
 all_raised list a b l h i d m = raised _ a b l (h i d m)
 

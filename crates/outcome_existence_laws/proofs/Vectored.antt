@@ -1,4 +1,4 @@
--- Each table and vectors have an answer to `crush`, `lift` and `describe`.
+-- Each table with vectors has an answer to `crush`, `lift` and `describe`.
 use Rattle.std.proofs.Common.{◌≡◌, ◌≢◌, ℕ, ◌⊎◌, inl, inr, List, Option, Some, None, Result, Ok, Err, refl}
 use Rattle.std.specs.Prelude.{sum}
 use Rattle.text_definitions.specs.Written.{limit}

@@ -1,4 +1,4 @@
--- Words and an input are due one outcome.
+-- Words and an input have one outcome only.
 use Rattle.std.proofs.Common.{◌≡◌, ◌≢◌, ℕ, Bool, true, false, List, refl, sym, ap, ◌∙◌, subst}
 use Rattle.std.specs.Prelude.{Option, Some, None, Result, Ok, Err, codes}
 use Rattle.std.specs.Bool.{MatchBool}
@@ -31,7 +31,7 @@ use Rattle.outcome_laws.proofs.Making.{one_make, one_bulk}
 use Rattle.outcome_laws.proofs.Vectored.{one_describe, one_crush, one_lifts}
 use Rattle.outcome_laws.proofs.ReadPairs.{both_are_tables, table_with_vector}
 
--- the equations of a table are one list
+-- the equations of a table are unique
 one_verdicts : (coords : Coords) (d : List Row × List (List ℕ)) (o p : Outcome) → IsVerdictsAnswer coords d o → IsVerdictsAnswer coords d p → o ≡ p
 one_verdicts coords d o p h k = h.2 ∙ ap (λ equations. verify_outcome coords d.0 equations d.1) (one_equations coords d.0 h.0 k.0 h.1 k.1) ∙ sym k.2
 

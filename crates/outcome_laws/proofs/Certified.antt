@@ -1,4 +1,4 @@
--- What is answered of a check and of a descent is one text, and there is one.
+-- The answers of `check` and `descend` are unique and exist.
 use Rattle.std.proofs.Common.{◌≡◌, ℕ, List, [], ◌∷◌, Result, Ok, refl, sym, ap, ◌∙◌, subst}
 use Rattle.std.specs.Prelude.{All}
 use Rattle.std.specs.List.{AllZip, AllByRecursion}
@@ -36,7 +36,7 @@ pub some_descend : (rows : List Row) → IsTable rows → (o : Outcome) × IsDes
 some_descend rows table =
     let a = descent_answers_exist_lem rows table in (descend_outcome a.0, record { told = a.0; descended = a.1; outcome = refl })
 
--- what is read is a table, with moves that have cores
+-- the document holds a table, with moves that have cores
 
 pub table_alone : (bytes : List ℕ) (rows : List Row) → table_document bytes ≡ Ok rows → IsTable rows
 unfolding table_document

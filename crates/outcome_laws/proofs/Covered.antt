@@ -1,4 +1,4 @@
--- What is answered of the cover of a table is one text, and each table has one.
+-- The answer of `cover` for a table is unique and exists.
 use Rattle.std.proofs.Common.{◌≡◌, ℕ, ◌*◌, ◌<◌, ◌⊎◌, inl, inr, Bool, true, false, List, length, Option, None, Some, MatchOption, if◌then◌else◌, refl, sym, ap, subst, ◌∙◌, arith}
 use Rattle.std.specs.Prelude.{nat_lt}
 use Rattle.std.proofs.lemmas.Bool.{cases_lt, lt-ltb, le-ltb, false≢true}
@@ -24,7 +24,7 @@ one_cover rows o p h k = by_fault (cover_fault rows) h k
     by_fault None a b = one_told rows o p a b
     by_fault (Some f) a b = a ∙ sym b
 
--- in a table it is decided whether every two tetrahedra are joined
+-- a table is connected or not
 pub connected_or_not : (rows : List Row) → IsTable rows → IsConnected rows ⊎ (IsConnected rows → ⊥)
 connected_or_not rows table = elim (all_or_one Reached Missed decide (length rows)) [
   | inl all ↦ inl (λ t u lt lu. joined_trans rows (whole t) (whole 0) (whole u) (joined_sym rows (whole 0) (whole t) table tt (all t lt lt)) (all u lu lu))

@@ -1,5 +1,5 @@
--- An enumeration in a named order has one answer: one list, or one ray or pair where a number exceeds the limit, and
--- not both.
+-- An enumeration in a named order has a unique answer: one list, or one ray or pair at which a number exceeds the
+-- limit.
 use Rattle.std.proofs.Common.{◌≡◌, ◌≢◌, ℕ, inl, inr, List, sym, ap, ap₂, ◌∙◌}
 use Rattle.std.proofs.lemmas.List.Sorted.{IsPermutation-refl}
 use Rattle.cone_definitions.specs.Listings.{Enumeration, IsListed}

@@ -1,4 +1,4 @@
--- What is answered of a table is one text.
+-- The answer of `info` for a table is unique.
 use Rattle.std.proofs.Common.{◌≡◌, ℕ, zero, suc, ◌*◌, ◌<◌, ◌↔◌, Bool, true, false, List, ◌++◌, length, slice_index_or, subst, sym, ap, ap₂, refl, ◌∙◌, arith}
 use Rattle.std.specs.Prelude.{IsTrue}
 use Rattle.std.proofs.lemmas.List.{get_or_default}
@@ -14,14 +14,14 @@ use Rattle.outcome_definitions.specs.Outcomes.{Outcome}
 use Rattle.outcome_definitions.specs.Information.{Information, IsInformation, IsInformationAnswer, no_link, AreValid, vertex_line, vertex_text, edge_line, edge_text, classes_text, flags_text, counts_text, information_text}
 use Rattle.skeleton_definitions.proofs.OneSkeleton.{one_classes, one_skeleton}
 
--- two tests of the same fact are equal
+-- two truth values of one proposition are equal
 pub same_test : (P : Type 0) (a b : Bool) → IsTrue a ↔ P → IsTrue b ↔ P → a ≡ b
 same_test P true true h k = refl
 same_test P true false h k = sym (k.1 (h.0 refl))
 same_test P false true h k = h.1 (k.0 refl)
 same_test P false false h k = refl
 
--- a vertex class has one link
+-- the link of a vertex class is unique
 one_link : (rows : List Row) (classes directions : List ℕ) (c : ℕ) (l m : Link) → IsLink rows classes directions c l → IsLink rows classes directions c m → l ≡ m
 one_link rows classes directions c l m h k = λ i. record {
   triangles = triangles i;
@@ -54,7 +54,7 @@ one_link rows classes directions c l m h k = λ i. record {
     kind : l.kind ≡ m.kind
     kind = h.kind ∙ (λ i. kind_of (closed i) (euler i) (orientable i)) ∙ sym k.kind
 
--- the links of the classes below n agree
+-- two lists of links agree at the classes that both have
 links_agree : (s : Skeleton) (n m : ℕ) (links others : List Link) → AreLinks s n links → AreLinks s m others → (c : ℕ) → c < n → c < m →
     slice_index_or links c no_link ≡ slice_index_or others c no_link
 links_agree s n m links others h k c l r = one_link s.rows s.vertices.classes k.0 c one other
@@ -71,7 +71,7 @@ links_agree s n m links others h k c l r = one_link s.rows s.vertices.classes k.
     same : h.0 ≡ k.0
     same = one_classes (12 * length s.rows) (SameDirected s.rows) h.0 k.0 h.1 k.1 h.2 k.2
 
--- equal lines make equal texts
+-- equal lines for the classes below n make equal texts
 same_lines : (text other : ℕ → List ℕ) (n : ℕ) → ((c : ℕ) → c < n → text c ≡ other c) → classes_text text n ≡ classes_text other n
 unfolding classes_text
 same_lines text other zero h = refl

@@ -1,4 +1,4 @@
--- What is answered of signatures, of two tables and of the classes of tables is one text.
+-- The answers about signatures, two tables and the classes of tables are unique.
 use Rattle.std.proofs.Common.{◌≡◌, ℕ, ◌<◌, inl, inr, List, subst, sym, ap, ap₂, ◌∙◌}
 use Rattle.std.proofs.lemmas.Bool.{cases_order}
 use Rattle.table_definitions.specs.Table.{Row, IsTable}

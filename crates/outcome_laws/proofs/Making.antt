@@ -1,4 +1,4 @@
--- A seed and a number of moves have one answer: one table with one certificate, and one summary of its surfaces.
+-- A seed and a number of moves have a unique answer: one table with one certificate, and one summary of its surfaces.
 use Rattle.std.proofs.Common.{◌≡◌, ◌≢◌, ◌⊎◌, ℕ, List, length, inl, inr, refl, sym, ap₂, ◌∙◌, subst}
 use Rattle.std.proofs.Math.Nat.{le_antisymm}
 use Rattle.std.proofs.lemmas.List.Sorted.{IsPermutation-refl}
@@ -24,13 +24,13 @@ one_make seed moves o p h k =
     let same : (h.table ≡ k.table) × (h.certificate ≡ k.certificate) = one_is_made_lem seed moves h.table k.table h.certificate k.certificate h.made k.made in
     h.outcome ∙ ap₂ make_outcome same.0 same.1 ∙ sym k.outcome
 
--- and there is one
+-- each seed and number of moves have a table and a certificate
 pub some_make : (seed moves : ℕ) → (o : Outcome) × IsMakeAnswer seed moves o
 some_make seed moves =
     let made = tables_are_made_lem seed moves in
     (make_outcome made.0 made.1, record { table = made.0; certificate = made.1; made = made.2; outcome = refl })
 
--- the summary of a table
+-- the greatest entry, and so the summary of a table, is unique
 
 one_greatest : (list : List (List ℕ)) (a b : ℕ) → IsGreatestEntry list a → IsGreatestEntry list b → a ≡ b
 one_greatest list a b h k = le_antisymm (h.least b k.up_to) (k.least a h.up_to)

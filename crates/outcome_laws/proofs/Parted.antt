@@ -1,4 +1,4 @@
--- What is answered of the parts of a table, and of the parts of two tables, is one text.
+-- The answers about the components of a table, and about those of two tables, are unique.
 use Rattle.std.proofs.Common.{◌≡◌, ℕ, List, inl, inr, sym, ap, ◌∙◌}
 use Rattle.table_definitions.specs.Table.{Row, IsTable}
 use Rattle.table_definitions.specs.Relabelling.{Relabelling}

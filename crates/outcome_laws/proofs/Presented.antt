@@ -1,4 +1,4 @@
--- What is answered of the group of a table is one text.
+-- The answer about the group of a table is unique.
 use Rattle.std.proofs.Common.{◌≡◌, ℕ, ◌⊎◌, inl, inr, List, None, Some, subst, sym, ap, ◌∙◌}
 use Rattle.std.proofs.lemmas.Bool.{cases_order}
 use Rattle.table_definitions.specs.Table.{Row}
@@ -16,7 +16,7 @@ use Rattle.outcome_definitions.specs.Presented.{presentation_text, IsPresented, 
 use Rattle.outcome_laws.proofs.Labelled.{one_not_connected, not_both}
 use Rattle.skeleton_definitions.proofs.OneSkeleton.{one_skeleton}
 
--- the least invalid edge class is one
+-- the least invalid edge class is unique
 one_invalid : (s : Skeleton) (c d : ℕ) → IsFirstInvalid s (Some c) → IsFirstInvalid s (Some d) → c ≡ d
 one_invalid s c d h k = elim (cases_order c d) [
   | inl e ↦ e

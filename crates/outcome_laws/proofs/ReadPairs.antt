@@ -1,4 +1,4 @@
--- The first of two tables that are read is a table, and so is one that is read with a vector.
+-- Both tables of a document of two tables are tables, and so is the one of a document of a table and a vector.
 use Rattle.std.proofs.Common.{◌≡◌, List, ap, subst, Result, Ok}
 use Rattle.std.specs.Prelude.{ℕ}
 use Rattle.text_definitions.specs.Reading.{Reading, ◌>>=◌, start_of, need_line_at}

@@ -1,4 +1,4 @@
--- A script has one answer: a session has one table, and a step one answer.
+-- A script has a unique answer: a session has one table, and a step one answer.
 use Rattle.std.proofs.Common.{◌≡◌, List, [], ◌∷◌, take, Some, None, sym, ap, ap₂, ◌∙◌, subst, arith}
 use Rattle.table_definitions.specs.Table.{Row}
 use Rattle.move_definitions.specs.declared.MoveFault.{MoveFault}
@@ -12,7 +12,7 @@ use Rattle.move_laws.proofs.Played.{all_played_same}
 one_table : (s : Session) (t u : List Row) → IsTableOf s t → IsTableOf s u → t ≡ u
 one_table s t u h k = all_played_same s.first (take s.played s.moves) t u h.reached k.reached
 
--- a move is refused with one fault, and not accepted then
+-- the error of a refused move is unique
 one_fault : (s : Session) (m : Move) (e f : MoveFault) → IsRefused s m e → IsRefused s m f → e ≡ f
 one_fault s m e f h k =
     let same : Some e ≡ Some f = sym h.2 ∙ ap (λ (t : List Row). play_fault t m) (one_table s h.0 k.0 h.1 k.1) ∙ k.2 in cc
@@ -21,7 +21,7 @@ not_both : (s : Session) (m : Move) (f : MoveFault) → IsAccepted s m → IsRef
 not_both s m f h k =
     let same : None ≡ Some f = sym h.2 ∙ ap (λ (t : List Row). play_fault t m) (one_table s h.0 k.0 h.1 k.1) ∙ k.2 in cc
 
--- a step has one answer, and leads to one session
+-- a step has a unique answer and results in a unique session
 one_step : (s : Session) (step : Step) (a b : StepAnswer) (n m : Session) → IsSessionStep s step a n → IsSessionStep s step b m → (a ≡ b) × (n ≡ m)
 one_step s (play move) done done n m h k = (cc, h.1 ∙ sym k.1)
 one_step s (play move) done (illegal f) n m h k = absurd (not_both s move f h.0 k.0)

@@ -1,4 +1,4 @@
--- What is answered of sums of surfaces is one outcome.
+-- The answers about sums of surfaces are unique.
 use Rattle.std.proofs.Common.{◌≡◌, ◌≢◌, ℕ, suc, List, [], ◌∷◌, ◌++◌, length, inl, inr, Option, Some, None, Result, Ok, Err, refl, sym, ap, ap₂, ◌∙◌, subst, subst₂, arith}
 use Rattle.std.specs.List.{All, AllZip, AllByRecursion}
 use Rattle.std.proofs.lemmas.List.Sorted.{IsPermutation-refl}
@@ -28,14 +28,14 @@ use Rattle.outcome_definitions.specs.Sums.{IsFirstRefused, AreAnswered, IsVerdic
 use Rattle.surface_definitions.proofs.OneSystem.{one_equations}
 use Rattle.outcome_laws.proofs.Enumerated.{one_past_told}
 
--- vectors whose verdicts are all told as accepted are fit
+-- vectors that all pass the check are admissible solutions within the limit
 pub verdicts_fit : (coords : Coords) (rows : List Row) (equations : List EquationRow) (vectors : List (List ℕ)) (passed : List (Unit {0}))
     → AllZip (λ x answer. IsVerdict coords rows equations x (Ok answer)) vectors passed → AllByRecursion (IsFit coords rows equations) vectors
 verdicts_fit coords rows equations [] passed h = tt
 verdicts_fit coords rows equations (x ∷ vectors) [] h = absurd h
 verdicts_fit coords rows equations (x ∷ vectors) (u ∷ passed) h = (h.0, verdicts_fit coords rows equations vectors passed h.1)
 
--- where what is answered of each is determined, so is what is answered of all
+-- if the result for each item is unique, so is that for the list
 module _ {A B E : Type 0} (IsTold : A → Result B E → Type 0) (one : (x : A) (r s : Result B E) → IsTold x r → IsTold x s → r ≡ s) where
   ok_same : (a b : B) → (let r : Result B E = Ok a in r ≡ Ok b) → a ≡ b
   ok_same a b e = cc
@@ -57,14 +57,14 @@ module _ {A B E : Type 0} (IsTold : A → Result B E → Type 0) (one : (x : A) 
   abbrev Passes : A → Type 0
   Passes x = (answer : B) × IsTold x (Ok answer)
 
-  -- what is refused in a list is told nowhere
+  -- no item of a list with answers is refused
   none_refused : (before : List A) (value : A) (after : List A) (cs : List B) (f : E) → AllZip (λ x a. IsTold x (Ok a)) (before ++ value ∷ after) cs → IsTold value (Err f) → ⊥
   none_refused [] value after [] f z h = absurd z
   none_refused [] value after (c ∷ cs) f z h = not_both value c f z.0 h
   none_refused (x ∷ before) value after [] f z h = absurd z
   none_refused (x ∷ before) value after (c ∷ cs) f z h = none_refused before value after cs f z.1 h
 
-  -- the first that is refused is one
+  -- both indices are equal, and so are both refusals
   abbrev SamePlace : (first second : ℕ) (f g : E) → Type 0
   SamePlace first second f g = (first ≡ second) × (f ≡ g)
 
@@ -166,7 +166,7 @@ module _ (coords : Coords) (rows : List Row) (equations : List EquationRow) wher
   some_same : (o : Option AddFault) (f g : AddFault) → o ≡ Some f → o ≡ Some g → f ≡ g
   some_same o f g h k = (let z : Some f ≡ Some g = sym h ∙ k in cc)
 
-  -- terms that are all fit have no first that is not
+  -- if all terms are solutions, there is no first term that is refused
   no_unfit_term : (terms : List Term) (i : ℕ) (fault : VectorFault) → All (λ (term : Term). verdict_in coords rows equations term.vector ≡ solution) terms → IsFirstRefused (IsTermVerdict coords rows equations) terms i fault → ⊥
   no_unfit_term terms i fault all h = at_value h.before (subst (λ (ts : List Term). All (λ (term : Term). verdict_in coords rows equations term.vector ≡ solution) ts) h.stands all)
     where

@@ -1,4 +1,4 @@
--- What is answered of the vectors of a table is one text.
+-- The answers about the vectors of a table are unique.
 use Rattle.std.proofs.Common.{◌≡◌, ◌⊎◌, ℕ, List, None, inl, inr, sym, ap, ◌∙◌, subst}
 use Rattle.cone_definitions.specs.Rows.{Row as EquationRow}
 use Rattle.table_definitions.specs.Table.{Row, IsTable}
@@ -34,7 +34,7 @@ one_described s coords vectors o p h k =
     let there : AreAnswered (IsDescription s coords h.equations) vectors k.told = subst (λ (q : List EquationRow). AreAnswered (IsDescription s coords q) vectors k.told) (sym e) k.described in
     h.outcome ∙ ap (describe_outcome s coords) (one_description_each s coords h.equations vectors h.told k.told h.described there) ∙ sym k.outcome
 
--- an invalid edge is told, or the vectors are described
+-- the outcome names the least invalid edge class, or describes the vectors
 abbrev Told : Skeleton → Coords → List (List ℕ) → Outcome → Type 0
 Told s coords vectors o = IsInvalidAnswered s o ⊎ (IsFirstInvalid s None × AreDescribed s coords vectors o)
 

@@ -1,4 +1,4 @@
--- What is answered of each listed surface decides 0-efficiency: those of positive Euler characteristic are the links if
+-- The answer about each listed surface decides 0-efficiency: those of positive Euler characteristic are the links if
 -- and only if they are linking.
 use Rattle.std.proofs.Common.{◌≡◌, ◌↔◌, ℕ, pos, ◌<ℤ◌, List, ◌++◌, map, Result, Ok, Err, inl, inr, All, Contains, sym, ap, ◌∙◌, subst}
 use Rattle.std.specs.List.{AllZip, slice_index_or}
@@ -65,7 +65,7 @@ module _ (s : Skeleton) (k : IsSkeleton s) (coords : Coords) (triangles : HasTri
     pub vectors_are : map (λ (d : Description). d.vector) told ≡ list
     vectors_are = zip_map IsTold (λ (d : Description). d.vector) (λ v d t. t.1) list told zipped
 
-  -- an answer that is done describes all vectors
+  -- an answer with the status of success describes all vectors
   pub decides_by : (rows : List Row) → s.rows ≡ rows → (list : List (List ℕ)) → IsSurfaceListOf s coords list → (o : Outcome) → o.status ≡ Done → (told : Result (List Description) (ℕ × Refusal))
       → AreAnswered (IsDescription s coords equations) list told → o ≡ describe_outcome s coords told → DecidesLinks coords rows o
   decides_by rows of_rows list surfaces o done (Err refusal) t e = absurd (never_done refusal.1 (sym (ap (λ (q : Outcome). q.status) e) ∙ done))

@@ -1,4 +1,4 @@
--- What is answered of each listed octagon surface tells whether there is an almost normal sphere.
+-- The answer about each listed octagon surface decides whether there is an almost normal sphere.
 use Rattle.std.proofs.Common.{◌≡◌, ◌↔◌, ℕ, List, ◌++◌, None, Result, Ok, Err, inl, inr, Contains, sym, ap, ◌∙◌, subst}
 use Rattle.std.specs.List.{AllZip}
 use Rattle.cone_definitions.specs.Rows.{Row as EquationRow}

@@ -1,4 +1,4 @@
--- The lists that are answered in standard, quad and octagon coordinates agree.
+-- The lists printed in standard, quad and octagon coordinates agree.
 use Rattle.std.proofs.Common.{◌≡◌, ℕ, List, ◌++◌, length, map, filter, All, Contains, subst}
 use Rattle.std.specs.List.{slice_index_or}
 use Rattle.std.proofs.lemmas.List.Elements.{All-contains, Contains-get_or}

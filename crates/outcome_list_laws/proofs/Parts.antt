@@ -1,4 +1,4 @@
--- The runs on the parts of a list together describe the list.
+-- The runs on the sections of a list together describe the list.
 use Rattle.std.proofs.Common.{◌≡◌, ℕ, List, [], ◌∷◌, ◌++◌, map, Result, Ok, Err, inl, inr, All, sym, refl, ap, ap₂, ◌∙◌, subst}
 use Rattle.std.specs.List.{AllZip, flat_map}
 use Rattle.std.proofs.lemmas.List.Elements.{All-head, All-tail}
@@ -34,7 +34,7 @@ zip_append R [] others (y ∷ ys) more z w = absurd z
 zip_append R (x ∷ xs) others [] more z w = absurd z
 zip_append R (x ∷ xs) others (y ∷ ys) more z w = (z.0, zip_append R xs others ys more z.1 w)
 
--- the vectors that are read, or these
+-- the vectors that were read, or `vectors` if there is an error
 abbrev read_or : {E : Type 0} → List (List ℕ) → Result (List Row × List (List ℕ)) E → List (List ℕ)
 read_or vectors (Ok document) = document.1
 read_or vectors (Err e) = vectors

@@ -1,4 +1,4 @@
--- What `surfaces` listed is read as the list of the table's vertex surfaces.
+-- A list printed by `surfaces` is read as the list of the vertex surfaces of the table.
 use Rattle.std.proofs.Common.{◌≡◌, ℕ, List, length, sym, subst}
 use Rattle.cone_definitions.specs.Rows.{Row as EquationRow}
 use Rattle.cone_definitions.specs.Surfaces.{IsSurfaceList}

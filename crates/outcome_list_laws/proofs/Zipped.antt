@@ -1,4 +1,4 @@
--- Two lists of which each thing of the one belongs to that of the other at its place.
+-- Two lists of which each item of the one belongs to the item of the other with the same index.
 use Rattle.std.proofs.Common.{◌≡◌, List, [], ◌∷◌, map, inl, inr, refl, sym, ap₂, subst}
 use Rattle.std.specs.List.{AllZip}
 use Rattle.table_definitions.proofs.TableLaws.{Among}
@@ -17,7 +17,7 @@ zip_on R (x ∷ xs) [] z a m = absurd z
 zip_on {A} R (x ∷ xs) (y ∷ ys) z a (inl e) = (y, inl refl, subst (λ (c : A). R c y) (sym e) z.0)
 zip_on R (x ∷ xs) (y ∷ ys) z a (inr m) = let r = zip_on R xs ys z.1 a m in (r.0, inr r.1, r.2)
 
--- where the second list tells what stands in the first, it gives that list back
+-- if each item of the second list determines that of the first, the first list is the list of these
 pub zip_map : {A B : Type 0} (R : A → B → Type 0) (f : B → A) → ((a : A) (b : B) → R a b → f b ≡ a) → (xs : List A) (ys : List B) → AllZip R xs ys → map f ys ≡ xs
 zip_map R f told [] [] z = refl
 zip_map R f told [] (y ∷ ys) z = absurd z

@@ -22,7 +22,7 @@ use Rattle.outcome_written_laws.proofs.WrittenMoves.{written_moves_read}
 accepted_there : (rows : List Row) (moves : List Move) (o : Outcome) → IsCertificate rows moves → o ≡ done accepted_text → IsCheckAnswer (rows, moves) o
 accepted_there rows moves o c e = record { told = Ok tt; checked = c; outcome = e }
 
--- what is refused has another status
+-- the status of an error is not that of success
 refused_not_done : (fault : CheckFault (List ℕ)) → check_outcome (Err fault) ≡ done accepted_text → ⊥
 refused_not_done fault e = let same : Refused ≡ Done = ap (λ (o : Outcome). o.status) e in cc
 

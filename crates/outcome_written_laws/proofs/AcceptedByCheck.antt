@@ -1,4 +1,5 @@
--- The outcome of `check` is that what is written for a certificate is accepted, since it is short.
+-- The one outcome of `check` for the text of a certificate is that it is accepted, if the text is short enough for an
+-- input.
 use Rattle.std.proofs.Common.{◌≡◌, ◌≤◌, ℕ, ◌+◌, ◌*◌, Bool, true, false, List, length, Option, sym, ap, subst, arith}
 use Rattle.std.specs.Prelude.{◌↔◌}
 use Rattle.std.specs.Bool.{MatchBool}
@@ -39,7 +40,7 @@ accepted_by_check text short read words o asked = (
 pub check_accepts_certificates : CheckAcceptsCertificates
 check_accepts_certificates rows moves table c short = accepted_by_check (table_then_moves rows moves) short (certificates_accepted rows moves table c)
 
--- as many moves as a table may have tetrahedra are within the limit
+-- the text of at most `max_tets` moves is within the limit of an input
 short_by : (rows : List Row) (moves : List Move) → IsTable rows → IsCertificate rows moves → length moves ≤ max_tets → length (table_then_moves rows moves) ≤ most_bytes
 short_by rows moves table c few =
     let n : length rows ≤ max_tets = table.few in

@@ -33,13 +33,13 @@ use Rattle.outcome_written_laws.proofs.SmallNumbers.{second_factor, each_term}
 use Rattle.outcome_written_laws.proofs.Verdicts.{IsAdmissibleSolution, small_is_fit, large_is_unfit}
 use Rattle.outcome_written_laws.proofs.TermVerdicts.{blocks_or_large}
 
--- a block of a vector that is fit, whose terms are surfaces and add up
+-- a block whose vector is an admissible solution within the limit, and whose terms are surfaces that add up to it
 pub record IsSumBlock (coords : Coords) (rows : List Row) (equations : List EquationRow) (block : Block) : Type 0 where
   pub vector : IsFit coords rows equations block.vector
   pub terms : AllByRecursion (λ (term : Term). IsAdmissibleSolution coords rows equations term.vector) block.terms
   pub adds_up : add_fault limit block.vector block.times block.terms ≡ None
 
--- what holds of all holds in front of an item, and of it
+-- what holds of all items holds of those before an item, and of the item
 parted : {A : Type 0} (P : A → Type 0) (before : List A) (value : A) (after : List A) → AllByRecursion P (before ++ value ∷ after) → AllByRecursion P before × P value
 parted P [] value after h = (tt, h.0)
 parted P (x ∷ before) value after h = (let more = parted P before value after h.1 in ((h.0, more.0), more.1))
@@ -51,7 +51,7 @@ module _ (coords : Coords) (rows : List Row) (equations : List EquationRow) wher
   abbrev IsTermFit : Term → Type 0
   IsTermFit term = IsFit coords rows equations term.vector
 
-  -- small terms are fit
+  -- a term that is a surface, with no part of an equation above the limit, is accepted
   terms_are_fit : (terms : List Term) → AllByRecursion IsTermSurface terms → AllByRecursion (IsSmallTerm equations) terms → AllByRecursion IsTermFit terms
   terms_are_fit [] s h = tt
   terms_are_fit (term ∷ terms) s h = (small_is_fit coords rows equations term.vector s.0 h.0, terms_are_fit terms s.1 h.1)
@@ -124,7 +124,7 @@ module _ (coords : Coords) (rows : List Row) (equations : List EquationRow) wher
 
 -- ---- the blocks of sums
 
--- a lesser vector has lesser parts
+-- a vector that is at most another at each column has smaller parts
 parts_below : (equation : EquationRow) (v x : List ℕ) → ((j : ℕ) → slice_index v j ≤ slice_index x j) → HasPartsWithin limit equation x → HasPartsWithin limit equation v
 parts_below equation v x below parts =
     let plus : plus_part equation v ≤ plus_part equation x =
@@ -133,7 +133,7 @@ parts_below equation v x below parts =
     sum_by-le-sum_by (λ (t : ℕ × ℤ). negative_coefficient t.1 * slice_index v t.0) (λ (t : ℕ × ℤ). negative_coefficient t.1 * slice_index x t.0) equation (λ t. mul-le-mul_left (negative_coefficient t.1) (below t.0)) in
     (omega (arith, parts.0), omega (arith, parts.1))
 
--- a vector that is fit has the rays of the list, whose vectors are surfaces
+-- an admissible solution within the limit has the rays of the list, whose vectors are surfaces
 module _ (coords : Coords) (most : ℕ) (rows : List Row) (equations : List EquationRow) (list : List (List ℕ))
     (surfaces : IsSurfaceList (columns coords (length rows)) equations (clash_list coords (length rows)) list) where
   pub fit_has_rays : (x : List ℕ) → IsFit coords rows equations x → HasRays (columns coords (length rows)) equations list x
@@ -172,7 +172,7 @@ module _ (coords : Coords) (most : ℕ) (rows : List Row) (equations : List Equa
       });
     }
 
-    -- where the vector is taken once, no term's entry is above its own
+    -- if the block takes its vector once, each term has no entry above that of the vector
     below_vector : (terms : List Term) → block.times ≡ 1 → AllByRecursion (λ (term : Term). 1 ≤ term.count) terms
         → AllByRecursion (λ (term : Term). (j : ℕ) → term.count * slice_index term.vector j ≤ block.times * slice_index block.vector j) terms → AllByRecursion (IsSmallTerm equations) terms
     below_vector [] once some within = tt
@@ -194,7 +194,7 @@ module _ (coords : Coords) (most : ℕ) (rows : List Row) (equations : List Equa
     whole_is_small once = All-from_recursion (IsSmallTerm equations) block.terms (below_vector block.terms once (recursion_from_All (λ (term : Term). 1 ≤ term.count) block.terms right.counts)
         (each_term block.terms (λ j. block.times * slice_index block.vector j) (λ j. let e = right.adds_up.equal j in omega arith)))
 
--- what holds of each block of sums
+-- what holds of each sum holds of each block
 each_block : (coords : Coords) (most : ℕ) (rows : List Row) (equations : List EquationRow) (list : List (List ℕ)) (P : Block → Type 0)
     → ((block : Block) → IsFit coords rows equations block.vector → IsSum most list block.vector block.times block.terms → P block)
     → (vectors : List (List ℕ)) (blocks : List Block) → AllByRecursion (IsFit coords rows equations) vectors → AllZip (λ x block. IsSummed most list x (Ok block)) vectors blocks → AllByRecursion P blocks

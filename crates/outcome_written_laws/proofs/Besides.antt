@@ -1,4 +1,4 @@
--- The quads beside each vertex, added over vertices that are apart, are at most four times all quads.
+-- The quads of the tetrahedra of distinct vertices add up to at most four times the sum of all quads.
 use Rattle.std.proofs.Common.{◌≡◌, ℕ, zero, suc, ◌+◌, ◌*◌, ◌/◌, ◌<◌, ◌≤◌, ⊎_elim, List, [], ◌∷◌, length, take, inl, inr, refl, sym, ap, subst, arith}
 use Rattle.std.specs.Prelude.{sum, sum_by, slice_index}
 use Rattle.std.proofs.lemmas.List.{take_all}
@@ -19,7 +19,7 @@ one_of_three xs t (suc zero) l = omega arith
 one_of_three xs t (suc (suc zero)) l = omega arith
 one_of_three xs t (suc (suc (suc k))) l = absurd (omega arith)
 
--- things apart that stand in a list add up to no more than the list
+-- distinct items of a list have at most the sum of the list
 pub apart_sum : {A : Type 0} (f : A → ℕ) (xs ys : List A) → AreApart xs → ((x : A) → Among x xs → Among x ys) → sum_by f xs ≤ sum_by f ys
 apart_sum f [] ys apart inside = let z : sum_by f [] ≡ 0 = refl in omega arith
 apart_sum {A} f (x ∷ xs) ys apart inside =

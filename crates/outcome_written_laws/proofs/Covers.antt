@@ -1,4 +1,4 @@
--- The lines behind the table of a cover are comments, so its answer is a document of the cover.
+-- The lines after the table of a cover are comments, so the answer is a document of the cover.
 use Rattle.std.proofs.Common.{◌≡◌, ℕ, zero, suc, ◌+◌, ◌*◌, ◌≤◌, Bool, true, false, List, [], ◌∷◌, ◌++◌, length, Ok, inl, refl, sym, ap, subst, ◌∙◌, arith, append_assoc, append-nil}
 use Rattle.std.specs.Prelude.{codes, decimal, not}
 use Rattle.std.proofs.lemmas.Bool.{and_from}
@@ -21,7 +21,7 @@ use Rattle.outcome_definitions.specs.Covers.{sheet_line, cover_text}
 no_feed : (xs ys : List ℕ) → has_no_feed xs ≡ true → has_no_feed ys ≡ true → has_no_feed (xs ++ ys) ≡ true
 no_feed xs ys h k = list_all-append (λ b. not (is_line_feed b)) xs ys ∙ and_from (has_no_feed xs) (has_no_feed ys) h k
 
--- the line of a tetrahedron, behind its first sign
+-- the line of a tetrahedron, after its first sign
 abbrev sheet_comment : ℕ → ℕ → List ℕ
 sheet_comment n u = codes " tet " ++ decimal u ++ codes " over " ++ decimal (over n u) ++ codes " sheet " ++ decimal (sheet n u)
 
@@ -36,7 +36,7 @@ connected_no_feed : (b : Bool) → has_no_feed (codes " connected " ++ yes_or_no
 connected_no_feed true = refl
 connected_no_feed false = refl
 
--- the lines of the tetrahedra are passed
+-- the lines of the tetrahedra are skipped
 sheets_passed : (n m k : ℕ) (rest : List ℕ) → lines_from m (pieces (classes_text (sheet_line n) k ++ rest)) ≡ lines_from (m + k) (pieces rest)
 unfolding classes_text
 sheets_passed n m zero rest = ap (λ j. lines_from j (pieces rest)) (omega arith)
@@ -47,7 +47,7 @@ sheets_passed n m (suc k) rest =
     ∙ comment_line (m + k) (sheet_comment n k) rest (sheet_no_feed n k)
     ∙ ap (λ j. lines_from j (pieces rest)) (omega arith)
 
--- and so is the last line
+-- the last line is skipped as well
 last_passed : (m : ℕ) (b : Bool) → lines_from m (pieces (told (codes "# connected ") b)) ≡ []
 unfolding lines_from
 last_passed m b = comment_line m (codes " connected " ++ yes_or_no b) [] (connected_no_feed b)

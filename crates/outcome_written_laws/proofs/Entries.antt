@@ -1,4 +1,5 @@
--- No entry of a listed vector is above the limit: each is one of a unit vector, or of a combination without its common divisor.
+-- No entry of a listed vector exceeds the limit: each vector is a unit vector, or a combination divided by its greatest
+-- common divisor.
 use Rattle.std.proofs.Common.{◌≡◌, ◌≢◌, ℕ, zero, suc, ◌+◌, ◌*◌, ◌<◌, ◌≤◌, ◌⊎◌, inl, inr, List, [], ◌∷◌, length, take, slice_index, slice_index_or, refl, sym, ap, ◌∙◌, subst, arith, add-one, take_all, mul-le-mul_right}
 use Rattle.std.specs.Prelude.{All}
 use Rattle.std.specs.Int.{◌∣◌}
@@ -39,14 +40,14 @@ module _ (columns : ℕ) (pairs : List Clash) (x : List ℕ) (h : IsVertexSurfac
     | inr some ↦ (let one : slice_index x j ≡ 1 = h.primitive (slice_index x j) (entry_divides j some) in omega arith)
   ]
 
--- a divisor that is not 0 leaves no more
+-- a quotient is at most the dividend
 divided_less : (d n z : ℕ) → z ≡ d * n → d ≢ 0 → n ≤ z
 divided_less d n z e some = let l : 1 * n ≤ d * n = mul-le-mul_right n (omega arith) in omega arith
 
 none_of : (n : ℕ) → 0 * n ≡ 0
 none_of n = omega arith
 
--- what comes from a pair has no more than its combination
+-- no entry of a reduced combination exceeds that of the combination
 module _ (limit : ℕ) (step : Step) (within : IsWithin limit step) (x : List ℕ) (c : ComesFromPair step x) where
   divisor_some : c.reduced.divisor ≢ 0
   divisor_some none =
@@ -78,7 +79,7 @@ module _ (limit columns : ℕ) (rows : List Row) (pairs : List Clash) (most : �
   pub surfaces_within : (x : List ℕ) → IsVertexSurface columns rows pairs x → (j : ℕ) → slice_index x j ≤ most
   surfaces_within x h = rays_within (length rows) (omega arith) x (subst (λ r. IsVertexSurface columns r pairs x) (sym (take_all (length rows) rows (omega arith))) h)
 
--- what bounds each column bounds the entries
+-- a bound of the entries at all columns bounds all entries
 pub each_entry : (x : List ℕ) (most : ℕ) → ((j : ℕ) → slice_index x j ≤ most) → All (λ entry. entry ≤ most) x
 each_entry x most h k d l = subst (λ n. n ≤ most) (sym (same_default x k d l)) (h k)
   where

@@ -1,4 +1,4 @@
--- How long a table with moves behind it is in text: 37 bytes at most for a tetrahedron, and 28 for a move.
+-- The length of the text of a table and moves: 37 bytes at most for a tetrahedron, and 28 for a move.
 use Rattle.std.proofs.Common.{◌≡◌, ℕ, suc, ◌+◌, ◌*◌, ◌^◌, ◌<◌, ◌≤◌, Bool, true, List, [], ◌∷◌, ◌++◌, length, map, Option, Some, None, refl, arith}
 use Rattle.std.specs.Prelude.{◌&&◌, nat_lt, codes, decimal}
 use Rattle.std.specs.List.{AllByRecursion, flat_map, list_all, slice_index_or}
@@ -18,7 +18,7 @@ use Rattle.outcome_definitions.specs.Certificates.{moves_text, table_then_moves}
 use Rattle.outcome_written_laws.proofs.WrittenTables.{each_from_places}
 use Rattle.outcome_written_laws.specs.Certificates.{WrittenMovesAreShort}
 
--- texts of at most so many bytes each
+-- texts of at most k bytes each have at most k bytes for each item in all
 each_short : {A : Type 0} (k : ℕ) (f : A → List ℕ) (xs : List A) → AllByRecursion (λ x. length (f x) ≤ k) xs → length (flat_map f xs) ≤ k * length xs
 each_short k f [] h = omega arith
 each_short k f (x ∷ xs) h =
@@ -28,7 +28,7 @@ each_short k f (x ∷ xs) h =
     let size : k * length (x ∷ xs) ≡ k + k * length xs = omega arith in
     omega arith
 
--- a line of words of at most 8 bytes
+-- a line whose words have at most 8 bytes
 abbrev IsShort : List ℕ → Type 0
 IsShort w = length w ≤ 8
 

@@ -1,4 +1,5 @@
--- No entry of a lift is above four times the sum of the quads: over each side heights rise by no more than the quads beside it.
+-- No entry of a lift exceeds four times the sum of the quads: across each side the triangle coordinate rises by at most
+-- the quads of the tetrahedron that is entered.
 use Rattle.std.proofs.Common.{◌≡◌, ℕ, ◌+◌, ◌-◌, ◌*◌, ◌/◌, ◌%◌, ◌<◌, ◌≤◌, List, [], ◌∷◌, length, Option, Some, None, inl, inr, refl, sym, ap, ◌∙◌, subst, arith}
 use Rattle.std.specs.Prelude.{sum, sum_by, slice_index}
 use Rattle.std.proofs.lemmas.Bool.{cases_lt}
@@ -31,7 +32,7 @@ use Rattle.outcome_written_laws.specs.Lifts.{LiftsAreWithin}
 use Rattle.surface_laws.proofs.ThreeSums.{three_of}
 use Rattle.outcome_written_laws.proofs.Besides.{beside, one_of_three, apart_sum, all_beside}
 
--- what falls by one number rises by at most the other
+-- the difference of two triangle coordinates is at most the quads on the other side
 risen : (y y' q q' h h' b : ℕ) → 0 + y + q ≡ 0 + y' + q' → h ≡ y → h' ≡ y' → q' ≤ b → h ≤ h' + b
 risen y y' q q' h h' b e f g l = omega arith
 
@@ -59,7 +60,8 @@ module _ (s : Skeleton) (c : ℕ) (z : IsVertexClass s c) (xs ys : List ℕ) (l 
       (triangle_at ys (triangle_of k)) (triangle_at ys (vertex_number g.tet w)) (beside xs (vertex_number g.tet w)) holds (triangles_at ys k.tet k.a f.a) (triangles_at ys g.tet w lw) low
 
   module _ (root : ℕ) (start : triangle_at ys root ≡ 0) where
-    -- a height and the quads beside it are at most the quads beside all that was seen
+    -- the triangle coordinate of a visited vertex and the quads of its tetrahedron are together at most the quads of
+    -- all visited vertices
     spread : (ds : List Corner) → IsHung s c z root ds → (i : ℕ) → Among i (triangles_seen s c z root ds) → triangle_at ys i + beside xs i ≤ sum_by (beside xs) (triangles_seen s c z root ds)
     spread [] g i a =
         let sums : sum_by (beside xs) (root ∷ []) ≡ beside xs root + sum_by (beside xs) [] = sum_by-cons (beside xs) root [] in

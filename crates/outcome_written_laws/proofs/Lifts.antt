@@ -1,4 +1,4 @@
--- Lifts are read again.
+-- The text of a table and its lifts is read as the table and the lifts.
 use Rattle.std.proofs.Common.{◌≡◌, ◌+◌, ◌*◌, ◌≤◌, ℕ, List, [], ◌∷◌, ◌++◌, length, Result, Ok, Err, inl, refl, sym, ap, ◌∙◌, subst, arith}
 use Rattle.std.specs.Prelude.{All, sum}
 use Rattle.std.specs.List.{AllZip}
@@ -40,7 +40,7 @@ use Rattle.outcome_written_laws.proofs.Entries.{each_entry}
 use Rattle.outcome_written_laws.proofs.Verdicts.{solutions_are_told}
 use Rattle.outcome_written_laws.proofs.LiftEntries.{lifts_within}
 
--- a table with vectors behind it is read as them
+-- the text of a table, followed by vectors, is read as the table and the vectors
 vectors_read : (rows : List Row) (list : List (List ℕ)) → IsTable rows → AreUpTo limit list → vectors_document (table_text rows ++ list_text list) ≡ Ok (rows, list)
 vectors_read rows list table within =
     let b : BeginsWithTable rows table (table_text rows ++ list_text list) (list_text list) = table_lines rows table (list_text list) in
@@ -50,7 +50,7 @@ same_text : (lifts : List (List ℕ)) → lifts_text lifts ≡ list_text lifts
 unfolding lifts_text
 same_text lifts = refl
 
--- what is refused is not done
+-- the status of a refusal is not that of success
 pub never_done : (refusal : Refusal) → refusal_status refusal ≡ Done → ⊥
 never_done (Unfit (faults.Length n)) e = cc
 never_done (Unfit (faults.Large i)) e = cc

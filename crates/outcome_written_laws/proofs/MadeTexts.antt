@@ -1,4 +1,4 @@
--- What is written of a table that was made is read again.
+-- The text of a table that was made is read as the table and its moves.
 use Rattle.std.proofs.Common.{◌≡◌, ℕ, List, Ok, ap, ◌∙◌}
 use Rattle.table_definitions.specs.Table.{Row}
 use Rattle.move_definitions.specs.Moves.{Move}

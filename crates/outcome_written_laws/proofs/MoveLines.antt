@@ -1,4 +1,4 @@
--- What is written for moves is a line for each.
+-- The text of moves has one line for each move.
 use Rattle.std.proofs.Common.{◌≡◌, ℕ, List, [], ◌++◌, sym, ap, ◌∙◌, subst, append-nil}
 use Rattle.std.specs.List.{AllZip, AllByRecursion, flat_map}
 use Rattle.text_definitions.specs.Text.{Line, pieces, lines_from}
@@ -9,7 +9,7 @@ use Rattle.move_definitions.specs.Grammar.{IsMoveLine}
 use Rattle.move_definitions.proofs.WrittenLaws.{move_line}
 use Rattle.outcome_written_laws.specs.Moves.{IsWritable}
 
--- from line n on there is nothing else
+-- the lines from line n on are those of the moves
 pub only_moves : (n : ℕ) (moves : List Move) → AllByRecursion IsWritable moves → AllZip IsMoveLine (lines_from n (pieces (flat_map move_text moves))) moves
 unfolding lines_from
 only_moves n moves h =

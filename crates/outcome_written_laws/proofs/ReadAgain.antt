@@ -1,4 +1,4 @@
--- What `decompose` answers is read again.
+-- The answer of `decompose` is read by `addup` as the table and the sums.
 use Rattle.std.proofs.Common.{◌≡◌, ℕ, ◌+◌, ◌≤◌, inl, inr, ◌↔◌, List, length, Result, Ok, Err, refl, sym, ap, ◌∙◌, subst, arith}
 use Rattle.std.specs.List.{All, AllByRecursion}
 use Rattle.std.proofs.lemmas.List.Elements.{All-from_recursion}
@@ -35,9 +35,9 @@ use Rattle.outcome_written_laws.proofs.WrittenBlocks.{FitsBlock, only_blocks}
 use Rattle.outcome_written_laws.proofs.SmallNumbers.{block_fits}
 use Rattle.outcome_written_laws.proofs.AddedUp.{fit_has_rays, of_each, sums_accepted}
 
--- ---- what is told
+-- ---- the answer of `decompose`
 
--- what is refused has another status
+-- the status of an unfit vector is not that of success
 unfit_is_not_done : (fault : VectorFault) → unfit_status fault ≡ statuses.Done → ⊥
 unfit_is_not_done (Length n) e = absurd cc
 unfit_is_not_done (Large i) e = absurd cc
@@ -66,7 +66,7 @@ module _ (coords : Coords) (most : ℕ) (rows : List Row) (equations : List Equa
 pub decomposed_told : DecompositionsAreAnswered
 decomposed_told coords most rows vectors o h done = told coords most rows h.equations vectors o h.of_table done h.checked h.verdicts h.told
 
--- ---- what is read
+-- ---- the sums are read again
 
 few_columns : (coords : Coords) (rows : List Row) → IsTable rows → columns coords (length rows) ≤ most_terms
 few_columns Standard rows table = let few = table.few in omega arith
@@ -115,7 +115,7 @@ read_again coords most bytes rows vectors text low document t =
           (sums_accepted coords most rows t.equations vectors t.blocks low t.sums o);
     }
 
--- what is refused as no document has another status
+-- the status of an input that is no document is not that of success
 pub decomposed_read_again : DecomposedAreReadAgain
 decomposed_read_again coords most bytes o low h done = by_document (vectors_document bytes) refl h
   where

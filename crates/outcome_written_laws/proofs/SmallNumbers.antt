@@ -17,19 +17,19 @@ use Rattle.sum_laws.proofs.OneTerm.{terms_are_turns}
 use Rattle.text_document_definitions.specs.Blocks.{Block, most_terms}
 use Rattle.outcome_written_laws.proofs.WrittenBlocks.{FitsTerm, FitsBlock}
 
--- a factor is at most the product, where the other is at least 1
+-- a factor is at most the product, if the other factor is at least 1
 pub first_factor : (a b : ℕ) → 1 ≤ b → a ≤ a * b
 first_factor a b some = let l : a * 1 ≤ a * b = mul-le-mul_left a some in omega arith
 
 pub second_factor : (a b : ℕ) → 1 ≤ a → b ≤ a * b
 second_factor a b some = let l : 1 * b ≤ a * b = mul-le-mul_right b some in omega arith
 
--- what bounds each column bounds the entries
+-- a bound of the entries at all columns bounds all entries
 each_entry : (x : List ℕ) (bound : ℕ) → ((j : ℕ) → slice_index x j ≤ bound) → AllByRecursion (λ entry. entry ≤ bound) x
 each_entry [] bound h = tt
 each_entry (entry ∷ x) bound h = (h 0, each_entry x bound (λ j. h (suc j)))
 
--- what bounds the sum at each column bounds each term there
+-- a bound of the sum at each column bounds each term there
 pub each_term : (terms : List Term) (bound : ℕ → ℕ) → ((j : ℕ) → sum_at terms j ≤ bound j) → AllByRecursion (λ (term : Term). (j : ℕ) → term.count * slice_index term.vector j ≤ bound j) terms
 each_term [] bound h = tt
 each_term (term ∷ terms) bound h = (
@@ -67,7 +67,7 @@ module _ (columns : ℕ) (rows : List Row) (list : List (List ℕ)) (x : List �
   few_terms = let e : length terms ≡ s.turns = terms_are_turns columns rows list x h most s.turns last s.led in
       let l : s.turns ≤ columns = few_turns columns rows list x h most s.turns last s.led in omega arith
 
-  -- a term of which each multiple is within the limit
+  -- a term with each multiple of an entry within the limit can be written
   term_fits : (term : Term) → most ≤ limit → Contains list term.vector → 1 ≤ term.count → ((j : ℕ) → term.count * slice_index term.vector j ≤ most) → FitsTerm term
   term_fits term low listed some within =
       let nonzero : IsNonzero term.vector = (listed_ray columns rows list x h term.vector listed).extreme.nonzero in

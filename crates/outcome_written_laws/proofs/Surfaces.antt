@@ -1,4 +1,5 @@
--- A list of `surfaces` is read again, and `verify` finds solutions in it.
+-- The text of a table and the answer of `surfaces` is read as the table and the surfaces, and `verify` finds solutions
+-- in it.
 use Rattle.std.proofs.Common.{◌≡◌, ◌≤◌, ℕ, List, ◌++◌, inl, inr, sym, ap, ◌∙◌, arith}
 use Rattle.std.specs.Prelude.{codes}
 use Rattle.text_definitions.specs.Written.{limit}
@@ -26,7 +27,7 @@ use Rattle.outcome_written_laws.specs.Surfaces.{IsReadAsSurfaces, SurfacesAreRea
 use Rattle.outcome_written_laws.proofs.Entries.{listed_within}
 use Rattle.outcome_written_laws.proofs.Verdicts.{surfaces_are_solutions}
 
--- what exceeds the limit is not done
+-- an outcome that names a number above the limit has not the status of success
 large_not_done : (o : Outcome) (taken : List ℕ) (kind : Named) → o ≡ large_outcome taken kind → o.status ≡ Done → ⊥
 large_not_done o taken kind e done = let same : Large ≡ Done = sym (ap (λ (q : Outcome). q.status) e) ∙ done in cc
 
@@ -54,7 +55,7 @@ surfaces_are_read_lem words bytes o coords order most rows asked spelled done =
     (answer_to_value (table_document bytes) rows (IsSurfacesAnswer coords order most) o spelled (answer_to (Surfaces coords order most) words bytes o asked)) done
 
 module _ (coords : Coords) (rows : List Row) (text : List ℕ) (read : IsReadAsSurfaces coords rows text) (p : Outcome) where
-  -- the equations of a table are one list
+  -- the equations of a table are unique
   verified : IsVerdictsAnswer coords (rows, read.list) p → AreVerified coords rows p
   verified h = record {
     equations = read.equations;

@@ -1,4 +1,4 @@
--- A crushed table, and the table and the moves of a descent, are read again.
+-- The text of a crushed table, and that of the table and the moves of a descent, are read as these.
 use Rattle.std.proofs.Common.{◌≡◌, ℕ, List, Result, Ok, Err, sym, ap, ◌∙◌}
 use Rattle.table_definitions.specs.Table.{Row, IsTable}
 use Rattle.surface_definitions.specs.Crushing.{IsCrushed}
@@ -35,7 +35,7 @@ module _ (rows : List Row) (xs : List ℕ) (table : IsTable rows) (o : Outcome) 
     whole = λ quads. nothing_else_is_crushed rows new xs table quads c;
   }
 
-  -- what is refused is not done
+  -- the status of a refusal is not that of success
   told_read : (equations : List EquationRow) (told : Result (List Row) Refusal) → IsCrushedAlong rows equations xs told → o ≡ crush_outcome told → o.status ≡ Done → IsReadAsCrushed rows xs o.text
   told_read equations (Ok new) c e done = crushed_read new c.1 e
   told_read equations (Err (Unfit (faults.Length n))) c e done = absurd (let same : Refused ≡ Done = sym (ap (λ (q : Outcome). q.status) e) ∙ done in cc)

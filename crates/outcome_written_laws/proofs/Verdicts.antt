@@ -20,7 +20,7 @@ use Rattle.surface_vector_definitions.specs.Answers.{IsFit, IsUnfit}
 use Rattle.outcome_definitions.specs.Sums.{IsFirst}
 use Rattle.outcome_written_laws.specs.Surfaces.{IsFirstLarge, IsSolutionUnlessLarge, SurfacesAreSolutions}
 
--- all items pass, or there is a first that fails, with what tells of it
+-- all items pass, or there is a first item that fails, with a witness of its failure
 module _ {A W : Type 0} (Passes : A → Type 0) (Fails : W → A → Type 0) (decide : (x : A) → Passes x ⊎ ((w : W) × Fails w x)) where
   abbrev FirstOf : List A → Type 0
   FirstOf list = (number : ℕ) × (w : W) × IsFirst Passes (Fails w) list number
@@ -61,7 +61,7 @@ small_or_large equations x = elim (all_or_first (λ (equation : EquationRow). Ha
       | inr large ↦ inr (tt, large)
     ]
 
--- an admissible solution, whatever its parts
+-- an admissible solution, with parts of any size
 pub record IsAdmissibleSolution (coords : Coords) (rows : List Row) (equations : List EquationRow) (x : List ℕ) : Type 0 where
   pub solves : IsSolution (columns coords (length rows)) equations x
   pub admissible : IsAdmissible (clash_list coords (length rows)) x
@@ -93,7 +93,7 @@ module _ (coords : Coords) (rows : List Row) (equations : List EquationRow) (x :
           let zero : IsZeroAt (slice_index_or equations j []) x = All-get_or (λ (equation : EquationRow). IsZeroAt equation x) equations j [] here s.solves.zero in
           record { within = subst (λ (equation : EquationRow). HasPartsWithin limit equation x) (sym same) parts; zero = zero }
 
--- such a solution is told to be one, or the first equation of which a part exceeds the limit
+-- the verdict on an admissible solution is that it is one, or the first equation of which a part exceeds the limit
 pub solutions_are_told : (coords : Coords) (rows : List Row) (equations : List EquationRow) (x : List ℕ) → IsSolution (columns coords (length rows)) equations x
     → IsAdmissible (clash_list coords (length rows)) x → IsSolutionUnlessLarge coords rows equations x
 solutions_are_told coords rows equations x solves admissible = elim (small_or_large equations x) [

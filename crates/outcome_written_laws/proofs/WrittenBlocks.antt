@@ -1,4 +1,4 @@
--- What is written for blocks of sums is their lines.
+-- The text of blocks of sums has the lines of the blocks.
 use Rattle.std.proofs.Common.{◌≡◌, ℕ, ◌+◌, ◌^◌, ◌<◌, ◌≤◌, List, [], ◌∷◌, ◌++◌, length, map, refl, ap, ◌∙◌, arith, append_assoc}
 use Rattle.std.specs.Prelude.{codes, decimal}
 use Rattle.std.specs.List.{AllByRecursion, flat_map}
@@ -29,7 +29,7 @@ term_is_text = record { bytes = refl; some = omega arith }
 times_is_text : IsText (codes "times")
 times_is_text = record { bytes = refl; some = omega arith }
 
--- one line, whose value is told
+-- the text is one line, which has this form
 abbrev BeginsLine : (Line → Type 0) → ℕ → List ℕ → List ℕ → Type 0
 BeginsLine form n text rest = (line : Line) × (lines_from n (pieces (text ++ rest)) ≡ line ∷ lines_from (n + 1) (pieces rest)) × form line
 
@@ -88,7 +88,7 @@ block_lines n block rest h =
       are = (first.2, second.2, others.are);
     }
 
--- from line n on there is nothing else
+-- the lines from line n on are those of the blocks
 pub only_blocks : (n : ℕ) (blocks : List Block) → AllByRecursion FitsBlock blocks → AreBlocks (lines_from n (pieces (blocks_text blocks))) blocks
 unfolding lines_from
 only_blocks n [] h = refl

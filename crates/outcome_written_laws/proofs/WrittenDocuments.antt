@@ -1,4 +1,4 @@
--- What is written is a document of the same value.
+-- The text of a value is read as this value.
 use Rattle.std.proofs.Common.{◌≡◌, ℕ, ◌+◌, List, [], ◌∷◌, ◌++◌, length, Ok, inl, ap, ◌∙◌, append_assoc}
 use Rattle.std.specs.Prelude.{codes, decimal}
 use Rattle.text_definitions.specs.Text.{Line, pieces, lines_from}
@@ -17,7 +17,7 @@ use Rattle.outcome_written_laws.proofs.WrittenTables.{BeginsWithTable, table_lin
 pub written_table_read : (rows : List Row) → IsTable rows → table_document (table_text rows) ≡ Ok rows
 written_table_read rows table = (table_document_read (table_text rows) rows).1 (inl (written_table rows table))
 
--- the answer behind the comment
+-- the lines of the answer after its comment
 answer_lines : (n : ℕ) (list : List (List ℕ)) → lines_from n (pieces (listing (codes "surfaces") list)) ≡ lines_from (n + 1) (pieces (list_text list))
 answer_lines n list =
     ap (λ (bytes : List ℕ). lines_from n (pieces bytes)) (append_assoc (codes "# surfaces " ++ decimal (length list)) (10 ∷ []) (list_text list))

@@ -1,4 +1,4 @@
--- What is written for moves is their lines, and behind a table from which they lead it is read as them.
+-- The text of moves has the lines of the moves, and after the text of a table at which they begin it is read as them.
 use Rattle.std.proofs.Common.{◌+◌, ◌<◌, List, [], ◌∷◌, length, inl, arith}
 use Rattle.std.specs.List.{AllByRecursion}
 use Rattle.std.proofs.lemmas.List.Elements.{recursion_from_All}

@@ -1,4 +1,4 @@
--- What is written for a table is its lines.
+-- The text of a table has the lines of the table.
 use Rattle.std.proofs.Common.{◌≡◌, ℕ, suc, ◌+◌, ◌^◌, ◌<◌, ◌≤◌, true, false, List, [], ◌∷◌, ◌++◌, length, map, Option, Some, None, refl, sym, ap, ◌∙◌, subst, arith, append_assoc, append-nil}
 use Rattle.std.specs.Prelude.{codes, decimal}
 use Rattle.std.specs.List.{AllZip, AllByRecursion, list_all, flat_map, slice_index_or}
@@ -35,7 +35,7 @@ record IsFirstText (w : List ℕ) : Type 0 where
   text : IsText w
   kept : is_skipped w ≡ false
 
--- a decimal with bytes of words behind it
+-- a decimal followed by bytes of words
 decimal_then : (t : ℕ) (more : List ℕ) → t < 10 ^ 64 → list_all is_word_byte more ≡ true → IsFirstText (decimal t ++ more)
 decimal_then t more small h =
     let tet : IsText (decimal t) = decimal_is_text t small in
@@ -79,7 +79,7 @@ entries_are (e ∷ row) h = (entry_is e h.0, entries_are row h.1)
 abbrev row_text : Row → List ℕ
 row_text row = spaced (map entry_text row)
 
--- what is written for a row is one line, which is the row
+-- the text of a row is one line, which spells the row
 row_line : (n : ℕ) (row : Row) (rest : List ℕ) → IsPlainRow row
     → (line : Line) × (lines_from n (pieces (row_text row ++ rest)) ≡ line ∷ lines_from (n + 1) (pieces rest)) × IsRowLine line row
 row_line n [] rest h = absurd (let f = h.four_faces in omega arith)
@@ -96,7 +96,7 @@ row_line n (e ∷ row) rest h =
       },
     )
 
--- what holds at each place holds of each item
+-- what holds at each index holds of each item
 pub each_from_places : {A : Type 0} (P : A → Type 0) (d : A) (xs : List A) → ((k : ℕ) → k < length xs → P (slice_index_or xs k d)) → AllByRecursion P xs
 each_from_places P d [] h = tt
 each_from_places P d (x ∷ xs) h = (h 0 (omega arith), each_from_places P d xs (λ k l. h (suc k) (omega arith)))
@@ -123,7 +123,7 @@ module _ (rows : List Row) (table : IsTable rows) where
   tri_is_text : IsText (codes "tri")
   tri_is_text = record { bytes = refl; some = omega arith }
 
-  -- the first line, and the bytes behind it
+  -- the first line, and the bytes after it
   first_text : (rest : List ℕ) → table_text rows ++ rest ≡ spaced (codes "tri" ∷ decimal (length rows) ∷ []) ++ (flat_map row_text rows ++ rest)
   unfolding table_text
   first_text rest =

@@ -1,4 +1,4 @@
--- What is written for vectors is a line for each.
+-- The text of a list of vectors has one line for each vector.
 use Rattle.std.proofs.Common.{◌≡◌, ℕ, ◌+◌, ◌^◌, ◌<◌, ◌≤◌, List, [], ◌∷◌, ◌++◌, map, refl, sym, ap, ◌∙◌, subst, arith, append-nil}
 use Rattle.std.specs.Prelude.{codes, decimal}
 use Rattle.std.specs.List.{All, AllZip, AllByRecursion}
@@ -31,7 +31,7 @@ entries_are_numbers (entry ∷ x) h = (record { value = decimal_value-decimal en
 vec_is_text : IsText (codes "vec")
 vec_is_text = record { bytes = refl; some = omega arith }
 
--- what is written for a vector is one line, which is the vector
+-- the text of a vector is one line, which spells the vector
 pub vector_line : (n : ℕ) (x : List ℕ) (rest : List ℕ) → AreEntries x
     → (line : Line) × (lines_from n (pieces (vector_text x ++ rest)) ≡ line ∷ lines_from (n + 1) (pieces rest)) × IsVectorLine line x
 vector_line n x rest h =
@@ -50,7 +50,7 @@ pub vector_lines : (n : ℕ) (list : List (List ℕ)) (rest : List ℕ) → AreU
 vector_lines n list rest h =
     each_line IsVectorLine vector_text AreEntries vector_line n list rest (within_limit list (recursion_from_All (λ (x : List ℕ). All (λ entry. entry ≤ limit) x) list h))
 
--- from line n on there is nothing else
+-- the lines from line n on are those of the vectors
 pub only_vectors : (n : ℕ) (list : List (List ℕ)) → AreUpTo limit list → AllZip IsVectorLine (lines_from n (pieces (list_text list))) list
 unfolding lines_from
 only_vectors n list h =

@@ -25,7 +25,7 @@ edge_same c m n p q v e f = ap (λ (d : ℕ). edge_line c d p v) e ∙ ap (λ (b
 pub vertex_same : (c m n : ℕ) (l : Link) → m ≡ n → vertex_line c m l ≡ vertex_line c n l
 vertex_same c m n l e = ap (λ (d : ℕ). vertex_line c d l) e
 
--- one more class whose validity is told
+-- the value says whether the class is valid
 abbrev Told : Skeleton → ℕ → Bool → Type 0
 Told s c v = IsTrue v ↔ IsValidClass s c
 
@@ -45,7 +45,7 @@ valid_more s n before now b grown same told =
     let size : length (before ++ b ∷ []) ≡ length before + 1 = length-append before (b ∷ []) in
     (ap length grown ∙ size ∙ ap (λ (k : ℕ). k + 1) told.0, λ c less. told_at s n before now b grown same told c (last_or_earlier c n less))
 
--- the presence of signs tells whether there are any
+-- there are signs if and only if the table is orientable
 pub signs_tell : (rows : List Row) (r : Option (Bor (List Bool))) (b : Bool) → b ≡ is_some r → IsOrientation rows (option_copied r) → IsTrue b ↔ IsOrientable rows
 signs_tell rows None b e h = (λ t. absurd (let f : false ≡ true = sym e ∙ t in cc), λ p. absurd (h p))
 signs_tell rows (Some signs) b e h = (λ t. (signs.now, h.0), λ p. e)
@@ -59,7 +59,7 @@ four_pieces t t₁ t₂ t₃ t₄ a b c d e f g h =
     let three : t₃ ≡ t ++ ((a ++ b) ++ c) = g ∙ ap (λ (u : List ℕ). u ++ c) two ∙ append_assoc t (a ++ b) c in
     h ∙ ap (λ (u : List ℕ). u ++ d) three ∙ append_assoc t ((a ++ b) ++ c) d
 
--- the lines of the whole table, one after the other
+-- the lines of the whole table, one after another
 pub flags_written : (t t₁ t₂ t₃ t₄ : List ℕ) (n m : ℕ) (x y z w : Bool) → t₁ ≡ t ++ number_line (codes "tetrahedra ") n → t₂ ≡ t₁ ++ told (codes "connected ") x
     → t₃ ≡ t₂ ++ told (codes "orientable ") y → t₄ ≡ t₃ ++ told (codes "closed ") z → n ≡ m → z ≡ w
     → t₄ ≡ t ++ (number_line (codes "tetrahedra ") m ++ told (codes "connected ") x ++ told (codes "orientable ") y ++ told (codes "closed ") w)

@@ -10,11 +10,11 @@ use Rattle.signature_definitions.specs.SignatureText.{any_table_at}
 use Rattle.signature_text_laws.proofs.AnyTables.{any_table_read}
 use Rattle.text_document_definitions.specs.Documents.{tables_on, tables_from}
 
--- what tables are read as
+-- the result of reading tables
 abbrev pub ReadTables : Type 0
 ReadTables = Result (List (List Row) × Reading) InputFault
 
--- the tables so far, before those that a reading gives
+-- the tables so far, followed by those of a result
 abbrev pub with_tables : List (List Row) → ReadTables → ReadTables
 with_tables front read = read >>= λ (others : List (List Row) × Reading). Ok (front ++ others.0, others.1)
 
@@ -26,7 +26,7 @@ with_tables-first : (front : List (List Row)) (rows : List Row) (r : ReadTables)
 with_tables-first front rows (Ok y) = ap (λ (ts : List (List Row)). Ok (ts, y.1)) (append_assoc front (rows ∷ []) y.0)
 with_tables-first front rows (Err e) = refl
 
--- a table, and those behind it by this reader
+-- a table, followed by those that this reader finds
 abbrev table_then : (Reading → ReadTables) → Result (List Row × Reading) InputFault → ReadTables
 table_then more read = read >>= λ (first : List Row × Reading). first_and first.0 (more first.1)
 
@@ -38,7 +38,7 @@ same_then more other (Err e) h = refl
 fewer_left : (l : Line) (ls most : List Line) (c : Reading) (x : List Row × Reading) → any_table_at (begun l ls c) ≡ Ok x → length (l ∷ ls) ≤ length most + 1 → length x.1.later ≤ length most
 fewer_left l ls most c x e h = let f = (any_table_read (begun l ls c) x.0 x.1 e).fewer in omega arith
 
--- how many tables are allowed for makes no difference, where there are as many as lines
+-- the bound on the number of tables has no effect if it is at least the number of lines
 any_most : (most many : List Line) (c : Reading) → length c.later ≤ length most → length c.later ≤ length many → tables_from most c ≡ tables_from many c
 unfolding tables_from
 any_most [] [] c h k = refl
@@ -60,7 +60,7 @@ any_most (m ∷ most) (n ∷ many) c h k = from_lines c.later refl (λ x f g. an
     from_lines (l ∷ ls) same next = same_then (tables_from most) (tables_from many) (any_table_at (begun l ls c))
         (λ x e. next x (fewer_left l ls most c x e (omega (arith, ap length same))) (fewer_left l ls many c x e (omega (arith, ap length same))))
 
--- the first of the lines that are left, and those behind it
+-- the table of the first line that is left, followed by those of the other lines
 first_line : (c : Reading) (l : Line) (ls : List Line) → c.later ≡ l ∷ ls → tables_from c.later c ≡ table_then (λ d. tables_from ls d) (any_table_at (begun l ls c))
 unfolding tables_from
 first_line c l ls same = ap (λ (us : List Line). tables_from us c) same ∙ ap (λ (us : List Line). tables_on us c (λ d. tables_from ls d)) same
@@ -94,7 +94,7 @@ pub tables_ended : (front : List (List Row)) (c : Reading) → c.later ≡ [] �
 unfolding tables_from
 tables_ended front c same = ap (λ (us : List Line). with_tables front (tables_from us c)) same ∙ ap (λ (ts : List (List Row)). Ok (ts, c)) (append-nil front)
 
--- a fault of a table is one of the tables
+-- an error of a table is an error of all tables
 pub table_fails : (front : List (List Row)) (c d : Reading) (fault : InputFault) (whole : ReadTables) → need_line_at c ≡ Ok d → Fails NoMemory fault (any_table_at d)
     → with_tables front (tables_from c.later c) ≡ whole → Fails NoMemory fault whole
 table_fails front c d fault whole e fails same = λ other. sym same ∙ table_faulty front c d fault e (fails other)

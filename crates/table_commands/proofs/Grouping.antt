@@ -1,4 +1,4 @@
--- What is known of tables goes on to one more.
+-- What holds of the tables so far holds with one more table.
 use Rattle.std.proofs.Common.{◌≡◌, ℕ, ◌+◌, ◌<◌, ◌≤◌, inl, inr, ⊎_elim, List, [], ◌∷◌, ◌++◌, length, length-append, Option, Some, None, Vec, vec_len, sym, ap, subst, arith}
 use Rattle.std.specs.declared.alloc.Global.{Global}
 use Rattle.std.proofs.Math.ListN.{get_or-append}
@@ -69,7 +69,7 @@ module _ (tables : List (List Row)) (a : List Row) where
       so_far : AreClassed tables before.classes.items before.census
       so_far = classed_where tables before.classes.items before.census before.found none g.grouped
 
-  -- the first that is not connected
+  -- the first table that is not connected
   pub found_first : (before : Groups) (census : List (List ℕ)) (table tet : ℕ) → before.found ≡ None → census ≡ before.census → table ≡ vec_len before.classes
       → IsLeastUnreached a tet → IsTable a → AreGrouped tables before
       → AreGrouped more (record { census = census; classes = before.classes; found = Some (record { table = table; tet = tet }) })
@@ -90,7 +90,7 @@ module _ (tables : List (List Row)) (a : List Row) where
       place : table ≡ length tables
       place = let n = so_far.census.numbering.one_each in omega (arith, before.classes.ok.0)
 
-  -- behind it nothing more is to be known
+  -- after the first table that is not connected nothing changes
   pub still_found : (before : Groups) (found : DisconnectedTable) → before.found ≡ Some found → IsTable a → AreGrouped tables before → AreGrouped more before
   still_found before found e table g = record {
     are_tables = each_more IsTable g.are_tables table;

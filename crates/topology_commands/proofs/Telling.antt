@@ -1,4 +1,4 @@
--- What was answered is what is to be told.
+-- The outcome of a cover or a presentation is the answer of its command.
 use Rattle.std.proofs.Common.{◌≡◌, ℕ, List, Option, None, Some, inl, inr, MatchOption, subst, sym}
 use Rattle.out_of_memory.specs.declared.Failure.{Failure}
 use Rattle.out_of_memory.specs.declared.Failure.TheVariants.{Fault}

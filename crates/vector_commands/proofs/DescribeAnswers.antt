@@ -1,4 +1,4 @@
--- From what is answered of each vector to the answer.
+-- From the answers for the vectors to the answer of `describe`.
 use Rattle.std.proofs.Common.{◌≡◌, ℕ, List, inl, inr, None, Some, Ok, Err, ap, ◌∙◌}
 use Rattle.cone_definitions.specs.Rows.{Row as EquationRow}
 use Rattle.table_definitions.specs.Table.{Row}

@@ -1,4 +1,4 @@
--- No sum of a component of a vector is large if none of the vector is, and the only component is the whole.
+-- No sum of a component of a vector exceeds the limit if none of the vector does, and a sole component is the whole.
 use Rattle.std.proofs.Common.{◌≡◌, ℕ, zero, suc, ◌+◌, ◌<◌, ◌≤◌, Bool, true, false, List, [], ◌∷◌, length, Some, None, Option, refl, sym, ap, ◌∙◌, arith}
 use Rattle.std.specs.Prelude.{sum, nat_lt, if◌then◌else◌, slice_index}
 use Rattle.std.specs.List.{AllZip, slice_index_or}
@@ -89,7 +89,7 @@ small_components s coords xs listed width none h = record {
     is : (i : ℕ) → i < length listed → (slice_index_or listed i no_component).vector ≡ component_vector xs h.classes i
     is i l = (at i l).1.vector ∙ ap (component_vector xs h.classes) (get_or-range_with_len 0 h.count i 0 (in_count i l) ∙ omega arith)
 
--- the only component has the Euler characteristic of the surface
+-- a sole component has the Euler characteristic of the surface
 pub only_euler : (s : Skeleton) (coords : Coords) (xs : List ℕ) (p : Properties) (listed : List Component) (i : ℕ) → AreProperties s coords xs p → AreSmall s coords xs listed → length listed ≡ 1 → i < length listed
     → p.euler ≡ characteristic s coords (slice_index_or listed i no_component).vector
 only_euler s coords xs p listed i h small one l =

@@ -13,13 +13,13 @@ use Rattle.vector_commands.proofs.VectorLists.{entries_more, entries_at, entries
 
 module _ {A : Type 0} (IsTold : List ℕ → Result A Refusal → Type 0) (line : A → List ℕ) (vs : List (Vec ℕ Global)) (v : ℕ) (x : Vec ℕ Global) (xs before now : List ℕ)
     (l : v < length vs) (e : x ≡ get_or vs v x) (same : xs ≡ x.items) (told : AreAnsweredIn IsTold line (all_entries (take v vs)) before) where
-  -- the vector was told, and so are the vectors up to it
+  -- the vector has an answer, and so has each vector before it
   pub next_told : (u : Unit {0}) → AppendsAnswer IsTold line xs before now (Ok u) → AreAnsweredIn IsTold line (all_entries (take (v + 1) vs)) now
   next_told u h =
       subst (λ (ys : List (List ℕ)). AreAnsweredIn IsTold line ys now) (sym (entries_more vs v x l e))
       (one_more_told IsTold line (all_entries (take v vs)) x.items before now told (subst (λ (ys : List ℕ). AppendsAnswer IsTold line ys before now (Ok u)) same h))
 
-  -- the vector is refused, and it is the first
+  -- the vector is refused, and no vector before it is
   pub next_refused : (failure : Failure Refusal) (refusal : Refusal) → failure ≡ Fault refusal → AppendsAnswer IsTold line xs before now (Err failure) → IsFirstRefused IsTold (all_entries vs) v refusal
   next_refused failure refusal is h =
       let count = as_many vs in

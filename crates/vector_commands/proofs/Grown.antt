@@ -4,11 +4,11 @@ use Rattle.std.specs.List.{slice_index_or}
 use Rattle.std.proofs.lemmas.List.{take_more}
 use Rattle.std.proofs.lemmas.Grind.{flat_map-append}
 
--- one part more
+-- one more piece
 pub grown : (old t p q now more : List ℕ) → now ≡ old ++ t → more ≡ now ++ p → p ≡ q → more ≡ old ++ (t ++ q)
 grown old t p q now more e f g = f ∙ (λ i. e i ++ g i) ∙ append_assoc old t q
 
--- the lines of one item more
+-- the lines of one more item
 pub lines_more : {A : Type 0} (F : A → List ℕ) (xs : List A) (i : ℕ) (d : A) (old now more : List ℕ) → i < length xs → now ≡ old ++ flat_map F (take i xs) → more ≡ now ++ F (slice_index_or xs i d) → more ≡ old ++ flat_map F (take (i + 1) xs)
 lines_more F xs i d old now more l e f =
     f ∙ ap (λ t. t ++ F (slice_index_or xs i d)) e ∙ append_assoc old (flat_map F (take i xs)) (F (slice_index_or xs i d))

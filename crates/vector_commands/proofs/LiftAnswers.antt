@@ -1,4 +1,4 @@
--- From what is answered of each quad vector to the answer.
+-- From the answers for the quad vectors to the answer of `lift`.
 use Rattle.std.proofs.Common.{◌≡◌, ℕ, List, Ok, Err, subst, ap, ◌∙◌}
 use Rattle.cone_definitions.specs.Rows.{Row as EquationRow}
 use Rattle.cone_text_definitions.specs.VectorText.{vector_text}

@@ -1,4 +1,4 @@
--- Vectors are told one after another.
+-- The answers for vectors, one after another.
 use Rattle.std.proofs.Common.{◌≡◌, ℕ, zero, suc, ◌<◌, List, [], ◌∷◌, ◌++◌, length, take, Result, Ok, Err, refl, sym, ap, ◌∙◌, subst, arith, append-nil}
 use Rattle.std.specs.List.{AllZip, flat_map, slice_index_or}
 use Rattle.std.proofs.lemmas.Grind.{flat_map-append}
@@ -22,14 +22,14 @@ module _ {A : Type 0} (IsTold : List ℕ → Result A Refusal → Type 0) (line 
     lines = k.2 ∙ ap (λ (t : List ℕ). t ++ line k.0) h.lines ∙ ap (λ (t : List ℕ). flat_map line h.answers ++ t) (sym (append-nil (line k.0))) ∙ sym (flat_map-append line h.answers (k.0 ∷ []));
   }
 
-  -- each vector of a list that is told was told
+  -- each vector of a list with answers has an answer
   told_at : (vectors : List (List ℕ)) (answers : List A) (v : ℕ) → v < length vectors → AllZip (λ xs a. IsTold xs (Ok a)) vectors answers → (a : A) × IsTold (slice_index_or vectors v []) (Ok a)
   told_at [] answers v l f = absurd (omega arith)
   told_at (xs ∷ vectors) [] v l f = absurd f
   told_at (xs ∷ vectors) (a ∷ answers) zero l f = (a, f.0)
   told_at (xs ∷ vectors) (a ∷ answers) (suc v) l f = told_at vectors answers v (omega arith) f.1
 
-  -- the first ones of a list are those of its front
+  -- the items before an index are those of the prefix up to it
   in_front : (vectors : List (List ℕ)) (u v : ℕ) → u < v → v < length vectors → (u < length (take v vectors)) × (slice_index_or (take v vectors) u [] ≡ slice_index_or vectors u [])
   in_front [] u v l m = absurd (omega arith)
   in_front (xs ∷ vectors) u zero l m = absurd (omega arith)

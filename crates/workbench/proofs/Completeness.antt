@@ -1,4 +1,4 @@
--- What a run answers to a document of `surfaces` or `rays`, whatever its status.
+-- The outcome of a run on a document of `surfaces` or `rays`, for each status.
 use Rattle.std.proofs.Common.{◌≡◌, ◌≤◌, ℕ, List, length, Option, Some, None, Ok, inl, inr, refl, ◌∙◌, ap, subst}
 use Rattle.std.specs.Prelude.{◌⊎◌, IfSome, codes}
 use Rattle.text_io.specs.Causes.{Grows}
@@ -52,7 +52,7 @@ module _ (words : List (List ℕ)) (bytes : List ℕ) (few : length bytes ≤ mo
   answers_rays order most cone e spelled =
       rays_answered order most cone (subst (λ r. IsReadOutcome r (λ c. IsEnumerationAnswer (codes "rays") (ray_enumeration order most c)) o) spelled (answered (Rays order most) e))
 
--- a status is that of an answer, or the run was cut short
+-- a status is that of an outcome that was written, or the run was cut short
 pub answered_or_cut : (status : Status) → IsAnswered status ⊎ IsCutShort status
 answered_or_cut Done = inl tt
 answered_or_cut Usage = inl tt
@@ -64,7 +64,7 @@ answered_or_cut WriteFault = inr (inr (inl refl))
 answered_or_cut NoMemory = inr (inr (inr refl))
 
 module _ (words : List (List ℕ)) (status : Status) (held grown : Option (List ℕ)) where
-  -- what is asked of `surfaces` on these bytes
+  -- the clause of `surfaces` for these bytes
   abbrev pub SurfacesOn : Coords → Order → ℕ → List ℕ → Type 0
   SurfacesOn coords order most bytes = (rows : List Row) → length bytes ≤ most_bytes → table_document bytes ≡ Ok rows → AnswersSurfaces coords order most rows status held grown
 

@@ -1,4 +1,4 @@
--- How a run ends, and what holds of it then: each ending by itself, over what was asked, read and written.
+-- How a run ends, and what holds of it then: each case by itself, for the words, what was read and what was written.
 use Rattle.std.proofs.Common.{◌≡◌, ℕ, false, List, [], Option, Some, None, inl, inr, refl, sym, ◌∙◌, ap, subst, arith}
 use Rattle.std.specs.Prelude.{IfSome}
 use Rattle.text_io.specs.Causes.{Grows, Rose}
@@ -26,27 +26,27 @@ own_answered ReadFault h = absurd h
 own_answered WriteFault h = absurd h
 own_answered NoMemory h = absurd h
 
--- no status of accepted words is this one
+-- a status that equals one of accepted words is one
 no_own : (status other : Status) → IsOwnStatus status → status ≡ other → IsOwnStatus other
 no_own status other own e = subst IsOwnStatus e own
 
--- what was left untouched has as many bytes as before
+-- an unread source has at most as many bytes as before
 pub all_within : (left : Option (List ℕ)) → IsWithinInputLimit left left
 all_within None = tt
 all_within (Some bytes) = omega arith
 
--- the words are accepted: two requests of the same words are one
+-- accepted words have one request
 one_request : (words : List (List ℕ)) (asked request : Request) → accepted_request words ≡ Some asked → accepted_request words ≡ Some request → asked ≡ request
 one_request words asked request accepted e = (let g : (let o : Option Request = Some asked in o ≡ Some request) = sym accepted ∙ e in cc)
 
--- the source is left untouched where the words ask for a command that reads nothing
+-- the source is unread if the words ask for a command that reads no input
 abbrev LeavesIdle : {X : Type 0} → List (List ℕ) → X → X → Type 0
 LeavesIdle words source read = (request : Request) → accepted_request words ≡ Some request → reads_input request ≡ false → read ≡ source
 
 pub idle_of : {X : Type 0} (words : List (List ℕ)) (source read : X) (asked : Request) → accepted_request words ≡ Some asked → (reads_input asked ≡ false → read ≡ source) → LeavesIdle words source read
 idle_of words source read asked accepted idle request e nothing = idle (ap reads_input (one_request words asked request accepted e) ∙ nothing)
 
--- the words are refused where they are no command
+-- the words are not accepted if the error is that they are no command
 pub refused_by : (fault : WordsFault) (asked : Option Request) → fault ≡ Unknown → FailsWords fault asked → asked ≡ None
 refused_by fault asked is h = subst (λ (f : WordsFault). FailsWords f asked) is h
 
@@ -96,7 +96,7 @@ module _ {X Y : Type 0} (words : List (List ℕ)) (source read : X) (left rest :
     answered = λ small room same_count still_count. inr refl;
   }
 
-  -- the words are not accepted, and that is told
+  -- the words are not accepted, and the outcome that says so was written
   module _ (refused : accepted_request words ≡ None) (same : read ≡ source) (calm : IsCalm faults read_faults) where
     abbrev Told : List ℕ → Type 0
     Told bytes = (o : Outcome) × IsOutcome words bytes o × (let u : Status = Usage in u ≡ o.status) × Grows held grown o.text
@@ -132,7 +132,7 @@ module _ {X Y : Type 0} (words : List (List ℕ)) (source read : X) (left rest :
     usage_due_of None = tt
     usage_due_of (Some bytes) = usage_of bytes
 
-    -- the words are not accepted, and that was to be told
+    -- the words are not accepted, and the outcome that says so was written, or cut off
     pub usage_delivered : (o : Outcome) → o ≡ usage_outcome → (status : Status) → IsDelivered o status held grown sink_faults write_faults → Run status
     usage_delivered o is status (inl whole) =
         subst Run (sym (whole.0 ∙ ap (λ (p : Outcome). p.status) is)) (usage_run (subst (λ (p : Outcome). Grows held grown p.text) is whole.1) whole.2)
@@ -143,7 +143,7 @@ module _ {X Y : Type 0} (words : List (List ℕ)) (source read : X) (left rest :
 
   -- the words are accepted
   module _ (asked : Request) (accepted : accepted_request words ≡ Some asked) (idle : reads_input asked ≡ false → read ≡ source) where
-    -- the source failed, and that is told
+    -- the source failed, and the outcome that says so was written
     fault_run : Rose faults read_faults → Grows held grown read_line → IsCalm sink_faults write_faults → Run ReadFault
     fault_run rose grows still = record {
       usage = λ e. absurd cc;
@@ -164,7 +164,7 @@ module _ {X Y : Type 0} (words : List (List ℕ)) (source read : X) (left rest :
       answered = λ small room same_count still_count. absurd (let risen = rose small in omega (arith, risen, same_count));
     }
 
-    -- the outcome of the words and of what was read is told
+    -- the outcome of the words and of what was read was written
     own_run : (o : Outcome) → IsReadWell asked left rest faults read_faults o → Grows held grown o.text → IsCalm sink_faults write_faults → Run o.status
     own_run o well grows still = record {
       usage = λ e. absurd cc;
@@ -186,7 +186,7 @@ module _ {X Y : Type 0} (words : List (List ℕ)) (source read : X) (left rest :
       answered = λ small room same_count still_count. inl (own_answered o.status well.own_status);
     }
 
-    -- a response was to be told
+    -- a response was written, or cut off
     pub response_delivered : (o : Outcome) → IsResponse asked left rest faults read_faults o → (status : Status) → IsDelivered o status held grown sink_faults write_faults → Run status
     response_delivered o (inl fault) status (inl whole) =
         subst Run (sym (whole.0 ∙ ap (λ (p : Outcome). p.status) fault.outcome)) (fault_run fault.rose (subst (λ (p : Outcome). Grows held grown p.text) fault.outcome whole.1) whole.2)

@@ -1,4 +1,4 @@
--- With few tetrahedra no number passes the default limit.
+-- With at most `most_tetrahedra` tetrahedra no number exceeds the default limit.
 use Rattle.std.proofs.Common.{◌≡◌, ◌≤◌, ℕ, List, length, Option, Some, None, Ok, inl, inr}
 use Rattle.std.specs.Prelude.{◌⊎◌, IfSome}
 use Rattle.text_definitions.specs.Written.{limit}
@@ -18,7 +18,7 @@ use Rattle.workbench.proofs.Headlines.{Tells}
 use Rattle.workbench.proofs.Completeness.{SurfacesOn, all_surfaces}
 
 module _ (words : List (List ℕ)) (status : Status) (held grown : Option (List ℕ)) where
-  -- what is answered of these bytes
+  -- all surfaces of the table in these bytes are listed, or the run was cut short
   abbrev pub FewOn : Coords → List ℕ → Type 0
   FewOn coords bytes =
       (rows : List Row) → length bytes ≤ most_bytes → table_document bytes ≡ Ok rows → length rows ≤ most_tetrahedra coords → ListsSurfaces coords rows status held grown ⊎ IsCutShort status

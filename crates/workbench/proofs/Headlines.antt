@@ -1,4 +1,4 @@
--- What a run that is done has printed follows from the outcome of the words and of the input.
+-- The text of a run with status Done follows from the outcome of the words and of the input.
 use Rattle.std.proofs.Common.{◌≡◌, ℕ, List, Bool, true, false, Option, Some, None, Result, Ok, Err, inl, inr, refl, sym, ◌∙◌, ap, subst}
 use Rattle.std.specs.Prelude.{IfSome, codes}
 use Rattle.std.specs.Bool.{MatchBool}
@@ -19,7 +19,7 @@ use Rattle.outcome_definitions.specs.Answers.{IsOutcome, IsOutcomeOf, IsAnswerTo
 use Rattle.workbench.specs.Runs.{IsAnswered}
 use Rattle.workbench.specs.Prints.{PrintsSurfaces, PrintsRays, PrintsVerdicts}
 
--- an outcome that is done is no other
+-- an outcome with status Done equals only one with this status
 apart : {P : Type 0} (o p : Outcome) → o.status ≡ Done → o ≡ p → (p.status ≡ Done → P) → P
 apart o p done same f = f (sym (ap (λ (q : Outcome). q.status) same) ∙ done)
 
@@ -75,7 +75,7 @@ module _ (words : List (List ℕ)) (bytes : List ℕ) (o : Outcome) (held grown 
   prints_verdicts coords e =
       told (vectors_document bytes) (IsVerdictsAnswer coords) o (was_read (vectors_document bytes) (IsVerdictsAnswer coords) o done (answered (Verify coords) e)) (verdicts_from coords)
 
--- the same where the source tells its bytes
+-- the outcome of these bytes was written, and its status is that of the run
 abbrev pub Tells : List (List ℕ) → Status → Option (List ℕ) → Option (List ℕ) → List ℕ → Type 0
 Tells words status held grown bytes = (o : Outcome) × IsOutcome words bytes o × (status ≡ o.status) × Grows held grown o.text
 

@@ -28,7 +28,7 @@ use Rattle.workbench.proofs.Headlines.{Tells}
 use Rattle.workbench.proofs.Completeness.{answered_or_cut}
 
 module _ (words : List (List ℕ)) (status : Status) (held grown : Option (List ℕ)) where
-  -- `lift` on these bytes
+  -- the clause of `lift` for these bytes
   abbrev pub LiftsOn : List ℕ → Type 0
   LiftsOn bytes =
       (rows : List Row) (vectors : List (List ℕ)) (equations : List EquationRow) → length bytes ≤ most_bytes → vectors_document bytes ≡ Ok (rows, vectors) → HasSphereAndDiscVertices rows
@@ -53,7 +53,7 @@ module _ (words : List (List ℕ)) (status : Status) (held grown : Option (List 
     | inr cut ↦ lifts_cut left cut
   ]
 
-  -- `check` on these bytes
+  -- the clause of `check` for these bytes
   abbrev pub ChecksOn : List ℕ → Type 0
   ChecksOn bytes = (rows : List Row) (moves : List Move) → length bytes ≤ most_bytes → moves_document bytes ≡ Ok (rows, moves) → (status ≡ Done) ↔ IsCertificate rows moves
 
@@ -64,7 +64,7 @@ module _ (words : List (List ℕ)) (status : Status) (held grown : Option (List 
       let d = done_where_certified words bytes t.0 rows moves asked read in
       ((λ done. d.0 (sym t.2 ∙ done)), (λ certificate. t.2 ∙ d.1 certificate))
 
-  -- what the outcome of a request means that reads such a document
+  -- what the outcome means for a request that reads a document of this kind
   module _ {A : Type 0} (asked : Request) (document : List ℕ → Result A InputFault) (IsMeant : A → Outcome → Type 0) (means : Means asked document IsMeant) (e : accepted_request words ≡ Some asked) where
     told_of : (left : Option (List ℕ)) → IfSome left (Tells words status held grown) → WritesOf document IsMeant left status held grown
     told_of None t = tt
@@ -80,7 +80,7 @@ module _ (words : List (List ℕ)) (status : Status) (held grown : Option (List 
       | inr cut ↦ cut_of left cut
     ]
 
--- what the outcome of a command means that reads nothing
+-- what the outcome means for a command that reads no input
 pub alone_told : (IsMeant : Outcome → Type 0) (asked : Request) → reads_input asked ≡ false → ((p : Outcome) → IsAnswerTo asked [] p → IsMeant p)
     → (status : Status) (held grown : Option (List ℕ)) → (IsAnswered status → (p : Outcome) × IsAnswerTo asked [] p × (status ≡ p.status) × Grows held grown p.text)
     → Writes IsMeant status held grown

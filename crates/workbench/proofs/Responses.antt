@@ -1,4 +1,4 @@
--- The outcome of a request, over what was read, or over any input where nothing is read.
+-- The outcome of a request, for what was read, or for any input if nothing is read.
 use Rattle.std.proofs.Common.{◌≡◌, ℕ, ◌≤◌, ◌<◌, ◌-◌, ◌^◌, Bool, true, false, inl, inr, List, ◌++◌, length, Option, Some, None, Result, Ok, Err, sym, ◌∙◌, ap, subst, true≢false, append-nil, arith}
 use Rattle.std.specs.Prelude.{IfSome}
 use Rattle.std.proofs.lemmas.Bool.{cases_order}
@@ -23,7 +23,7 @@ module _ (request : Request) (o : Outcome) where
 pub no_error : {T E : Type 0} (x : T) (e : E) → (let r : Result T E = Ok x in r ≡ Err e) → ⊥
 no_error x e same = absurd cc
 
--- a count that didn't rise stands still
+-- a count that did not grow is the same
 pub calm_of : (before now : ℕ) → (before < 2 ^ 64 - 1 → before < now → ⊥) → before ≤ now → IsCalm before now
 calm_of before now never later small = elim (cases_order before now) [
   | inl e ↦ sym e
@@ -31,7 +31,7 @@ calm_of before now never later small = elim (cases_order before now) [
   | inr (inr more) ↦ absurd (omega arith)
 ]
 
--- the outcome of a request that reads, over a source of which all was taken
+-- the outcome of a request that reads an input, if the whole source was read
 module _ (request : Request) (o : Outcome) (bytes : List ℕ) (reads : reads_input request ≡ true) (answer : IsAnswerTo request bytes o) (few : length bytes ≤ most_bytes) where
   taken : (left rest : Option (List ℕ)) → TakesBytes left rest bytes → IsEnded rest → IfSome left (λ xs. IsRequestOutcome request xs o)
   taken None rest t e = tt

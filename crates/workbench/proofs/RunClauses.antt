@@ -1,4 +1,4 @@
--- What was delivered is the outcome of the words and of the input, or a prefix of what was due.
+-- What was written is the outcome of the words and of the input, or a prefix of the correct text.
 use Rattle.std.proofs.Common.{◌≡◌, ℕ, inl, inr, List, Option, Some, None, sym, ◌∙◌, ap, subst}
 use Rattle.std.specs.Prelude.{IfSome}
 use Rattle.text_io.specs.Causes.{Grows}
@@ -15,7 +15,7 @@ module _ (words : List (List ℕ)) (r : Request) (accepted : accepted_request wo
   outcome_of_words : (bytes : List ℕ) → IsRequestOutcome r bytes o → IsOutcome words bytes o
   outcome_of_words bytes h = subst (λ (asked : Option Request). IsOutcomeOf asked bytes o) (sym accepted) h
 
-  -- the clause on a status that is neither a fault nor want of memory
+  -- the clause for a status that is neither a failure nor that memory ran out
   abbrev Answered : List ℕ → Type 0
   Answered bytes = (p : Outcome) × IsOutcome words bytes p × (status ≡ p.status) × Grows held grown p.text
 
@@ -29,7 +29,7 @@ module _ (words : List (List ℕ)) (r : Request) (accepted : accepted_request wo
   run_outcome left (inr well) (inl whole) h = answered_well left well whole.0 whole.1
   run_outcome left (inr well) (inr cut) h = absurd (subst IsAnswered cut.0 h)
 
-  -- the clause on a failed sink
+  -- the clause for a failed sink
   abbrev CutOff : Option (List ℕ) → Type 0
   CutOff left = (p : Outcome) × IsToBeWritten words left before now p × IsCutOff held grown p.text
 

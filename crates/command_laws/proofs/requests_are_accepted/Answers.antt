@@ -1,4 +1,4 @@
--- Both ways, word by word.
+-- Both directions, word by word.
 use Rattle.command_laws.proofs.Accepted.{accepted_spell, spelled_accept, refused_spell_none, none_spelled_refused, spelled_once}
 use Rattle.command_laws.proofs.requests_are_accepted.Goals as goal
 

@@ -1,4 +1,4 @@
--- Each option is one word, and values are in range where they are read.
+-- Each option is one word, and each value that is read is in range.
 use Rattle.command_laws.proofs.Asking.{words_for, in_range}
 use Rattle.command_laws.proofs.requests_are_spelled.Goals as goal
 

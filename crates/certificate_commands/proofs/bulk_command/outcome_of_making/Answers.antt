@@ -1,4 +1,4 @@
--- What exceeds the limit is told.
+-- The outcome names the step at which a number exceeds the limit.
 use Rattle.std.proofs.Common.{◌≡◌, ℕ, List, ap, ◌∙◌, subst}
 use Rattle.double_description.specs.declared.engine.LargeStep.{LargeStep}
 use Rattle.outcome_definitions.specs.Enumerations.{large_outcome}

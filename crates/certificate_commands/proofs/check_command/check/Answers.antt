@@ -1,4 +1,4 @@
--- An input has few moves, and the fault that was answered is that of the input.
+-- An input has at most one more move than bytes, and the reported error is that of the input.
 use Rattle.std.proofs.Common.{length, ap, arith}
 use Rattle.std.proofs.lemmas.Result.{IfOk-weaker}
 use Rattle.command_answers.proofs.RefusalLines.{input_refused}

@@ -1,4 +1,4 @@
--- What is answered of the check is the answer.
+-- The outcome of the check is the answer.
 use Rattle.std.proofs.Common.{Ok, Err}
 use Rattle.std.proofs.lemmas.Result.{IfOk-weaker}
 use Rattle.sphere_certificate.specs.Checks.{told}

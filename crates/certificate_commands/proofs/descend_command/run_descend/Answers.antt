@@ -1,4 +1,4 @@
--- What is answered of the descent is the answer.
+-- The outcome of the descent is the answer.
 use Rattle.std.proofs.Common.{Ok, Err}
 use Rattle.std.proofs.lemmas.Result.{IfOk-weaker}
 use Rattle.certificate_commands.proofs.descend_command.run_descend.Goals as goal

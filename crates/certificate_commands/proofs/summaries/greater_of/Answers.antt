@@ -1,4 +1,4 @@
--- One entry more.
+-- One more entry.
 use Rattle.std.proofs.Common.{arith}
 use Rattle.certificate_commands.proofs.Greatest.{one_entry}
 use Rattle.certificate_commands.proofs.summaries.greater_of.Goals as goal

@@ -1,4 +1,4 @@
--- Those so far are counted.
+-- The linking surfaces so far are counted.
 use Rattle.std.proofs.Common.{◌≡◌, take}
 use Rattle.std.specs.Prelude.{count_by}
 use Rattle.surface_definitions.specs.Characteristic.{is_linking}

@@ -1,4 +1,4 @@
--- The line that was begun is the one that may not stand.
+-- The line that was begun is the one that must not follow the document.
 use Rattle.std.proofs.Common.{sym, subst, Result}
 use Rattle.text_definitions.specs.declared.LexFault.{LexFault}
 use Rattle.text_definitions.specs.Reading.{Reading, Moves}

@@ -1,4 +1,4 @@
--- Each turn takes one number.
+-- Each pass of the loop reads one number.
 use Rattle.std.proofs.Common.{sym, ◌∙◌, arith}
 use Rattle.std.proofs.lemmas.Result.{err_from_is_err_and}
 use Rattle.std.proofs.lemmas.Bool.{iff_false}

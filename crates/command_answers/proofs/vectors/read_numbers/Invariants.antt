@@ -1,4 +1,4 @@
--- The numbers so far with those that are left are those of the line.
+-- The numbers so far, followed by those that are left, are those of the line.
 use Rattle.std.proofs.Common.{◌≡◌, length}
 use Rattle.text_definitions.specs.Reading.{numbers_at}
 use Rattle.text_definitions.proofs.Readers.{with_front}

@@ -1,4 +1,4 @@
--- Each turn takes one line.
+-- Each pass of the loop reads one line.
 use Rattle.std.proofs.Common.{sym, ◌∙◌}
 use Rattle.std.proofs.lemmas.Result.{err_from_is_err_and}
 use Rattle.cone_text_definitions.specs.VectorText.{vector_at}

@@ -1,4 +1,4 @@
--- The vectors so far with those that are left are those of the input.
+-- The vectors so far, followed by those that are left, are those of the input.
 use Rattle.std.proofs.Common.{◌≡◌, length}
 use Rattle.cone_text_definitions.specs.VectorText.{vector_at}
 use Rattle.text_document_definitions.specs.Documents.{each_line_from}

@@ -1,4 +1,4 @@
--- The list, or what exceeds the limit, is the answer.
+-- The answer is the list, or names the step at which a number exceeds the limit.
 use Rattle.std.proofs.Common.{ℕ, List, ap, ◌∙◌}
 use Rattle.std.specs.Prelude.{codes}
 use Rattle.outcome_definitions.specs.Enumerations.{list_outcome, large_outcome}

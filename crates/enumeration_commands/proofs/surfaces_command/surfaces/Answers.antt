@@ -1,4 +1,4 @@
--- The answer is that of the document's table, and the fault that was answered is that of the input.
+-- The answer is that of the table of the document, and the reported error is that of the input.
 use Rattle.std.proofs.lemmas.Result.{IfOk-weaker}
 use Rattle.enumeration_commands.proofs.Answering.{document_listed}
 use Rattle.command_answers.proofs.RefusalLines.{input_refused}

@@ -1,4 +1,4 @@
--- The fault that was answered is that of the input.
+-- The reported error is that of the input.
 use Rattle.std.proofs.lemmas.Result.{IfOk-weaker}
 use Rattle.command_answers.proofs.RefusalLines.{input_refused}
 use Rattle.move_commands.proofs.play_command.play.Goals as goal

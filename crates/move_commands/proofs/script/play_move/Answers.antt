@@ -1,4 +1,4 @@
--- A refused move is answered by its fault.
+-- The answer to a refused move is its error.
 use Rattle.move_commands.proofs.ScriptLines.{on_ok, refused_step}
 use Rattle.move_commands.proofs.script.play_move.Goals as goal
 

@@ -1,4 +1,4 @@
--- Each turn answers one step.
+-- Each pass of the loop plays one step.
 use Rattle.std.proofs.Common.{arith}
 use Rattle.move_commands.proofs.ScriptLines.{plays-none, plays-more}
 use Rattle.move_commands.proofs.script.take_steps.Goals as goal

@@ -1,4 +1,4 @@
--- The steps so far with those that are left are those of the input.
+-- The steps so far, followed by those that are left, are those of the input.
 use Rattle.std.proofs.Common.{◌≡◌, length}
 use Rattle.move_definitions.specs.MoveText.{step_at}
 use Rattle.text_document_definitions.specs.Documents.{each_line_from}

@@ -1,4 +1,4 @@
--- The first that is not connected was found before.
+-- The first table that is not connected was found before.
 use Rattle.table_commands.proofs.Grouping.{still_found}
 use Rattle.table_commands.proofs.groups.add.Goals as goal
 

@@ -1,4 +1,4 @@
--- The table's class, or that it is the first that is not connected.
+-- The table has a class, or is the first that is not connected.
 use Rattle.table_commands.proofs.Grouping.{class_added, found_first}
 use Rattle.table_commands.proofs.groups.classify.Goals as goal
 

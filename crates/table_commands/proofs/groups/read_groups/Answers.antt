@@ -1,4 +1,4 @@
--- Each turn takes one table.
+-- Each pass of the loop reads one table.
 use Rattle.std.proofs.Common.{◌++◌, [], ◌∷◌, length-append, sym, ◌∙◌, arith}
 use Rattle.std.proofs.lemmas.Result.{err_from_is_err_and}
 use Rattle.table_commands.proofs.EachTable.{table_taken, tables_fewer, table_fails, tables_ended}

@@ -1,4 +1,4 @@
--- The tables so far with those that are left are those of the input, and there are no more than lines.
+-- The tables so far, followed by those that are left, are those of the input, and there are at most as many as lines.
 use Rattle.std.proofs.Common.{◌≡◌, ◌+◌, ◌≤◌, List, length}
 use Rattle.table_definitions.specs.Table.{Row}
 use Rattle.text_document_definitions.specs.Documents.{tables_from}

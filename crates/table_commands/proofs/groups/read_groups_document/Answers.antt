@@ -1,4 +1,4 @@
--- There are few lines.
+-- An input has at most one more line than bytes.
 use Rattle.std.proofs.Common.{length, ap, arith}
 use Rattle.text_definitions.specs.Reading.{Reading}
 use Rattle.text_definitions.proofs.LineCount.{few_lines}

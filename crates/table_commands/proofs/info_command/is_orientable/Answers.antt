@@ -1,4 +1,4 @@
--- There are signs if and only if some are told.
+-- There are signs if and only if some are returned.
 use Rattle.table_commands.proofs.ClassLines.{signs_tell}
 use Rattle.table_commands.proofs.info_command.is_orientable.Goals as goal
 

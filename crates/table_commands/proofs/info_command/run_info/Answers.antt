@@ -1,4 +1,4 @@
--- The skeleton's table is the one that was given.
+-- The table of the skeleton is the given one.
 use Rattle.std.proofs.Common.{List, subst}
 use Rattle.std.specs.Prelude.{IfOk}
 use Rattle.table_definitions.specs.Table.{Row}

@@ -1,4 +1,4 @@
--- What is printed is so.
+-- The printed information is that of the table.
 use Rattle.outcome_definitions.specs.Information.{Information, AreValid}
 use Rattle.std.proofs.Common.{◌≡◌, Bool, List, length, refl, sym, ap, ◌∙◌, subst}
 use Rattle.std.specs.Prelude.{IsTrue, ◌↔◌}

@@ -1,4 +1,4 @@
--- The cover, or that it would have too many tetrahedra.
+-- The cover is printed, or that it would have too many tetrahedra.
 use Rattle.std.proofs.lemmas.Result.{IfOk-weaker}
 use Rattle.topology_commands.proofs.Telling.{cover_answer, large_answer}
 use Rattle.topology_commands.proofs.cover_command.run_cover_on_skeleton.Goals as goal

@@ -1,4 +1,4 @@
--- Why there is no group.
+-- The reason why there is no group.
 use Rattle.std.proofs.Common.{refl}
 use Rattle.std.proofs.lemmas.Result.{IfOk-weaker}
 use Rattle.topology_commands.proofs.Telling.{fault_of, not_connected_answer, invalid_answer}

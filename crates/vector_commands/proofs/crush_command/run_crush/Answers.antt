@@ -1,4 +1,4 @@
--- The crushed table is told, or why the vector is refused.
+-- The crushed table is printed, or the reason why the vector is refused.
 use Rattle.std.proofs.Common.{sym}
 use Rattle.std.proofs.lemmas.Result.{IfOk-weaker}
 use Rattle.vector_commands.proofs.CrushAnswers.{crushed_told, unfit_told}

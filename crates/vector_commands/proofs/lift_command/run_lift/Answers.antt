@@ -1,4 +1,4 @@
--- The lifts are told, or the first vector that is refused.
+-- The lifts are printed, or the outcome names the first vector that is refused.
 use Rattle.std.proofs.Common.{Err, subst}
 use Rattle.out_of_memory.specs.declared.Failure.{Failure}
 use Rattle.cone_text_definitions.specs.VectorText.{vector_text}

@@ -1,4 +1,4 @@
--- All of the source was taken.
+-- The whole source was read.
 use Rattle.std.proofs.Common.{ℕ, List, inr, subst}
 use Rattle.text_io.specs.declared.transfer.ReadEnd.TheVariants.{Failed}
 use Rattle.outcome_definitions.specs.Answers.{IsAnswerTo}

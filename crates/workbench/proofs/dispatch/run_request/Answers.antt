@@ -1,4 +1,4 @@
--- Each ending of a run.
+-- Each case of the end of a run.
 use Rattle.std.proofs.Common.{refl}
 use Rattle.workbench.proofs.Endings.{all_within, spent_run, usage_delivered, idle_of, refused_by, response_delivered}
 use Rattle.workbench.proofs.dispatch.run_request.Goals as goal

@@ -1,4 +1,4 @@
--- The outcome over bytes at hand.
+-- The outcome for bytes in memory.
 use Rattle.std.proofs.Common.{ℕ, List, subst}
 use Rattle.outcome_definitions.specs.Answers.{IsOutcome}
 use Rattle.workbench.proofs.steady.run_steadily.Goals as goal

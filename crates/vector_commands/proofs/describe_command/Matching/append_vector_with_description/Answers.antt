@@ -1,4 +1,4 @@
--- What is described has small components.
+-- A vector with a description has components within the limit.
 use Rattle.vector_commands.proofs.DescribedSurfaces.{small_components}
 use Rattle.vector_commands.proofs.DiscEquations.{surface_of}
 use Rattle.vector_commands.proofs.describe_command.Matching.append_vector_with_description.Goals as goal

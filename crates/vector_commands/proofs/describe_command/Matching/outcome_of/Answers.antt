@@ -1,4 +1,4 @@
--- The vectors are described, or the first that is refused is told.
+-- The vectors are described, or the outcome names the first that is refused.
 use Rattle.std.proofs.Common.{Err, subst}
 use Rattle.out_of_memory.specs.declared.Failure.{Failure}
 use Rattle.surface_vector_definitions.specs.Answers.{IsDescription}

@@ -1,4 +1,4 @@
--- The parts of the line, one after another.
+-- The fields of the line, one after another.
 use Rattle.std.proofs.Common.{rules, ◌≡◌, ℕ, List, ◌++◌, codes, refl, ap, ◌∙◌, append_assoc}
 use Rattle.std.specs.Fmt.{signed_decimal}
 use Rattle.std.specs.List.{slice_index_or}

@@ -1,4 +1,4 @@
--- One line more.
+-- One more line.
 use Rattle.std.proofs.Common.{◌<◌, length, arith}
 use Rattle.surface_vector_definitions.specs.Texts.{component_line}
 use Rattle.surface_pieces.specs.ComponentLists.{no_component}

@@ -1,4 +1,4 @@
--- The only component is the surface, and otherwise no sum of the component exceeds the limit.
+-- A sole component is the surface, and otherwise no sum of the component exceeds the limit.
 use Rattle.std.proofs.Common.{rules, length, sym, ap, ◌∙◌}
 use Rattle.std.proofs.lemmas.Int.{to_z-of_z}
 use mir.Syntax.{w128}

@@ -1,4 +1,4 @@
--- One more lift is told, or the vector is the first that is refused.
+-- One more lift is printed, or the vector is the first that is refused.
 use Rattle.std.proofs.Common.{sym, subst}
 use Rattle.cone_text_definitions.specs.VectorText.{vector_text}
 use Rattle.surface_vector_definitions.specs.Answers.{IsLifted, IsFirstRefused}
