@@ -7,7 +7,7 @@ use crate::numbers::gcd;
 use crate::small::{gcd_of_small, quotient};
 
 /// The greatest common divisor of `entries`. Once it is 1, no further entry is read.
-pub(crate) fn common_divisor(entries: &[u128]) -> u128
+fn common_divisor(entries: &[u128]) -> u128
     ensures { IsEntriesGcd entries.now result }
 {
     let mut divisor = 0;
@@ -21,7 +21,7 @@ pub(crate) fn common_divisor(entries: &[u128]) -> u128
 }
 
 /// As `common_divisor`, for entries of 64 bits.
-pub(crate) fn common_small_divisor(entries: &[u64]) -> u64
+fn common_small_divisor(entries: &[u64]) -> u64
     ensures { IsEntriesGcd entries.now result }
 {
     let mut divisor = 0;
@@ -34,42 +34,31 @@ pub(crate) fn common_small_divisor(entries: &[u64]) -> u64
     divisor
 }
 
-/// Divides each of `entries` by `divisor`, unless that is 1.
-pub(crate) fn divide(entries: &mut [u128], divisor: u128)
-    requires { 0 < divisor }
-    ensures { entries.new ≡ map (λ entry. entry / divisor) entries.old }
+/// Divides each of `entries` by their greatest common divisor, which is returned. If that is 0 all entries are 0, and
+/// none is changed.
+pub(crate) fn divide_by_common(entries: &mut [u128]) -> u128
+    ensures divisor { IsEntriesGcd entries.old result }
+    ensures divided { 0 < result → entries.new ≡ map (λ entry. entry / result) entries.old }
 {
-    if divisor != 1 {
-        divide_each(entries, divisor);
+    let divisor = common_divisor(entries);
+    if divisor > 1 {
+        for entry in entries.iter_mut() {
+            *entry = quotient(*entry, divisor);
+        }
     }
+    divisor
 }
 
-/// Divides each of `entries` by `divisor`.
-fn divide_each(entries: &mut [u128], divisor: u128)
-    requires { 0 < divisor }
-    ensures { entries.new ≡ map (λ entry. entry / divisor) entries.old }
+/// As `divide_by_common`, for entries of 64 bits.
+pub(crate) fn divide_by_small_common(entries: &mut [u64]) -> u64
+    ensures divisor { IsEntriesGcd entries.old result }
+    ensures divided { 0 < result → entries.new ≡ map (λ entry. entry / result) entries.old }
 {
-    for entry in entries.iter_mut() {
-        *entry = quotient(*entry, divisor);
+    let divisor = common_small_divisor(entries);
+    if divisor > 1 {
+        for entry in entries.iter_mut() {
+            *entry = *entry / divisor;
+        }
     }
-}
-
-/// Divides each of `entries`, of 64 bits, by `divisor`, unless that is 1.
-pub(crate) fn divide_small(entries: &mut [u64], divisor: u64)
-    requires { 0 < divisor }
-    ensures { entries.new ≡ map (λ entry. entry / divisor) entries.old }
-{
-    if divisor != 1 {
-        divide_each_small(entries, divisor);
-    }
-}
-
-/// Divides each of `entries`, of 64 bits, by `divisor`.
-fn divide_each_small(entries: &mut [u64], divisor: u64)
-    requires { 0 < divisor }
-    ensures { entries.new ≡ map (λ entry. entry / divisor) entries.old }
-{
-    for entry in entries.iter_mut() {
-        *entry = *entry / divisor;
-    }
+    divisor
 }

@@ -10,12 +10,14 @@
 //! No result is rounded or wraps around: a number above the limit is an error that names the first place.
 #![tactic(auto)]
 
+mod combination;
 mod divisors;
 mod entries;
 mod filled;
 mod limit;
 mod numbers;
 mod packed;
+mod pair;
 mod ray;
 mod row;
 mod small;
@@ -23,7 +25,8 @@ mod system;
 
 pub use limit::Limit;
 pub use numbers::{MAX_ENTRY, Passed, PlusMinus, gcd, parts};
-pub use packed::{PackedRay, combine_inside};
+pub use packed::PackedRay;
+pub use pair::{RayPair, combine_inside};
 pub use ray::{CombineFault, Ray, combine, compare};
 pub use row::{MAX_COEFFICIENT, SparseRow};
 pub use system::{SolutionFault, System, is_solution};

@@ -41,82 +41,71 @@ pub fn gcd(a: u128, b: u128) -> u128
 
 /// `sum + magnitude * entry`. Fails if that exceeds `limit`.
 fn add_product(sum: u128, magnitude: u32, entry: u128, limit: u128) -> Result<u128, Passed>
-    requires within { sum ≤ limit }
     ensures ok { IfOk result (λ after. after ≡ sum + magnitude * entry) }
     ensures within { OnOk result (sum + magnitude * entry ≤ limit) }
     ensures passed { OnErr result (limit < sum + magnitude * entry) }
 {
-    match product(u128::from(magnitude), entry) {
-        Some(term) if term <= limit - sum => Ok(sum + term),
+    let Some(term) = product(u128::from(magnitude), entry) else {
+        return Err(Passed);
+    };
+    match sum.checked_add(term) {
+        Some(after) if after <= limit => Ok(after),
         _ => Err(Passed),
     }
 }
 
-/// The parts `sums` with one more term. Fails if a part exceeds `limit`. Most entries of rays are 0, so that case comes
-/// first.
-fn add_term(
-    sums: PlusMinus,
-    coefficient: i32,
-    entry: u128,
+/// The parts of the first terms of a row at a vector. Invariant: neither exceeds `limit`.
+#[derive(Clone, Copy)]
+struct PartsSoFar {
+    plus: u128,
+    minus: u128,
     limit: u128,
-) -> Result<PlusMinus, Passed>
-    requires plus { sums.plus ≤ limit }
-    requires minus { sums.minus ≤ limit }
+    ghost plus_within: { plus ≤ limit },
+    ghost minus_within: { minus ≤ limit },
+}
+
+/// The parts `sums` with one more term. Fails if a part exceeds the limit. Most entries of rays are 0, so that case
+/// comes first.
+fn add_term(sums: PartsSoFar, coefficient: i32, entry: u128) -> Result<PartsSoFar, Passed>
     ensures plus { IfOk result (λ after. after.plus ≡ sums.plus + positive_coefficient coefficient * entry) }
     ensures minus { IfOk result (λ after. after.minus ≡ sums.minus + negative_coefficient coefficient * entry) }
-    ensures plus_within { IfOk result (λ after. after.plus ≤ limit) }
-    ensures minus_within { IfOk result (λ after. after.minus ≤ limit) }
-    ensures passed { OnErr result ((limit < sums.plus + positive_coefficient coefficient * entry) ⊎ (limit < sums.minus + negative_coefficient coefficient * entry)) }
+    ensures limit { IfOk result (λ after. after.limit ≡ sums.limit) }
+    ensures passed { OnErr result ((sums.limit < sums.plus + positive_coefficient coefficient * entry) ⊎ (sums.limit < sums.minus + negative_coefficient coefficient * entry)) }
 {
     if entry == 0 {
         return Ok(sums);
     }
+    let PartsSoFar { plus, minus, limit } = sums;
     let magnitude = coefficient.unsigned_abs();
     if coefficient > 0 {
-        let plus = add_product(sums.plus, magnitude, entry, limit)?;
-        Ok(PlusMinus {
-            plus,
-            minus: sums.minus,
-        })
+        let plus = add_product(plus, magnitude, entry, limit)?;
+        Ok(PartsSoFar { plus, minus, limit })
     } else {
-        let minus = add_product(sums.minus, magnitude, entry, limit)?;
-        Ok(PlusMinus {
-            plus: sums.plus,
-            minus,
-        })
+        let minus = add_product(minus, magnitude, entry, limit)?;
+        Ok(PartsSoFar { plus, minus, limit })
     }
 }
 
-/// The parts of a row at `x`, with entries of 64 bits. Fails if a part exceeds `limit`.
-pub(crate) fn small_parts(
-    entries: &[(u32, i32)],
-    x: &[u64],
-    limit: u128,
-) -> Result<PlusMinus, Passed>
-    requires in_range { IsInRange (length x.now) entries.now }
-    ensures ok { IfOk result (ArePartsAt entries.now x.now) }
-    ensures within { OnOk result (HasPartsWithin limit entries.now x.now) }
-    ensures passed { OnErr result (HasLargePart limit entries.now x.now) }
+/// The positive and the negative part of `row` at `x`, with entries of 64 bits. Fails if a part exceeds `limit`.
+pub(crate) fn small_parts(row: &SparseRow, x: &[u64], limit: u128) -> Result<PlusMinus, Passed>
+    requires in_range { IsInRange (length x.now) row.now }
+    ensures ok { IfOk result (ArePartsAt row.now x.now) }
+    ensures within { OnOk result (HasPartsWithin limit row.now x.now) }
+    ensures passed { IsErr result ↔ HasLargePart limit row.now x.now }
 {
-    let mut sums = PlusMinus { plus: 0, minus: 0 };
+    let entries = row.entries();
+    let mut sums = PartsSoFar {
+        plus: 0,
+        minus: 0,
+        limit,
+    };
     for (column, coefficient) in entries {
-        sums = add_term(sums, *coefficient, u128::from(x[*column as usize]), limit)?;
+        sums = add_term(sums, *coefficient, u128::from(x[*column as usize]))?;
     }
-    Ok(sums)
-}
-
-/// The parts of a row at `x`, with entries of 128 bits. Fails if a part exceeds `limit`.
-pub(crate) fn parts_of(entries: &[(u32, i32)], x: &[u128], limit: u128) -> Result<PlusMinus, Passed>
-    requires in_range { IsInRange (length x.now) entries.now }
-    ensures ok { IfOk result (ArePartsAt entries.now x.now) }
-    ensures within { OnOk result (HasPartsWithin limit entries.now x.now) }
-    ensures passed { OnErr result (HasLargePart limit entries.now x.now) }
-{
-    let mut sums = PlusMinus { plus: 0, minus: 0 };
-    for (column, coefficient) in entries {
-        sums = add_term(sums, *coefficient, x[*column as usize], limit)?;
-    }
-    Ok(sums)
+    Ok(PlusMinus {
+        plus: sums.plus,
+        minus: sums.minus,
+    })
 }
 
 /// The positive and the negative part of `row` at `x`. Fails with `Passed` if and only if one of them exceeds `limit`.
@@ -126,5 +115,17 @@ pub fn parts(row: &SparseRow, x: &[u128], limit: u128) -> Result<PlusMinus, Pass
     ensures within { OnOk result (HasPartsWithin limit row.now x.now) }
     ensures passed { IsErr result ↔ HasLargePart limit row.now x.now }
 {
-    parts_of(row.entries(), x, limit)
+    let entries = row.entries();
+    let mut sums = PartsSoFar {
+        plus: 0,
+        minus: 0,
+        limit,
+    };
+    for (column, coefficient) in entries {
+        sums = add_term(sums, *coefficient, x[*column as usize])?;
+    }
+    Ok(PlusMinus {
+        plus: sums.plus,
+        minus: sums.minus,
+    })
 }

@@ -1,36 +1,28 @@
 //! Rays as the steps store them. A large step reads most entries of its rays and writes as many, so memory bounds its
 //! speed. Nearly all entries fit in 64 bits, which halves the memory.
 
-ghost use Rattle.std.specs.Prelude.{◌≡◌, ℕ, ◌<◌, ◌≤◌, ◌↔◌, length, IfOk, OnOk, IfErr, IfSome, IsErr, slice_index, slice_set};
+ghost use Rattle.std.specs.Prelude.{◌≡◌, ◌<◌, ◌≤◌, ◌↔◌, length, IfOk, OnOk, IsErr, slice_index, slice_set};
 ghost use Rattle.std.specs.Ordering.{nat_cmp};
 ghost use Rattle.std.specs.Cmp.Lexicographic.{slice_cmp};
-ghost use Rattle.cone_definitions.specs.Vectors.{unit, multiple, sum_of};
+ghost use Rattle.cone_definitions.specs.Vectors.{unit};
 ghost use Rattle.cone_definitions.specs.Elimination.{HasLargePart, HasPartsWithin};
-ghost use Rattle.cone_arithmetic.specs.RayEntries.{IsReduced};
+ghost use Rattle.cone_arithmetic.specs.RayEntries.{IsReduced, numbers_of};
 ghost use Rattle.cone_arithmetic.specs.Sparse.{IsInRange, ArePartsAt};
-ghost use Rattle.cone_arithmetic.specs.Combinations.{IsReducedBy};
-ghost use Rattle.cone_arithmetic.specs.Faults.{CombineFails};
-ghost use Rattle.cone_arithmetic.specs.Filled.{AreInside};
 
-use crate::divisors::{common_small_divisor, divide_small};
-use crate::entries::{Entries, count, entry, into_wide, small_entries, wide_entries, with_entry};
-use crate::filled::sums_at;
-use crate::limit::Limit;
-use crate::numbers::{MAX_ENTRY, Passed, PlusMinus, gcd, parts_of, small_parts};
-use crate::ray::{CombineFault, Ray, combine};
+use crate::entries::{Entries, count, entry, into_wide, wide_entries, with_entry};
+use crate::numbers::{MAX_ENTRY, Passed, PlusMinus, parts, small_parts};
+use crate::ray::Ray;
 use crate::row::SparseRow;
-use crate::small::{MAX_SMALL, quotient};
 use out_of_memory::NoMemory;
 use std::alloc::Global;
 use std::cmp::Ordering;
 use std::marker::Model;
-use support_bits::Support;
 
 /// A ray whose entries are stored in 64 bits each, or in 128 bits each. Invariant: at most `MAX_ENTRY`, not all 0, with
 /// greatest common divisor 1.
 #[derive(Drop)]
 pub struct PackedRay {
-    entries: Entries,
+    pub(crate) entries: Entries,
 }
 
 impl Model for PackedRay {
@@ -67,15 +59,6 @@ impl PackedRay {
         count(&self.entries)
     }
 
-    /// The entry in `column`.
-    fn entry(&self, column: usize) -> u128
-        requires { column < length self.now }
-        ensures entry { result ≡ slice_index self.now column }
-        ensures reduced { IsReduced MAX_ENTRY self.now }
-    {
-        entry(&self.entries, column)
-    }
-
     /// The positive and the negative part of `row` at the ray. Fails with `Passed` if and only if one of them exceeds
     /// `limit`.
     pub fn parts(&self, row: &SparseRow, limit: u128) -> Result<PlusMinus, Passed>
@@ -85,8 +68,8 @@ impl PackedRay {
         ensures passed { IsErr result ↔ HasLargePart limit row.now self.now }
     {
         match &self.entries {
-            Entries::Small(small) => small_parts(row.entries(), small, limit),
-            Entries::Large(large) => parts_of(row.entries(), large, limit),
+            Entries::Small(small) => small_parts(row, small, limit),
+            Entries::Large(large) => parts(row, large, limit),
         }
     }
 
@@ -97,7 +80,7 @@ impl PackedRay {
         match (&self.entries, &other.entries) {
             (Entries::Small(x), Entries::Small(y)) => x.as_slice().cmp(y.as_slice()),
             (Entries::Large(x), Entries::Large(y)) => x.as_slice().cmp(y.as_slice()),
-            _ => compare_each(self, other),
+            _ => compare_each(&self.entries, &other.entries),
         }
     }
 
@@ -136,7 +119,7 @@ impl PackedRay {
     }
 
     /// `ray` as a packed ray.
-    fn of(ray: Ray) -> PackedRay
+    pub(crate) fn of(ray: Ray) -> PackedRay
         ensures { result ≡ ray }
     {
         let Ray { entries } = ray;
@@ -147,115 +130,15 @@ impl PackedRay {
 }
 
 /// The lexicographic order of `a` and `b`, entry by entry.
-fn compare_each(a: &PackedRay, b: &PackedRay) -> Ordering
-    ensures { result ≡ slice_cmp nat_cmp a.now b.now }
+fn compare_each(a: &Entries, b: &Entries) -> Ordering
+    ensures { result ≡ slice_cmp nat_cmp (numbers_of a.now) (numbers_of b.now) }
 {
-    let common = a.columns().min(b.columns());
+    let common = count(a).min(count(b));
     for column in 0..common {
-        let order = a.entry(column).cmp(&b.entry(column));
+        let order = entry(a, column).cmp(&entry(b, column));
         if order != Ordering::Equal {
             return order;
         }
     }
-    a.columns().cmp(&b.columns())
-}
-
-/// The entries of `a * w + b * u` at the columns of `support`; `None` if a number does not fit in 64 bits or exceeds
-/// `limit`.
-fn small_sums(
-    alloc: Global,
-    support: &Support,
-    a: u128,
-    w: &PackedRay,
-    b: u128,
-    u: &PackedRay,
-    limit: u128,
-) -> Result<Option<Vec<u64>>, NoMemory>
-    requires lengths { length u.now ≡ length w.now }
-    requires width { length support.now ≡ length w.now }
-    requires inside { AreInside support.now u.now w.now }
-    ensures sums { IfOk result (λ answer. IfSome answer (λ sums. sums.items ≡ sum_of (multiple a w.now) (multiple b u.now))) }
-    ensures within { IfOk result (λ answer. IfSome answer (λ _. (column : ℕ) → slice_index (sum_of (multiple a w.now) (multiple b u.now)) column ≤ limit)) }
-    ensures reduced { IfOk result (λ answer. IfSome answer (λ _. IsReduced MAX_ENTRY w.now × IsReduced MAX_ENTRY u.now)) }
-{
-    if a > MAX_SMALL || b > MAX_SMALL {
-        return Ok(None);
-    }
-    let Some(first) = small_entries(&w.entries) else {
-        return Ok(None);
-    };
-    let Some(second) = small_entries(&u.entries) else {
-        return Ok(None);
-    };
-    sums_at(
-        alloc,
-        support.words(),
-        a as u64,
-        first,
-        b as u64,
-        second,
-        limit,
-    )
-}
-
-/// As `combine`, with the same errors, for packed rays `u` and `w`.
-fn combine_wide(
-    alloc: Global,
-    u: &PackedRay,
-    w: &PackedRay,
-    at_u: u128,
-    at_w: u128,
-    limit: Limit,
-) -> Result<PackedRay, CombineFault>
-    requires lengths { length u.now ≡ length w.now }
-    requires some_u { 1 ≤ at_u }
-    requires some_w { 1 ≤ at_w }
-    ensures ok { IfOk result (IsReducedBy limit.number at_u at_w u.now w.now) }
-    ensures columns { IfOk result (λ ray. length ray ≡ length u.now) }
-    ensures err { IfErr result (CombineFails limit.number at_u at_w u.now w.now) }
-{
-    let first = u.to_ray(alloc)?;
-    let second = w.to_ray(alloc)?;
-    let ray = combine(alloc, &first, &second, at_u, at_w, limit.number)?;
-    Ok(PackedRay::of(ray))
-}
-
-/// As `combine`, for packed rays whose supports lie in `support`, the only columns that are computed. Fails with
-/// `Passed`, which names the first column whose entry exceeds `limit`.
-pub fn combine_inside(
-    alloc: Global,
-    u: &PackedRay,
-    w: &PackedRay,
-    support: &Support,
-    at_u: u128,
-    at_w: u128,
-    limit: Limit,
-) -> Result<PackedRay, CombineFault>
-    requires lengths { length u.now ≡ length w.now }
-    requires width { length support.now ≡ length w.now }
-    requires inside { AreInside support.now u.now w.now }
-    requires some_u { 1 ≤ at_u }
-    requires some_w { 1 ≤ at_w }
-    ensures ok { IfOk result (IsReducedBy limit.number at_u at_w u.now w.now) }
-    ensures columns { IfOk result (λ ray. length ray ≡ length u.now) }
-    ensures err { IfErr result (CombineFails limit.number at_u at_w u.now w.now) }
-{
-    let greatest = gcd(at_u, at_w);
-    let answer = small_sums(
-        alloc,
-        support,
-        quotient(at_u, greatest),
-        w,
-        quotient(at_w, greatest),
-        u,
-        limit.number,
-    )?;
-    let Some(mut sums) = answer else {
-        return combine_wide(alloc, u, w, at_u, at_w, limit);
-    };
-    let common = common_small_divisor(&sums);
-    divide_small(&mut sums, common);
-    Ok(PackedRay {
-        entries: Entries::Small(sums),
-    })
+    count(a).cmp(&count(b))
 }

@@ -1,6 +1,6 @@
 //! Rays, and combinations of two rays.
 
-ghost use Rattle.std.specs.Prelude.{◌≡◌, ◌≢◌, ℕ, List, [], ◌++◌, ◌+◌, ◌*◌, ◌<◌, ◌≤◌, ◌^◌, ◌↔◌, length, IfOk, OnOk, IfErr, IfSome, IfNone, IsErr, slice_index};
+ghost use Rattle.std.specs.Prelude.{◌≡◌, ◌≢◌, ℕ, List, [], ◌++◌, ◌+◌, ◌*◌, ◌<◌, ◌≤◌, ◌↔◌, length, IfOk, OnOk, IfErr, IfSome, IfNone, IsErr, slice_index};
 ghost use Rattle.std.specs.Ordering.{nat_cmp};
 ghost use Rattle.std.specs.Cmp.Lexicographic.{slice_cmp};
 ghost use Rattle.cone_definitions.specs.Vectors.{IsBefore, unit, multiple, sum_of};
@@ -10,7 +10,8 @@ ghost use Rattle.cone_arithmetic.specs.Sparse.{IsInRange, ArePartsAt};
 ghost use Rattle.cone_arithmetic.specs.Combinations.{IsReducedBy};
 ghost use Rattle.cone_arithmetic.specs.Faults.{CombineFails, PassesAt};
 
-use crate::divisors::{common_divisor, divide};
+use crate::combination::Combination;
+use crate::divisors::divide_by_common;
 use crate::numbers::{MAX_ENTRY, Passed, PlusMinus, gcd, parts};
 use crate::row::SparseRow;
 use crate::small::{product, quotient};
@@ -165,21 +166,17 @@ fn sum_within(a: u128, x: u128, b: u128, y: u128, limit: u128) -> Option<u128>
     }
 }
 
-/// The entries of `a * w + b * u`. Fails with `Passed` at the first column whose entry exceeds `limit`.
+/// The entries of `combination`. Fails with `Passed` at the first column whose entry exceeds `limit`.
 fn sums_within(
     alloc: Global,
-    a: u128,
-    w: &[u128],
-    b: u128,
-    u: &[u128],
+    combination: Combination,
     limit: u128,
 ) -> Result<Vec<u128>, CombineFault>
-    requires lengths { length u.now ≡ length w.now }
-    requires width { length w.now < 2 ^ 32 }
-    ensures ok { IfOk result (λ sums. sums.items ≡ sum_of (multiple a w.now) (multiple b u.now)) }
-    ensures within { OnOk result ((column : ℕ) → slice_index (sum_of (multiple a w.now) (multiple b u.now)) column ≤ limit) }
-    ensures err { IfErr result (PassesAt limit (sum_of (multiple a w.now) (multiple b u.now))) }
+    ensures ok { IfOk result (λ sums. sums.items ≡ sum_of (multiple combination.entry.a combination.entry.w.now) (multiple combination.entry.b combination.entry.u.now)) }
+    ensures within { OnOk result ((column : ℕ) → slice_index (sum_of (multiple combination.entry.a combination.entry.w.now) (multiple combination.entry.b combination.entry.u.now)) column ≤ limit) }
+    ensures err { IfErr result (PassesAt limit (sum_of (multiple combination.entry.a combination.entry.w.now) (multiple combination.entry.b combination.entry.u.now))) }
 {
+    let Combination { a, w, b, u } = combination;
     let mut sums = Vec::with_capacity(alloc, w.len())?;
     for (column, entry) in w.iter().enumerate() {
         match sum_within(a, *entry, b, u[column], limit) {
@@ -214,15 +211,13 @@ pub fn combine(
     ensures err { IfErr result (CombineFails limit at_u at_w u.now w.now) }
 {
     let divisor = gcd(at_u, at_w);
-    let mut sums = sums_within(
-        alloc,
-        quotient(at_u, divisor),
-        w.entries(),
-        quotient(at_w, divisor),
-        u.entries(),
-        limit,
-    )?;
-    let common = common_divisor(&sums);
-    divide(&mut sums, common);
+    let combination = Combination {
+        a: quotient(at_u, divisor),
+        w: w.entries(),
+        b: quotient(at_w, divisor),
+        u: u.entries(),
+    };
+    let mut sums = sums_within(alloc, combination, limit)?;
+    divide_by_common(&mut sums);
     Ok(Ray { entries: sums })
 }

@@ -9,7 +9,7 @@ ghost use Rattle.ray_steps.specs.Steps.{AreMadeBelow, AreMadeTo, AreMadeOf, IsAd
 use crate::combinations::CombinationsSoFar;
 use crate::compatible::Compatible;
 use crate::negatives::{Negatives, first_not_excluded, negatives_of};
-use crate::pairs::combine_pair;
+use crate::pairs::{SignedPair, combine_pair};
 use crate::ray_list::RayList;
 use crate::rays::{RayWithSupport, StepFault};
 use crate::signs::Sign;
@@ -47,7 +47,9 @@ impl<'a, C: Compatible> Step<'a, C> {
             let j = places[m];
             if let Sign::Negative(at_w) = self.signs[j] {
                 if self.is_face(alloc, i, j, &mut search)? {
-                    let kept = combine_pair(alloc, u, &self.ray_list[j], at_u, at_w, self.limit)?;
+                    let w = &self.ray_list[j];
+                    let pair = SignedPair { u, w, at_u, at_w };
+                    let kept = combine_pair(alloc, pair, self.limit)?;
                     made.ray_list.push(kept)?;
                 }
             }
@@ -83,7 +85,8 @@ impl<'a, C: Compatible> Step<'a, C> {
         let u = &self.ray_list[i];
         let w = &self.ray_list[j];
         if clashes.allows(&u.support, &w.support) {
-            let kept = combine_pair(alloc, u, w, at_u, at_w, self.limit)?;
+            let pair = SignedPair { u, w, at_u, at_w };
+            let kept = combine_pair(alloc, pair, self.limit)?;
             made.push(kept)?;
         }
         Ok(())

@@ -26,19 +26,27 @@ fn keep_common(blocks: &mut Vec<u64>, start: usize, words: &[u64])
     }
 }
 
-/// Appends to `blocks` the bits that are set in each support of the block whose first support has index `first`.
-/// `words` has `width` words for each support. If memory runs out `blocks` is unchanged.
-pub fn push_block(
-    words: &[u64],
-    width: usize,
-    first: usize,
-    blocks: &mut Vec<u64>,
-) -> Result<(), NoMemory>
-    requires within { (first + block_size) * width ≤ length words.now }
-    requires room { first + block_size < 2 ^ 64 }
-    ensures pushed { OnOk result (IsBlockPushed width first words.now blocks.old.items blocks.new.items) }
+/// A block of supports: `words` has `width` words for each support, and the first support of the block has index
+/// `first`. Invariant: `words` has all supports of the block.
+#[derive(Clone, Copy)]
+pub struct BlockOf<'a> {
+    pub words: &'a [u64],
+    pub width: usize,
+    pub first: usize,
+    pub ghost within: { (first + block_size) * width ≤ length words.now },
+    pub ghost room: { first + block_size < 2 ^ 64 },
+}
+
+/// Appends to `blocks` the bits that are set in each support of `block`. If memory runs out `blocks` is unchanged.
+pub fn push_block(block: BlockOf, blocks: &mut Vec<u64>) -> Result<(), NoMemory>
+    ensures pushed { OnOk result (IsBlockPushed block.entry.width block.entry.first block.entry.words.now blocks.old.items blocks.new.items) }
     ensures stays { OnErr result (blocks.new.items ≡ blocks.old.items) }
 {
+    let BlockOf {
+        words,
+        width,
+        first,
+    } = block;
     let start = blocks.len();
     blocks.extend_from_slice(part(words, first * width, width))?;
     for k in 1..BLOCK {

@@ -1,13 +1,12 @@
 //! The candidates of minimal residual, and which of these residuals occur twice.
 
 ghost use Rattle.std.specs.Prelude.{◌≡◌, ℕ, ◌<◌, length, IfOk, IfSome, IfNone, OnOk};
-ghost use Rattle.support_table.specs.Rivals.{AreFound, AreInOrder, AreLeast, IsRecorded, IsInsideAt};
+ghost use Rattle.support_table.specs.Rivals.{AreLeast, IsRecorded, IsInsideAt, rival_at};
 
+use crate::lists::{FoundCandidates, OrderedCandidates};
 use crate::rivals::Candidate;
-use crate::table::SupportTable;
 use out_of_memory::NoMemory;
 use std::alloc::Global;
-use support_bits::Support;
 
 /// Candidates none of which has a residual inside that of another; `doubled` says for each whether another candidate
 /// has an equal residual. `hint` is the index of the one whose residual was last inside that of a new candidate, and
@@ -21,23 +20,16 @@ pub struct Least {
 
 /// The index of one of `rivals` whose residual lies inside that of the ray with index `place`: `hint` if possible,
 /// otherwise the first; `None` if there is none.
-fn one_inside(
-    table: &SupportTable,
-    outer: &Support,
-    rivals: &[Candidate],
-    place: usize,
-    hint: usize,
-) -> Option<usize>
-    requires outer { length outer.now ≡ table.now.columns }
-    requires places { AreFound table.now.supports rivals.now }
-    requires place { place < length table.now.supports }
-    ensures some { IfSome result (IsInsideAt table.now.supports outer.now rivals.now place) }
-    ensures none { IfNone result ((k : ℕ) → k < length rivals.now → ¬ IsInsideAt table.now.supports outer.now rivals.now place k) }
+fn one_inside(rivals: FoundCandidates, place: usize, hint: usize) -> Option<usize>
+    requires place { place < length rivals.table.now.supports }
+    ensures some { IfSome result (IsInsideAt rivals.entry.table.now.supports rivals.entry.outer.now rivals.entry.list.now place) }
+    ensures none { IfNone result ((k : ℕ) → k < length rivals.entry.list.now → ¬ IsInsideAt rivals.entry.table.now.supports rivals.entry.outer.now rivals.entry.list.now place k) }
 {
-    if hint < rivals.len() && table.is_inside(rivals[hint].place, outer, place) {
+    let FoundCandidates { table, outer, list } = rivals;
+    if hint < list.len() && table.is_inside(list[hint].place, outer, place) {
         return Some(hint);
     }
-    for (at, rival) in rivals.iter().enumerate() {
+    for (at, rival) in list.iter().enumerate() {
         if table.is_inside(rival.place, outer, place) {
             return Some(at);
         }
@@ -45,20 +37,21 @@ fn one_inside(
     None
 }
 
-/// Adds `rival`, which is not smaller than those before, unless a residual in `least` lies inside its own.
-fn record_minimal(
-    table: &SupportTable,
-    outer: &Support,
-    least: &mut Least,
-    rival: Candidate,
-) -> Result<(), NoMemory>
-    requires outer { length outer.now ≡ table.now.columns }
-    requires places { AreFound table.now.supports least.old.rivals.items }
-    requires place { rival.place < length table.now.supports }
-    requires count { length least.old.doubled.items ≡ length least.old.rivals.items }
-    ensures { OnOk result (IsRecorded table.now.supports outer.now rival least.old least.new) }
+/// Adds the candidate of `order` with index `k` to `least`, which is for those before, unless a residual there lies
+/// inside its own.
+fn record_minimal(order: OrderedCandidates, k: usize, least: &mut Least) -> Result<(), NoMemory>
+    requires in_range { k < length order.list.now }
+    requires so_far { AreLeast order.table.now.supports order.outer.now order.list.now k least.old }
+    ensures { OnOk result (IsRecorded order.entry.table.now.supports order.entry.outer.now (rival_at order.entry.list.now k) least.old least.new) }
 {
-    match one_inside(table, outer, &least.rivals, rival.place, least.hint) {
+    let OrderedCandidates { table, outer, list } = order;
+    let rival = list[k];
+    let found = FoundCandidates {
+        table,
+        outer,
+        list: &least.rivals,
+    };
+    match one_inside(found, rival.place, least.hint) {
         Some(at) => {
             least.hint = at;
             if least.rivals[at].size == rival.size {
@@ -73,24 +66,17 @@ fn record_minimal(
     Ok(())
 }
 
-/// The candidates in `order` whose residual is minimal under inclusion; `order` is by size.
-pub fn minimal_candidates(
-    alloc: Global,
-    table: &SupportTable,
-    outer: &Support,
-    order: &[Candidate],
-) -> Result<Least, NoMemory>
-    requires outer { length outer.now ≡ table.now.columns }
-    requires order { AreInOrder table.now.supports outer.now order.now }
-    ensures { IfOk result (AreLeast table.now.supports outer.now order.now (length order.now)) }
+/// The candidates in `order` whose residual is minimal under inclusion.
+pub fn minimal_candidates(alloc: Global, order: OrderedCandidates) -> Result<Least, NoMemory>
+    ensures { IfOk result (AreLeast order.entry.table.now.supports order.entry.outer.now order.entry.list.now (length order.entry.list.now)) }
 {
     let mut least = Least {
         rivals: Vec::new(alloc),
         doubled: Vec::new(alloc),
         hint: 0,
     };
-    for rival in order {
-        record_minimal(table, outer, &mut least, *rival)?;
+    for k in 0..order.list.len() {
+        record_minimal(order, k, &mut least)?;
     }
     Ok(least)
 }

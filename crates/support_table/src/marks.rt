@@ -1,13 +1,13 @@
 //! Columns that alone are a residual: a larger residual that contains one is not minimal.
 
 ghost use Rattle.std.specs.Prelude.{◌≡◌, ◌+◌, ◌/◌, ◌<◌, ◌↔◌, length, IsTrue, IfOk};
-ghost use Rattle.support_table.specs.Rivals.{AreFound, AddsBeside, AreMarks, IsHit, AreUnhit};
+ghost use Rattle.support_table.specs.Rivals.{AddsBeside, AreMarks, IsHit, AreUnhit};
 
+use crate::lists::{FoundCandidates, MarkedCandidates};
 use crate::rivals::Candidate;
-use crate::table::SupportTable;
 use out_of_memory::NoMemory;
 use std::alloc::Global;
-use support_bits::{Support, have_common};
+use support_bits::have_common;
 
 /// Sets in `marks` each bit that is set in `words` but not in `outer`.
 fn add_beside(marks: &mut Vec<u64>, words: &[u64], outer: &[u64])
@@ -21,20 +21,13 @@ fn add_beside(marks: &mut Vec<u64>, words: &[u64], outer: &[u64])
 }
 
 /// The columns of the residuals of one column. `single` is the size of the union for such a residual.
-pub fn marks_of(
-    alloc: Global,
-    table: &SupportTable,
-    outer: &Support,
-    single: u64,
-    rivals: &[Candidate],
-) -> Result<Vec<u64>, NoMemory>
-    requires columns { length outer.now ≡ table.now.columns }
-    requires places { AreFound table.now.supports rivals.now }
-    ensures { IfOk result (λ marks. AreMarks table.now.supports outer.now single rivals.now marks.items) }
+pub fn marks_of(alloc: Global, rivals: FoundCandidates, single: u64) -> Result<Vec<u64>, NoMemory>
+    ensures { IfOk result (λ marks. AreMarks rivals.entry.table.now.supports rivals.entry.outer.now single rivals.entry.list.now marks.items) }
 {
+    let FoundCandidates { table, outer, list } = rivals;
     let words = outer.words();
     let mut marks = vec![in alloc; 0u64; words.len()]?;
-    for rival in rivals {
+    for rival in list {
         if rival.size <= single {
             add_beside(&mut marks, table.words_at(rival.place), words);
         }
@@ -43,29 +36,21 @@ pub fn marks_of(
 }
 
 /// Whether the residual of `rival` has more than one column, and a marked one.
-fn is_hit(table: &SupportTable, marks: &[u64], single: u64, rival: Candidate) -> bool
-    requires place { rival.place < length table.now.supports }
-    requires words { length marks.now ≡ (table.now.columns + 63) / 64 }
-    ensures { IsTrue result ↔ IsHit table.now.supports marks.now single rival }
+fn is_hit(marked: MarkedCandidates, rival: Candidate) -> bool
+    requires { rival.place < length marked.table.now.supports }
+    ensures { IsTrue result ↔ IsHit marked.entry.table.now.supports marked.entry.marks.now marked.entry.single rival }
 {
-    rival.size > single && have_common(table.words_at(rival.place), marks)
+    let table = marked.table;
+    rival.size > marked.single && have_common(table.words_at(rival.place), marked.marks)
 }
 
-/// The candidates of `rivals` that are not ruled out by a marked column.
-pub fn unhit(
-    alloc: Global,
-    table: &SupportTable,
-    marks: &[u64],
-    single: u64,
-    rivals: &[Candidate],
-) -> Result<Vec<Candidate>, NoMemory>
-    requires places { AreFound table.now.supports rivals.now }
-    requires words { length marks.now ≡ (table.now.columns + 63) / 64 }
-    ensures { IfOk result (λ left. AreUnhit table.now.supports marks.now single rivals.now left.items) }
+/// The candidates of `marked` that are not ruled out by a marked column.
+pub fn unhit(alloc: Global, marked: MarkedCandidates) -> Result<Vec<Candidate>, NoMemory>
+    ensures { IfOk result (λ left. AreUnhit marked.entry.table.now.supports marked.entry.marks.now marked.entry.single marked.entry.list.now left.items) }
 {
     let mut left = Vec::new(alloc);
-    for rival in rivals {
-        if !is_hit(table, marks, single, *rival) {
+    for rival in marked.list {
+        if !is_hit(marked, *rival) {
             left.push(*rival)?;
         }
     }

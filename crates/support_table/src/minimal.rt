@@ -8,7 +8,9 @@ ghost use Rattle.support_table.specs.Rivals.{AreCandidates, AreUnrepeated};
 
 use crate::counts::union_count;
 use crate::least::{Least, minimal_candidates};
+use crate::lists::{FoundCandidates, MarkedCandidates, OrderedCandidates};
 use crate::marks::{marks_of, unhit};
+use crate::outer::OuterRay;
 use crate::ray_table::RayTable;
 use crate::rivals::{Candidate, rivals_of};
 use out_of_memory::NoMemory;
@@ -24,23 +26,26 @@ fn single_size(outer: &Support) -> u64
 }
 
 /// Candidates for adjacency to `outer`, among which are all that have a minimal residual.
-fn candidates(
-    alloc: Global,
-    rays: &RayTable,
-    outer: &Support,
-    joined: &Support,
-    own: usize,
-    most: u64,
-) -> Result<Vec<Candidate>, NoMemory>
-    requires outer { length outer.now ≡ rays.now.columns }
-    requires joined { length joined.now ≡ rays.now.columns }
-    ensures { IfOk result (λ candidates. AreCandidates rays.now.supports outer.now joined.now own most candidates.items) }
+fn candidates(alloc: Global, outer: OuterRay) -> Result<Vec<Candidate>, NoMemory>
+    ensures { IfOk result (λ candidates. AreCandidates outer.entry.rays.now.supports outer.entry.support.now outer.entry.joined.now outer.entry.own outer.entry.most candidates.items) }
 {
-    let rivals = rivals_of(alloc, rays, outer, joined, own, most)?;
+    let rivals = rivals_of(alloc, outer)?;
+    let rays = outer.rays;
     let table = rays.table();
-    let single = single_size(outer);
-    let marks = marks_of(alloc, table, outer, single, &rivals)?;
-    unhit(alloc, table, &marks, single, &rivals)
+    let single = single_size(outer.support);
+    let found = FoundCandidates {
+        table,
+        outer: outer.support,
+        list: &rivals,
+    };
+    let marks = marks_of(alloc, found, single)?;
+    let marked = MarkedCandidates {
+        table,
+        list: &rivals,
+        marks: &marks,
+        single,
+    };
+    unhit(alloc, marked)
 }
 
 /// Sorts `rivals` by size.
@@ -80,9 +85,21 @@ pub fn minimal_places(
     requires joined { length joined.now ≡ rays.now.columns }
     ensures { IfOk result (λ places. AreMinimal rays.now.supports outer.now joined.now own most places.items) }
 {
-    let mut order = candidates(alloc, rays, outer, joined, own, most)?;
-    sort_by_size(&mut order);
-    let least = minimal_candidates(alloc, rays.table(), outer, &order)?;
+    let ray = OuterRay {
+        rays,
+        support: outer,
+        joined,
+        own,
+        most,
+    };
+    let mut list = candidates(alloc, ray)?;
+    sort_by_size(&mut list);
+    let order = OrderedCandidates {
+        table: rays.table(),
+        outer,
+        list: &list,
+    };
+    let least = minimal_candidates(alloc, order)?;
     let mut places = alone(alloc, &least)?;
     places.sort_unstable();
     Ok(places)

@@ -1,7 +1,7 @@
 //! Supports of rays with an index by column, so that the rays that have one of several columns are found word by word.
 
 ghost use Rattle.std.specs.Prelude.{◌≡◌, ◌<◌, length, IfOk};
-ghost use Rattle.support_table.specs.Holders.{IsHolder, AreHolders, AreAsLong, IsMeetingBelow, IsMeeting};
+ghost use Rattle.support_table.specs.Holders.{IsHolder, AreHolders, IsMeeting};
 
 use crate::table::SupportTable;
 use out_of_memory::NoMemory;
@@ -30,17 +30,20 @@ impl Model for RayTable {
     ghost invariant = { λ r. AreHolders r.table r.count r.holders.items };
 }
 
-/// The indices of the rays that contain `column`.
-fn holder_of(
-    alloc: Global,
-    table: &SupportTable,
-    column: u32,
+/// A table with the number of its supports in 32 bits.
+#[derive(Clone, Copy)]
+struct CountedTable<'a> {
+    table: &'a SupportTable,
     count: u32,
-) -> Result<Support, NoMemory>
-    requires column { column < table.now.columns }
-    requires count { count ≡ length table.now.supports }
-    ensures { IfOk result (IsHolder table.now.supports column count) }
+    ghost count_is: { count ≡ length table.now.supports },
+}
+
+/// The indices of the rays that contain `column`.
+fn holder_of(alloc: Global, rays: CountedTable, column: u32) -> Result<Support, NoMemory>
+    requires { column < rays.table.now.columns }
+    ensures { IfOk result (IsHolder rays.entry.table.now.supports column rays.entry.count) }
 {
+    let CountedTable { table, count } = rays;
     let mut places = Support::none(alloc, count)?;
     for place in 0..count {
         if table.contains(place as usize, column) {
@@ -50,36 +53,16 @@ fn holder_of(
     Ok(places)
 }
 
-/// For each column of `table` the indices of the rays that contain it.
-fn holders_of(alloc: Global, table: &SupportTable, count: u32) -> Result<Vec<Support>, NoMemory>
-    requires { count ≡ length table.now.supports }
-    ensures { IfOk result (λ holders. AreHolders table.now count holders.items) }
+/// For each column the indices of the rays that contain it.
+fn holders_of(alloc: Global, rays: CountedTable) -> Result<Vec<Support>, NoMemory>
+    ensures { IfOk result (λ holders. AreHolders rays.entry.table.now rays.entry.count holders.items) }
 {
+    let table = rays.table;
     let mut holders = Vec::with_capacity(alloc, table.columns() as usize)?;
     for column in 0..table.columns() {
-        holders.push(holder_of(alloc, table, column, count)?)?;
+        holders.push(holder_of(alloc, rays, column)?)?;
     }
     Ok(holders)
-}
-
-/// The union of the sets in `holders` of the columns in `columns`.
-fn union_of_rows(
-    alloc: Global,
-    holders: &[Support],
-    columns: &Support,
-    count: u32,
-) -> Result<Support, NoMemory>
-    requires holders { length holders.now ≡ length columns.now }
-    requires widths { AreAsLong count holders.now }
-    ensures { IfOk result (IsMeetingBelow holders.now columns.now count (length columns.now)) }
-{
-    let mut places = Support::none(alloc, count)?;
-    for column in 0..columns.columns() {
-        if columns.contains(column) {
-            places.add(&holders[column as usize]);
-        }
-    }
-    Ok(places)
 }
 
 impl RayTable {
@@ -88,7 +71,11 @@ impl RayTable {
         requires { count ≡ length table.supports }
         ensures { IfOk result (λ rays. rays ≡ table) }
     {
-        let holders = holders_of(alloc, &table, count)?;
+        let rays = CountedTable {
+            table: &table,
+            count,
+        };
+        let holders = holders_of(alloc, rays)?;
         Ok(RayTable {
             table,
             count,
@@ -108,6 +95,12 @@ impl RayTable {
         requires { length columns.now ≡ self.now.columns }
         ensures { IfOk result (IsMeeting self.now.supports columns.now) }
     {
-        union_of_rows(alloc, &self.holders, columns, self.count)
+        let mut places = Support::none(alloc, self.count)?;
+        for column in 0..columns.columns() {
+            if columns.contains(column) {
+                places.add(&self.holders[column as usize]);
+            }
+        }
+        Ok(places)
     }
 }

@@ -1,13 +1,11 @@
 //! The candidates for adjacency to a given ray.
 
-ghost use Rattle.std.specs.Prelude.{◌≡◌, ◌+◌, ◌<◌, ◌^◌, length, IfOk, OnOk};
+ghost use Rattle.std.specs.Prelude.{◌+◌, ◌<◌, ◌^◌, length, IfOk, OnOk};
 ghost use Rattle.support_table.specs.Rivals.{AreRivals, IsRivalPushed, AreRivalsPushed};
 
-use crate::ray_table::RayTable;
-use crate::table::SupportTable;
+use crate::outer::OuterRay;
 use out_of_memory::NoMemory;
 use std::alloc::Global;
-use support_bits::Support;
 
 /// The index of a candidate, and the number of columns in its union with the outer ray.
 #[derive(Clone, Copy)]
@@ -16,22 +14,16 @@ pub struct Candidate {
     pub size: u64,
 }
 
-/// Appends the ray with index `place`, if there is one, it is not `own`, and its union with `outer` has at most `most`
-/// columns.
-fn push_rival(
-    table: &SupportTable,
-    outer: &Support,
-    own: usize,
-    most: u64,
-    place: usize,
-    rivals: &mut Vec<Candidate>,
-) -> Result<(), NoMemory>
-    requires { length outer.now ≡ table.now.columns }
-    ensures { OnOk result (IsRivalPushed table.now.supports outer.now own most place rivals.old.items rivals.new.items) }
+/// Appends the ray with index `place`, if there is one, it is not that of `outer`, and their union has at most
+/// `outer.most` columns.
+fn push_rival(outer: OuterRay, place: usize, rivals: &mut Vec<Candidate>) -> Result<(), NoMemory>
+    ensures { OnOk result (IsRivalPushed outer.entry.rays.now.supports outer.entry.support.now outer.entry.own outer.entry.most place rivals.old.items rivals.new.items) }
 {
-    if place != own && place < table.len() {
-        let size = table.union_count(place, outer);
-        if size <= most {
+    let rays = outer.rays;
+    let table = rays.table();
+    if place != outer.own && place < table.len() {
+        let size = table.union_count(place, outer.support);
+        if size <= outer.most {
             rivals.push(Candidate { place, size })?;
         }
     }
@@ -40,50 +32,36 @@ fn push_rival(
 
 /// Appends the candidates among the 64 rays from `first` on whose bits in `word` are not set.
 fn push_rivals(
-    table: &SupportTable,
-    outer: &Support,
-    own: usize,
-    most: u64,
+    outer: OuterRay,
     first: usize,
     word: u64,
     rivals: &mut Vec<Candidate>,
 ) -> Result<(), NoMemory>
-    requires outer { length outer.now ≡ table.now.columns }
-    requires room { first + 64 < 2 ^ 64 }
-    ensures { OnOk result (AreRivalsPushed table.now.supports outer.now own most first word rivals.old.items rivals.new.items) }
+    requires { first + 64 < 2 ^ 64 }
+    ensures { OnOk result (AreRivalsPushed outer.entry.rays.now.supports outer.entry.support.now outer.entry.own outer.entry.most first word rivals.old.items rivals.new.items) }
 {
     let mut rest = !word;
     let mut place = first;
     while rest != 0 {
         let skip = rest.trailing_zeros();
         let next = place + skip as usize;
-        push_rival(table, outer, own, most, next, rivals)?;
+        push_rival(outer, next, rivals)?;
         rest = (rest >> skip) >> 1;
         place = next + 1;
     }
     Ok(())
 }
 
-/// The candidates for adjacency to the ray with index `own` and support `outer`, by index. They are the other rays that
-/// contain none of `joined` and whose union with `outer` has at most `most` columns.
-pub fn rivals_of(
-    alloc: Global,
-    rays: &RayTable,
-    outer: &Support,
-    joined: &Support,
-    own: usize,
-    most: u64,
-) -> Result<Vec<Candidate>, NoMemory>
-    requires outer { length outer.now ≡ rays.now.columns }
-    requires joined { length joined.now ≡ rays.now.columns }
-    ensures { IfOk result (λ rivals. AreRivals rays.now.supports outer.now joined.now own most (length rays.now.supports) rivals.items) }
+/// The candidates for adjacency to `outer`, by index.
+pub fn rivals_of(alloc: Global, outer: OuterRay) -> Result<Vec<Candidate>, NoMemory>
+    ensures { IfOk result (λ rivals. AreRivals outer.entry.rays.now.supports outer.entry.support.now outer.entry.joined.now outer.entry.own outer.entry.most (length outer.entry.rays.now.supports) rivals.items) }
 {
-    let places = rays.meeting(alloc, joined)?;
+    let rays = outer.rays;
+    let places = rays.meeting(alloc, outer.joined)?;
     let _count = places.columns();
-    let table = rays.table();
     let mut rivals = Vec::new(alloc);
     for (k, word) in places.words().iter().enumerate() {
-        push_rivals(table, outer, own, most, 64 * k, *word, &mut rivals)?;
+        push_rivals(outer, 64 * k, *word, &mut rivals)?;
     }
     Ok(rivals)
 }

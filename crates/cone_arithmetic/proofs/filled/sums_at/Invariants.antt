@@ -5,4 +5,4 @@ use Rattle.cone_arithmetic.specs.Filled.{AreFilled}
 use Rattle.cone_arithmetic.proofs.filled.sums_at.Given as goal
 
 abbrev pub invariant-loop-k : goal.invariant-loop-k
-invariant-loop-k l = AreFilled l.limit (sum_of (multiple l.a l.w) (multiple l.b l.u)) (64 * l.k) l.sums.items
+invariant-loop-k l = AreFilled l.limit (sum_of (multiple l.combination.a l.combination.w.now) (multiple l.combination.b l.combination.u.now)) (64 * l.k) l.sums.items

@@ -1,9 +1,7 @@
-use Rattle.support_table.proofs.LeastLemmas.{noted, least_found}
+use Rattle.support_table.proofs.LeastLemmas.{noted}
 use Rattle.support_table.proofs.least.minimal_candidates.Goals as goal
 
-pub record_minimal-requires-clause-places : goal.record_minimal-requires-clause-places
-record_minimal-requires-clause-places c = least_found c.args.table.now.supports c.args.outer.now c.args.order.now c.requires.order c.loop-rival.rival-index c.loop-rival.least c.loop-rival.auto.rival-index-end c.loop-rival.invariant
-
-pub loop-rival-preserved : goal.loop-rival-preserved
-loop-rival-preserved c =
-    noted c.args.table.now.supports c.args.outer.now c.args.order.now c.requires.order c.loop-rival.rival-index c.loop-rival-test.true c.loop-rival.least _ c.loop-rival.invariant c.in_ok-record_minimal.ensures
+pub loop-k-preserved : goal.loop-k-preserved
+loop-k-preserved c =
+    let order = c.args.order in
+    noted order.table.now.supports order.outer.now order.list.now order.order c.loop-k.k c.loop-k-test.true c.loop-k.least _ c.loop-k.invariant c.in_ok-record_minimal.ensures

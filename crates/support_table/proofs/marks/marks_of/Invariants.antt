@@ -7,5 +7,5 @@ use Rattle.support_table.proofs.marks.marks_of.Given as goal
 abbrev pub invariant-loop-rival : goal.invariant-loop-rival
 invariant-loop-rival l = record {
   count : length l.marks.items ≡ length l.words;
-  each : (column : ℕ) → bit_of l.marks.items column ≡ true → IsMarked l.table.supports l.outer l.single l.rivals column;
+  each : (column : ℕ) → bit_of l.marks.items column ≡ true → IsMarked l.table.supports l.rivals.outer.now l.single l.list column;
 }

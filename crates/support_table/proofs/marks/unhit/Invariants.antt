@@ -3,4 +3,4 @@ use Rattle.support_table.proofs.MarkLemmas.{AreUnhitBelow}
 use Rattle.support_table.proofs.marks.unhit.Given as goal
 
 abbrev pub invariant-loop-rival : goal.invariant-loop-rival
-invariant-loop-rival l = AreUnhitBelow l.table.supports l.marks l.single l.rivals l.rival-index l.left.items
+invariant-loop-rival l = AreUnhitBelow l.marked.table.now.supports l.marked.marks.now l.marked.single l.marked.list.now l.rival-index l.left.items

@@ -5,25 +5,26 @@ use Rattle.support_table.proofs.rivals.push_rival.Goals as goal
 
 pub returns-in_ok-push : goal.returns-in_ok-push
 returns-in_ok-push c joined apart h =
-    let supports = c.args.table.now.supports in
-    let outer = c.args.outer.now in
-    let own = c.args.own in
-    let most = c.args.most in
+    let outer = c.args.outer in
     let place = c.args.place in
-    subst (AreRivals supports outer joined own most (place + 1)) (sym c.in_ok-push.ensures.items)
-    (rival_push supports outer joined own most place c.args.rivals.now.items h (record { place = place; size = c.union_count-size.result }) refl
+    let count = rw c.table-table.ensures at c.len.ensures in
+    let size = rw c.table-table.ensures at c.union_count-size.ensures in
+    subst (AreRivals outer.rays.now.supports outer.support.now joined outer.own outer.most (place + 1)) (sym c.in_ok-push.ensures.items)
+    (rival_push outer.rays.now.supports outer.support.now joined outer.own outer.most place c.args.rivals.now.items h (record { place = place; size = c.union_count-size.result }) refl
     (record {
       rival = record {
-        in_range = omega (arith, c.if-place-len.true, c.len.ensures);
-        other = c.if-place-own.true;
+        in_range = omega (arith, c.if-place-len.true, count);
+        other = c.if-place-outer.true;
         apart = apart;
-        near = omega (arith, c.if-size-most.true, c.union_count-size.ensures.value);
+        near = omega (arith, c.if-size-outer.true, size.value);
       };
-      wide = c.union_count-size.ensures.width ∙ sym c.requires;
-      size = c.union_count-size.ensures.value;
+      wide = size.width ∙ sym outer.columns;
+      size = size.value;
     }))
 
-pub returns-else-size-most : goal.returns-else-size-most
-returns-else-size-most c joined apart h =
-    rival_skip c.args.table.now.supports c.args.outer.now joined c.args.own c.args.most c.args.place c.args.rivals.now.items h
-    (λ r. let near = r.near in omega (arith, near, c.if-size-most.false, c.union_count-size.ensures.value))
+pub returns-else-size-outer : goal.returns-else-size-outer
+returns-else-size-outer c joined apart h =
+    let outer = c.args.outer in
+    let size = rw c.table-table.ensures at c.union_count-size.ensures in
+    rival_skip outer.rays.now.supports outer.support.now joined outer.own outer.most c.args.place c.args.rivals.now.items h
+    (λ r. let near = r.near in omega (arith, near, c.if-size-outer.false, size.value))

@@ -9,8 +9,8 @@ abbrev pub invariant-loop-rest : goal.invariant-loop-rest
 invariant-loop-rest l = record {
   within : l.place ≤ l.first + 64;
   before : AreBefore l.place (l.first + 64) l.rest;
-  names : (joined : List Bool) → TellsMeeting l.table.supports joined l.first l.word → NamesApart l.table.supports joined l.place (l.first + 64) l.rest;
-  so_far : (joined : List Bool) → TellsMeeting l.table.supports joined l.first l.word → AreRivals l.table.supports l.outer joined l.own l.most l.first l.initial.rivals.items → AreRivals l.table.supports l.outer joined l.own l.most l.place l.rivals.items;
+  names : (joined : List Bool) → TellsMeeting l.outer.rays.now.supports joined l.first l.word → NamesApart l.outer.rays.now.supports joined l.place (l.first + 64) l.rest;
+  so_far : (joined : List Bool) → TellsMeeting l.outer.rays.now.supports joined l.first l.word → AreRivals l.outer.rays.now.supports l.outer.support.now joined l.outer.own l.outer.most l.first l.initial.rivals.items → AreRivals l.outer.rays.now.supports l.outer.support.now joined l.outer.own l.outer.most l.place l.rivals.items;
 }
 
 abbrev pub decreases-loop-rest : goal.decreases-loop-rest

@@ -66,8 +66,8 @@ is_face-requires-clause-second g c =
     place_in_rays s.ray_list.items c.args.self.now.rays _ (ap (λ (d : StepData). d.rays) c.self.view_is)
     (place_of_kept s.signs.items s.ray_list.items c.args.negatives.now.places.items c.as_slice-places.result.now c.loop-m.m c.self.invariant.count (negatives_read _ _ c.self.view_is _ c.requires.negatives).places c.as_slice-places.ensures.value c.loop-m-test.true)
 
-pub combine_pair-requires-clause-lengths : goal.combine_pair-requires-clause-lengths
-combine_pair-requires-clause-lengths g c =
+pub invariant_of-pair-clause-lengths : goal.invariant_of-pair-clause-lengths
+invariant_of-pair-clause-lengths g c =
     let s = c.self.inside in
     let ray_list = s.ray_list.items in
     let places = c.as_slice-places.result.now in
@@ -75,7 +75,7 @@ combine_pair-requires-clause-lengths g c =
     let i_in = place_of_rays ray_list c.args.self.now.rays c.args.i (ap (λ (d : StepData). d.rays) c.self.view_is) c.requires.in_range in
     let within = place_of_kept s.signs.items ray_list c.args.negatives.now.places.items places c.loop-m.m c.self.invariant.count (negatives_read _ _ c.self.view_is _ c.requires.negatives).places c.as_slice-places.ensures.value c.loop-m-test.true in
     read_width ray_list c.args.i columns c.index-u.result.now i_in c.index-u.ensures c.self.invariant.rays.widths
-    ∙ sym (read_width ray_list (get_or places c.loop-m.m 0) columns c.index-then-branch.result.now within c.index-then-branch.ensures c.self.invariant.rays.widths)
+    ∙ sym (read_width ray_list (get_or places c.loop-m.m 0) columns c.index-w.result.now within c.index-w.ensures c.self.invariant.rays.widths)
 
 pub returns-in_err-kept-clause-err : goal.returns-in_err-kept-clause-err
 returns-in_err-kept-clause-err g c =
@@ -98,7 +98,7 @@ returns-in_err-kept-clause-err g c =
     let j_in : j < length signs = subst (λ n. n < length signs) (sym is) ((negatives_read _ _ c.self.view_is _ c.requires.negatives).places.in_range m 0 less) in
     let j_within : j < length ray_list = omega (arith, facts.count) in
     let u = ray_read ray_list i c.index-u.result.now i_in c.index-u.ensures in
-    let w = ray_read ray_list j c.index-then-branch.result.now j_within c.index-then-branch.ensures in
+    let w = ray_read ray_list j c.index-w.result.now j_within c.index-w.ensures in
     let face = subst (λ (d : StepData). IsAdjacentPair d.pairs d.rays i j) (sym c.self.view_is) (c.in_ok-is_face.ensures.face.0 c.if-branch.true) in
     let p = err_from_is_err_and c.from_residual-in_err-kept.result c.from_residual-in_err-kept.ensures.1 in
     rw (p.1, p.2) (subst (λ (d : StepData). IfLarge (IsFirstLargeOf d) c.in_err-kept.field-0.0) c.self.view_is
@@ -107,7 +107,7 @@ returns-in_err-kept-clause-err g c =
     (the_pair pairs ray_list signs i j c.in-Positive.at_u c.in-Negative.at_w facts.count i_in j_in
     (sym (c.index.ensures ∙ get_or_default signs i c.index.result.now Zero i_signed) ∙ c.in-Positive.is)
     (sym (c.index-in-loop-m.ensures ∙ get_or_default signs j c.index-in-loop-m.result.now Zero j_in) ∙ c.in-Negative.is) face)
-    c.index-u.result.now.ray c.index-then-branch.result.now.ray u w c.in_err-kept.field-0.0 c.in_err-kept.ensures.err))
+    c.index-u.result.now.ray c.index-w.result.now.ray u w c.in_err-kept.field-0.0 c.in_err-kept.ensures.err))
 
 pub first_not_excluded-m-requires-in-loop-m-clause-first : goal.first_not_excluded-m-requires-in-loop-m-clause-first
 first_not_excluded-m-requires-in-loop-m-clause-first g c =
@@ -164,7 +164,7 @@ loop-m-preserved g c =
     elim c.match-index-2.branch [
       | in-Negative+in_ok-is_face+then-branch+in_ok-kept+in_ok-push w' ↦
           let search = subst (IsSearchAt d i) (sym w'.search-is) w'.in_ok-is_face.ensures.search in
-          let w = ray_read ray_list j w'.index-then-branch.result.now j_within w'.index-then-branch.ensures in
+          let w = ray_read ray_list j w'.index-w.result.now j_within w'.index-w.ensures in
           let face = subst (λ (d : StepData). IsAdjacentPair d.pairs d.rays i j) (sym c.self.view_is) (w'.in_ok-is_face.ensures.face.0 w'.if-branch.true) in
           let p = the_pair pairs ray_list signs i j c.in-Positive.at_u w'.in-Negative.at_w facts.count i_in j_in
           (sym (c.index.ensures ∙ get_or_default signs i c.index.result.now Zero i_signed) ∙ c.in-Positive.is) (sym sign ∙ w'.in-Negative.is) face in

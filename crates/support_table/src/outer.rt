@@ -1,0 +1,20 @@
+//! The ray whose adjacent rays are looked for.
+
+ghost use Rattle.std.specs.Prelude.{◌≡◌, length};
+
+use crate::ray_table::RayTable;
+use support_bits::Support;
+
+/// The support of a ray whose adjacent rays are looked for. Candidates are the rays of `rays` other than the one with
+/// index `own` that contain none of the columns `joined` and whose union with `support` has at most `most` columns.
+/// Invariant: `support` and `joined` have the columns of `rays`.
+#[derive(Clone, Copy)]
+pub struct OuterRay<'a> {
+    pub rays: &'a RayTable,
+    pub support: &'a Support,
+    pub joined: &'a Support,
+    pub own: usize,
+    pub most: u64,
+    pub ghost columns: { length support.now ≡ rays.now.columns },
+    pub ghost joined_columns: { length joined.now ≡ rays.now.columns },
+}
