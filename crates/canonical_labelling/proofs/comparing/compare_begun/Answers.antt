@@ -3,7 +3,7 @@ use Rattle.table_definitions.specs.Table.{Row, Gluing}
 use Rattle.signature_definitions.specs.Spelling.{character, packed, width}
 use Rattle.signature_text_laws.specs.Texts.{destinations_text, indices_text}
 use Rattle.signature_laws.specs.Starts.{IsTextFrom}
-use Rattle.canonical_labelling.specs.Comparisons.{told, head_text, IsDecided, IsUndecided, comparison_view}
+use Rattle.canonical_labelling.specs.Comparisons.{head_text, IsDecided, IsUndecided, comparison_view}
 use Rattle.canonical_labelling.proofs.Compared.{told_some, told_none, types_tell, whole_of, whole_is, whole_tells, whole_equals, not_true, reads_all}
 use Rattle.canonical_labelling.proofs.comparing.compare_begun.Goals as goal
 
