@@ -6,6 +6,7 @@ ghost use Rattle.table_definitions.specs.Table.{max_tets};
 ghost use Rattle.signature_automorphism_laws.specs.Automorphisms as automorphisms;
 ghost use Rattle.canonical_labelling.specs.Marks.{AreListed, AreOfSize, MarksFollow};
 
+use crate::comparison::TableSize;
 use crate::starts::numbered_start;
 use gluing_table::Relabelling;
 use std::alloc::{AllocError, Global};
@@ -22,13 +23,12 @@ pub struct Orbits {
     pub ghost sizes: { AreOfSize (length marked.items) automorphisms.items },
 }
 
-/// The orbits of a table of `count` tetrahedra without a mark or an automorphism.
-pub fn no_orbits(alloc: Global, count: u32) -> Result<Orbits, AllocError>
-    requires { count ≤ max_tets }
-    ensures marked { IfOk result (λ o. o.marked.items ≡ replicate (24 * count) false) }
+/// The orbits of a table of this size without a mark or an automorphism.
+pub fn no_orbits(alloc: Global, size: TableSize) -> Result<Orbits, AllocError>
+    ensures marked { IfOk result (λ o. o.marked.items ≡ replicate (24 * size.count) false) }
     ensures automorphisms { IfOk result (λ o. o.automorphisms.items ≡ []) }
 {
-    let marked = vec![in alloc; false; 24 * count as usize]?;
+    let marked = vec![in alloc; false; 24 * size.count as usize]?;
     Ok(Orbits {
         marked,
         numbers: Vec::new(alloc),

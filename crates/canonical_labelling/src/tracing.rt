@@ -118,18 +118,6 @@ fn agrees_at(
     agrees_glued(trace, from, glue, wanted)
 }
 
-/// Makes `trace` the traversal that has visited its start alone.
-fn begin(trace: &mut Trace, start: Start) -> Result<(), AllocError>
-    requires { start.tet < length trace.old.numbers.items }
-    ensures size { length trace.new.numbers.items ≡ length trace.old.numbers.items }
-    ensures order { OnOk result (trace.new.order.items ≡ start ∷ []) }
-{
-    trace.order.clear();
-    trace.order.push(start)?;
-    trace.numbers[start.tet as usize] = 0;
-    Ok(())
-}
-
 /// Whether `traversal` may result in `target`. Returns `false` at the first face that differs. Reads each face of the
 /// table at most once, and allocates nothing if `trace` has room for its tetrahedra.
 pub fn may_reach(
@@ -141,7 +129,9 @@ pub fn may_reach(
     ensures size { length trace.new.numbers.items ≡ length trace.old.numbers.items }
     ensures may { IfOk result (λ may. (by : Relabelling) → IsWalked traversal.now.table.now traversal.now.start by target.now → may ≡ true) }
 {
-    begin(trace, traversal.start)?;
+    trace.order.clear();
+    trace.order.push(traversal.start)?;
+    trace.numbers[traversal.start.tet as usize] = 0;
     for place in 0..4 * target.len() {
         if !agrees_at(trace, target, traversal.table, place)? {
             return Ok(false);
