@@ -8,7 +8,7 @@ use Rattle.std.proofs.lemmas.List.Elements.{All-get_or}
 use Rattle.table_definitions.specs.Relabelling.{Relabelling}
 use Rattle.signature_automorphism_laws.specs.Automorphisms.{IsAutomorphism, carried_number, MarkedHaveNoLesserText}
 use Rattle.signature_automorphism_laws.proofs.Marks.{carried_has_no_lesser, marked_more}
-use Rattle.canonical_labelling.specs.Orbits.{MarksFollow}
+use Rattle.canonical_labelling.specs.Marks.{MarksFollow}
 
 -- what is marked has a mark
 pub marked_below : (marks : List Bool) (i : ℕ) → slice_index_or marks i false ≡ true → i < length marks

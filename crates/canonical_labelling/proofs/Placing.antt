@@ -6,9 +6,10 @@ use Rattle.std.proofs.lemmas.List.{get_or-set_same, get_or-set_other}
 use Rattle.std.proofs.lemmas.List.Elements.{All-from_get_or}
 use Rattle.table_definitions.specs.Lists.{below}
 use Rattle.table_definitions.specs.Permutation.{IsPermutationOfFour}
+use Rattle.table_definitions.specs.Relabelling.{Relabelling}
 use Rattle.table_definitions.proofs.Bijections.{onto, IsDistinct-from_before}
 use Rattle.signature_definitions.specs.Labellings.{Start}
-use Rattle.signature_laws.specs.Orders.{start_at, IsWholeOrder}
+use Rattle.signature_laws.specs.Orders.{start_at, IsWholeOrder, Numbers}
 use Rattle.signature_laws.proofs.Marking.{start_is}
 
 -- the tetrahedron at the next place is in range
@@ -48,3 +49,8 @@ pub all_permute : (n : ℕ) (order : List Start) (perms : List (List ℕ)) → I
 all_permute n order perms h size each permute = All-from_get_or IsPermutationOfFour perms [] (λ t l.
     let at = h.all t (omega arith) in
     subst IsPermutationOfFour (sym (each at.0 at.1) ∙ ap (λ u. get_or perms u []) at.2) (permute at.0 at.1))
+
+-- the relabelling of the places maps each tetrahedron to its index
+pub placed_numbers : (order : List Start) (by : Relabelling) (images : List ℕ) (perms : List (List ℕ)) → by ≡ record { images = images; perms = perms } → ((i : ℕ) → i < length order → get_or images (start_at order i).tet 0 ≡ i)
+    → ((i : ℕ) → i < length order → get_or perms (start_at order i).tet [] ≡ (start_at order i).perm) → Numbers order by
+placed_numbers order by images perms is each permute = subst (Numbers order) (sym is) (λ i l j. record { tet = each i l j; perm = permute i l j })

@@ -19,14 +19,15 @@ use Rattle.signature_automorphism_laws.specs.Automorphisms.{IsAutomorphism, HasN
 use Rattle.signature_automorphism_laws.proofs.Ties.{one_spelled, between_is_automorphism}
 use Rattle.signature_automorphism_laws.proofs.Marks.{marked_more, no_walk, lesser_has_none}
 use Rattle.canonical_labelling.specs.declared.orbits.Orbits.{Orbits}
-use Rattle.canonical_labelling.specs.Orbits.{AreOrbits, AreOrbitsOf, MarksFollow, SparesFollow, IsTextBy, IsFound, IsSearch}
+use Rattle.canonical_labelling.specs.Marks.{MarksFollow}
+use Rattle.canonical_labelling.specs.Orbits.{AreOrbitsOf, SparesFollow, IsTextBy, IsFound, IsSearch}
 
 pub text_is_from : (rows : List Row) (start : Start) (by : Relabelling) (text : List ℕ) → IsTextBy rows start by text → IsTextFrom rows start text
 text_is_from rows start by text h = (by, h.0, h.1, h.2)
 
 -- a relabelling that is found has as many images as the table has tetrahedra
 pub found_relabels : (rows : List Row) (by : Relabelling) (text : List ℕ) → IsFound rows by text → IsRelabelling (length rows) by
-found_relabels rows by text h = let t : IsTextBy rows (numbered_start h.0) by text = h.2 in t.1.relabels.0
+found_relabels rows by text h = let t : IsTextBy rows h.0 by text = h.1 in t.1.relabels.0
 
 pub found_size : (rows : List Row) (by : Relabelling) (text : List ℕ) → IsFound rows by text → length by.images ≡ length rows
 found_size rows by text h = length-images (length rows) by (found_relabels rows by text h)
@@ -37,9 +38,9 @@ pub tie_is : (rows : List Row) (start : Start) (first second : Relabelling) (new
 tie_is rows start first second new text table found w equal =
     let spells : Spells (spelling new) new = record { table = carried_is_table rows new second table w.relabels.0 w.relabels.1; ordered = w.ordered; spelled = refl } in
     let same : spelling new ≡ text = equal (spelling new) (second, new, w, spells) in
-    let t : IsTextBy rows (numbered_start found.0) first text = found.2 in
+    let t : IsTextBy rows found.0 first text = found.1 in
     let one : new ≡ t.0 = one_spelled text new t.0 (subst (λ (x : List ℕ). Spells x new) same spells) t.2 in
-    between_is_automorphism rows t.0 (numbered_start found.0) start first second table t.1 (subst (λ (r : List Row). IsWalked rows start second r) one w)
+    between_is_automorphism rows t.0 found.0 start first second table t.1 (subst (λ (r : List Row). IsWalked rows start second r) one w)
 
 -- no text of the start is before the lesser one
 pub lesser_here : (rows : List Row) (start : Start) (best new : List ℕ) → IsTable rows → start.tet < length rows → IsLesserFrom rows start best new → HasNoLesserText rows new start
@@ -71,8 +72,8 @@ search_walks rows k by by' text text' orbits between last table low h lesser fou
     }
 
 -- the orbits of the table after a mark
-pub orbits_marked : (rows : List Row) (orbits last : Orbits) → AreOrbitsOf rows orbits → AreOrbits last → length last.marked.items ≡ length orbits.marked.items → last.automorphisms.items ≡ orbits.automorphisms.items → AreOrbitsOf rows last
-orbits_marked rows orbits last h are long same = record { orbits = are; size = long ∙ h.size; automorphisms = subst (All (IsAutomorphism rows)) (sym same) h.automorphisms }
+pub orbits_marked : (rows : List Row) (orbits last : Orbits) → AreOrbitsOf rows orbits → length last.marked.items ≡ length orbits.marked.items → last.automorphisms.items ≡ orbits.automorphisms.items → AreOrbitsOf rows last
+orbits_marked rows orbits last h long same = record { size = long ∙ h.size; automorphisms = subst (All (IsAutomorphism rows)) (sym same) h.automorphisms }
 
 -- no start is marked at first
 pub none_marked : (n i : ℕ) → slice_index_or (replicate n false) i false ≡ false
@@ -88,10 +89,9 @@ tie_by rows start first second by new text table found w equal is =
     subst (IsAutomorphism rows) (sym (is ∙ ap (λ n. between n first second) (found_size rows first text found))) (tie_is rows start first second new text table found w equal)
 
 -- the orbits of the table after an automorphism is added
-pub orbits_added : (rows : List Row) (by : Relabelling) (orbits last : Orbits) → AreOrbitsOf rows orbits → IsAutomorphism rows by → AreOrbits last → length last.marked.items ≡ length orbits.marked.items
+pub orbits_added : (rows : List Row) (by : Relabelling) (orbits last : Orbits) → AreOrbitsOf rows orbits → IsAutomorphism rows by → length last.marked.items ≡ length orbits.marked.items
     → last.automorphisms.items ≡ orbits.automorphisms.items ++ by ∷ [] → AreOrbitsOf rows last
-orbits_added rows by orbits last h auto are long same = record {
-  orbits = are;
+orbits_added rows by orbits last h auto long same = record {
   size = long ∙ h.size;
   automorphisms = subst (All (IsAutomorphism rows)) (sym same) (All-push (IsAutomorphism rows) orbits.automorphisms.items by h.automorphisms auto);
 }
@@ -118,9 +118,9 @@ value_by rows rows' start best best' before e f h = λ text t. h text (subst (λ
 
 -- the search begins with the first start
 pub search_begins : (rows : List Row) (by : Relabelling) (text : List ℕ) (first last : Orbits) → IsTable rows → 0 < length rows → IsTextBy rows (numbered_start 0) by text
-    → first.marked.items ≡ replicate (24 * length rows) false → first.automorphisms.items ≡ [] → AreOrbits last → length last.marked.items ≡ length first.marked.items
+    → first.marked.items ≡ replicate (24 * length rows) false → first.automorphisms.items ≡ [] → length last.marked.items ≡ length first.marked.items
     → last.automorphisms.items ≡ first.automorphisms.items → MarksFollow first.automorphisms.items (slice_set first.marked.items 0 true) last.marked.items → IsSearch rows 1 by text last
-search_begins rows by text first last table some h blank none are long same follow =
+search_begins rows by text first last table some h blank none long same follow =
     let t = text_is_from rows (numbered_start 0) by text h in
     let size : length first.marked.items ≡ 24 * length rows = ap length blank ∙ length-replicate (24 * length rows) false in
     let no_autos : All (IsAutomorphism rows) first.automorphisms.items = subst (All (IsAutomorphism rows)) (sym none) (λ k d l. absurd (omega arith)) in
@@ -128,7 +128,7 @@ search_begins rows by text first last table some h blank none are long same foll
     let before : MarkedHaveNoLesserText rows text first.marked.items = λ i m. absurd (let z = sym (none_marked (24 * length rows) i) ∙ ap (λ (xs : List Bool). slice_index_or xs i false) (sym blank) ∙ m in cc) in
     record {
       least = least_begun rows text table some t;
-      found = (0, omega arith, h);
-      orbits = record { orbits = are; size = long ∙ size; automorphisms = subst (All (IsAutomorphism rows)) (sym same) no_autos };
+      found = (numbered_start 0, h);
+      orbits = record { size = long ∙ size; automorphisms = subst (All (IsAutomorphism rows)) (sym same) no_autos };
       marks = follow rows text table no_autos (sym size ∙ sym (length-set first.marked.items 0 true)) (marked_more rows text first.marked.items 0 here before);
     }

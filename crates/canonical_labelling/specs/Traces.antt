@@ -3,7 +3,7 @@ use Rattle.std.specs.Prelude.{◌≡◌, ℕ, ◌<◌, List, length, Bool, true}
 use Rattle.table_definitions.specs.Permutation.{IsPermutationOfFour}
 use Rattle.table_definitions.specs.Table.{Gluing, Row}
 use Rattle.table_definitions.specs.Relabelling.{Relabelling, IsRelabelling, relabelled_place, gluing_under}
-use Rattle.signature_definitions.specs.Labellings.{Start, Relabels}
+use Rattle.signature_definitions.specs.Labellings.{Start, Relabels, IsWalked}
 use Rattle.signature_laws.specs.Orders.{start_at, Numbers}
 
 -- each start of the order begins at one of n tetrahedra
@@ -32,3 +32,7 @@ AgreesGlued n order after from g wanted agrees = (by : Relabelling) → Becomes 
 -- the new order so too
 abbrev pub Agrees : List Row → List Row → List Start → List Start → Bool → Type 0
 Agrees rows target order after agrees = (by : Relabelling) → Relabels rows target by → Numbers order by → (agrees ≡ true) × Numbers after by
+
+-- no traversal of the table from the start results in the target
+abbrev pub LeadsElsewhere : List Row → Start → List Row → Type 0
+LeadsElsewhere rows start target = (by : Relabelling) → IsWalked rows start by target → ⊥

@@ -11,10 +11,10 @@ ghost use Rattle.signature_definitions.specs.Spelling.{character, packed};
 ghost use Rattle.signature_text_laws.specs.Texts.{destinations_text, indices_text};
 ghost use Rattle.signature_laws.specs.Starts.{IsTextFrom};
 ghost use Rattle.canonical_labelling.specs.Comparisons as comparisons;
-ghost use Rattle.canonical_labelling.specs.Comparisons.{IsComparison, AreUnmarked, IsClean, IsWorkSpace, FollowsWalks, ReadsFew, IsDecided, IsUndecided, head_text, compare_by, comparison_view};
+ghost use Rattle.canonical_labelling.specs.Comparisons.{IsComparison, AreUnmarked, IsClean, IsWorkSpace, ReadsFew, IsDecided, IsUndecided, head_text, compare_by, comparison_view};
 
 use crate::Start;
-use crate::comparison::{Comparison, FoundTypes, WorkSpace};
+use crate::comparison::{Comparison, FoundTypes, TableSize, WorkSpace};
 use crate::order::{Walking, face_from, follow, leave};
 use gluing_table::{Face, Glue, Probe};
 use out_of_memory::NoMemory;
@@ -206,57 +206,16 @@ fn compare_last_character(found: FoundTypes<'_>) -> Option<bool>
     compare_character(found, count - rest)
 }
 
-/// Finds the types of the traversal from `start` up to the first type character that differs from `bound`, whose first
-/// `head` bytes agree with the text. Returns whether the text comes before `bound`; `None` if all type characters
-/// agree, and then all types and gluings are found.
-fn compare_types(
-    comparison: &mut Comparison,
-    probe: &mut Probe<'_>,
-    start: Start,
-    bound: &[u8],
-    head: usize,
-) -> Result<Option<bool>, AllocError>
-    requires table { IsTable probe.old.rows }
-    requires in_range { start.tet < length probe.old.rows }
-    requires comparison { IsComparison 0 (comparison_view comparison.old) }
-    requires size { length comparison.old.numbers.items ≡ length probe.old.rows }
-    requires follows { FollowsWalks probe.old.rows start 0 (comparison_view comparison.old) }
-    requires head { head ≡ length (head_text (length probe.old.rows)) }
-    requires agreed { comparisons.told (head_text (length probe.old.rows)) bound.now ≡ None }
-    ensures told { IfOk result (λ r. IfSome r (IsDecided probe.old.rows start bound.now (probe.new.taken - probe.old.taken))) }
-    ensures untold { IfOk result (λ r. IfNone r (IsUndecided probe.old.rows start bound.now (comparison_view comparison.new))) }
-    ensures comparison { OnOk result (IsComparison (4 * length probe.old.rows) (comparison_view comparison.new)) }
-    ensures size { OnOk result (length comparison.new.numbers.items ≡ length comparison.old.numbers.items) }
-    ensures rows { probe.new.rows ≡ probe.old.rows }
-{
-    for place in 0..4 * probe.len() {
-        take(comparison, probe, place)?;
-        let told = compare_full_character(FoundTypes {
-            types: &comparison.types,
-            bound,
-            head,
-        });
-        if told.is_some() {
-            return Ok(told);
-        }
-    }
-    Ok(compare_last_character(FoundTypes {
-        types: &comparison.types,
-        bound,
-        head,
-    }))
-}
-
-/// A state for tables with `count` tetrahedra that has visited none.
-fn blank(alloc: Global, count: u32) -> Result<Comparison, AllocError>
-    requires { count ≤ max_tets }
+/// A state for tables of this size that has visited no tetrahedron.
+fn blank(alloc: Global, size: TableSize) -> Result<Comparison, AllocError>
     ensures clean { IfOk result (λ t. IsClean (comparison_view t)) }
-    ensures size { IfOk result (λ t. length t.numbers.items ≡ count) }
+    ensures size { IfOk result (λ t. length t.numbers.items ≡ size.count) }
 {
-    let order = Vec::with_capacity(alloc, count as usize)?;
-    let met = vec![in alloc; false; count as usize]?;
-    let numbers = vec![in alloc; 0u32; count as usize]?;
-    let crossed = vec![in alloc; false; 4 * count as usize]?;
+    let count = size.count as usize;
+    let order = Vec::with_capacity(alloc, count)?;
+    let met = vec![in alloc; false; count]?;
+    let numbers = vec![in alloc; 0u32; count]?;
+    let crossed = vec![in alloc; false; 4 * count]?;
     Ok(Comparison {
         walking: Walking { order, met },
         numbers,
@@ -266,14 +225,14 @@ fn blank(alloc: Global, count: u32) -> Result<Comparison, AllocError>
     })
 }
 
-/// A work space for tables with `count` tetrahedra.
-pub fn work_space(alloc: Global, count: u32) -> Result<WorkSpace, NoMemory>
-    requires { count ≤ max_tets }
-    ensures { IfOk result (IsWorkSpace count) }
+/// A work space for tables of this size.
+pub fn work_space(alloc: Global, size: TableSize) -> Result<WorkSpace, NoMemory>
+    ensures { IfOk result (IsWorkSpace size.count) }
 {
+    let count = size.count;
     let mut head = Vec::new(alloc);
     append_head(&mut head, count)?;
-    let comparison = blank(alloc, count)?;
+    let comparison = blank(alloc, size)?;
     Ok(WorkSpace { comparison, head })
 }
 
@@ -292,6 +251,46 @@ fn begin(comparison: &mut Comparison, start: Start) -> Result<(), AllocError>
     comparison.walking.met[start.tet as usize] = true;
     comparison.numbers[start.tet as usize] = 0;
     Ok(())
+}
+
+/// Finds the types of the traversal from `start` up to the first type character that differs from `bound`, which
+/// begins with the head of the text. Returns whether the text comes before `bound`; `None` if all type characters
+/// agree, and then all types and gluings are found.
+fn compare_types(
+    space: &mut WorkSpace,
+    probe: &mut Probe<'_>,
+    start: Start,
+    bound: &[u8],
+) -> Result<Option<bool>, AllocError>
+    requires table { IsTable probe.old.rows }
+    requires in_range { start.tet < length probe.old.rows }
+    requires space { IsWorkSpace (length probe.old.rows) space.old }
+    requires agreed { comparisons.told (head_text (length probe.old.rows)) bound.now ≡ None }
+    ensures told { IfOk result (λ r. IfSome r (IsDecided probe.old.rows start bound.now (probe.new.taken - probe.old.taken))) }
+    ensures untold { IfOk result (λ r. IfNone r (IsUndecided probe.old.rows start bound.now (comparison_view space.new.comparison))) }
+    ensures comparison { OnOk result (IsComparison (4 * length probe.old.rows) (comparison_view space.new.comparison)) }
+    ensures size { OnOk result (length space.new.comparison.numbers.items ≡ length probe.old.rows) }
+    ensures head { space.new.head.items ≡ space.old.head.items }
+    ensures rows { probe.new.rows ≡ probe.old.rows }
+{
+    let head = space.head.len();
+    begin(&mut space.comparison, start)?;
+    for place in 0..4 * probe.len() {
+        take(&mut space.comparison, probe, place)?;
+        let told = compare_full_character(FoundTypes {
+            types: &space.comparison.types,
+            bound,
+            head,
+        });
+        if told.is_some() {
+            return Ok(told);
+        }
+    }
+    Ok(compare_last_character(FoundTypes {
+        types: &space.comparison.types,
+        bound,
+        head,
+    }))
 }
 
 /// Sets the first `count` marks to false, where no other mark is set.
@@ -318,14 +317,17 @@ fn clean(comparison: &mut Comparison)
     comparison.gluings.clear();
 }
 
-/// Appends the types, the destinations and the permutation indices, which complete `text`.
-fn append_parts(text: &mut Vec<u8>, count: u32, comparison: &Comparison) -> Result<(), NoMemory>
+/// The text of a traversal of a table of `count` tetrahedra, all of whose types and gluings are found.
+fn whole_text(alloc: Global, count: u32, comparison: &Comparison) -> Result<Vec<u8>, NoMemory>
     requires { length comparison.now.types.items ≤ 4000 }
-    ensures { OnOk result (text.new.items ≡ ((text.old.items ++ map character (packed comparison.now.types.items)) ++ destinations_text (spellings.width count) comparison.now.gluings.items) ++ indices_text comparison.now.gluings.items) }
+    ensures { IfOk result (λ text. text.items ≡ ((head_text count ++ map character (packed comparison.now.types.items)) ++ destinations_text (spellings.width count) comparison.now.gluings.items) ++ indices_text comparison.now.gluings.items) }
 {
-    append_types(text, &comparison.types)?;
-    append_destinations(text, width(count), &comparison.gluings)?;
-    append_indices(text, &comparison.gluings)
+    let mut text = Vec::new(alloc);
+    append_head(&mut text, count)?;
+    append_types(&mut text, &comparison.types)?;
+    append_destinations(&mut text, width(count), &comparison.gluings)?;
+    append_indices(&mut text, &comparison.gluings)?;
+    Ok(text)
 }
 
 /// Whether `first` comes before `second` in lexicographic order, or `None` if the two are equal.
@@ -340,39 +342,6 @@ fn order(first: &[u8], second: &[u8]) -> Option<bool>
     } else {
         None
     }
-}
-
-/// Compares the text of the traversal from `start`, of which `comparison` has visited the first tetrahedron, with
-/// `bound`, whose first `head` bytes agree with it: whether the text comes first, or `None` if the two are equal.
-fn compare_begun(
-    alloc: Global,
-    comparison: &mut Comparison,
-    probe: &mut Probe<'_>,
-    start: Start,
-    bound: &[u8],
-    head: usize,
-) -> Result<Option<bool>, NoMemory>
-    requires table { IsTable probe.old.rows }
-    requires in_range { start.tet < length probe.old.rows }
-    requires comparison { IsComparison 0 (comparison_view comparison.old) }
-    requires size { length comparison.old.numbers.items ≡ length probe.old.rows }
-    requires follows { FollowsWalks probe.old.rows start 0 (comparison_view comparison.old) }
-    requires head { head ≡ length (head_text (length probe.old.rows)) }
-    requires agreed { comparisons.told (head_text (length probe.old.rows)) bound.now ≡ None }
-    ensures value { IfOk result (λ r. IfSome r (λ before. (text : List ℕ) → IsTextFrom probe.old.rows start text → before ≡ is_list_before text bound.now)) }
-    ensures equal { IfOk result (λ r. IfNone r ((text : List ℕ) → IsTextFrom probe.old.rows start text → text ≡ bound.now)) }
-    ensures few { IfOk result (λ r. r ≢ Some true → ReadsFew probe.old.rows start bound.now (probe.new.taken - probe.old.taken)) }
-    ensures comparison { OnOk result (IsComparison (4 * length probe.old.rows) (comparison_view comparison.new)) }
-    ensures size { OnOk result (length comparison.new.numbers.items ≡ length comparison.old.numbers.items) }
-    ensures rows { probe.new.rows ≡ probe.old.rows }
-{
-    if let Some(before) = compare_types(comparison, probe, start, bound, head)? {
-        return Ok(Some(before));
-    }
-    let mut text = Vec::new(alloc);
-    append_head(&mut text, probe.len())?;
-    append_parts(&mut text, probe.len(), comparison)?;
-    Ok(order(&text, bound))
 }
 
 /// Whether the text of the traversal from `start` comes before `bound`, or `None` if the two are equal. If it does not
@@ -397,11 +366,13 @@ pub fn compare(
     if let Some(before) = compare_head(&space.head, bound) {
         return Ok(Some(before));
     }
-    let head = space.head.len();
-    begin(&mut space.comparison, start)?;
-    let before = compare_begun(alloc, &mut space.comparison, probe, start, bound, head)?;
+    if let Some(before) = compare_types(space, probe, start, bound)? {
+        clean(&mut space.comparison);
+        return Ok(Some(before));
+    }
+    let text = whole_text(alloc, probe.len(), &space.comparison)?;
     clean(&mut space.comparison);
-    Ok(before)
+    Ok(order(&text, bound))
 }
 
 /// Whether the text of the traversal from `start` comes before `bound`. If it does not, and the two first differ before
@@ -419,7 +390,8 @@ pub fn lesser(
     ensures few { IfOk result (λ before. before ≡ false → ReadsFew probe.old.rows start bound.now (probe.new.taken - probe.old.taken)) }
     ensures rows { probe.new.rows ≡ probe.old.rows }
 {
-    let mut space = work_space(alloc, probe.len())?;
+    let size = TableSize { count: probe.len() };
+    let mut space = work_space(alloc, size)?;
     if let Some(before) = compare(alloc, &mut space, probe, start, bound)? {
         return Ok(before);
     }

@@ -6,6 +6,13 @@ ghost use Rattle.table_definitions.specs.Table.{max_tets};
 use crate::order::Walking;
 use gluing_table::Glue;
 
+/// The number of tetrahedra of a table.
+#[derive(Clone, Copy)]
+pub struct TableSize {
+    pub count: u32,
+    pub ghost few: { count ≤ max_tets },
+}
+
 /// The state of a traversal: `numbers[t]` is the new number of a visited tetrahedron `t`; `crossed[k]` says whether the
 /// new face with index `k` was reached from its other side; `types` has the types of the faces read, and `gluings` the
 /// new gluings of those of type 2.

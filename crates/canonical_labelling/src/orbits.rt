@@ -4,28 +4,31 @@ ghost use Rattle.std.specs.Prelude.{◌≡◌, ◌<◌, ◌≤◌, ◌*◌, ◌+
 ghost use Rattle.std.specs.List.{slice_index_or};
 ghost use Rattle.table_definitions.specs.Table.{max_tets};
 ghost use Rattle.signature_automorphism_laws.specs.Automorphisms as automorphisms;
-ghost use Rattle.canonical_labelling.specs.Orbits.{AreOrbits, MarksFollow};
+ghost use Rattle.canonical_labelling.specs.Marks.{AreListed, AreOfSize, MarksFollow};
 
+use crate::comparison::TableSize;
 use crate::starts::numbered_start;
 use gluing_table::Relabelling;
 use std::alloc::{AllocError, Global};
 
-/// Marks of the starts of a table, by number, the list of the marked starts, and automorphisms of the table.
+/// Marks of the starts of a table, by number, a list of marked starts, and automorphisms of the table. Invariant: each
+/// automorphism is a relabelling of a table with as many starts as there are marks.
 #[derive(Drop)]
 pub struct Orbits {
     pub marked: Vec<bool>,
     pub numbers: Vec<u32>,
     pub automorphisms: Vec<Relabelling>,
+    pub ghost few: { length marked.items ≤ 24 * max_tets },
+    pub ghost listed: { AreListed numbers.items marked.items },
+    pub ghost sizes: { AreOfSize (length marked.items) automorphisms.items },
 }
 
-/// The orbits of a table of `count` tetrahedra without a mark or an automorphism.
-pub fn no_orbits(alloc: Global, count: u32) -> Result<Orbits, AllocError>
-    requires { count ≤ max_tets }
-    ensures orbits { IfOk result AreOrbits }
-    ensures marked { IfOk result (λ o. o.marked.items ≡ replicate (24 * count) false) }
+/// The orbits of a table of this size without a mark or an automorphism.
+pub fn no_orbits(alloc: Global, size: TableSize) -> Result<Orbits, AllocError>
+    ensures marked { IfOk result (λ o. o.marked.items ≡ replicate (24 * size.count) false) }
     ensures automorphisms { IfOk result (λ o. o.automorphisms.items ≡ []) }
 {
-    let marked = vec![in alloc; false; 24 * count as usize]?;
+    let marked = vec![in alloc; false; 24 * size.count as usize]?;
     Ok(Orbits {
         marked,
         numbers: Vec::new(alloc),
@@ -47,9 +50,7 @@ fn carried_number(by: &Relabelling, number: u32) -> u32
 
 /// Marks the start with number `number`.
 fn mark(orbits: &mut Orbits, number: u32) -> Result<(), AllocError>
-    requires orbits { AreOrbits orbits.old }
-    requires in_range { number < length orbits.old.marked.items }
-    ensures orbits { OnOk result (AreOrbits orbits.new) }
+    requires { number < length orbits.old.marked.items }
     ensures marked { OnOk result (orbits.new.marked.items ≡ slice_set orbits.old.marked.items number true) }
     ensures automorphisms { OnOk result (orbits.new.automorphisms.items ≡ orbits.old.automorphisms.items) }
     ensures grows { OnOk result (length orbits.old.numbers.items ≤ length orbits.new.numbers.items) }
@@ -63,10 +64,8 @@ fn mark(orbits: &mut Orbits, number: u32) -> Result<(), AllocError>
 
 /// Marks the start to which the automorphism of index `j` carries the marked start of index `i`.
 fn mark_image(orbits: &mut Orbits, i: usize, j: usize) -> Result<(), AllocError>
-    requires orbits { AreOrbits orbits.old }
     requires start { i < length orbits.old.numbers.items }
     requires automorphism { j < length orbits.old.automorphisms.items }
-    ensures orbits { OnOk result (AreOrbits orbits.new) }
     ensures marked { OnOk result (MarksFollow orbits.old.automorphisms.items orbits.old.marked.items orbits.new.marked.items) }
     ensures size { OnOk result (length orbits.new.marked.items ≡ length orbits.old.marked.items) }
     ensures automorphisms { OnOk result (orbits.new.automorphisms.items ≡ orbits.old.automorphisms.items) }
@@ -79,9 +78,7 @@ fn mark_image(orbits: &mut Orbits, i: usize, j: usize) -> Result<(), AllocError>
 
 /// Marks the starts to which the automorphisms carry the marked start of index `i`.
 fn mark_images(orbits: &mut Orbits, i: usize) -> Result<(), AllocError>
-    requires orbits { AreOrbits orbits.old }
-    requires start { i < length orbits.old.numbers.items }
-    ensures orbits { OnOk result (AreOrbits orbits.new) }
+    requires { i < length orbits.old.numbers.items }
     ensures marked { OnOk result (MarksFollow orbits.old.automorphisms.items orbits.old.marked.items orbits.new.marked.items) }
     ensures size { OnOk result (length orbits.new.marked.items ≡ length orbits.old.marked.items) }
     ensures automorphisms { OnOk result (orbits.new.automorphisms.items ≡ orbits.old.automorphisms.items) }
@@ -94,8 +91,6 @@ fn mark_images(orbits: &mut Orbits, i: usize) -> Result<(), AllocError>
 
 /// Marks the starts to which products of the automorphisms carry the marked starts of index `first` and above.
 fn close(orbits: &mut Orbits, first: usize) -> Result<(), AllocError>
-    requires { AreOrbits orbits.old }
-    ensures orbits { OnOk result (AreOrbits orbits.new) }
     ensures marked { OnOk result (MarksFollow orbits.old.automorphisms.items orbits.old.marked.items orbits.new.marked.items) }
     ensures size { OnOk result (length orbits.new.marked.items ≡ length orbits.old.marked.items) }
     ensures automorphisms { OnOk result (orbits.new.automorphisms.items ≡ orbits.old.automorphisms.items) }
@@ -112,9 +107,7 @@ fn close(orbits: &mut Orbits, first: usize) -> Result<(), AllocError>
 
 /// Marks the start with number `number` and the starts to which products of the automorphisms carry it.
 pub fn mark_orbit(orbits: &mut Orbits, number: u32) -> Result<(), AllocError>
-    requires orbits { AreOrbits orbits.old }
-    requires in_range { number < length orbits.old.marked.items }
-    ensures orbits { OnOk result (AreOrbits orbits.new) }
+    requires { number < length orbits.old.marked.items }
     ensures marked { OnOk result (MarksFollow orbits.old.automorphisms.items (slice_set orbits.old.marked.items number true) orbits.new.marked.items) }
     ensures size { OnOk result (length orbits.new.marked.items ≡ length orbits.old.marked.items) }
     ensures automorphisms { OnOk result (orbits.new.automorphisms.items ≡ orbits.old.automorphisms.items) }
@@ -126,9 +119,7 @@ pub fn mark_orbit(orbits: &mut Orbits, number: u32) -> Result<(), AllocError>
 
 /// Adds the automorphism `by`, and marks the starts to which products of the automorphisms carry the marked ones.
 pub fn add_automorphism(orbits: &mut Orbits, by: Relabelling) -> Result<(), AllocError>
-    requires orbits { AreOrbits orbits.old }
-    requires size { 24 * length by.images ≡ length orbits.old.marked.items }
-    ensures orbits { OnOk result (AreOrbits orbits.new) }
+    requires { 24 * length by.images ≡ length orbits.old.marked.items }
     ensures marked { OnOk result (MarksFollow orbits.new.automorphisms.items orbits.old.marked.items orbits.new.marked.items) }
     ensures size { OnOk result (length orbits.new.marked.items ≡ length orbits.old.marked.items) }
     ensures automorphisms { OnOk result (orbits.new.automorphisms.items ≡ orbits.old.automorphisms.items ++ by ∷ []) }

@@ -10,6 +10,7 @@ ghost use Rattle.canonical_labelling.specs.Traces.{AreBelow, IsVisited, AgreesGl
 
 use crate::Start;
 use crate::order::{face_from, start_behind};
+use crate::traversals::Traversal;
 use gluing_table::{Face, Glue, Table};
 use out_of_memory::NoMemory;
 use perm_four::Perm4;
@@ -22,6 +23,7 @@ use std::alloc::{AllocError, Global};
 pub struct Trace {
     pub order: Vec<Start>,
     pub numbers: Vec<u32>,
+    pub ghost below: { AreBelow (length numbers.items) order.items },
 }
 
 /// A work space for tables of `count` tetrahedra.
@@ -56,36 +58,16 @@ fn maps_to(from: Start, there: Start, glue: Glue, wanted: Glue) -> bool
     there.perm.compose(glue.perm.compose(from.perm.inverse())) == wanted.perm
 }
 
-/// Visits the tetrahedron across `glue`, with the new number `wanted.tet`; returns `false` if it is visited already.
-fn visit(trace: &mut Trace, from: Start, glue: Glue, wanted: Glue) -> Result<bool, AllocError>
-    requires in_range { glue.tet < length trace.old.numbers.items }
-    requires below { AreBelow (length trace.old.numbers.items) trace.old.order.items }
-    requires next { wanted.tet ≡ length trace.old.order.items }
-    requires identical { wanted.perm ≡ permutations.identity }
-    ensures size { length trace.new.numbers.items ≡ length trace.old.numbers.items }
-    ensures below { OnOk result (AreBelow (length trace.old.numbers.items) trace.new.order.items) }
-    ensures agrees { IfOk result (AgreesGlued (length trace.old.numbers.items) trace.old.order.items trace.new.order.items from glue wanted) }
-{
-    if is_visited(trace, glue.tet) {
-        return Ok(false);
-    }
-    trace.numbers[glue.tet as usize] = wanted.tet;
-    trace.order.push(start_behind(from, glue))?;
-    Ok(true)
-}
-
 /// Whether the gluing `glue` of the tetrahedron of `from` agrees with `wanted`. A gluing to the next tetrahedron visits
-/// it.
+/// it, with the new number `wanted.tet`, and agrees if it was not visited before.
 fn agrees_glued(
     trace: &mut Trace,
     from: Start,
     glue: Glue,
     wanted: Glue,
 ) -> Result<bool, AllocError>
-    requires in_range { glue.tet < length trace.old.numbers.items }
-    requires below { AreBelow (length trace.old.numbers.items) trace.old.order.items }
+    requires { glue.tet < length trace.old.numbers.items }
     ensures size { length trace.new.numbers.items ≡ length trace.old.numbers.items }
-    ensures below { OnOk result (AreBelow (length trace.old.numbers.items) trace.new.order.items) }
     ensures agrees { IfOk result (AgreesGlued (length trace.old.numbers.items) trace.old.order.items trace.new.order.items from glue wanted) }
 {
     let number = wanted.tet as usize;
@@ -96,7 +78,12 @@ fn agrees_glued(
     if number > trace.order.len() || wanted.perm != Perm4::identity() {
         return Ok(true);
     }
-    visit(trace, from, glue, wanted)
+    if is_visited(trace, glue.tet) {
+        return Ok(false);
+    }
+    trace.numbers[glue.tet as usize] = wanted.tet;
+    trace.order.push(start_behind(from, glue))?;
+    Ok(true)
 }
 
 /// Whether the traversal agrees with `target` at the face with index `place`: both have a boundary face there, or both
@@ -109,9 +96,7 @@ fn agrees_at(
 ) -> Result<bool, AllocError>
     requires in_range { place < 4 * length target.now }
     requires size { length trace.old.numbers.items ≡ length table.now }
-    requires below { AreBelow (length trace.old.numbers.items) trace.old.order.items }
     ensures size { length trace.new.numbers.items ≡ length trace.old.numbers.items }
-    ensures below { OnOk result (AreBelow (length trace.old.numbers.items) trace.new.order.items) }
     ensures agrees { IfOk result (Agrees table.now target.now trace.old.order.items trace.new.order.items) }
 {
     let number = (place / 4) as usize;
@@ -133,34 +118,22 @@ fn agrees_at(
     agrees_glued(trace, from, glue, wanted)
 }
 
-/// Makes `trace` the traversal that has visited its start alone.
-fn begin(trace: &mut Trace, start: Start) -> Result<(), AllocError>
-    requires { start.tet < length trace.old.numbers.items }
-    ensures size { length trace.new.numbers.items ≡ length trace.old.numbers.items }
-    ensures order { OnOk result (trace.new.order.items ≡ start ∷ []) }
-{
-    trace.order.clear();
-    trace.order.push(start)?;
-    trace.numbers[start.tet as usize] = 0;
-    Ok(())
-}
-
-/// Whether the canonical traversal of `table` from `start` may result in `target`. Returns `false` at the first face
-/// that differs. Reads each face of `table` at most once, and allocates nothing if `trace` has room for its tetrahedra.
+/// Whether `traversal` may result in `target`. Returns `false` at the first face that differs. Reads each face of the
+/// table at most once, and allocates nothing if `trace` has room for its tetrahedra.
 pub fn may_reach(
     trace: &mut Trace,
     target: &Table,
-    table: &Table,
-    start: Start,
+    traversal: &Traversal<'_>,
 ) -> Result<bool, AllocError>
-    requires in_range { start.tet < length table.now }
-    requires size { length trace.old.numbers.items ≡ length table.now }
+    requires { length trace.old.numbers.items ≡ length traversal.now.table.now }
     ensures size { length trace.new.numbers.items ≡ length trace.old.numbers.items }
-    ensures may { IfOk result (λ may. (by : Relabelling) → IsWalked table.now start by target.now → may ≡ true) }
+    ensures may { IfOk result (λ may. (by : Relabelling) → IsWalked traversal.now.table.now traversal.now.start by target.now → may ≡ true) }
 {
-    begin(trace, start)?;
+    trace.order.clear();
+    trace.order.push(traversal.start)?;
+    trace.numbers[traversal.start.tet as usize] = 0;
     for place in 0..4 * target.len() {
-        if !agrees_at(trace, target, table, place)? {
+        if !agrees_at(trace, target, traversal.table, place)? {
             return Ok(false);
         }
     }

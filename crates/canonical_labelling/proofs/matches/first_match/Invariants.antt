@@ -4,6 +4,6 @@ use Rattle.canonical_labelling.proofs.matches.first_match.Given as goal
 
 abbrev pub invariant-loop-number : goal.invariant-loop-number
 invariant-loop-number l = record {
-  size : length l.trace.numbers.items ≡ length l.table;
-  before : (i : ℕ) → i < l.number → IsNoMatch l.table l.target i;
+  size : length l.trace.numbers.items ≡ length l.connected.table.now;
+  before : (i : ℕ) → i < l.number → IsNoMatch l.connected.table.now l.target i;
 }

@@ -7,7 +7,6 @@ loop-i-preserved c =
     let inv = c.loop-i.invariant in
     let e = c.in_ok-mark_images.ensures in
     record {
-      orbits = e.orbits;
       marked = follows_on c.args.orbits.now.automorphisms.items c.loop-i.orbits.automorphisms.items c.args.orbits.now.marked.items c.loop-i.orbits.marked.items c.mark_images.new.orbits.marked.items inv.automorphisms inv.size inv.marked e.marked;
       size = e.size ∙ inv.size;
       automorphisms = e.automorphisms ∙ inv.automorphisms;

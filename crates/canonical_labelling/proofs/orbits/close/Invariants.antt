@@ -1,11 +1,10 @@
 use Rattle.std.proofs.Common.{◌≡◌, length}
-use Rattle.canonical_labelling.specs.Orbits.{AreOrbits, MarksFollow}
+use Rattle.canonical_labelling.specs.Marks.{MarksFollow}
 use Rattle.canonical_labelling.proofs.orbits.close.Given as goal
 
 -- the marks so far follow from those at the beginning
 abbrev pub invariant-loop-i : goal.invariant-loop-i
 invariant-loop-i l = record {
-  orbits : AreOrbits l.orbits;
   marked : MarksFollow l.fn.orbits.automorphisms.items l.fn.orbits.marked.items l.orbits.marked.items;
   size : length l.orbits.marked.items ≡ length l.fn.orbits.marked.items;
   automorphisms : l.orbits.automorphisms.items ≡ l.fn.orbits.automorphisms.items;

@@ -9,7 +9,6 @@ loop-j-preserved c =
     let before = inv.grows in
     let after = e.grows in
     record {
-      orbits = e.orbits;
       marked = follows_on c.args.orbits.now.automorphisms.items c.loop-j.orbits.automorphisms.items c.args.orbits.now.marked.items c.loop-j.orbits.marked.items c.mark_image.new.orbits.marked.items inv.automorphisms inv.size inv.marked e.marked;
       size = e.size ∙ inv.size;
       automorphisms = e.automorphisms ∙ inv.automorphisms;
