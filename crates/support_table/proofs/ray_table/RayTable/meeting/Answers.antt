@@ -1,4 +1,4 @@
-use Rattle.std.proofs.Common.{length, subst, arith}
+use Rattle.std.proofs.Common.{subst, arith}
 use Rattle.support_table.specs.Tables.{Table}
 use Rattle.support_table.specs.Holders.{AreHolders, IsMeetingBelow}
 use Rattle.support_table.proofs.HolderLemmas.{meeting_of}
