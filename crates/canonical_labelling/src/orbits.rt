@@ -62,20 +62,6 @@ fn mark(orbits: &mut Orbits, number: u32) -> Result<(), AllocError>
     Ok(())
 }
 
-/// Marks the start to which the automorphism of index `j` carries the marked start of index `i`.
-fn mark_image(orbits: &mut Orbits, i: usize, j: usize) -> Result<(), AllocError>
-    requires start { i < length orbits.old.numbers.items }
-    requires automorphism { j < length orbits.old.automorphisms.items }
-    ensures marked { OnOk result (MarksFollow orbits.old.automorphisms.items orbits.old.marked.items orbits.new.marked.items) }
-    ensures size { OnOk result (length orbits.new.marked.items ≡ length orbits.old.marked.items) }
-    ensures automorphisms { OnOk result (orbits.new.automorphisms.items ≡ orbits.old.automorphisms.items) }
-    ensures grows { OnOk result (length orbits.old.numbers.items ≤ length orbits.new.numbers.items) }
-{
-    let by = &orbits.automorphisms[j];
-    let number = carried_number(by, orbits.numbers[i]);
-    mark(orbits, number)
-}
-
 /// Marks the starts to which the automorphisms carry the marked start of index `i`.
 fn mark_images(orbits: &mut Orbits, i: usize) -> Result<(), AllocError>
     requires { i < length orbits.old.numbers.items }
@@ -84,7 +70,9 @@ fn mark_images(orbits: &mut Orbits, i: usize) -> Result<(), AllocError>
     ensures automorphisms { OnOk result (orbits.new.automorphisms.items ≡ orbits.old.automorphisms.items) }
 {
     for j in 0..orbits.automorphisms.len() {
-        mark_image(orbits, i, j)?;
+        let by = &orbits.automorphisms[j];
+        let number = carried_number(by, orbits.numbers[i]);
+        mark(orbits, number)?;
     }
     Ok(())
 }
