@@ -1,4 +1,4 @@
--- A state that is begun from a clean one, and what is taken back of it.
+-- The state at the beginning of a traversal, and the marks that are cleared after it.
 use Rattle.std.proofs.Common.{◌≡◌, ℕ, zero, suc, ◌+◌, ◌*◌, ◌<◌, ◌≤◌, Bool, true, false, List, [], ◌∷◌, length, sym, ap, ◌∙◌, arith, ⊎_elim, refl}
 use Rattle.std.specs.Prelude.{◌==◌, slice_index, slice_set}
 use Rattle.std.specs.List.{slice_index_or}

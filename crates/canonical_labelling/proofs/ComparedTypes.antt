@@ -1,4 +1,4 @@
--- What the characters of the types tell.
+-- Comparisons by the characters of types.
 use Rattle.std.proofs.Common.{◌≡◌, ℕ, ◌+◌, ◌-◌, ◌*◌, ◌/◌, ◌%◌, ◌<◌, ◌≤◌, Bool, true, false, List, [], ◌∷◌, ◌++◌, length, take, map, Option, Some, None, refl, sym, ap, ◌∙◌, subst, arith, append_assoc}
 use Rattle.std.specs.Prelude.{◌==◌, ◌||◌, not, slice_get, IfSome, if◌then◌else◌}
 use Rattle.std.proofs.lemmas.Bool.{eqb-true, or_parts, not-false}
@@ -29,14 +29,14 @@ long_begun n m types l =
     let c = packed_short m types l in
     omega (arith, a, b, c)
 
--- one more character
+-- the characters of up to three more types add one character
 pub begun_next : (n m : ℕ) (types : List ℕ) → 3 * m < length types → length types ≤ 3 * m + 3 → begun_text n types ≡ begun_text n (take (3 * m) types) ++ type_character types (3 * m) ∷ []
 begun_next n m types l h =
     ap (λ vs. head_text n ++ map character vs) (packed_last m types l h)
     ∙ ap (λ cs. head_text n ++ cs) (map-append character (packed (take (3 * m) types)) (value_at types (3 * m) ∷ []))
     ∙ sym (append_assoc (head_text n) (map character (packed (take (3 * m) types))) (type_character types (3 * m) ∷ []))
 
--- what a text says that begins so
+-- the last character of the types, at index m, decides as b says, and those before it agree with the bound
 record Tells (n m : ℕ) (types bound : List ℕ) (b : Bool) : Type 0 where
   low : 3 * m < length types
   high : length types ≤ 3 * m + 3
@@ -62,7 +62,7 @@ differs_at n m i types bound rest b h d =
     let late : length pre ≤ i = differs_behind pre (c ∷ rest) bound i h.agreed (subst (λ t. IsFirstDifference t bound i) same d) in
     omega (arith, long, size, early, late)
 
--- each text to which the walk leads begins with these types
+-- the text of each traversal from the start begins with these types
 abbrev pub BeginsWith : List Row → Start → List ℕ → Type 0
 BeginsWith rows start types = (by : Relabelling) (new : List Row) (text : List ℕ) → IsWalked rows start by new → Spells text new → (rest : List ℕ) × (text ≡ begun_text (length rows) types ++ rest)
 
@@ -80,12 +80,12 @@ told_of rows start m reads types bound b h few begins = record {
       omega (arith, at, long, same, high, few);
 }
 
--- where the last three types tell
+-- if the last three types decide
 cond_some : {A : Type 0} (c : Bool) (x : A) (o p : Option A) → (if c then None else o) ≡ Some x → c ≡ false
 cond_some true x o p e = absurd cc
 cond_some false x o p e = refl
 
--- all but the last of them
+-- for each whole character of types, the characters before it agree with the bound
 abbrev pub AgreesShort : ℕ → List ℕ → List ℕ → Type 0
 AgreesShort n bound types = (m : ℕ) → 3 * m + 3 ≤ length types → told (begun_text n (take (3 * m) types)) bound ≡ None
 

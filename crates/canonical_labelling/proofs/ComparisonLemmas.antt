@@ -1,4 +1,4 @@
--- What a walk keeps of itself while its types are found.
+-- What holds throughout a traversal whose types are found one by one.
 use Rattle.std.proofs.Common.{◌≡◌, ℕ, zero, suc, ◌+◌, ◌*◌, ◌<◌, ◌≤◌, Bool, true, false, List, [], ◌∷◌, ◌++◌, length, refl, sym, ap, ◌∙◌, subst, arith, ⊎_elim}
 use Rattle.std.specs.Prelude.{◌≢◌, All, slice_index, slice_set, if◌then◌else◌}
 use Rattle.std.specs.List.{slice_index_or}
@@ -22,7 +22,7 @@ few_numbered k s h = few_apart (length s.numbers) s.order (λ i l. let m = met_i
     apart : (i j : ℕ) → i < j → j < length s.order → (start_at s.order i).tet ≢ (start_at s.order j).tet
     apart i j l m e = let f : i ≡ j = sym (h.numbers i (omega arith)) ∙ ap (slice_index s.numbers) e ∙ h.numbers j m in omega (arith, f)
 
--- a tetrahedron that is met stands at its number
+-- a visited tetrahedron has its index in the order as its number
 pub number_place : (k : ℕ) (s : ComparisonView) → IsComparison k s → (t : ℕ) → slice_index_or s.met t false ≡ true → (slice_index s.numbers t < length s.order) × ((start_at s.order (slice_index s.numbers t)).tet ≡ t)
 number_place k s h t e =
     let at = met_at s.order t (sym (h.met t) ∙ e) in
@@ -31,7 +31,7 @@ number_place k s h t e =
     let low = at.1 in
     (omega (arith, n, low), ap (λ j. (start_at s.order j).tet) n ∙ at.2)
 
--- one that is not gets the next number
+-- a tetrahedron that is not visited gets the next number
 fresh_numbers : (k : ℕ) (s : ComparisonView) (b : Start) → IsComparison k s → b.tet < length s.numbers → is_visited s.order b.tet ≡ false
     → (i : ℕ) → i < length (s.order ++ b ∷ []) → slice_index (slice_set s.numbers b.tet (length s.order)) (start_at (s.order ++ b ∷ []) i).tet ≡ i
 fresh_numbers k s b h l unmet i m = ⊎_elim
@@ -74,14 +74,14 @@ numbered_holds k s from g h l = record {
         (λ e. rw e h.numbers)
         (λ e. rw e (fresh_numbers k s (start_behind from g) h l (sym (h.met g.tet) ∙ e)))
 
--- the tetrahedron behind the gluing has its number then
+-- the tetrahedron across the gluing has its number in the next state
 pub number_here : (k : ℕ) (s : ComparisonView) (from : Start) (g : Gluing) → IsComparison k s → g.tet < length s.numbers
     → let t : ComparisonView = numbered (slice_index_or s.met g.tet false) from g s in (slice_index t.numbers g.tet < length t.order) × ((start_at t.order (slice_index t.numbers g.tet)).tet ≡ g.tet)
 number_here k s from g h l =
     let e = h.marks in
     number_place k (numbered (slice_index_or s.met g.tet false) from g s) (numbered_holds k s from g h l) g.tet (mark_same s.met g.tet (omega (arith, e)))
 
--- one more type
+-- the types are less than 3 with one more type
 pub more_types : (types : List ℕ) (t : ℕ) → All (λ t. t < 3) types → t < 3 → All (λ t. t < 3) (types ++ t ∷ [])
 more_types types t h l = All-append (λ t. t < 3) types (t ∷ []) h one
   where

@@ -1,4 +1,4 @@
--- A relabelling keeps the number of boundary faces.
+-- A relabelling preserves the number of boundary faces.
 use Rattle.std.proofs.Common.{◌≡◌, ℕ, zero, suc, ◌+◌, ◌*◌, ◌/◌, ◌%◌, ◌<◌, ◌≤◌, Bool, true, false, List, [], ◌∷◌, ◌++◌, length, map, get_or, Option, Some, None, refl, sym, ap, ◌∙◌, subst, arith, cond}
 use Rattle.std.specs.Prelude.{◌≢◌, count_by, option_map, slice_index, is_none, IsPermutation}
 use Rattle.std.specs.List.{slice_index_or}
@@ -6,6 +6,7 @@ use Rattle.std.specs.Int.{from_bool}
 use Rattle.std.proofs.lemmas.List.Sums.{sum_by_push}
 use Rattle.std.proofs.lemmas.List.Sorted.{sum_by-IsPermutation}
 use Rattle.std.proofs.lemmas.List.FromFn.{get_or-map-range_with_len, length-map-range_with_len, map-range_with_len_more}
+use Rattle.basic_lemmas.proofs.Truths.{one_if}
 use Rattle.table_definitions.specs.Lists.{below}
 use Rattle.table_definitions.specs.Permutation.{IsPermutationOfFour, image, preimage}
 use Rattle.table_definitions.specs.Table.{Gluing, Row, Face, face_number, glue}
@@ -17,11 +18,7 @@ use Rattle.table_definitions.proofs.Carried.{image_in_range, perm_permutes, imag
 use Rattle.signature_definitions.specs.Labellings.{Relabels}
 use Rattle.canonical_labelling.specs.Counts.{boundary_count}
 
--- what a test adds to a count
-abbrev pub one_if : Bool → ℕ
-one_if b = cond b 1 0
-
--- one more number
+-- a count below n + 1 is one below n with the test of n
 pub count_below_more : (p : ℕ → Bool) (n : ℕ) → count_by p (below (n + 1)) ≡ count_by p (below n) + one_if (p n)
 count_below_more p n = let e : n + 1 ≡ suc n = omega arith in ap (λ m. count_by p (below m)) e ∙ ap (count_by p) (sym (below-push n)) ∙ sum_by_push (λ k. one_if (p k)) (below n) n
 
@@ -36,7 +33,7 @@ pub counted_few : (count more place : ℕ) (b : Bool) → count ≤ place → mo
 counted_few count more place true l e = let z : more ≡ 1 = e in omega (arith, z)
 counted_few count more place false l e = let z : more ≡ 0 = e in omega (arith, z)
 
--- counts of tests that agree, and of tests of what numbers are mapped to
+-- equal tests have equal counts, and so have tests of the values of a map
 counts_alike : (p q : ℕ → Bool) (f : ℕ → ℕ) (n : ℕ) → ((k : ℕ) → k < n → p (f k) ≡ q k) → count_by p (map f (below n)) ≡ count_by q (below n)
 counts_alike p q f zero h = refl
 counts_alike p q f (suc n) h =
@@ -53,7 +50,7 @@ module _ (rows new : List Row) (by : Relabelling) (r : Relabels rows new by) whe
   abbrev n : ℕ
   n = length rows
 
-  -- the face that stands for the face of a number
+  -- the index of the face to which the relabelling maps the face of index k
   abbrev face_there : ℕ → ℕ
   face_there k = face_number (face_under (relabelled_place by (k / 4)) (face_of k))
 
@@ -95,7 +92,7 @@ module _ (rows new : List Row) (by : Relabelling) (r : Relabels rows new by) whe
           let same : i ≡ j = apart i j li lj (sym (at i li) ∙ e ∙ at j lj) in
           omega (arith, same, l)
 
-  -- it is a boundary face where that is
+  -- the face of index k is a boundary face if and only if its image is
   alike : (k : ℕ) → k < 4 * n → is_boundary new (face_of (face_there k)) ≡ is_boundary rows (face_of k)
   alike k l =
       let y : Face = face_under (relabelled_place by (k / 4)) (face_of k) in

@@ -10,7 +10,7 @@ use Rattle.signature_automorphism_laws.specs.Automorphisms.{IsAutomorphism, carr
 use Rattle.signature_automorphism_laws.proofs.Marks.{carried_has_no_lesser, marked_more}
 use Rattle.canonical_labelling.specs.Marks.{MarksFollow}
 
--- what is marked has a mark
+-- a mark that is set has an index in the list
 pub marked_below : (marks : List Bool) (i : ℕ) → slice_index_or marks i false ≡ true → i < length marks
 marked_below marks i e = ⊎_elim
     (λ (l : i < length marks). l)

@@ -1,4 +1,4 @@
--- Lists with a place for each tetrahedron, filled in the order.
+-- Lists with an entry for each tetrahedron, filled in the order of the traversal.
 use Rattle.std.proofs.Common.{◌≡◌, ℕ, ◌+◌, ◌<◌, ◌≤◌, [], List, length, get_or, sym, ap, ◌∙◌, subst, arith, below_more}
 use Rattle.std.specs.Prelude.{◌≢◌, IsPermutation}
 use Rattle.std.specs.List.{All, slice_set}
@@ -12,11 +12,11 @@ use Rattle.signature_definitions.specs.Labellings.{Start}
 use Rattle.signature_laws.specs.Orders.{start_at, IsWholeOrder, Numbers}
 use Rattle.signature_laws.proofs.Marking.{start_is}
 
--- the tetrahedron at the next place is in range
+-- the tetrahedron of each start in the order is in range
 pub item_below : (n : ℕ) (order : List Start) (i t : ℕ) (s : Start) → IsWholeOrder n order → i < length order → s ≡ get_or order i s → t ≡ s.tet → t < n
 item_below n order i t s h l e is = subst (λ m. m < n) (sym (is ∙ ap (λ (r : Start). r.tet) (start_is order i s l e))) (h.in_range i l)
 
--- one more place is filled
+-- one more entry is filled
 pub placed_more : {V : Type 0} (n : ℕ) (order : List Start) (vals : List V) (d v : V) (wanted : ℕ → V) (i t : ℕ) (s : Start) → IsWholeOrder n order → i < length order → s ≡ get_or order i s → t ≡ s.tet → v ≡ wanted i
     → length vals ≡ n → ((k : ℕ) → k < i → get_or vals (start_at order k).tet d ≡ wanted k) → (k : ℕ) → k < i + 1 → get_or (slice_set vals t v) (start_at order k).tet d ≡ wanted k
 placed_more n order vals d v wanted i t s h l e is made size before =
@@ -27,7 +27,7 @@ placed_more n order vals d v wanted i t s h l e is made size before =
     here : t ≡ (start_at order i).tet
     here = is ∙ ap (λ (r : Start). r.tet) (start_is order i s l e)
 
--- images that are the places in a whole order are a bijection
+-- images that are the indices in a whole order are a bijection
 pub are_numbered : (n : ℕ) (order : List Start) (images : List ℕ) → IsWholeOrder n order → length order ≤ n → length images ≡ n
     → ((i : ℕ) → i < length order → get_or images (start_at order i).tet 0 ≡ i) → IsPermutation images (below n)
 are_numbered n order images h few size each = onto n images size (λ t l. omega (arith, (h.all t l).1, image t l)) (IsDistinct-from_before images apart)
@@ -43,7 +43,7 @@ are_numbered n order images h few size each = onto n images size (λ t l. omega 
         let tets : i ≡ j = sym (h.all i li).2 ∙ ap (λ k. (start_at order k).tet) same ∙ (h.all j lj).2 in
         absurd (omega arith)
 
--- and permutations that stand at them permute
+-- permutations of the starts in a whole order are permutations of four
 pub all_permute : (n : ℕ) (order : List Start) (perms : List (List ℕ)) → IsWholeOrder n order → length perms ≡ n → ((i : ℕ) → i < length order → get_or perms (start_at order i).tet [] ≡ (start_at order i).perm)
     → ((i : ℕ) → i < length order → IsPermutationOfFour (start_at order i).perm) → All IsPermutationOfFour perms
 all_permute n order perms h size each permute = All-from_get_or IsPermutationOfFour perms [] (λ t l.

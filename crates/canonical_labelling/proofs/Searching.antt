@@ -18,6 +18,7 @@ use Rattle.signature_laws.proofs.Least.{one_text, least_begun, least_better}
 use Rattle.signature_automorphism_laws.specs.Automorphisms.{IsAutomorphism, HasNoLesserText, MarkedHaveNoLesserText}
 use Rattle.signature_automorphism_laws.proofs.Ties.{one_spelled, between_is_automorphism}
 use Rattle.signature_automorphism_laws.proofs.Marks.{marked_more, no_walk, lesser_has_none}
+use Rattle.table_walk_laws.proofs.SearchLemmas.{none_marked}
 use Rattle.canonical_labelling.specs.declared.orbits.Orbits.{Orbits}
 use Rattle.canonical_labelling.specs.Marks.{MarksFollow}
 use Rattle.canonical_labelling.specs.Orbits.{AreOrbitsOf, SparesFollow, IsTextBy, IsFound, IsSearch}
@@ -32,7 +33,7 @@ found_relabels rows by text h = let t : IsTextBy rows h.0 by text = h.1 in t.1.r
 pub found_size : (rows : List Row) (by : Relabelling) (text : List ℕ) → IsFound rows by text → length by.images ≡ length rows
 found_size rows by text h = length-images (length rows) by (found_relabels rows by text h)
 
--- a start of the same text gives an automorphism
+-- a start with an equal text gives an automorphism
 pub tie_is : (rows : List Row) (start : Start) (first second : Relabelling) (new : List Row) (text : List ℕ) → IsTable rows → IsFound rows first text → IsWalked rows start second new
     → ((other : List ℕ) → IsTextFrom rows start other → other ≡ text) → IsAutomorphism rows (between (length rows) first second)
 tie_is rows start first second new text table found w equal =
@@ -42,21 +43,21 @@ tie_is rows start first second new text table found w equal =
     let one : new ≡ t.0 = one_spelled text new t.0 (subst (λ (x : List ℕ). Spells x new) same spells) t.2 in
     between_is_automorphism rows t.0 found.0 start first second table t.1 (subst (λ (r : List Row). IsWalked rows start second r) one w)
 
--- no text of the start is before the lesser one
+-- no text of the start is less than the smaller of the two
 pub lesser_here : (rows : List Row) (start : Start) (best new : List ℕ) → IsTable rows → start.tet < length rows → IsLesserFrom rows start best new → HasNoLesserText rows new start
 lesser_here rows start best new table l (inl (t, b)) = λ other f. ap (λ xs. is_list_before xs new) (one_text rows start other new table l f t) ∙ not_before_itself new
 lesser_here rows start best new table l (inr (e, none)) = λ other f. ap (is_list_before other) e ∙ none other f
 
--- nor one of a marked start
+-- no text of a marked start is less than the smaller of the two
 pub lesser_marks : (rows : List Row) (start : Start) (best new : List ℕ) (marks : List Bool) → IsLesserFrom rows start best new → MarkedHaveNoLesserText rows best marks → MarkedHaveNoLesserText rows new marks
 lesser_marks rows start best new marks (inl (t, b)) h = λ i m. lesser_has_none rows best new (numbered_start i) b (h i m)
 lesser_marks rows start best new marks (inr (e, none)) h = subst (λ (text : List ℕ). MarkedHaveNoLesserText rows text marks) (sym e) h
 
--- a marked start is passed over
+-- a marked start is skipped
 pub search_passes : (rows : List Row) (k : ℕ) (by : Relabelling) (text : List ℕ) (orbits : Orbits) → IsSearch rows k by text orbits → slice_index_or orbits.marked.items k false ≡ true → IsSearch rows (k + 1) by text orbits
 search_passes rows k by text orbits h m = record { least = no_walk rows text k (h.marks k m) h.least; found = h.found; orbits = h.orbits; marks = h.marks }
 
--- a start is walked and marked
+-- a start is traversed and marked
 pub search_walks : (rows : List Row) (k : ℕ) (by by' : Relabelling) (text text' : List ℕ) (orbits between last : Orbits) → IsTable rows → k < 24 * length rows → IsSearch rows k by text orbits
     → IsLesserFrom rows (numbered_start k) text text' → IsFound rows by' text' → AreOrbitsOf rows between → SparesFollow rows orbits.marked.items between.marked.items
     → AreOrbitsOf rows last → MarksFollow between.automorphisms.items (slice_set between.marked.items k true) last.marked.items → IsSearch rows (k + 1) by' text' last
@@ -75,14 +76,7 @@ search_walks rows k by by' text text' orbits between last table low h lesser fou
 pub orbits_marked : (rows : List Row) (orbits last : Orbits) → AreOrbitsOf rows orbits → length last.marked.items ≡ length orbits.marked.items → last.automorphisms.items ≡ orbits.automorphisms.items → AreOrbitsOf rows last
 orbits_marked rows orbits last h long same = record { size = long ∙ h.size; automorphisms = subst (All (IsAutomorphism rows)) (sym same) h.automorphisms }
 
--- no start is marked at first
-pub none_marked : (n i : ℕ) → slice_index_or (replicate n false) i false ≡ false
-none_marked n i = ⊎_elim
-    (λ (l : i < n). get_or-replicate n i false false l)
-    (λ (l : n ≤ i). get_or_past (replicate n false) i false (subst (λ m. m ≤ i) (sym (length-replicate n false)) l))
-    (cases_lt i n)
-
--- the relabelling that is made of a start of the same text
+-- the relabelling that is made from a start with an equal text
 pub tie_by : (rows : List Row) (start : Start) (first second by : Relabelling) (new : List Row) (text : List ℕ) → IsTable rows → IsFound rows first text → IsWalked rows start second new
     → ((other : List ℕ) → IsTextFrom rows start other → other ≡ text) → by ≡ between (length first.images) first second → IsAutomorphism rows by
 tie_by rows start first second by new text table found w equal is =
@@ -96,7 +90,7 @@ orbits_added rows by orbits last h auto long same = record {
   automorphisms = subst (All (IsAutomorphism rows)) (sym same) (All-push (IsAutomorphism rows) orbits.automorphisms.items by h.automorphisms auto);
 }
 
--- what a comparison reports decides which text is the lesser
+-- the report of a comparison decides which text is less
 pub lesser_equal : (rows : List Row) (start : Start) (best : List ℕ) → ((text : List ℕ) → IsTextFrom rows start text → text ≡ best) → IsLesserFrom rows start best best
 lesser_equal rows start best equal = inr (refl, λ other f. ap (λ xs. is_list_before xs best) (equal other f) ∙ not_before_itself best)
 
@@ -107,7 +101,7 @@ lesser_before rows start best text by before e value h = let t = text_is_from ro
 pub lesser_behind : (rows : List Row) (start : Start) (best : List ℕ) (before : Bool) → before ≡ false → ((text : List ℕ) → IsTextFrom rows start text → before ≡ is_list_before text best) → IsLesserFrom rows start best best
 lesser_behind rows start best before e value = inr (refl, λ other f. sym (value other f) ∙ e)
 
--- the reports, of the values that the calls were given
+-- the reports, for equal arguments
 pub equal_by : (rows rows' : List Row) (start : Start) (best best' : List ℕ) → rows' ≡ rows → best' ≡ best → ((text : List ℕ) → IsTextFrom rows' start text → text ≡ best')
     → (text : List ℕ) → IsTextFrom rows start text → text ≡ best
 equal_by rows rows' start best best' e f h = λ text t. h text (subst (λ (r : List Row). IsTextFrom r start text) (sym e) t) ∙ f

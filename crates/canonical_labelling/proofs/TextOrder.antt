@@ -1,10 +1,10 @@
--- The order of two lists, from a place on.
+-- The order of two lists from an index on.
 use Rattle.std.proofs.Common.{◌≡◌, ℕ, zero, suc, ◌≤◌, List, [], ◌∷◌, length, drop, ◌∙◌, arith, inl, inr}
 use Rattle.std.specs.Prelude.{◌⊎◌, nat_lt}
 use Rattle.std.proofs.lemmas.Bool.{lt-ltb, le-ltb}
 use Rattle.table_definitions.specs.Lists.{is_list_before}
 
--- where one has ended, the longer one is behind
+-- if one of two lists has ended, the longer one is greater
 pub ended_from : (i : ℕ) (xs ys : List ℕ) → i ≤ length xs → i ≤ length ys → (length xs ≤ i) ⊎ (length ys ≤ i) → nat_lt (length xs) (length ys) ≡ is_list_before (drop i xs) (drop i ys)
 ended_from zero [] [] l m e = le-ltb 0 0 (omega arith)
 ended_from zero [] (y ∷ ys) l m e = lt-ltb 0 (length (y ∷ ys)) (omega arith)

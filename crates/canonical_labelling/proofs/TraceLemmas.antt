@@ -1,4 +1,4 @@
--- What a relabelling that carries a table to another one does to the faces of a walk.
+-- How a relabelling that carries a table to another one maps the faces of a traversal.
 use Rattle.std.proofs.Common.{◌≡◌, ℕ, ◌/◌, ◌%◌, ◌<◌, ◌≤◌, Bool, true, false, List, [], ◌∷◌, ◌++◌, length, Option, Some, None, Result, Ok, Err, refl, sym, ap, ◌∙◌, subst, arith, ⊎_elim}
 use Rattle.std.specs.Prelude.{option_map, slice_index, IfOk, is_some, not}
 use Rattle.std.proofs.lemmas.Bool.{cases_lt}
@@ -16,7 +16,7 @@ use Rattle.signature_laws.proofs.Agreeing.{one_behind}
 use Rattle.canonical_labelling.specs.Traces.{AreBelow, IsVisited, Becomes, AgreesGlued, Agrees}
 
 module _ (n : ℕ) (order : List Start) (from : Start) (g wanted : Gluing) (by : Relabelling) (h : Becomes n order from g wanted by) (below : AreBelow n order) where
-  -- the start whose index the image of the tetrahedron across is
+  -- the start at the index of the image of the tetrahedron across is one of that tetrahedron
   same_tet : (i : ℕ) → i < length order → wanted.tet ≡ i → (start_at order i).tet ≡ g.tet
   same_tet i l e = images_apart n by h.bijection (start_at order i).tet g.tet (below i l) h.in_range (ap (λ (q : Gluing). q.tet) (h.numbers i l) ∙ sym e ∙ sym (ap (λ (q : Gluing). q.tet) h.becomes))
 
@@ -30,14 +30,14 @@ module _ (n : ℕ) (order : List Start) (from : Start) (g wanted : Gluing) (by :
       ap (λ (q : Gluing). compose q.perm (compose g.perm (inverse from.perm))) (sym stands) ∙ ap (λ (q : Gluing). q.perm) h.becomes in
       subst (λ (s : Start). (g.tet ≡ s.tet) × (compose s.perm (compose g.perm (inverse from.perm)) ≡ wanted.perm)) (sym is) (sym tet, perm)
 
-  -- a gluing to the next tetrahedron leads to none that is visited
+  -- if the gluing is mapped to the next tetrahedron, the tetrahedron across is not visited
   pub not_visited : wanted.tet ≡ length order → IsVisited order g.tet → ⊥
   not_visited next (i, l, e) =
       let image : slice_index by.images g.tet ≡ i = ap (slice_index by.images) (sym e) ∙ ap (λ (q : Gluing). q.tet) (h.numbers i l) in
       let there : slice_index by.images g.tet ≡ wanted.tet = ap (λ (q : Gluing). q.tet) h.becomes in
       omega (arith, image, there, next, l)
 
-  -- the tetrahedron across is mapped to its index by the start behind the gluing
+  -- the tetrahedron across is mapped to its index by the start across the gluing
   next_stands : wanted.tet ≡ length order → wanted.perm ≡ identity → relabelled_place by g.tet ≡ record { tet = length order; perm = compose from.perm (inverse g.perm) }
   next_stands next identical =
       let s : Gluing = record { tet = 0; perm = from.perm } in
@@ -58,7 +58,7 @@ module _ (n : ℕ) (order : List Start) (from : Start) (g wanted : Gluing) (by :
       (next_stands next identical ∙ ap (λ (m : ℕ). record { tet = m; perm = compose from.perm (inverse g.perm) }) same))
       (cases_lt i (length order))
 
--- what is known where the face at a place is compared
+-- what is known when the face of index k is compared
 pub record IsCompared (rows target : List Row) (order : List Start) (k : ℕ) (from : Start) : Type 0 where
   pub table : IsTable rows
   pub below : AreBelow (length rows) order
@@ -70,7 +70,7 @@ module _ (rows target : List Row) (order : List Start) (k : ℕ) (from : Start) 
   abbrev pub stands_here : Gluing
   stands_here = record { tet = k / 4; perm = from.perm }
 
-  -- what the face of the target is glued by
+  -- the gluing of the face of index k in the target
   pub target_face : glue target (face_of k) ≡ option_map (λ g. gluing_under stands_here (relabelled_place by g.tet) g) (glue rows (face_from from (k % 4)))
   target_face =
       let here : Face = face_from from (k % 4) in
@@ -104,13 +104,13 @@ module _ (rows target : List Row) (order : List Start) (k : ℕ) (from : Start) 
         becomes = let s : gluing_under stands_here (relabelled_place by g.tet) g ≡ wanted = cc in s;
       }
 
--- an answer about two glued faces is one about the place
+-- the result for two glued faces is that for the face of index k
 pub glued_agrees : {E : Type 0} (rows target : List Row) (order after : List Start) (k n : ℕ) (from : Start) (g wanted : Gluing) (o : Result Bool E) → IsCompared rows target order k from → n ≡ length rows
     → glue rows (face_from from (k % 4)) ≡ Some g → glue target (face_of k) ≡ Some wanted → IfOk o (AgreesGlued n order after from g wanted) → IfOk o (Agrees rows target order after)
 glued_agrees rows target order after k n from g wanted (Err e) h size f f' a = tt
 glued_agrees rows target order after k n from g wanted (Ok b) h size f f' a = λ by r numbers. a by (subst (λ m. Becomes m order from g wanted by) (sym size) (becomes rows target order k from h by r numbers g wanted f f'))
 
--- the walk's start
+-- the relabelling of a traversal maps its start to index 0
 pub begun_numbers : (rows target : List Row) (start : Start) (order : List Start) (by : Relabelling) → order ≡ start ∷ [] → IsWalked rows start by target → Numbers order by
 begun_numbers rows target start order by e w = subst (λ (o : List Start). Numbers o by) (sym e) one
   where
@@ -123,7 +123,7 @@ begun_below n start order e h = subst (AreBelow n) (sym e) one
     one : AreBelow n (start ∷ [])
     one i l = let z : 0 ≡ i = omega arith in subst (λ j. (start_at (start ∷ []) j).tet < n) z h
 
--- a face that is not glued, by test
+-- a test of whether a face is not glued is true of a face that is not glued
 pub none_by_test : {X : Type 0} (o : Option X) (b : Bool) → o ≡ None → is_some o ≡ not b → b ≡ true
 none_by_test o true e t = refl
 none_by_test o false e t = absurd (let z = ap is_some (sym e) ∙ t in cc)

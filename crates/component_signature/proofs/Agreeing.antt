@@ -1,4 +1,4 @@
--- Signatures that are the same, place by place.
+-- Lists of equal signatures, index by index.
 use Rattle.std.proofs.Common.{◌≡◌, ℕ, zero, suc, ◌<◌, ◌+◌, inl, inr, Bool, true, false, List, [], ◌∷◌, length, slice_index_or, get_or, sym, ap, refl, ◌∙◌, arith}
 use Rattle.std.specs.Prelude.{nat_eq, not}
 use Rattle.std.specs.Cmp.Lexicographic.{same_text, other_text}

@@ -1,4 +1,4 @@
--- The classes of what neighbours join are the components of the table.
+-- The classes by the neighbours are the components of the table.
 use Rattle.std.proofs.Common.{◌≡◌, ℕ, ◌<◌, ◌^◌, List, length, Option, subst, sym, ap, ◌∙◌, arith}
 use Rattle.table_definitions.specs.Table.{Row, IsTable}
 use Rattle.table_walk_laws.specs.Joined.{IsJoined, HasNeighboursBelow, IsSymmetric, neighbours_of}

@@ -1,4 +1,4 @@
--- Of two tables whose parts have the same signatures in order, what is written is told.
+-- If the components of two tables have equal signatures in order, the relabelling that is written is returned.
 use Rattle.std.proofs.Common.{◌≡◌, List, length, subst, sym, refl}
 use Rattle.table_definitions.specs.Table.{Row, IsTable}
 use Rattle.table_definitions.specs.Relabelling.{Relabelling, IsRelabelling}

@@ -23,7 +23,7 @@ module _ (p : ℕ → Bool) where
       go true e = inl e
       go false e = inr e
 
-  -- what passes, and nothing else
+  -- the items that pass, and no others
   pub passes : (xs : List ℕ) (y : ℕ) → Contains (filter p xs) y → Contains xs y × (p y ≡ true)
   passes [] y c = absurd (contains_nil y c)
   passes (x ∷ xs) y c = elim (decide x) [
@@ -44,7 +44,7 @@ module _ (p : ℕ → Bool) where
     ]
   ]
 
-  -- one number more
+  -- one more number
   pub more : (n : ℕ) → p n ≡ true → filter p (below (n + 1)) ≡ filter p (below n) ++ n ∷ []
   more n e = ap (λ k. filter p (below k)) (add-one n) ∙ ap (filter p) (sym (below-push n)) ∙ filter-append p (below n) (n ∷ []) ∙ ap (λ (xs : List ℕ). filter p (below n) ++ xs) (one_true n [] e)
 
@@ -67,7 +67,7 @@ ascends p n = AllPairs-filter (λ t u. t < u) p (below n) (below_ascends n)
 pub below_holds : (n x : ℕ) → Contains (below n) x → x < n
 below_holds n x c = let l : c.0 < n = omega (arith, c.1, length-range_with_len 0 n) in let e : c.0 ≡ x = sym (get_or-range_with_len 0 n c.0 x l ∙ omega arith) ∙ c.2 in omega (arith, e, l)
 
--- the numbers at which the list has this value: one place more
+-- the indices at which the list has this value, with one more index
 pub grows : (xs : List ℕ) (x n : ℕ) (before now : List ℕ) → before ≡ filter (λ t. slice_index xs t == x) (below n) → slice_index xs n ≡ x → now ≡ before ++ n ∷ [] → now ≡ filter (λ t. slice_index xs t == x) (below (n + 1))
 grows xs x n before now is e f = f ∙ ap (λ (b : List ℕ). b ++ n ∷ []) is ∙ sym (more (λ t. slice_index xs t == x) n (eq-eqb (slice_index xs n) x e))
 

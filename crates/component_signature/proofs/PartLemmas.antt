@@ -1,4 +1,4 @@
--- The components of a table are its parts.
+-- The parts of a table are its components.
 use Rattle.std.proofs.Common.{◌≡◌, ℕ, ◌<◌, ◌≤◌, ◌+◌, List, [], ◌∷◌, ◌++◌, length, map, Contains, slice_index, slice_index_or, subst, subst₂, sym, ap, refl, ◌∙◌, arith}
 use Rattle.std.specs.Prelude.{◌==◌}
 use Rattle.std.proofs.lemmas.Bool.{eqb-true, eq-eqb}
@@ -15,7 +15,7 @@ use Rattle.component_laws.proofs.Members.{first_least}
 use Rattle.component_signature.specs.Components.{part_of}
 use Rattle.component_signature.proofs.Filtered.{passes, keeps, ascends, below_holds}
 
--- one part more
+-- one more component
 pub one_more : (rows : List Row) (classes : List ℕ) (c : ℕ) (parts new : List Part) → parts ≡ map (part_of rows classes) (below c) → new ≡ parts ++ part_of rows classes c ∷ [] →
     new ≡ map (part_of rows classes) (below (c + 1))
 one_more rows classes c parts new made e = e ∙ ap (λ (ps : List Part). ps ++ part_of rows classes c ∷ []) made ∙ sym (map-range_with_len_more (part_of rows classes) 0 c c (omega arith))
@@ -28,7 +28,7 @@ module _ (rows : List Row) (classes : List ℕ) (count : ℕ) (h : IsNumbering (
   member_from : (c t : ℕ) → t < length rows → slice_index classes t ≡ c → Contains (members classes c) t
   member_from c t l e = keeps (λ u. slice_index classes u == c) (below (length classes)) t (below_contains (length classes) t (subst (λ n. t < n) (sym h.one_each) l)) (eq-eqb (slice_index classes t) c e)
 
-  -- a component with a member is a part
+  -- a class with a member is a component
   module _ (c y : ℕ) (l : y < length rows) (e : slice_index classes y ≡ c) where
     some : 0 < length (members classes c)
     some = let m = member_from c y l e in let b : m.0 < length (members classes c) = m.1 in omega arith
@@ -50,7 +50,7 @@ module _ (rows : List Row) (classes : List ℕ) (count : ℕ) (h : IsNumbering (
     least : IsTable rows → (t : ℕ) → t < length rows → slice_index classes t ≡ c → first_of (part_of rows classes c) ≤ t
     least table t m f = first_least rows table (part_of rows classes c) part_is t (member_from c t m f)
 
-  -- each component has one
+  -- each class has a member, and so is a component
   pub component_is : (c : ℕ) → c < count → IsPart rows (part_of rows classes c)
   component_is c l = let y = h.none_empty c l in part_is c y.0 y.1 y.2
 

@@ -1,4 +1,4 @@
--- The part at a place of an order is written, and those before it stay written.
+-- The component at an index of the order is written, and those before it remain written.
 use Rattle.std.proofs.Common.{◌≡◌, ℕ, zero, suc, ◌<◌, ◌≤◌, ◌+◌, inl, inr, List, [], ◌∷◌, length, All, Contains, slice_index, slice_index_or, get_or, subst, sym, ap, refl, ◌∙◌, arith}
 use Rattle.std.proofs.lemmas.Bool.{cases_order}
 use Rattle.std.proofs.lemmas.List.{get_or_default, length-map}
@@ -17,7 +17,7 @@ use Rattle.component_laws.specs.Drafts.{AreMatched, AreWritten}
 use Rattle.component_laws.proofs.OrderLemmas.{permutes, number_below, numbers_long}
 use Rattle.component_laws.proofs.MatchLemmas.{part_in, there}
 
--- the part that stands at a place
+-- the component at an index of the order
 
 pub entries_count : (S : List PartSignature) → length (entries_of S) ≡ length S
 entries_count S = length-map S _
@@ -40,7 +40,7 @@ module _ (P : List Part) (S : List PartSignature) (o : AreInOrder P (entries_of 
   pub part_here : (p : Part) → p ≡ get_or P s.part p → p ≡ part_in P (entries_of S) i
   part_here p e = e ∙ sym (get_or_default P s.part no_part p number_in) ∙ ap (part_at P) (sym (number_here S i s l is))
 
--- ---- what is asked of a part and of what is answered of two
+-- ---- what a component has to satisfy, and what is returned for two of them
 
 module _ (rows : List Row) (table : IsTable rows) (part : Part) (h : IsPart rows part) where
   pub tets_below : (n : ℕ) → length rows ≡ n → All (λ t. t < n) part.numbers
@@ -58,7 +58,7 @@ module _ (rows : List Row) (table : IsTable rows) (part : Part) (h : IsPart rows
       subst (λ n. slice_index by.images k < n) (sym e ∙ length-part second ts other q)
       (image_in_range (length part.rows) by least.relabels.0 k (subst (λ n. k < n) (sym (length-part rows table part h)) l))
 
--- ---- one part more is written
+-- ---- one more component is written
 
 module _ (n : ℕ) (P : List Part) (E : List Entry) (Q : List Part) (F : List Entry) (m : AreMatched n P E Q F) where
   apart : (i k : ℕ) → k < i → i < length E → (t : ℕ) → Contains (part_in P E k).numbers t → Contains (part_in P E i).numbers t → ⊥

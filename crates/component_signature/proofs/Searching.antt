@@ -1,4 +1,4 @@
--- Ascending numbers, searched; and rows of four.
+-- Ascending numbers that are searched, and rows of four gluings.
 use Rattle.std.proofs.Common.{◌≡◌, ℕ, ◌<◌, ◌≤◌, inl, inr, List, [], ◌∷◌, length, Contains, Option, option_map, slice_index, slice_index_or, sym, ap, ◌∙◌, arith, nat_cmp, None}
 use Rattle.std.specs.declared.cmp.Ordering.TheVariants.{Equal}
 use Rattle.std.proofs.lemmas.Bool.{cases_order, cases_lt}
@@ -22,18 +22,18 @@ rising numbers up i j l m = elim (cases_order i j) [
 compared_same : (a b : ℕ) → nat_cmp a b ≡ Equal → a ≡ b
 compared_same a b e = grind (arith, nat_tests)
 
--- what is found is the place
+-- the index that is found is that of the number
 pub place_found : (numbers : List ℕ) (tet place : ℕ) → Ascends numbers → place < length numbers → nat_cmp (slice_index numbers place) tet ≡ Equal → place ≡ place_in numbers tet
 place_found numbers tet place up l e = sym (place_at numbers up place l) ∙ ap (place_in numbers) (compared_same (slice_index numbers place) tet e)
 
--- and what is there is found
+-- a number of the list is found
 pub not_missed : (numbers : List ℕ) (tet place : ℕ) → Contains numbers tet → ((k : ℕ) → k < place → slice_index numbers k < tet) → ((k : ℕ) → place ≤ k → k < length numbers → tet < slice_index numbers k) → ⊥
 not_missed numbers tet place c under over = elim (cases_lt c.0 place) [
   | inl less ↦ let e : slice_index numbers c.0 ≡ tet = entry_of numbers tet c in let u : slice_index numbers c.0 < tet = under c.0 less in omega arith
   | inr more ↦ let e : slice_index numbers c.0 ≡ tet = entry_of numbers tet c in let o : tet < slice_index numbers c.0 = over c.0 more c.1 in omega arith
 ]
 
--- ---- the row of a tetrahedron of a part
+-- ---- the row of a tetrahedron of a component
 
 abbrev pub part_with : List Row → List ℕ → Part
 part_with rows numbers = record { rows = rows_of rows numbers; numbers = numbers }

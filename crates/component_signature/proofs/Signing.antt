@@ -1,4 +1,4 @@
--- The parts are signed one after another, and put in order.
+-- The signatures of the components are computed one after another, and put in order.
 use Rattle.std.proofs.Common.{◌≡◌, ℕ, ◌<◌, ◌+◌, List, [], ◌∷◌, ◌++◌, length, All, slice_index_or, get_or, IsPermutation, IsSorted, subst, subst₂, sym, ap, refl, ◌∙◌, arith, add-one, is_lt, false}
 use Rattle.std.proofs.lemmas.List.{get_or-map, length-map, map-append, get_or_default}
 use Rattle.std.proofs.lemmas.List.Elements.{All-push}
@@ -15,7 +15,7 @@ use Rattle.component_signature.specs.declared.order.PartSignature.{PartSignature
 use Rattle.component_laws.specs.Ordered.{Entry, numbers_of, AreSigned, compared, AreInOrder}
 use Rattle.component_signature.specs.Entries.{entry_of, entries_of}
 
--- the first i parts are signed
+-- the signatures of the first i components
 pub record AreSignedUpTo (parts : List Part) (i : ℕ) (entries : List Entry) : Type 0 where
   pub each : All (λ (e : Entry). IsSignature (part_at parts e.number).rows e.text) entries
   pub numbers : numbers_of entries ≡ below i

@@ -1,4 +1,4 @@
--- Where the tetrahedra of a part go, written one after another.
+-- The relabelling of the tetrahedra of a component, written one after another.
 use Rattle.std.proofs.Common.{◌≡◌, ◌≢◌, ℕ, ◌<◌, ◌+◌, inl, inr, List, [], length, All, Contains, slice_index, slice_index_or, slice_set, sym, ap, subst, refl, ◌∙◌, arith}
 use Rattle.std.proofs.lemmas.Bool.{cases_order}
 use Rattle.std.proofs.lemmas.List.{get_or-set_same, get_or-set_other, length-set}
@@ -7,7 +7,7 @@ use Rattle.table_definitions.specs.Relabelling.{Relabelling, relabelled_place}
 use Rattle.component_definitions.specs.Parts.{Part}
 use Rattle.component_laws.proofs.Numbers.{stands_once}
 
--- the first i tetrahedra of the part are written, and no others
+-- the entries of the first i tetrahedra of the component are written, and no others
 pub record IsWritten (old now : Relabelling) (part other : Part) (by : Relabelling) (i : ℕ) : Type 0 where
   pub goes : (k : ℕ) → k < i → relabelled_place now (slice_index part.numbers k) ≡ record { tet = slice_index other.numbers (slice_index by.images k); perm = slice_index_or by.perms k [] }
   pub others : (t : ℕ) → ((k : ℕ) → k < i → slice_index part.numbers k ≡ t → ⊥) → relabelled_place now t ≡ relabelled_place old t
@@ -44,7 +44,7 @@ one_written old now next part other by i t image perm up l here li lp to by_perm
     apart : (k : ℕ) → k < i → slice_index part.numbers k ≡ slice_index part.numbers i → ⊥
     apart k less e = let same : k ≡ i = stands_once part.numbers up k i (omega arith) l e in omega arith
 
--- all are written
+-- if all are written, no entry of another component has changed
 pub others_kept : (old now : Relabelling) (part other : Part) (by : Relabelling) (i : ℕ) → i ≡ length part.numbers → IsWritten old now part other by i → (t : ℕ) → (Contains part.numbers t → ⊥) → relabelled_place now t ≡ relabelled_place old t
 others_kept old now part other by i whole w t h = w.others t (λ k l e. h (contains_at part.numbers k t (omega (arith, whole)) e))
 

@@ -25,14 +25,14 @@ entry-sums a b w u same k =
 pub length-sums : (a b : ℕ) (w u : List ℕ) → length u ≡ length w → length (sum_of (multiple a w) (multiple b u)) ≡ length w
 length-sums a b w u same = length-sum_of (multiple a w) (multiple b u) (length-multiple a w ∙ sym same ∙ sym (length-multiple b u)) ∙ length-multiple a w
 
--- the entries so far, one on
+-- the entry at index i of the first i + 1 entries
 pub take_at : (x : List ℕ) (i : ℕ) → get_or (take (i + 1) x) i 0 ≡ get_or x i 0
 take_at x i = get_or-take (i + 1) x i 0 (omega arith)
 
 pub take_past : (x : List ℕ) (i : ℕ) → get_or (take i x) i 0 ≡ 0
 take_past x i = get_or_past (take i x) i 0 (omega (arith, length-take i x))
 
--- the common divisor of one entry more
+-- the greatest common divisor of one more entry
 pub entries_gcd_more : (x : List ℕ) (i d g : ℕ) → IsEntriesGcd (take i x) d → IsGcd d (get_or x i 0) g → IsEntriesGcd (take (i + 1) x) g
 entries_gcd_more x i d g before more = record {
   divides = λ column. ⊎_elim
@@ -47,7 +47,7 @@ entries_gcd_more x i d g before more = record {
       (subst (λ n. e ∣ n) (take_at x i) (h i));
 }
 
--- where some entries have no common divisor but 1, all have none
+-- if the greatest common divisor of some entries is 1, so is that of all
 pub entries_gcd_one : (x : List ℕ) (i : ℕ) → IsEntriesGcd (take i x) 1 → IsEntriesGcd x 1
 entries_gcd_one x i some = record {
   divides = λ column. one-dvd (get_or x column 0);
@@ -57,7 +57,7 @@ entries_gcd_one x i some = record {
       (cases_lt column i));
 }
 
--- two values that are not 0 have a common divisor that is not, and each divided by it is not
+-- the greatest common divisor of two nonzero numbers is nonzero, and so is each of them divided by it
 pub positive_divisor : (a b g : ℕ) → IsGcd a b g → 1 ≤ a → 0 < g
 positive_divisor a b g h some = pos_of_dvd_of_pos h.0 some
 
@@ -77,11 +77,11 @@ sums_nonzero a b w u same some nonzero =
     product_positive (suc p) (suc q) h k e = omega arith
     product_positive zero q h k e = omega arith
 
--- the common divisor of entries that are not all 0
+-- the greatest common divisor of entries that are not all 0 is nonzero
 pub entries_gcd_positive : (z : List ℕ) (g : ℕ) → IsEntriesGcd z g → IsNonzero z → 0 < g
 entries_gcd_positive z g h nonzero = pos_of_dvd_of_pos (h.divides nonzero.0) (let k : get_or z nonzero.0 0 ≢ 0 = nonzero.1 in omega arith)
 
--- the entries without their common divisor
+-- the entries divided by their greatest common divisor
 pub divided_reduced : (limit most : ℕ) (z : List ℕ) (g : ℕ) → IsEntriesGcd z g → IsNonzero z → length z < 2 ^ 32 →
     ((column : ℕ) → get_or z column 0 ≤ limit) → limit ≤ most → IsReduced most (map (λ entry. entry / g) z)
 divided_reduced limit most z g h nonzero width within up = record {
@@ -102,11 +102,11 @@ reduced_by limit at_u at_w d u w g gcd z is h nonzero within = record {
   primitive = divided_primitive g z nonzero h.divides h.greatest;
 }
 
--- a write of all elements leaves just these
+-- after all entries are overwritten, the list has the new ones
 pub refilled : (n : ℕ) (xs ys : List ℕ) → length xs ≡ n → take n (xs ++ drop (length xs) ys) ≡ xs
 refilled n xs ys same = take-append-le n xs (drop (length xs) ys) (omega arith) ∙ take_all n xs (omega arith)
 
--- the entries of a combination, and these without their common divisor
+-- the entries of a combination, divided by their greatest common divisor
 pub record Combined (limit most at_u at_w g : ℕ) (u w items : List ℕ) : Type 0 where
   pub positive : 0 < g
   pub reduced : IsReduced most (map (λ entry. entry / g) items)
@@ -135,23 +135,23 @@ combined limit most at_u at_w d g u w listed_u listed_w items z gcd some_u some_
     bounded : (column : ℕ) → get_or items column 0 ≤ limit
     bounded column = let e = ap (λ x. get_or x column 0) is in omega (arith, within column)
 
--- what a write of the divided entries leaves
+-- the list after its entries are overwritten by the divided ones
 pub divided_in_place : (n g : ℕ) (items lent new : List ℕ) → lent ≡ items → new ≡ map (λ entry. entry / g) lent → n ≡ length items →
     take n (new ++ drop (length new) items) ≡ map (λ entry. entry / g) items
 divided_in_place n g items lent new lent_is new_is count =
     refilled n new items (ap length new_is ∙ length-map lent (λ entry. entry / g) ∙ ap length lent_is ∙ sym count) ∙ new_is ∙ ap (λ x. map (λ entry. entry / g) x) lent_is
 
--- one sum more
+-- one more sum
 pub sums_more : (z : List ℕ) (column limit n : ℕ) (sums : List ℕ) → sums ≡ take column z → column < length z → get_or z column 0 ≡ n → sums ++ n ∷ [] ≡ take (column + 1) z
 sums_more z column limit n sums so_far within is = ap (λ x. x ++ n ∷ []) so_far ∙ ap (λ m. take column z ++ m ∷ []) (sym is) ∙ sym (take_more z column 0 within)
 
--- a proper prefix comes before
+-- a proper prefix is less
 pub less_than_longer : (x rest : List ℕ) → rest ≢ [] → slice_cmp nat_cmp x (x ++ rest) ≡ Less
 less_than_longer [] [] some = absurd (some refl)
 less_than_longer [] (y ∷ rest) some = refl
 less_than_longer (a ∷ x) rest some = ap (λ r. ordering_then r (slice_cmp nat_cmp x (x ++ rest))) (sym (nat_cmp_is a a Equal refl)) ∙ less_than_longer x rest some
 
--- a combination has as many columns
+-- a combination is as wide as the two rays
 pub reduced_columns : (limit at_u at_w : ℕ) (u w x : List ℕ) → length u ≡ length w → IsReducedBy limit at_u at_w u w x → length x ≡ length u
 reduced_columns limit at_u at_w u w x same r =
     sym (length-multiple r.divisor x) ∙ ap length (sym r.is_multiple) ∙ ap length r.combines.sum ∙

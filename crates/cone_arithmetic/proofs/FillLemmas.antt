@@ -27,7 +27,7 @@ filled_none limit z sums n is same = record {
         (λ past. get_or_past (replicate n nothing) j nothing (let e = length-replicate n nothing in omega (arith, e))) (cases_lt j n)
 
 module _ (limit : ℕ) (z : List ℕ) (column end rest : ℕ) (sums : List ℕ) (filled : AreFilled limit z column sums) (names : NamesColumns z column end rest) where
-  -- where no bit is left all sums up to the end are filled in
+  -- if no bit is left, all sums up to the end are filled in
   pub filled_all : rest ≡ 0 → AreFilled limit z end sums
   filled_all none = record {
     count = filled.count;
@@ -55,7 +55,7 @@ module _ (limit : ℕ) (z : List ℕ) (column end rest : ℕ) (sums : List ℕ) 
     gone_before j more less = let e : column + (j - column) ≡ j = omega arith in let n = next_column in
         ap (slice_index z) (sym e) ∙ names.unset (j - column) (before_it (j - column) (omega arith)) (omega (arith, n))
 
-    -- one sum more
+    -- one more sum
     pub filled_more : (n : ℕ) → n ≡ slice_index z (column + skip) → n ≤ limit → AreFilled limit z (column + skip + 1) (set sums (column + skip) n)
     filled_more n sum most = record {
       count = length-set sums (column + skip) n ∙ filled.count;

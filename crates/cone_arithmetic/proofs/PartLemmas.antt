@@ -1,4 +1,4 @@
--- The parts of a row, one term more.
+-- The positive and negative part of a row, with one more term.
 use Rattle.std.proofs.Common.{◌≡◌, ℕ, ◌+◌, ◌*◌, ◌<◌, ℤ, pos, List, take, length, get_or, ap, sym, ◌∙◌, Result, Ok, Err, OnOk, OnErr, IsErr, ◌↔◌, ⊎_elim, refl, arith}
 use Rattle.std.specs.Prelude.{slice_index}
 use Rattle.std.proofs.lemmas.Bool.{false≢true}
@@ -18,7 +18,7 @@ minus_more row x i old new l so_far is =
     is ∙ ap (λ n. n + negative_coefficient (get_or row i (0, pos 0)).1 * slice_index x (get_or row i (0, pos 0)).0) so_far ∙
     sym (sum_by_more (λ (term : ℕ × ℤ). negative_coefficient term.1 * slice_index x term.0) row i (0, pos 0) l)
 
--- parts are refused where one is large, and there alone
+-- the result is an error if and only if a part exceeds the limit
 pub err_iff_large : {T E : Type 0} (result : Result T E) (limit : ℕ) (row : Row) (x : List ℕ) → OnOk result (HasPartsWithin limit row x) → OnErr result (HasLargePart limit row x) →
     IsErr result ↔ HasLargePart limit row x
 err_iff_large (Ok v) limit row x within _ = (λ h. absurd (false≢true h), λ large. absurd (⊎_elim (λ h. omega (arith, within.0)) (λ h. omega (arith, within.1)) large))

@@ -1,4 +1,4 @@
--- The ones of a word are its bits, word by word, and the bits of words are the columns of their supports.
+-- The number of ones of two words is counted bit by bit, and the bits of words are the columns of their supports.
 use Rattle.std.proofs.Common.{◌≡◌, ℕ, zero, suc, ◌+◌, ◌*◌, ◌-◌, ◌/◌, ◌%◌, ◌^◌, ◌<◌, ◌≤◌, max, Bool, false, cond, ◌||◌, eqb, ltb, List, length, get_or, refl, sym, ap, ap₂, ◌∙◌, arith, bit_or}
 use Rattle.std.specs.Int.{bit_at}
 use Rattle.std.specs.Int.Count.{ones}

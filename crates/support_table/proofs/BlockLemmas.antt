@@ -91,7 +91,7 @@ blocks_close width count closed first words blocks new h is within pushed = reco
         subst (λ n. bit_at (get_or words (n * width + j) 0) i ≡ 1) f
         (pushed.common (place % block_size) (omega arith) j few i (ap (λ n. bit_at (get_or new (n + j) 0) i) start ∙ one))
 
--- ---- a block is passed over
+-- ---- a block is skipped
 
 set_within : (width start first : ℕ) (blocks words : List ℕ) (column : ℕ) → AreWithin width blocks start words first →
     bit_of (take width (drop start blocks)) column ≡ true → bit_of (take width (drop first words)) column ≡ true

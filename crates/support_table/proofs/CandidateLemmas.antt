@@ -1,4 +1,4 @@
--- Which rivals can be of minimal residual.
+-- Candidates that can be of minimal residual.
 use Rattle.std.proofs.Common.{◌≡◌, ◌≢◌, ℕ, ◌+◌, ◌<◌, inl, inr, ⊎_elim, Bool, true, false, List, [], ◌∷◌, ◌++◌, Contains, length, get_or, map, subst, subst₂, sym, ap, ◌∙◌, arith}
 use Rattle.std.specs.List.{All, AllPairs}
 use Rattle.std.specs.List.Sorted.{IsPermutation, IsNonDecreasingBy}
@@ -17,7 +17,7 @@ use Rattle.support_table.specs.Rivals.{IsSized, HasPlace, AreRivals, AreMarks, I
 use Rattle.support_table.proofs.SizeLemmas.{inside_chain, inside_self, size_within, single_inside}
 use Rattle.support_table.proofs.LeastLemmas.{smaller}
 
--- a residual inside another is a support inside the union of the outer ray and it
+-- the residual of s lies inside that of t if and only if s lies inside the union of t and the outer ray
 pub inside_union : (outer s t : List Bool) → IsResidualInside outer s t → IsInsideUnionOf s outer t
 inside_union outer s t inside column has = elim (cases_Bool (get_or outer column false)) [
   | inl e ↦ inl e
@@ -27,7 +27,7 @@ inside_union outer s t inside column has = elim (cases_Bool (get_or outer column
 pub inside_residual : (outer s t : List Bool) → IsInsideUnionOf s outer t → IsResidualInside outer s t
 inside_residual outer s t inside column has beside = elim (inside column has) [ inl is ↦ absurd (beside is) | inr is ↦ is ]
 
--- places of an ascending list differ
+-- the indices of an ascending list differ
 apart_places : (rivals : List Candidate) → AllPairs (λ (r s : Candidate). r.place < s.place) rivals → AllPairs (λ p q. p ≢ q) (map (λ (r : Candidate). r.place) rivals)
 apart_places rivals up i j d less within same =
     let j_in : j < length rivals = omega (arith, within, length-map rivals (λ (r : Candidate). r.place)) in
@@ -43,7 +43,7 @@ module _ (supports : List (List Bool)) (outer joined : List Bool) (own most sing
   sized : (r : Candidate) → Contains rivals r → IsSized supports outer joined own most r
   sized r listed = All-contains (IsSized supports outer joined own most) rivals r h.each listed
 
-  -- of a residual that is hit none is hit that contains it
+  -- if a residual is hit, each listed one that contains it is hit
   hit_inside : (r t : Candidate) → Contains rivals r → Contains rivals t → IsInsideUnionOf (support_at supports t.place) outer (support_at supports r.place) → IsHit supports marks single t → IsHit supports marks single r
   hit_inside r t r_listed t_listed inside hit = record {
     more = (let one = (sized r r_listed).size in let other = (sized t t_listed).size in let within = size_within outer (support_at supports t.place) (support_at supports r.place) inside in
@@ -53,7 +53,7 @@ module _ (supports : List (List Bool)) (outer joined : List Bool) (own most sing
     marked = hit.marked;
   }
 
-  -- and none is minimal
+  -- a candidate that is hit is not minimal
   hit_not_minimal : (t : Candidate) → Contains rivals t → IsHit supports marks single t → IsMinimal supports outer joined own most t.place → ⊥
   hit_not_minimal t listed hit minimal =
       let mark = m.each hit.column hit.marked in
@@ -109,7 +109,7 @@ in_order_from_sorted supports outer joined own most order h up = record {
   ascending = λ i j d less within. up i j d (omega arith) within;
 }
 
--- ---- the places of those that no other doubles
+-- ---- the indices of those that no other repeats
 
 module _ (least : Least) (n : ℕ) (places : List ℕ) (h : AreUnrepeated least n places) where
   alone_each : All (λ place. (i : ℕ) × (i < n + 1) × (get_or least.doubled.items i false ≡ false) × ((rival_at least.rivals.items i).place ≡ place)) places
@@ -139,7 +139,7 @@ module _ (least : Least) (n : ℕ) (places : List ℕ) (h : AreUnrepeated least 
 
 module _ (supports : List (List Bool)) (outer joined : List Bool) (own most : ℕ) (order : List Candidate) (c : AreCandidates supports outer joined own most order) (o : AreInOrder supports outer order)
     (least : Least) (h : AreLeast supports outer order (length order) least) where
-  -- one of least residual that no other doubles is minimal
+  -- a candidate of least residual that no other repeats is minimal
   pub minimal_from_alone : (i : ℕ) → i < length least.rivals.items → get_or least.doubled.items i false ≡ false → IsMinimal supports outer joined own most (rival_at least.rivals.items i).place
   minimal_from_alone i i_in single = record {
     rival = rival;
@@ -180,7 +180,7 @@ module _ (supports : List (List Bool)) (outer joined : List Bool) (own most : �
               (inside_chain outer (support_at supports (rival_at least.rivals.items cover.place).place) (support_at supports t.0.place) (support_at supports (rival_at least.rivals.items i).place)
               (subst (LiesInside supports outer (rival_at least.rivals.items cover.place)) at cover.inside) t_inside)
 
-  -- and a minimal one is among them
+  -- each minimal candidate is one of those that no other repeats
   pub alone_from_minimal : (place : ℕ) → IsMinimal supports outer joined own most place → (i : ℕ) × (i < length least.rivals.items) × (get_or least.doubled.items i false ≡ false) × ((rival_at least.rivals.items i).place ≡ place)
   alone_from_minimal place minimal = (cover.place, cover.in_range, single, is)
     where
@@ -216,7 +216,7 @@ module _ (supports : List (List Bool)) (outer joined : List Bool) (own most : �
             (subst (λ k. IsInsideUnionOf (support_at supports (rival_at order d.place).place) outer (support_at supports k)) is d.inside)) ∙ sym is))
       ]
 
-  -- places of different ones differ
+  -- the indices of different candidates differ
   pub least_differ : (i j : ℕ) → i < j → j < length least.rivals.items → (rival_at least.rivals.items i).place ≢ (rival_at least.rivals.items j).place
   least_differ i j less j_in same = let e = h.apart i j (omega arith) j_in
       (subst (λ k. IsInsideUnionOf (support_at supports (rival_at least.rivals.items i).place) outer (support_at supports k)) same (inside_self outer (support_at supports (rival_at least.rivals.items i).place))) in

@@ -1,4 +1,4 @@
--- The rays that have a column, and those that have one of many.
+-- The rays that contain a column, and those that contain one of several.
 use Rattle.std.proofs.Common.{◌≡◌, ℕ, zero, suc, ◌+◌, ◌-◌, ◌*◌, ◌/◌, ◌^◌, ◌<◌, ◌≤◌, ◌||◌, inl, inr, ⊎_elim, Bool, true, false, eqb, List, [], length, get_or, set, length-set, get_or-set_same, get_or-set_other, replicate, w64, subst, sym, ap, ◌∙◌, arith}
 use Rattle.std.specs.Int.{bit_at, bit_not, trailing_zeros}
 use Rattle.std.proofs.lemmas.Bool.{cases_eq, cases_lt, cases_Bool, eq-eqb, false≢true, or_right}
@@ -18,10 +18,10 @@ use Rattle.support_table.proofs.SizeLemmas.{column_within}
 none_at : (n j : ℕ) → get_or (replicate n false) j false ≡ false
 none_at n j = ⊎_elim (λ less. get_or-replicate n j false false less) (λ past. get_or_past (replicate n false) j false (let e = length-replicate n false in omega (arith, e))) (cases_lt j n)
 
--- ---- the rays that have a column
+-- ---- the rays that contain a column
 
 module _ (supports : List (List Bool)) (column count : ℕ) where
-  -- the rays below n that have it
+  -- the rays below n that contain it
   pub record IsHolderBelow (n : ℕ) (places : List Bool) : Type 0 where
     pub count_is : length places ≡ count
     pub below : (place : ℕ) → place < n → get_or places place false ≡ get_or (support_at supports place) column false
@@ -63,7 +63,7 @@ module _ (supports : List (List Bool)) (column count : ℕ) where
     ];
   }
 
--- ---- the rays that have one of some columns
+-- ---- the rays that contain one of some columns
 
 module _ (holders : List (List Bool)) (columns : List Bool) (count : ℕ) where
   pub united_none : (places : List Bool) → places ≡ replicate count false → IsMeetingBelow holders columns count 0 places
@@ -123,7 +123,7 @@ module _ (supports : List (List Bool)) (columns places : List Bool) (words : Lis
 
 -- ---- bit by bit
 
--- the bits that are left are those of places before the end
+-- the remaining bits are those of indices before the end
 abbrev pub AreBefore : ℕ → ℕ → ℕ → Type 0
 AreBefore place end bits = (i : ℕ) → bit_at bits i ≡ 1 → place + i < end
 
@@ -170,7 +170,7 @@ module _ (supports : List (List Bool)) (columns : List Bool) where
           subst (λ j. Meets (support_at supports j) columns) e (names.unset (trailing_zeros w64 rest + suc i) (sym (bit_after rest (trailing_zeros w64 rest) i) ∙ none) (omega arith));
     }
 
-  -- rays that have one of the columns are passed over
+  -- rays that contain one of the columns are skipped
   pub rivals_past : (outer : List Bool) (own most n d : ℕ) (rivals : List Candidate) → ((i : ℕ) → i < d → Meets (support_at supports (n + i)) columns) → AreRivals supports outer columns own most n rivals → AreRivals supports outer columns own most (n + d) rivals
   rivals_past outer own most n zero rivals meet h = subst (λ k. AreRivals supports outer columns own most k rivals) {x = n} {y = n + 0} (omega arith) h
   rivals_past outer own most n (suc d) rivals meet h =

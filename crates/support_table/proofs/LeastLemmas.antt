@@ -1,4 +1,4 @@
--- The rivals of least residual, one rival on.
+-- The candidates of least residual, with one more candidate.
 use Rattle.std.proofs.Common.{◌≡◌, ℕ, ◌+◌, ◌<◌, ◌≤◌, inl, inr, Bool, true, false, List, [], ◌∷◌, length, length-append, length-set, get_or, set, get_or-set_same, get_or-set_other, refl, subst, sym, ap, ◌∙◌, arith}
 use Rattle.std.proofs.lemmas.Bool.{cases_eq, cases_lt, false≢true}
 use Rattle.std.proofs.lemmas.List.{get_or_default, get_or_append_left}
@@ -10,7 +10,7 @@ use Rattle.support_table.specs.Rivals.{AreFound, rival_at, LiesInside, IsCovered
 use Rattle.support_table.proofs.SizeLemmas.{inside_self, size_within, same_size}
 
 module _ (supports : List (List Bool)) (outer : List Bool) (order : List Candidate) (o : AreInOrder supports outer order) where
-  -- a residual inside another has no more columns, and with as many both are equal
+  -- a residual inside another has at most as many columns, and if it has as many they are equal
   pub smaller : (i j : ℕ) → i < length order → j < length order → LiesInside supports outer (rival_at order i) (rival_at order j) → (rival_at order i).size ≤ (rival_at order j).size
   smaller i j i_in j_in inside =
       let one = o.sized i (record { place = 0; size = 0 }) i_in in
@@ -31,23 +31,24 @@ module _ (supports : List (List Bool)) (outer : List Bool) (order : List Candida
       (o.found s.0 (record { place = 0; size = 0 }) (let l = s.1 in omega arith))
 
   module _ (n : ℕ) (within : n < length order) (old new : Least) (h : AreLeast supports outer order n old) where
-    -- what the one at i was in the order
+    -- candidate i is one of the first n of the order
     stood : (i : ℕ) → i < length old.rivals.items → (k : ℕ) × (k < n) × (rival_at order k ≡ rival_at old.rivals.items i)
     stood i i_in = h.from i i_in
 
-    -- it is not larger than the rival at n
+    -- the size of candidate i is at most that of the candidate at index n of the order
     not_larger : (i : ℕ) → i < length old.rivals.items → (rival_at old.rivals.items i).size ≤ (rival_at order n).size
     not_larger i i_in = let s = stood i i_in in
         subst (λ (r : Candidate). r.size ≤ (rival_at order n).size) s.2 (o.ascending s.0 n (record { place = 0; size = 0 }) s.1 within)
 
-    -- where its residual lies inside and is as large, the other lies inside its own
+    -- if the residual of candidate i lies inside that of the candidate at index n of the order, and is as large, they
+    -- are equal
     turned : (i : ℕ) → i < length old.rivals.items → LiesInside supports outer (rival_at old.rivals.items i) (rival_at order n) → (rival_at order n).size ≤ (rival_at old.rivals.items i).size →
         LiesInside supports outer (rival_at order n) (rival_at old.rivals.items i)
     turned i i_in inside few = let s = stood i i_in in
         subst (λ r. LiesInside supports outer (rival_at order n) r) s.2
         (equal s.0 n (let l = s.1 in omega arith) within (subst (λ r. LiesInside supports outer r (rival_at order n)) (sym s.2) inside) (subst (λ (r : Candidate). (rival_at order n).size ≤ r.size) (sym s.2) few))
 
-    -- and where the other lies inside, it is as large
+    -- if the residual of the candidate at index n of the order lies inside that of candidate i, they are equal
     as_large : (i : ℕ) → i < length old.rivals.items → LiesInside supports outer (rival_at order n) (rival_at old.rivals.items i) → LiesInside supports outer (rival_at old.rivals.items i) (rival_at order n)
     as_large i i_in inside = let s = stood i i_in in
         subst (λ r. LiesInside supports outer r (rival_at order n)) s.2
@@ -128,7 +129,7 @@ module _ (supports : List (List Bool)) (outer : List Bool) (order : List Candida
             ]
           ]
 
-    -- ---- the residual of one lies inside
+    -- ---- the residual of one of them lies inside
 
     module _ (met : IsRepeated supports outer (rival_at order n) old new) where
       as_before : (i : ℕ) → rival_at new.rivals.items i ≡ rival_at old.rivals.items i

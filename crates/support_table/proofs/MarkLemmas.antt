@@ -1,4 +1,4 @@
--- Marks, word by word and rival by rival.
+-- Marks, word by word and candidate by candidate.
 use Rattle.std.proofs.Common.{◌≡◌, ℕ, ◌+◌, ◌-◌, ◌/◌, ◌%◌, ◌^◌, ◌<◌, ◌≤◌, ◌⊎◌, ◌↔◌, inl, inr, ⊎_elim, min, max, Bool, true, false, eqb, List, [], ◌∷◌, ◌++◌, Contains, length, get_or, set, length-set, get_or-set_same, get_or-set_other, replicate, w64, bit_and, bit_or, refl, subst, subst₂, sym, ap, ◌∙◌, arith}
 use Rattle.std.specs.Int.{bit_at, bit_not}
 use Rattle.std.specs.List.{All, AllPairs}
@@ -16,7 +16,7 @@ use Rattle.support_table.specs.Rivals.{AddsBeside, IsMarked, IsHit, AreUnhit}
 
 -- ---- word by word
 
--- the words below k have the bits of both, and the others are as they were
+-- the words below k have in addition the bits that are set in words and not in outer, and the others are unchanged
 pub record IsBesideBelow (k : ℕ) (words outer old new : List ℕ) : Type 0 where
   pub count : length new ≡ length old
   pub each : (column : ℕ) → bit_of new column ≡ true → (bit_of old column ≡ true) ⊎ ((bit_of words column ≡ true) × (bit_of outer column ≡ false))
@@ -55,9 +55,9 @@ beside_more k words outer old new n h within fits n_is = record {
       | inr other ↦ h.each column (ap (λ m. eqb (bit_at m (column % 64)) 1) (sym (get_or-set_other new k (column / 64) n 0 other)) ∙ is)
     ]
 
--- ---- rival by rival
+-- ---- candidate by candidate
 
--- no bit of zeros is set
+-- no bit of a list of zeros is set
 pub no_bit : (n column : ℕ) → bit_of (replicate n 0) column ≡ true → ⊥
 no_bit n column is = false≢true (sym (ap (λ m. eqb (bit_at m (column % 64)) 1) zero_word ∙ ap (λ m. eqb m 1) (bit_at-zero (column % 64))) ∙ is)
   where
@@ -91,7 +91,7 @@ module _ (supports : List (List Bool)) (marks : List ℕ) (single : ℕ) (rivals
   abbrev IsFree : Candidate → Type 0
   IsFree r = ¬ IsHit supports marks single r
 
-  -- those of the first n rivals that are not hit
+  -- the first n candidates without those that are hit
   pub record AreUnhitBelow (n : ℕ) (left : List Candidate) : Type 0 where
     pub each : All (λ r. ((k : ℕ) × (k < n) × (k < length rivals) × (get_or rivals k r ≡ r)) × IsFree r) left
     pub ascending : AllPairs (λ (r s : Candidate). r.place < s.place) rivals → AllPairs (λ (r s : Candidate). r.place < s.place) left

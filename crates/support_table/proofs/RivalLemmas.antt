@@ -1,4 +1,4 @@
--- Rivals in turn.
+-- The list of candidates, index by index.
 use Rattle.std.proofs.Common.{◌≡◌, ℕ, ◌+◌, ◌<◌, ⊎_elim, List, Bool, [], ◌∷◌, ◌++◌, get_or, subst, sym, arith}
 use Rattle.std.specs.List.{All}
 use Rattle.std.proofs.lemmas.Bool.{cases_lt}

@@ -1,4 +1,4 @@
--- How many columns a residual has, as the size of a union.
+-- The number of columns of a residual, by the size of the union with the outer ray.
 use Rattle.std.proofs.Common.{◌≡◌, ◌≢◌, ℕ, ◌+◌, ◌<◌, ◌≤◌, ◌||◌, ◌⊎◌, inl, inr, Bool, true, false, eqb, List, length, get_or, refl, sym, ap, ap₂, ◌∙◌, arith}
 use Rattle.std.specs.List.{range_with_len}
 use Rattle.std.proofs.lemmas.Bool.{cases_eq, cases_lt, cases_Bool, false≢true, or_left, or_right, eqb-true, eq-eqb}
@@ -25,12 +25,12 @@ column_within s column has = elim (cases_lt column (length s)) [
   | inr past ↦ absurd (false≢true (sym (get_or_past s column false past) ∙ has))
 ]
 
--- a residual inside another has no more columns
+-- a residual inside another has at most as many columns
 pub size_within : (outer s t : List Bool) → IsInsideUnionOf s outer t → columns_in_either outer s ≤ columns_in_either outer t
 size_within outer s t inside = count_weaker (λ k. get_or outer k false || get_or s k false) (λ k. get_or outer k false || get_or t k false) 0 (length outer)
     (λ k _ is. or_weaker (get_or outer k false) (get_or s k false) (get_or t k false) (inside k) is)
 
--- with as many both are equal
+-- if the outer one has at most as many, the two are equal
 pub same_size : (outer s t : List Bool) → length t ≡ length outer → IsInsideUnionOf s outer t → columns_in_either outer t ≤ columns_in_either outer s → IsInsideUnionOf t outer s
 same_size outer s t wide inside few column has = elim (cases_Bool (get_or outer column false)) [
   | inl e ↦ inl e
@@ -46,7 +46,7 @@ same_size outer s t wide inside few column has = elim (cases_Bool (get_or outer 
 one_more : (x y : Bool) → (x || x) ≡ true → ((x || x) || y) ≡ true
 one_more x y is = or_left (x || x) y is
 
--- a residual of a single column lies inside each that has it
+-- a residual of a single column lies inside each that contains it
 pub single_inside : (outer s t : List Bool) (column : ℕ) → length s ≡ length outer → columns_in_either outer s ≤ columns_in_either outer outer + 1 →
     HasColumn s column → ¬ HasColumn outer column → HasColumn t column → IsInsideUnionOf s outer t
 single_inside outer s t column wide few has beside in_t other other_has = elim (cases_Bool (get_or outer other false)) [

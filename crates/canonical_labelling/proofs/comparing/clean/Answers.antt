@@ -1,4 +1,4 @@
--- No more tetrahedra are visited than there are numbers.
+-- At most as many tetrahedra are visited as there are numbers.
 use Rattle.std.proofs.Common.{◌≤◌, ◌*◌, length, ap, arith}
 use Rattle.canonical_labelling.specs.Comparisons.{comparison_view}
 use Rattle.canonical_labelling.proofs.ComparisonLemmas.{few_numbered}

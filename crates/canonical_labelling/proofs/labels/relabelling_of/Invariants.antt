@@ -2,7 +2,7 @@ use Rattle.std.proofs.Common.{◌≡◌, ℕ, ◌<◌, [], length, get_or}
 use Rattle.signature_laws.specs.Orders.{start_at}
 use Rattle.canonical_labelling.proofs.labels.relabelling_of.Given as goal
 
--- each tetrahedron so far has its place, and where its vertices go
+-- each tetrahedron so far has its index and the permutation of its vertices
 abbrev pub invariant-loop-i : goal.invariant-loop-i
 invariant-loop-i l = record {
   size : length l.images.items ≡ length l.traversal.table.now;

@@ -1,4 +1,4 @@
--- The classes of what the neighbours join.
+-- The classes by the neighbours.
 use Rattle.std.proofs.Common.{arith}
 use Rattle.component_signature.proofs.ComponentLemmas.{below_all, symmetric_all, few_all, components_from}
 use Rattle.component_signature.proofs.components.components.Goals as goal

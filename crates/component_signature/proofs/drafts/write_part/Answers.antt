@@ -1,4 +1,4 @@
--- One tetrahedron more.
+-- One more tetrahedron.
 use Rattle.std.proofs.Common.{◌≡◌, ◌<◌, ℕ, List, length, slice_index, slice_index_or, sym, ap, subst, ◌∙◌, arith}
 use Rattle.std.proofs.lemmas.List.{get_or_default}
 use Rattle.component_definitions.specs.Parts.{Part}

@@ -1,4 +1,4 @@
--- One place more.
+-- One more index.
 use Rattle.std.proofs.Common.{◌≡◌, sym, subst₂, refl, ◌∙◌, arith}
 use Rattle.std.specs.Prelude.{nat_eq, not}
 use lib.Pointwise.{pointwise}

@@ -1,4 +1,4 @@
--- The signatures at the places so far are the same.
+-- The signatures at the indices so far are equal.
 use Rattle.component_signature.proofs.Agreeing.{AgreeUpTo}
 use Rattle.component_signature.proofs.matches.agree.Given as goal
 

@@ -1,4 +1,4 @@
--- One place more.
+-- One more index.
 use Rattle.std.proofs.Common.{ℕ, subst, sym, ◌∙◌, arith}
 use Rattle.component_signature.specs.Entries.{entries_of}
 use Rattle.component_laws.specs.Drafts.{AreMatched}

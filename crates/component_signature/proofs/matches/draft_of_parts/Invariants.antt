@@ -1,4 +1,4 @@
--- The parts at the places so far are written.
+-- The components at the indices so far are written.
 use Rattle.std.proofs.Common.{◌≡◌, length}
 use Rattle.component_signature.specs.Entries.{entries_of}
 use Rattle.component_laws.specs.Ordered.{numbers_of}

@@ -1,4 +1,5 @@
--- Parts that agree are matched, and what is written of them is a relabelling that carries the one table to the other.
+-- Components with equal signatures are matched, and the relabelling written from them carries the one table to the
+-- other.
 use Rattle.std.proofs.Common.{◌≡◌, List, length, ap, subst, subst₂, sym, ◌∙◌}
 use Rattle.std.specs.Prelude.{IsTrue}
 use Rattle.table_definitions.specs.Relabelling.{Relabelling, IsRelabelling}

@@ -1,4 +1,4 @@
--- The parts at the place are those of the orders, and so one can be relabelled to the other.
+-- The components at the index are those of the orders, and so they are isomorphic.
 use Rattle.std.proofs.Common.{◌≡◌, ◌<◌, ◌≤◌, ℕ, All, Contains, length, subst, subst₂, sym, ◌∙◌, arith}
 use Rattle.basic_lemmas.proofs.Members.{Ascends}
 use Rattle.table_definitions.specs.Places.{IsConnected}

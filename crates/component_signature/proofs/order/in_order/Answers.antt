@@ -1,4 +1,4 @@
--- The parts are connected, and their signatures are sorted.
+-- The components are connected, and their signatures are sorted.
 use Rattle.std.proofs.Common.{List, All, subst, sym}
 use Rattle.table_definitions.specs.Places.{IsConnected}
 use Rattle.component_definitions.specs.Parts.{Part}

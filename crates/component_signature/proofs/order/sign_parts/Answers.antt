@@ -1,4 +1,4 @@
--- One part more is signed.
+-- The signature of one more component.
 use Rattle.std.proofs.Common.{subst, sym, refl, ◌∙◌, arith}
 use Rattle.table_definitions.specs.Places.{IsConnected}
 use Rattle.signature_definitions.specs.Spelling.{IsSignature}

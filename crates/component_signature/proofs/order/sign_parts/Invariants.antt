@@ -1,4 +1,4 @@
--- The parts so far are signed.
+-- The signatures of the components so far.
 use Rattle.component_signature.specs.Entries.{entries_of}
 use Rattle.component_signature.proofs.Signing.{AreSignedUpTo}
 use Rattle.component_signature.proofs.order.sign_parts.Given as goal

@@ -1,4 +1,4 @@
--- The number stands at the place that the search finds.
+-- The index that the search finds is that of the number.
 use Rattle.std.proofs.Common.{Err}
 use Rattle.std.proofs.lemmas.List.Sorted.{searched}
 use Rattle.component_signature.proofs.Searching.{rising, place_found, not_missed}

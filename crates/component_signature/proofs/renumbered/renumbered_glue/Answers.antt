@@ -1,4 +1,4 @@
--- A gluing of a part leads to a tetrahedron of the part.
+-- A gluing of a component is to a tetrahedron of the component.
 use Rattle.std.proofs.Common.{Contains, subst, sym, ◌∙◌, ◌≤◌, length, arith}
 use Rattle.table_definitions.specs.Table.{Gluing}
 use Rattle.component_laws.proofs.Members.{member_below, glued_member}

@@ -1,4 +1,4 @@
--- The row has what its four faces are glued to.
+-- The row has the gluings of its four faces.
 use Rattle.component_signature.proofs.Searching.{row_is}
 use Rattle.component_signature.proofs.renumbered.renumbered_row.Goals as goal
 

@@ -1,4 +1,4 @@
--- The signatures of the parts in order, joined.
+-- The signatures of the components in order, joined.
 use Rattle.std.proofs.Common.{List, ap, ◌∙◌}
 use Rattle.component_definitions.specs.ComponentSignature.{component_text}
 use Rattle.component_signature.specs.declared.order.PartSignature.{PartSignature}

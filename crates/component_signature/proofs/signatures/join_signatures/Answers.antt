@@ -1,4 +1,4 @@
--- One signature more, behind a full stop.
+-- One more signature, after a full stop.
 use Rattle.std.proofs.Common.{◌<◌, ◌++◌, List, ℕ, length, ap, sym, ◌∙◌, arith}
 use Rattle.component_signature.specs.declared.order.PartSignature.{PartSignature}
 use Rattle.component_signature.proofs.JoinedText.{first_joined, one_joined, all_joined}

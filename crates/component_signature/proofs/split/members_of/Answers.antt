@@ -1,4 +1,4 @@
--- One tetrahedron more, which is of the component or not.
+-- One more tetrahedron, which is in the component or not.
 use Rattle.std.proofs.Common.{◌≡◌, ℕ, [], ◌∷◌, ◌++◌, Vec, Global, length, filter, slice_index, ap, ◌∙◌, arith}
 use Rattle.std.specs.Prelude.{◌==◌}
 use Rattle.table_definitions.specs.Lists.{below}

@@ -1,4 +1,4 @@
--- The renumbered rows of a part are a table.
+-- The renumbered rows of a component are a table.
 use Rattle.std.proofs.Common.{subst, sym, ap, ◌∙◌}
 use Rattle.table_definitions.specs.Table.{IsTable}
 use Rattle.component_definitions.specs.Parts.{rows_of}

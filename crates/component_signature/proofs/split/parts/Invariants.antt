@@ -1,4 +1,4 @@
--- The parts of the components so far.
+-- The tables of the components so far.
 use Rattle.std.proofs.Common.{◌≡◌, map}
 use Rattle.table_definitions.specs.Lists.{below}
 use Rattle.component_signature.specs.Components.{part_of}

@@ -1,4 +1,4 @@
--- Before the first number none is written, and in the end all are.
+-- At first no number is written, and at the end all are.
 use Rattle.std.proofs.Common.{length, ap, ◌∙◌, arith}
 use Rattle.std.proofs.lemmas.List.{ext_get_or, length-replicate}
 use Rattle.cone_arithmetic.proofs.entries.widen.Goals as goal

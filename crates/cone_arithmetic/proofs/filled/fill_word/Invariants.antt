@@ -1,4 +1,4 @@
--- the sums before the column are filled in, and the bits that are left name the columns from it on
+-- the sums before the column are filled in, and the remaining bits name the columns from it on
 use Rattle.std.proofs.Common.{◌+◌, ◌*◌}
 use Rattle.cone_definitions.specs.Vectors.{multiple, sum_of}
 use Rattle.cone_arithmetic.specs.Filled.{AreFilled, NamesColumns}

@@ -1,4 +1,4 @@
--- One entry more is equal, or decides.
+-- One more entry is equal, or decides.
 use Rattle.std.proofs.Common.{true, sym, subst, ap₂, ◌∙◌, arith, ◌≡◌, nat_cmp, get_or}
 use Rattle.std.specs.Prelude.{◌==◌, not}
 use Rattle.std.specs.Ordering.{ordering_index}

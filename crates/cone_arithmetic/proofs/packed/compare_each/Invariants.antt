@@ -1,4 +1,4 @@
--- the entries so far are equal, so what is left decides
+-- the entries so far are equal, so the remaining ones decide
 use Rattle.std.proofs.Common.{◌≡◌, drop, nat_cmp}
 use Rattle.std.specs.Cmp.Lexicographic.{slice_cmp}
 use Rattle.cone_arithmetic.specs.RayEntries.{numbers_of}

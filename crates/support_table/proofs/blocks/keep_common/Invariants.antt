@@ -1,4 +1,4 @@
--- the words so far keep the common bits, and the others are as they were
+-- the words so far have the common bits alone, and the others are unchanged
 use Rattle.support_table.specs.Blocks.{KeepsCommon}
 use Rattle.support_table.proofs.blocks.keep_common.Given as goal
 

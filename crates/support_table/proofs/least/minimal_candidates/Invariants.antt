@@ -1,4 +1,4 @@
--- the rivals of least residual among those so far
+-- the candidates of least residual among those so far
 use Rattle.support_table.specs.Rivals.{AreLeast}
 use Rattle.support_table.proofs.least.minimal_candidates.Given as goal
 

@@ -1,4 +1,4 @@
--- none of the rivals so far lies inside
+-- none of the candidates so far lies inside
 use Rattle.std.proofs.Common.{ℕ, ◌<◌}
 use Rattle.support_table.specs.Rivals.{IsInsideAt}
 use Rattle.support_table.proofs.least.one_inside.Given as goal

@@ -1,4 +1,4 @@
--- the marks so far are of rivals
+-- the marks so far are of candidates
 use Rattle.std.proofs.Common.{◌≡◌, ℕ, true, length}
 use Rattle.support_bits.specs.Words.{bit_of}
 use Rattle.support_table.specs.Rivals.{IsMarked}

@@ -1,4 +1,4 @@
--- those of the rivals so far that are not hit
+-- those of the candidates so far that are not hit
 use Rattle.support_table.proofs.MarkLemmas.{AreUnhitBelow}
 use Rattle.support_table.proofs.marks.unhit.Given as goal
 

@@ -1,4 +1,4 @@
--- the places of those so far
+-- the indices of the candidates so far
 use Rattle.support_table.specs.Rivals.{AreUnrepeated}
 use Rattle.support_table.proofs.minimal.alone.Given as goal
 

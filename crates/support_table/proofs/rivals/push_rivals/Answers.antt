@@ -1,4 +1,4 @@
--- Up to the next bit that is set all rays have one of the columns.
+-- All rays up to the next bit that is set contain one of the columns.
 use Rattle.std.proofs.Common.{◌≡◌, ◌+◌, ◌<◌, subst, arith, w64}
 use Rattle.std.proofs.Math.Facts.{Fits-lt-pow}
 use Rattle.std.specs.Int.{trailing_zeros}

@@ -1,4 +1,4 @@
--- the rivals before the place stand in the list, and the bits that are left name those from it on
+-- the candidates before the index are in the list, and the remaining bits are those of the rays from it on
 use Rattle.std.proofs.Common.{◌+◌, ◌≤◌, Bool, List}
 use Rattle.support_table.specs.Holders.{TellsMeeting, NamesApart}
 use Rattle.support_table.specs.Rivals.{AreRivals}

@@ -1,4 +1,4 @@
--- the rivals at the places of the words so far
+-- the candidates among the rays of the words so far
 use Rattle.std.proofs.Common.{◌*◌}
 use Rattle.support_table.specs.Rivals.{AreRivals}
 use Rattle.support_table.proofs.rivals.rivals_of.Given as goal
