@@ -90,7 +90,6 @@ pub fn surfaces_by(
 ) -> Result<Vec<Ray>, EnumFault>
     requires columns { system.now.columns ≡ coordinates.columns coords (length table.now) }
     requires equations { AreEquations coords table.now system.now.rows }
-    requires some_limit { 1 ≤ limit }
     requires most_limit { limit ≤ MAX_ENTRY }
     ensures ok { IfOk result (λ rays. AreTableSurfaces limit coords table.now order.rule rays.items) }
     ensures err { IfErr result (IsTableRefused limit coords table.now order.rule) }
@@ -109,7 +108,6 @@ pub fn surfaces_of_table(
     order: NamedOrder,
     limit: u128,
 ) -> Result<Vec<Ray>, EnumFault>
-    requires some_limit { 1 ≤ limit }
     requires most_limit { limit ≤ MAX_ENTRY }
     ensures ok { IfOk result (λ rays. AreTableSurfaces limit coords table.now order.rule rays.items) }
     ensures err { IfErr result (IsTableRefused limit coords table.now order.rule) }

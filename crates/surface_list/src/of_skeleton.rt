@@ -21,7 +21,6 @@ pub fn surfaces(
     limit: u128,
 ) -> Result<Vec<Ray>, EnumFault>
     requires named { order ≢ Order.Free }
-    requires some_limit { 1 ≤ limit }
     requires most_limit { limit ≤ MAX_ENTRY }
     ensures ok { IfOk result (λ rays. AreTableSurfaces limit coords skeleton.now.rows order rays.items) }
     ensures err { IfErr result (IsTableRefused limit coords skeleton.now.rows order) }
