@@ -15,7 +15,7 @@ use crate::checks::{FirstFault, check_vectors};
 use crate::refusals::refusal_outcome;
 use crate::writing::append_block;
 use command_answers::{Outcome, fault_outcome, read_table_and_vectors};
-use cone_arithmetic::{MAX_ENTRY, Ray, System};
+use cone_arithmetic::{Limit, MAX_ENTRY, Ray, System};
 use double_description::NamedOrder;
 use gluing_table::{Table, write_table};
 use matching_equations::{Coords, equations_of_table};
@@ -32,16 +32,14 @@ fn append_sum(
     system: &System,
     list: &[Ray],
     x: &[u128],
-    limit: u128,
+    limit: Limit,
     out: &mut Vec<u8>,
 ) -> Result<(), SumFault>
     requires rays { HasRays system.now.columns system.now.rows list.now x.now }
     requires entries { (column : ℕ) → slice_index x.now column ≤ MAX_ENTRY }
-    requires some_limit { 1 ≤ limit }
-    requires most_limit { limit ≤ MAX_ENTRY }
-    ensures { AppendsBlock limit list.now x.now out.old.items out.new.items result }
+    ensures { AppendsBlock limit.number list.now x.now out.old.items out.new.items result }
 {
-    let sum = ray_decompose::decompose(alloc, system, list, x, limit)?;
+    let sum = ray_decompose::decompose(alloc, system, list, x, limit.number)?;
     append_block(alloc, out, x, &sum)?;
     Ok(())
 }
@@ -53,13 +51,11 @@ fn sums(
     system: &System,
     list: &[Ray],
     vectors: &[Vec<u128>],
-    limit: u128,
+    limit: Limit,
 ) -> Result<Vec<u8>, Failure<FirstFault<Large>>>
     requires rays { HaveRays system.now list.now (all_entries vectors.now) }
     requires entries { AreInRange (all_entries vectors.now) }
-    requires some_limit { 1 ≤ limit }
-    requires most_limit { limit ≤ MAX_ENTRY }
-    ensures { WritesBlocks limit list.now table.now (all_entries vectors.now) result }
+    ensures { WritesBlocks limit.number list.now table.now (all_entries vectors.now) result }
 {
     let mut text = Vec::new(alloc);
     write_table(alloc, table, &mut text)?;
@@ -83,13 +79,11 @@ fn outcome_of_list(
     system: &System,
     list: &[Ray],
     vectors: &[Vec<u128>],
-    limit: u128,
+    limit: Limit,
 ) -> Result<Outcome, NoMemory>
     requires rays { HaveRays system.now list.now (all_entries vectors.now) }
     requires entries { AreInRange (all_entries vectors.now) }
-    requires some_limit { 1 ≤ limit }
-    requires most_limit { limit ≤ MAX_ENTRY }
-    ensures { IfOk result (IsBlocksOutcome limit list.now table.now (all_entries vectors.now)) }
+    ensures { IfOk result (IsBlocksOutcome limit.number list.now table.now (all_entries vectors.now)) }
 {
     match sums(alloc, table, system, list, vectors, limit) {
         Ok(text) => Ok(Outcome::with_text(Status::Done, text)),
@@ -105,7 +99,7 @@ fn outcome_of_list(
 fn run_decompose_with_system(
     alloc: Global,
     coords: Coords,
-    limit: u128,
+    limit: Limit,
     table: &Table,
     system: &System,
     vectors: &[Vec<u128>],
@@ -113,9 +107,7 @@ fn run_decompose_with_system(
     requires columns { system.now.columns ≡ columns coords (length table.now) }
     requires equations { AreEquations coords table.now system.now.rows }
     requires entries { AreInRange (all_entries vectors.now) }
-    requires some_limit { 1 ≤ limit }
-    requires most_limit { limit ≤ MAX_ENTRY }
-    ensures { IfOk result (IsDecomposeAnswer coords limit (table.now, all_entries vectors.now)) }
+    ensures { IfOk result (IsDecomposeAnswer coords limit.number (table.now, all_entries vectors.now)) }
 {
     if let Err(first) = check_vectors(coords, table, system, vectors) {
         return refusal_outcome(
@@ -124,7 +116,14 @@ fn run_decompose_with_system(
             SumRefusal::Unfit { fault: first.fault },
         );
     }
-    match surfaces_by(alloc, table, system, coords, NamedOrder::GIVEN, limit) {
+    match surfaces_by(
+        alloc,
+        table,
+        system,
+        coords,
+        NamedOrder::GIVEN,
+        limit.number,
+    ) {
         Ok(list) => outcome_of_list(alloc, table, system, &list, vectors, limit),
         Err(Failure::Fault(large)) => large_outcome(alloc, &large.order, &large.kind),
         Err(Failure::NoMemory) => Err(NoMemory),
@@ -135,14 +134,12 @@ fn run_decompose_with_system(
 fn run_decompose(
     alloc: Global,
     coords: Coords,
-    limit: u128,
+    limit: Limit,
     table: &Table,
     vectors: &[Vec<u128>],
 ) -> Result<Outcome, NoMemory>
     requires entries { AreInRange (all_entries vectors.now) }
-    requires some_limit { 1 ≤ limit }
-    requires most_limit { limit ≤ MAX_ENTRY }
-    ensures { IfOk result (IsDecomposeAnswer coords limit (table.now, all_entries vectors.now)) }
+    ensures { IfOk result (IsDecomposeAnswer coords limit.number (table.now, all_entries vectors.now)) }
 {
     let system = equations_of_table(alloc, table, coords)?;
     run_decompose_with_system(alloc, coords, limit, table, &system, vectors)
@@ -158,12 +155,17 @@ pub fn decompose(
     bytes: &[u8],
 ) -> Result<Outcome, NoMemory>
     requires size { length bytes.now ≤ max_text }
-    requires some_limit { 1 ≤ limit }
     requires most_limit { limit ≤ MAX_ENTRY }
     ensures answer { IfOk result (IsReadOutcome (vectors_document bytes.now) (IsDecomposeAnswer coords limit)) }
 {
     match read_table_and_vectors(alloc, bytes) {
-        Ok(document) => run_decompose(alloc, coords, limit, &document.table, &document.vectors),
+        Ok(document) => run_decompose(
+            alloc,
+            coords,
+            Limit { number: limit },
+            &document.table,
+            &document.vectors,
+        ),
         Err(fault) => fault_outcome(alloc, fault),
     }
 }

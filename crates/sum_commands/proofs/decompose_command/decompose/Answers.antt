@@ -6,6 +6,7 @@ use Rattle.sum_commands.specs.Telling.{AreInRange}
 use Rattle.sum_commands.proofs.Decomposed.{document_in_range}
 use Rattle.sum_commands.proofs.decompose_command.decompose.Goals as goal
 
-pub run_decompose-requires-clause-entries : goal.run_decompose-requires-clause-entries
-run_decompose-requires-clause-entries c =
-    subst (λ (vs : List (Vec ℕ Global)). AreInRange (all_entries vs)) (sym c.deref.ensures.value) (document_in_range _ _ _ c.in-Ok.ensures)
+pub run_decompose-requires : goal.run_decompose-requires
+run_decompose-requires c = record {
+  entries = subst (λ (vs : List (Vec ℕ Global)). AreInRange (all_entries vs)) (sym c.deref.ensures.value) (document_in_range _ _ _ c.in-Ok.ensures);
+}

@@ -16,7 +16,7 @@ pub returns-in-Err-Fault : goal.returns-in-Err-Fault
 returns-in-Err-Fault c = IfOk-weaker c.refusal_outcome.result _ _
     (λ o e. (
       Err (c.in-Err-Fault.first.number, c.in-Err-Fault.first.fault),
-      subst (λ (f : Failure (FirstFault LargeTurn)). WritesBlocks c.args.limit c.args.list.now c.args.table.now (all_entries c.args.vectors.now) (Err f)) c.in-Err-Fault.field-0-is c.in-Err-Fault.ensures,
+      subst (λ (f : Failure (FirstFault LargeTurn)). WritesBlocks c.args.limit.number c.args.list.now c.args.table.now (all_entries c.args.vectors.now) (Err f)) c.in-Err-Fault.field-0-is c.in-Err-Fault.ensures,
       e,
     ))
     c.refusal_outcome.ensures

@@ -22,11 +22,11 @@ append_sum-requires-clause-entries c =
 
 pub returns-in-Err-Fault : goal.returns-in-Err-Fault
 returns-in-Err-Fault c =
-    rw c.in-Err-Fault.field-0-is (large_told c.args.limit c.args.list.now c.args.table.now c.args.vectors.now c.loop-vector.vector c.index-vectors-vector.result c.deref.result.now c.loop-vector.text.items c.append_sum.new.out.items
+    rw c.in-Err-Fault.field-0-is (large_told c.args.limit.number c.args.list.now c.args.table.now c.args.vectors.now c.loop-vector.vector c.index-vectors-vector.result c.deref.result.now c.loop-vector.text.items c.append_sum.new.out.items
     c.loop-vector-test.true c.index-vectors-vector.is c.deref.ensures.value c.loop-vector.invariant c.in-Err-Fault.fault
-    (subst (λ (f : Failure LargeTurn). AppendsBlock c.args.limit c.args.list.now c.deref.result.now c.loop-vector.text.items c.append_sum.new.out.items (Err f)) c.in-Err-Fault.field-0-is c.in-Err-Fault.ensures))
+    (subst (λ (f : Failure LargeTurn). AppendsBlock c.args.limit.number c.args.list.now c.deref.result.now c.loop-vector.text.items c.append_sum.new.out.items (Err f)) c.in-Err-Fault.field-0-is c.in-Err-Fault.ensures))
 
 pub loop-vector-preserved : goal.loop-vector-preserved
 loop-vector-preserved c =
-    next_summed c.args.limit c.args.list.now c.args.table.now c.args.vectors.now c.loop-vector.vector c.index-vectors-vector.result c.deref.result.now c.loop-vector.text.items c.append_sum.new.out.items
+    next_summed c.args.limit.number c.args.list.now c.args.table.now c.args.vectors.now c.loop-vector.vector c.index-vectors-vector.result c.deref.result.now c.loop-vector.text.items c.append_sum.new.out.items
     c.loop-vector-test.true c.index-vectors-vector.is c.deref.ensures.value c.loop-vector.invariant c.in-Ok.field-0 c.in-Ok.ensures

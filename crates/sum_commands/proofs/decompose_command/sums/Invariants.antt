@@ -5,4 +5,4 @@ use Rattle.sum_commands.specs.Telling.{AreSummedIn}
 use Rattle.sum_commands.proofs.decompose_command.sums.Given as goal
 
 abbrev pub invariant-loop-vector : goal.invariant-loop-vector
-invariant-loop-vector l = AreSummedIn l.limit l.list l.table (all_entries (take l.vector l.vectors)) l.text.items
+invariant-loop-vector l = AreSummedIn l.limit.number l.list l.table (all_entries (take l.vector l.vectors)) l.text.items
