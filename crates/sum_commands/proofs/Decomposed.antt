@@ -33,7 +33,7 @@ use Rattle.outcome_definitions.specs.Sums.{IsFirstRefused, IsVerdict, IsDecompos
 use Rattle.sum_commands.specs.Telling.{AreInRange, HaveRays, IsBlocksOutcome}
 use Rattle.sum_commands.proofs.Walks.{all_told}
 
--- entries of documents are in range
+-- the entries of the vectors of a document are at most the greatest number
 entry_in_range : (ws : List (List ℕ)) (xs : List ℕ) (column : ℕ) → AllZip (IsDecimalUpTo limit) ws xs → slice_index xs column ≤ limit
 entry_in_range [] [] column z = nothing_past column
   where
@@ -53,12 +53,12 @@ lines_in_range (l ∷ lines) (x ∷ vectors) z = All-cons (λ y. (column : ℕ) 
 pub document_in_range : (bytes : List ℕ) (rows : List Row) (vectors : List (List ℕ)) → vectors_document bytes ≡ Ok (rows, vectors) → AreInRange vectors
 document_in_range bytes rows vectors e = (let d = (vectors_document_read bytes rows vectors).0 e in lines_in_range d.1 vectors d.4)
 
--- by the equations of a table
+-- for the equations of a table
 module _ (coords : Coords) (rows : List Row) (equations : List EquationRow) (of_table : AreEquations coords rows equations) (most : ℕ) where
   abbrev Passes : List ℕ → Type 0
   Passes x = IsVerdict coords rows equations x (Ok tt)
 
-  -- the list of the vertex surfaces is one under these equations
+  -- the list of the vertex surfaces is the only one for these equations
   listed : (list : List (List ℕ)) → AreTableSurfaces most coords rows Given list → IsOnlyListing (table_enumeration coords Given most rows equations) list
   listed list s = subst (λ (q : List EquationRow). IsOnlyListing (table_enumeration coords Given most rows q) list) (one_equations coords rows s.0 equations s.1 of_table) s.2
 
@@ -72,12 +72,12 @@ module _ (coords : Coords) (rows : List Row) (equations : List EquationRow) (of_
       let rays = surfaces_are_rays_lem (columns coords (length rows)) equations (clash_list coords (length rows)) list x only.listed.surfaces a.solves a.admissible in
       subst (λ (n : ℕ). HasRays n equations list x) (sym wide) rays
 
-  -- the first vector that does not pass is the answer
+  -- the first vector that does not pass determines the outcome
   pub unfit_told : (vectors : List (List ℕ)) (v : ℕ) (fault : VectorFault) (o : Outcome) → IsFirstRefused (IsVerdict coords rows equations) vectors v fault → o ≡ sum_refusal_outcome v (Unfit fault)
       → IsDecomposeAnswer coords most (rows, vectors) o
   unfit_told vectors v fault o first e = record { equations = equations; of_table = of_table; checked = Err (v, fault); verdicts = first; told = e }
 
-  -- sums of the surfaces, where all pass
+  -- the sums of the surfaces, if all vectors pass
   pub sums_told : (list vectors : List (List ℕ)) (o : Outcome) → AreTableSurfaces most coords rows Given list → All Passes vectors → IsBlocksOutcome most list rows vectors o → IsDecomposeAnswer coords most (rows, vectors) o
   sums_told list vectors o s passed told =
       let only = listed list s in
@@ -90,7 +90,7 @@ module _ (coords : Coords) (rows : List Row) (equations : List EquationRow) (of_
         told = inl (record { taken = only.taken; list = list; listed = only.listed; told = told.0; sums = told.1; outcome = told.2 });
       }
 
-  -- the step past the limit, where all pass
+  -- the step that exceeds the limit, if all vectors pass
   pub past_told : (large : LargeStep) (vectors : List (List ℕ)) (o : Outcome) → IsTableRefused most coords rows Given (Fault large) → All Passes vectors
       → o ≡ large_outcome large.order.items large.kind → IsDecomposeAnswer coords most (rows, vectors) o
   past_told large vectors o r passed e =

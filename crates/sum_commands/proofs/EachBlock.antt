@@ -27,11 +27,11 @@ fronts_first : (front : List Block) (block : Block) (r : Many) → with_fronts (
 fronts_first front block (Ok y) = ap (λ (bs : List Block). Ok (bs, y.1)) (append_assoc front (block ∷ []) y.0)
 fronts_first front block (Err e) = refl
 
--- a block, and those behind it by this reader
+-- a block, followed by those that this reader finds
 abbrev block_then : (Reading → Many) → One → Many
 block_then more read = read >>= λ (first : Block × Reading). first_and first.0 (more first.1)
 
--- no more lines are left behind a block than before it
+-- after a block at most as many lines are left as before it
 no_more : (c : Reading) (x : Block × Reading) → block_at c ≡ Ok x → length x.1.later ≤ length c.later
 no_more c x e =
     let r : BlockRead c x.0 x.1 = block_read c x.0 x.1 e in
@@ -40,7 +40,7 @@ no_more c x e =
 fewer_left : (l : Line) (ls most : List Line) (c : Reading) (x : Block × Reading) → block_at (begun l ls c) ≡ Ok x → length (l ∷ ls) ≤ length most + 1 → length x.1.later ≤ length most
 fewer_left l ls most c x e h = let f = no_more (begun l ls c) x e in omega arith
 
--- the first of the lines that are left, and those behind it
+-- the block of the first line that is left, followed by those of the other lines
 first_line : (c : Reading) (l : Line) (ls : List Line) → c.later ≡ l ∷ ls → blocks_from c.later c ≡ block_then (λ d. blocks_from ls d) (block_at (begun l ls c))
 unfolding blocks_from
 first_line c l ls same = ap (λ (us : List Line). blocks_from us c) same ∙ ap (λ (us : List Line). blocks_on us c (λ d. blocks_from ls d)) same
@@ -73,7 +73,7 @@ pub blocks_ended : (front : List Block) (c : Reading) → c.later ≡ [] → wit
 unfolding blocks_from
 blocks_ended front c same = ap (λ (us : List Line). with_fronts front (blocks_from us c)) same ∙ ap (λ (bs : List Block). Ok (bs, c)) (append-nil front)
 
--- a fault of a block is one of the blocks
+-- an error of a block is an error of all blocks
 pub block_fails : (front : List Block) (c d : Reading) (fault : TextFault) (whole : Many) → need_line_at c ≡ Ok d → Fails NoMemory fault (lexed (block_at d))
     → with_fronts front (blocks_from c.later c) ≡ whole → Fails NoMemory fault (lexed whole)
 block_fails front c d fault whole e fails same = λ other. moved (block_at d) refl (fails other)

@@ -1,4 +1,4 @@
--- Lines that are written piece by piece.
+-- Lines that are written in several pieces.
 use Rattle.std.proofs.Common.{◌≡◌, ℕ, List, [], ◌∷◌, ◌++◌, sym, ap, ◌∙◌, append_assoc}
 use Rattle.std.specs.Prelude.{decimal, codes}
 use Rattle.cone_text_definitions.specs.VectorText.{entries_text}
@@ -6,7 +6,7 @@ use Rattle.cone_text_definitions.proofs.VectorLines.{spaced_entries}
 use Rattle.sum_definitions.specs.Sums.{Term}
 use Rattle.text_document_definitions.specs.Blocks.{term_text}
 
--- three pieces, and five, behind a text
+-- three pieces, or five, after a text
 pub three_pieces : (t a b c : List ℕ) → ((t ++ a) ++ b) ++ c ≡ t ++ ((a ++ b) ++ c)
 three_pieces t a b c = ap (λ (s : List ℕ). s ++ c) (append_assoc t a b) ∙ append_assoc t (a ++ b) c
 

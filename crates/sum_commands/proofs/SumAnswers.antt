@@ -1,4 +1,4 @@
--- The blocks of vectors are told one after another.
+-- The results for the vectors are the blocks of their sums, one after another.
 use Rattle.std.proofs.Common.{◌≡◌, ℕ, ◌<◌, ◌+◌, List, [], ◌∷◌, ◌++◌, length, take, get_or, Vec, Ok, Err, sym, ap, ◌∙◌, subst, append_assoc, append-nil}
 use Rattle.std.specs.declared.alloc.Global.{Global}
 use Rattle.std.proofs.lemmas.Grind.{flat_map-append}
@@ -34,7 +34,7 @@ module _ (most : ℕ) (list : List (List ℕ)) (rows : List Row) where
         subst (λ (ys : List (List ℕ)). AreSummedIn most list rows ys now) (sym (seen_more entries vs v x l e))
         (more_summed (all_entries (take v vs)) x.items before now told (subst (λ (ys : List ℕ). AppendsBlock most list ys before now (Ok u)) same h))
 
-    -- the sum of one more gets too large
+    -- the sum of the next vector exceeds the limit
     pub large_told : (large : LargeTurn) → IsLargeStep most list xs large.turn large.column → IsFirstRefused (IsSummed most list) (all_entries vs) v large
     large_told large h =
         first_refused entries (IsSummed most list) vs v x large l e (have_answers (IsSummed most list) (all_entries (take v vs)) told.told told.sums)

@@ -1,4 +1,4 @@
--- Reading so many terms, line by line.
+-- Reading `count` terms, line by line.
 use Rattle.std.proofs.Common.{◌≡◌, ℕ, zero, suc, ◌+◌, ◌-◌, ◌<◌, ◌≤◌, List, [], ◌∷◌, ◌++◌, Result, Ok, Err, refl, sym, ap, ◌∙◌, arith, append_assoc, append-nil}
 use Rattle.text_definitions.specs.declared.LexFault.{LexFault}
 use Rattle.text_definitions.specs.Reading.{Reading, ◌>>=◌, Fails}
@@ -20,11 +20,11 @@ fronts_first : (front : List Term) (term : Term) (r : Terms) → with_fronts (fr
 fronts_first front term (Ok y) = ap (λ (ts : List Term). Ok (ts, y.1)) (append_assoc front (term ∷ []) y.0)
 fronts_first front term (Err e) = refl
 
--- a term, and so many behind it
+-- a term, followed by n terms
 abbrev term_then : ℕ → Result (Term × Reading) LexFault → Terms
 term_then n read = read >>= λ (first : Term × Reading). first_and first.0 (terms_at n first.1)
 
--- the terms that are left begin with one
+-- if k of count terms are read, the others begin with one term
 one_of_more : (k count : ℕ) (c : Reading) → k < count → terms_at (count - k) c ≡ term_then (count - (k + 1)) (term_at c)
 unfolding terms_at
 one_of_more k count c h = (let some : count - k ≡ suc (count - (k + 1)) = omega arith in ap (λ (n : ℕ). terms_at n c) some)
@@ -46,7 +46,7 @@ term_faulty : (front : List Term) (k count : ℕ) (c : Reading) (fault : LexFaul
 term_faulty front k count c fault h e =
     ap (with_fronts front) (one_of_more k count c h) ∙ ap (λ (r : Result (Term × Reading) LexFault). with_fronts front (term_then (count - (k + 1)) r)) e
 
--- a fault of a term is one of the terms
+-- an error of a term is an error of all terms
 pub term_fails : (front : List Term) (k count : ℕ) (c : Reading) (fault : TextFault) (whole : Terms) → k < count → Fails NoMemory fault (lexed (term_at c))
     → with_fronts front (terms_at (count - k) c) ≡ whole → Fails NoMemory fault (lexed whole)
 term_fails front k count c fault whole h fails same = λ other. moved (term_at c) refl (fails other)

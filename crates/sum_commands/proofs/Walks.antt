@@ -1,11 +1,11 @@
--- Walks through a list, up to the first of its elements that is refused.
+-- Loops through a list, up to the first of its elements that is refused.
 use Rattle.std.proofs.Common.{◌≡◌, ℕ, zero, suc, ◌<◌, ◌≤◌, ◌+◌, List, [], ◌∷◌, ◌++◌, length, take, drop, map, get_or, Result, Ok, Err, refl, sym, ap, ◌∙◌, subst, arith}
 use Rattle.std.specs.List.{All, AllZip}
 use Rattle.std.proofs.lemmas.List.{take_all}
 use Rattle.std.proofs.lemmas.List.Elements.{All-push, All-weaker, All-nil, All-cons}
 use Rattle.outcome_definitions.specs.Sums.{IsFirstRefused, AreAnswered}
 
--- the elements as they are seen
+-- the elements by a view of them
 module _ {X A : Type 0} (f : X → A) where
   more : (xs : List X) (n : ℕ) (x : X) → n < length xs → x ≡ get_or xs n x → map f (take (suc n) xs) ≡ map f (take n xs) ++ f x ∷ []
   more [] n x l e = absurd (omega arith)
@@ -25,7 +25,7 @@ module _ {X A : Type 0} (f : X → A) where
   counted (y ∷ ys) zero l = refl
   counted (y ∷ ys) (suc n) l = ap suc (counted ys n (omega arith))
 
-  -- the first that is refused, behind those that were told
+  -- the first element that is refused, after those that have answers
   pub first_refused : {B E : Type 0} (IsTold : A → Result B E → Type 0) (xs : List X) (n : ℕ) (x : X) (refusal : E) → n < length xs → x ≡ get_or xs n x
       → All (λ y. (answer : B) × IsTold y (Ok answer)) (map f (take n xs)) → IsTold (f x) (Err refusal) → IsFirstRefused IsTold (map f xs) n refusal
   first_refused IsTold xs n x refusal l e passed refused = record {
@@ -38,27 +38,27 @@ module _ {X A : Type 0} (f : X → A) where
     fails = refused;
   }
 
-  -- one more passes
+  -- one more element passes
   pub one_more : (Passes : A → Type 0) (xs : List X) (n : ℕ) (x : X) → n < length xs → x ≡ get_or xs n x → All Passes (map f (take n xs)) → Passes (f x) → All Passes (map f (take (n + 1) xs))
   one_more Passes xs n x l e passed h = subst (λ (ys : List A). All Passes ys) (sym (seen_more xs n x l e)) (All-push Passes (map f (take n xs)) (f x) passed h)
 
-  -- each of them passes
+  -- each element passes, if all do
   pub seen_at : (Passes : A → Type 0) (xs : List X) (n : ℕ) (x : X) → n < length xs → x ≡ get_or xs n x → All Passes (map f xs) → Passes (f x)
   seen_at Passes [] n x l e h = absurd (omega arith)
   seen_at Passes (y ∷ ys) zero x l e h = subst (λ (q : X). Passes (f q)) (sym e) (h 0 (f y) (omega arith))
   seen_at Passes (y ∷ ys) (suc n) x l e h = seen_at Passes ys n x (omega arith) e (λ k d m. h (suc k) d (omega arith))
 
-  -- all of them were seen
+  -- the first n elements are all, if there are at most n
   pub all_seen : (Passes : A → Type 0) (xs : List X) (n : ℕ) → length xs ≤ n → All Passes (map f (take n xs)) → All Passes (map f xs)
   all_seen Passes xs n l passed = subst (λ (ys : List X). All Passes (map f ys)) (take_all n xs l) passed
 
-  -- each that passes is told so
+  -- the first element that is refused, if the result for those before is only that they pass
   pub first_stopped : {E : Type 0} (IsTold : A → Result (Unit {0}) E → Type 0) (xs : List X) (n : ℕ) (x : X) (refusal : E) → n < length xs → x ≡ get_or xs n x
       → All (λ y. IsTold y (Ok tt)) (map f (take n xs)) → IsTold (f x) (Err refusal) → IsFirstRefused IsTold (map f xs) n refusal
   first_stopped IsTold xs n x refusal l e passed refused =
       first_refused IsTold xs n x refusal l e (All-weaker (λ y. IsTold y (Ok tt)) (λ y. (answer : Unit {0}) × IsTold y (Ok answer)) (λ y h. (tt, h)) (map f (take n xs)) passed) refused
 
--- answers, one after another
+-- a list of results, one for each element
 module _ {A B E : Type 0} (IsTold : A → Result B E → Type 0) where
   pub told_more : (xs : List A) (answers : List B) (x : A) (answer : B) → AllZip (λ y b. IsTold y (Ok b)) xs answers → IsTold x (Ok answer)
       → AllZip (λ y b. IsTold y (Ok b)) (xs ++ x ∷ []) (answers ++ answer ∷ [])
@@ -73,7 +73,7 @@ module _ {A B E : Type 0} (IsTold : A → Result B E → Type 0) where
   have_answers (y ∷ xs) [] z = absurd z
   have_answers (y ∷ xs) (b ∷ answers) z = All-cons (λ y. (answer : B) × IsTold y (Ok answer)) y xs (b, z.0) (have_answers xs answers z.1)
 
--- all of a list pass: nothing more is told of each
+-- if all elements pass, the list of results is a list of units
 module _ {A E : Type 0} (IsTold : A → Result (Unit {0}) E → Type 0) where
   units : (xs : List A) → List (Unit {0})
   units xs = map (λ (x : A). tt) xs

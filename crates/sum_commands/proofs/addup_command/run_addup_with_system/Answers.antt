@@ -1,4 +1,4 @@
--- All blocks are accepted, or the first that is not is told.
+-- All blocks are accepted, or the outcome names the first that is not.
 use Rattle.std.proofs.lemmas.Result.{IfOk-weaker}
 use Rattle.sum_commands.specs.Blocks.{all_blocks}
 use Rattle.sum_commands.proofs.AddedUp.{all_accepted, one_refused}

@@ -1,4 +1,4 @@
--- Each turn takes one block.
+-- Each pass of the loop reads one block.
 use Rattle.std.proofs.Common.{[], ◌∷◌, sym, ◌∙◌, arith}
 use Rattle.std.proofs.lemmas.Result.{err_from_is_err_and}
 use Rattle.std.proofs.lemmas.List.{map-append}

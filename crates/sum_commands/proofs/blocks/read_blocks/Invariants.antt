@@ -1,4 +1,4 @@
--- The blocks so far with those that are left are those of the input.
+-- The blocks so far, followed by those that are left, are those of the input.
 use Rattle.std.proofs.Common.{◌≡◌, length}
 use Rattle.text_document_definitions.specs.Blocks.{blocks_from}
 use Rattle.text_document_definitions.proofs.EachLine.{with_fronts}

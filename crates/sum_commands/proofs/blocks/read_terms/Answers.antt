@@ -1,4 +1,4 @@
--- Each turn takes one term.
+-- Each pass of the loop reads one term.
 use Rattle.std.proofs.Common.{[], ◌∷◌, sym, ◌∙◌}
 use Rattle.std.proofs.lemmas.Result.{err_from_is_err_and}
 use Rattle.std.proofs.lemmas.List.{map-append}

@@ -1,4 +1,4 @@
--- The terms so far, before those that are left, are what all of them are.
+-- The terms so far, followed by those that are left, are all terms.
 use Rattle.std.proofs.Common.{◌≡◌, ◌-◌}
 use Rattle.text_document_definitions.specs.Blocks.{terms_at}
 use Rattle.ray_decompose.specs.Sums.{terms_of}

@@ -1,4 +1,4 @@
--- The entries of the document are in range, and the fault that was answered is that of the input.
+-- The entries of the document are in range, and the reported error is that of the input.
 use Rattle.std.proofs.Common.{ℕ, List, Vec, sym, subst}
 use Rattle.std.specs.declared.alloc.Global.{Global}
 use Rattle.command_answers.specs.Reads.{all_entries}

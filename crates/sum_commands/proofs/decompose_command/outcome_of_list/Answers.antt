@@ -1,4 +1,4 @@
--- The sums are told, or the first that gets too large.
+-- The outcome has the sums, or names the first that exceeds the limit.
 use Rattle.std.proofs.Common.{Ok, Err, ℕ, List, ap, ◌∙◌, subst}
 use Rattle.out_of_memory.specs.declared.Failure.{Failure}
 use Rattle.std.proofs.lemmas.Result.{IfOk-weaker}

@@ -1,4 +1,5 @@
--- The first vector that is refused is told, or the sums by the list of the vertex surfaces, or the step past the limit.
+-- The outcome names the first vector that is refused, or has the sums by the list of the vertex surfaces, or names the
+-- step that exceeds the limit.
 use Rattle.std.proofs.Common.{ℕ, List, sym, ap, ◌∙◌, subst}
 use Rattle.outcome_definitions.specs.Enumerations.{large_outcome}
 use Rattle.std.proofs.lemmas.Result.{IfOk-weaker}

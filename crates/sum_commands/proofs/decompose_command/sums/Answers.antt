@@ -1,4 +1,4 @@
--- Each vector up to the first whose sum gets too large is told.
+-- Each vector up to the first whose sum exceeds the limit has its block in the text.
 use Rattle.std.proofs.Common.{ℕ, ◌≤◌, List, Err, sym, subst}
 use Rattle.std.specs.Prelude.{slice_index}
 use Rattle.out_of_memory.specs.declared.Failure.{Failure}

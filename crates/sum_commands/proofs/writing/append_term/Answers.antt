@@ -1,4 +1,4 @@
--- The pieces of the line stand one behind the other.
+-- The pieces of the line follow one another.
 use Rattle.std.proofs.Common.{ℕ, List, [], ◌∷◌, ◌++◌, ap, ◌∙◌}
 use Rattle.std.specs.Prelude.{decimal}
 use Rattle.cone_text_definitions.specs.VectorText.{entries_text}
