@@ -1,7 +1,6 @@
 //! The command `addup`: whether terms add up to their vectors.
-ghost use Rattle.std.specs.Prelude.{◌≡◌, ◌≤◌, length, IfOk};
+ghost use Rattle.std.specs.Prelude.{◌≤◌, length, IfOk};
 ghost use Rattle.text_definitions.specs.Text.{max_text};
-ghost use Rattle.surface_definitions.specs.Coordinates as coordinates;
 ghost use Rattle.surface_definitions.specs.QuadEquations.{AreEquations};
 ghost use Rattle.text_document_definitions.specs.Blocks.{blocks_document};
 ghost use Rattle.outcome_definitions.specs.Outcomes.{IsReadOutcome};
@@ -11,9 +10,9 @@ ghost use Rattle.sum_commands.specs.Firsts.{AreAllAnswered};
 
 use crate::blocks::{Block, read_table_and_blocks};
 use crate::checks::{FirstFault, check_terms};
+use crate::equations::TableEquations;
 use crate::refusals::refusal_outcome;
 use command_answers::{Outcome, accepted_outcome, fault_outcome};
-use cone_arithmetic::System;
 use gluing_table::Table;
 use matching_equations::{Coords, equations_of_table};
 use out_of_memory::NoMemory;
@@ -24,19 +23,18 @@ use surface_refusals::check;
 
 /// Checks `block`. Fails with what is wrong first: its vector or a term is no admissible solution, or the terms do not
 /// add up.
-fn check_block(
-    coords: Coords,
-    table: &Table,
-    system: &System,
-    block: &Block,
-) -> Result<(), SumRefusal>
-    requires { system.now.columns ≡ coordinates.columns coords (length table.now) }
-    ensures { IsAddedUp coords table.now system.now.rows (block_of block.now) result }
+fn check_block(equations: TableEquations<'_>, block: &Block) -> Result<(), SumRefusal>
+    ensures { IsAddedUp equations.entry.coords equations.entry.table.now equations.entry.system.now.rows (block_of block.now) result }
 {
-    if let Err(fault) = check(coords, table, system, &block.vector) {
+    if let Err(fault) = check(
+        equations.coords,
+        equations.table,
+        equations.system,
+        &block.vector,
+    ) {
         return Err(SumRefusal::Unfit { fault });
     }
-    if let Err(first) = check_terms(coords, table, system, &block.terms) {
+    if let Err(first) = check_terms(equations, &block.terms) {
         return Err(SumRefusal::UnfitTerm {
             term: first.number,
             fault: first.fault,
@@ -50,16 +48,13 @@ fn check_block(
 
 /// Fails at the first of `blocks` that is not accepted.
 fn check_blocks(
-    coords: Coords,
-    table: &Table,
-    system: &System,
+    equations: TableEquations<'_>,
     blocks: &[Block],
 ) -> Result<(), FirstFault<SumRefusal>>
-    requires { system.now.columns ≡ coordinates.columns coords (length table.now) }
-    ensures { AreAllAnswered (IsAddedUp coords table.now system.now.rows) (all_blocks blocks.now) result }
+    ensures { AreAllAnswered (IsAddedUp equations.entry.coords equations.entry.table.now equations.entry.system.now.rows) (all_blocks blocks.now) result }
 {
     for (number, block) in blocks.iter().enumerate() {
-        match check_block(coords, table, system, block) {
+        match check_block(equations, block) {
             Ok(()) => {}
             Err(fault) => return Err(FirstFault { number, fault }),
         }
@@ -67,19 +62,16 @@ fn check_blocks(
     Ok(())
 }
 
-/// The outcome for `blocks`, by the equations `system` of `table`.
+/// The outcome for `blocks`, by the `equations` of their table.
 fn run_addup_with_system(
     alloc: Global,
-    coords: Coords,
-    table: &Table,
-    system: &System,
+    equations: TableEquations<'_>,
     blocks: &[Block],
 ) -> Result<Outcome, NoMemory>
-    requires columns { system.now.columns ≡ coordinates.columns coords (length table.now) }
-    requires equations { AreEquations coords table.now system.now.rows }
-    ensures { IfOk result (IsAddupAnswer coords (table.now, all_blocks blocks.now)) }
+    requires equations { AreEquations equations.coords equations.table.now equations.system.now.rows }
+    ensures { IfOk result (IsAddupAnswer equations.entry.coords (equations.entry.table.now, all_blocks blocks.now)) }
 {
-    match check_blocks(coords, table, system, blocks) {
+    match check_blocks(equations, blocks) {
         Ok(()) => accepted_outcome(alloc),
         Err(first) => refusal_outcome(alloc, first.number, first.fault),
     }
@@ -95,7 +87,12 @@ fn run_addup(
     ensures { IfOk result (IsAddupAnswer coords (table.now, all_blocks blocks.now)) }
 {
     let system = equations_of_table(alloc, table, coords)?;
-    run_addup_with_system(alloc, coords, table, &system, blocks)
+    let equations = TableEquations {
+        coords,
+        table,
+        system: &system,
+    };
+    run_addup_with_system(alloc, equations, blocks)
 }
 
 /// The outcome of `addup` for the input `bytes`, a table and blocks: `accepted` if in each block the vector and its

@@ -1,15 +1,12 @@
 //! Checks vectors and terms by the equations of their table.
-ghost use Rattle.std.specs.Prelude.{◌≡◌, ◌<◌, length};
-ghost use Rattle.surface_definitions.specs.Coordinates as coordinates;
 ghost use Rattle.outcome_definitions.specs.Sums.{IsVerdict, IsTermVerdict};
 ghost use Rattle.command_answers.specs.Reads.{all_entries};
 ghost use Rattle.ray_decompose.specs.Sums.{terms_of};
 ghost use Rattle.sum_commands.specs.Firsts.{AreAllAnswered};
 
-use cone_arithmetic::System;
-use gluing_table::Table;
+use crate::equations::TableEquations;
 use ray_decompose::Given;
-use surface_definitions::{Coords, VectorFault};
+use surface_definitions::VectorFault;
 use surface_refusals::check;
 
 /// The first item of a list that is refused, by its index, and the error.
@@ -19,17 +16,18 @@ pub struct FirstFault<F> {
     pub fault: F,
 }
 
-/// Fails at the first of `vectors` that is no admissible solution of `system`, the equations of `table` in the
-/// coordinates `coords`, with its index and what is wrong first.
+/// Fails at the first of `vectors` that is no admissible solution of `equations`, with its index and what is wrong first.
 pub fn check_vectors(
-    coords: Coords,
-    table: &Table,
-    system: &System,
+    equations: TableEquations<'_>,
     vectors: &[Vec<u128>],
 ) -> Result<(), FirstFault<VectorFault>>
-    requires { system.now.columns ≡ coordinates.columns coords (length table.now) }
-    ensures { AreAllAnswered (IsVerdict coords table.now system.now.rows) (all_entries vectors.now) result }
+    ensures { AreAllAnswered (IsVerdict equations.entry.coords equations.entry.table.now equations.entry.system.now.rows) (all_entries vectors.now) result }
 {
+    let TableEquations {
+        coords,
+        table,
+        system,
+    } = equations;
     for (number, vector) in vectors.iter().enumerate() {
         match check(coords, table, system, vector) {
             Ok(()) => {}
@@ -39,17 +37,19 @@ pub fn check_vectors(
     Ok(())
 }
 
-/// Fails at the first of `terms` whose vector is no admissible solution of `system`, the equations of `table` in the
-/// coordinates `coords`, with its index and what is wrong first.
+/// Fails at the first of `terms` whose vector is no admissible solution of `equations`, with its index and what is wrong
+/// first.
 pub fn check_terms(
-    coords: Coords,
-    table: &Table,
-    system: &System,
+    equations: TableEquations<'_>,
     terms: &[Given],
 ) -> Result<(), FirstFault<VectorFault>>
-    requires { system.now.columns ≡ coordinates.columns coords (length table.now) }
-    ensures { AreAllAnswered (IsTermVerdict coords table.now system.now.rows) (terms_of terms.now) result }
+    ensures { AreAllAnswered (IsTermVerdict equations.entry.coords equations.entry.table.now equations.entry.system.now.rows) (terms_of terms.now) result }
 {
+    let TableEquations {
+        coords,
+        table,
+        system,
+    } = equations;
     for (number, term) in terms.iter().enumerate() {
         match check(coords, table, system, &term.entries) {
             Ok(()) => {}

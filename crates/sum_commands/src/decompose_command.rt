@@ -1,8 +1,7 @@
 //! The command `decompose`: vectors as sums of the vertex surfaces of their table.
-ghost use Rattle.std.specs.Prelude.{◌≡◌, ℕ, ◌≤◌, length, IfOk, slice_index};
+ghost use Rattle.std.specs.Prelude.{ℕ, ◌≤◌, length, IfOk, slice_index};
 ghost use Rattle.text_definitions.specs.Text.{max_text};
 ghost use Rattle.cone_arithmetic.specs.declared.numbers.TheConstants.{MAX_ENTRY};
-ghost use Rattle.surface_definitions.specs.Coordinates.{columns};
 ghost use Rattle.surface_definitions.specs.QuadEquations.{AreEquations};
 ghost use Rattle.text_document_definitions.specs.Documents.{vectors_document};
 ghost use Rattle.sum_definitions.specs.Sums.{HasRays};
@@ -12,6 +11,7 @@ ghost use Rattle.outcome_definitions.specs.Sums.{IsDecomposeAnswer};
 ghost use Rattle.sum_commands.specs.Telling.{AppendsBlock, WritesBlocks, IsBlocksOutcome, AreInRange, HaveRays};
 
 use crate::checks::{FirstFault, check_vectors};
+use crate::equations::TableEquations;
 use crate::refusals::refusal_outcome;
 use crate::writing::append_block;
 use command_answers::{Outcome, fault_outcome, read_table_and_vectors};
@@ -95,21 +95,23 @@ fn outcome_of_list(
     }
 }
 
-/// The outcome for `table` and `vectors`, by the equations `system` of the table.
+/// The outcome for `vectors`, by the `equations` of their table.
 fn run_decompose_with_system(
     alloc: Global,
-    coords: Coords,
     limit: Limit,
-    table: &Table,
-    system: &System,
+    equations: TableEquations<'_>,
     vectors: &[Vec<u128>],
 ) -> Result<Outcome, NoMemory>
-    requires columns { system.now.columns ≡ columns coords (length table.now) }
-    requires equations { AreEquations coords table.now system.now.rows }
+    requires equations { AreEquations equations.coords equations.table.now equations.system.now.rows }
     requires entries { AreInRange (all_entries vectors.now) }
-    ensures { IfOk result (IsDecomposeAnswer coords limit.number (table.now, all_entries vectors.now)) }
+    ensures { IfOk result (IsDecomposeAnswer equations.entry.coords limit.number (equations.entry.table.now, all_entries vectors.now)) }
 {
-    if let Err(first) = check_vectors(coords, table, system, vectors) {
+    let TableEquations {
+        coords,
+        table,
+        system,
+    } = equations;
+    if let Err(first) = check_vectors(equations, vectors) {
         return refusal_outcome(
             alloc,
             first.number,
@@ -142,7 +144,12 @@ fn run_decompose(
     ensures { IfOk result (IsDecomposeAnswer coords limit.number (table.now, all_entries vectors.now)) }
 {
     let system = equations_of_table(alloc, table, coords)?;
-    run_decompose_with_system(alloc, coords, limit, table, &system, vectors)
+    let equations = TableEquations {
+        coords,
+        table,
+        system: &system,
+    };
+    run_decompose_with_system(alloc, limit, equations, vectors)
 }
 
 /// The outcome of `decompose` for the input `bytes`, a table and vectors: each vector as a sum of vertex surfaces in

@@ -5,6 +5,7 @@ mod addup_command;
 mod blocks;
 mod checks;
 mod decompose_command;
+mod equations;
 mod refusals;
 mod writing;
 

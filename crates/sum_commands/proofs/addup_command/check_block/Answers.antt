@@ -14,4 +14,4 @@ pub add_up-requires-clause-terms : goal.add_up-requires-clause-terms
 add_up-requires-clause-terms c =
     let width = ap (λ (xs : List ℕ). length xs) (c.deref-3.ensures.value ∙ sym c.deref.ensures.value) ∙ c.in_default.ensures.width refl in
     subst (λ (gs : List Given). All (HasWidth (length c.deref-3.result.now)) gs) (c.deref-2.ensures.value ∙ sym c.deref-4.ensures.value)
-    (term_widths c.args.coords c.args.table.now c.args.system.now.rows c.deref-2.result.now (length c.deref-3.result.now) width c.in_default-check_terms.ensures)
+    (term_widths c.args.equations.coords c.args.equations.table.now c.args.equations.system.now.rows c.deref-2.result.now (length c.deref-3.result.now) width c.in_default-check_terms.ensures)

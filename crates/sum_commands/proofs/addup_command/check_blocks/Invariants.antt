@@ -6,4 +6,4 @@ use Rattle.sum_commands.specs.Blocks.{all_blocks}
 use Rattle.sum_commands.proofs.addup_command.check_blocks.Given as goal
 
 abbrev pub invariant-loop-number : goal.invariant-loop-number
-invariant-loop-number l = All (λ block. IsAddedUp l.coords l.table l.system.rows block (Ok tt)) (all_blocks (take l.number l.blocks))
+invariant-loop-number l = All (λ block. IsAddedUp l.equations.coords l.equations.table.now l.equations.system.now.rows block (Ok tt)) (all_blocks (take l.number l.blocks))

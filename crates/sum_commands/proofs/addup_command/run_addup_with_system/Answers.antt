@@ -6,11 +6,11 @@ use Rattle.sum_commands.proofs.addup_command.run_addup_with_system.Goals as goal
 
 pub returns-in-Ok : goal.returns-in-Ok
 returns-in-Ok c = IfOk-weaker c.accepted_outcome.result _ _
-    (λ o e. all_accepted c.args.coords c.args.table.now c.args.system.now.rows c.requires.equations (all_blocks c.args.blocks.now) o c.in-Ok.ensures e)
+    (λ o e. all_accepted c.args.equations.coords c.args.equations.table.now c.args.equations.system.now.rows c.requires.equations (all_blocks c.args.blocks.now) o c.in-Ok.ensures e)
     c.accepted_outcome.ensures
 
 pub returns-in-Err : goal.returns-in-Err
 returns-in-Err c = IfOk-weaker c.refusal_outcome.result _ _
-    (λ o e. one_refused c.args.coords c.args.table.now c.args.system.now.rows c.requires.equations (all_blocks c.args.blocks.now) o
+    (λ o e. one_refused c.args.equations.coords c.args.equations.table.now c.args.equations.system.now.rows c.requires.equations (all_blocks c.args.blocks.now) o
     c.in-Err.first.number c.in-Err.first.fault c.in-Err.ensures e)
     c.refusal_outcome.ensures

@@ -7,16 +7,16 @@ use Rattle.sum_commands.proofs.checks.check_vectors.Goals as goal
 
 pub returns-in-Err : goal.returns-in-Err
 returns-in-Err c =
-    first_stopped entries (IsVerdict c.args.coords c.args.table.now c.args.system.now.rows) c.args.vectors.now c.loop-number.number c.index-vectors-number.result c.in-Err.fault
+    first_stopped entries (IsVerdict c.args.equations.coords c.args.equations.table.now c.args.equations.system.now.rows) c.args.vectors.now c.loop-number.number c.index-vectors-number.result c.in-Err.fault
     c.loop-number-test.true c.index-vectors-number.is c.loop-number.invariant
-    (subst (λ ys. IsVerdict c.args.coords c.args.table.now c.args.system.now.rows ys (Err c.in-Err.fault)) c.deref.ensures.value (sym c.in-Err.ensures.verdict))
+    (subst (λ ys. IsVerdict c.args.equations.coords c.args.equations.table.now c.args.equations.system.now.rows ys (Err c.in-Err.fault)) c.deref.ensures.value (sym c.in-Err.ensures.verdict))
 
 pub loop-number-preserved : goal.loop-number-preserved
 loop-number-preserved c =
-    one_more entries (λ ys. IsVerdict c.args.coords c.args.table.now c.args.system.now.rows ys (Ok tt)) c.args.vectors.now c.loop-number.number c.index-vectors-number.result
+    one_more entries (λ ys. IsVerdict c.args.equations.coords c.args.equations.table.now c.args.equations.system.now.rows ys (Ok tt)) c.args.vectors.now c.loop-number.number c.index-vectors-number.result
     c.loop-number-test.true c.index-vectors-number.is c.loop-number.invariant
-    (subst (λ ys. IsVerdict c.args.coords c.args.table.now c.args.system.now.rows ys (Ok tt)) c.deref.ensures.value (sym c.in-Ok.ensures.verdict))
+    (subst (λ ys. IsVerdict c.args.equations.coords c.args.equations.table.now c.args.equations.system.now.rows ys (Ok tt)) c.deref.ensures.value (sym c.in-Ok.ensures.verdict))
 
 pub returns : goal.returns
 returns c =
-    all_seen entries (λ ys. IsVerdict c.args.coords c.args.table.now c.args.system.now.rows ys (Ok tt)) c.args.vectors.now c.loop-number.number c.loop-number-test.false c.loop-number.invariant
+    all_seen entries (λ ys. IsVerdict c.args.equations.coords c.args.equations.table.now c.args.equations.system.now.rows ys (Ok tt)) c.args.vectors.now c.loop-number.number c.loop-number-test.false c.loop-number.invariant
