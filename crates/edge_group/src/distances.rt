@@ -1,27 +1,26 @@
 //! Distances from tetrahedron 0 in the dual graph, by breadth-first search.
 
-ghost use Rattle.std.specs.Prelude.{◌≡◌, ◌<◌, length, replicate, set, All, None, Some, IfOk, OnOk};
+ghost use Rattle.std.specs.Prelude.{◌≡◌, ◌<◌, length, replicate, set, None, Some, IfOk, OnOk};
 ghost use Rattle.table_definitions.specs.Table.{IsTable};
 ghost use Rattle.edge_group.specs.Searches.{HasGrown, IsGrown, IsFace, IsFaceOf, IsFaceOfSome, AreDistances};
 
+use crate::places::{FaceOfTable, Level, TetOfTable};
 use gluing_table::{Face, Table};
 use std::alloc::{AllocError, Global};
 
-/// Marks the tetrahedron across `face` with `distance` and appends it to `next`, unless it is marked or `face` is a
-/// boundary face.
+/// Marks the tetrahedron across the face `at` with `distance` and appends it to `next`, unless it is marked or the face
+/// is a boundary face.
 fn cross_face(
-    table: &Table,
-    face: Face,
+    at: FaceOfTable<'_>,
     distance: u32,
     marks: &mut [Option<u32>],
     next: &mut Vec<u32>,
 ) -> Result<(), AllocError>
-    requires in_range { face.tet < length table.now }
-    requires one_each { length marks.old ≡ length table.now }
-    ensures grown { OnOk result (HasGrown table.now (IsFace face) distance marks.old marks.new next.old.items next.new.items) }
-    ensures is_table { IsTable table.now }
+    requires { length marks.old ≡ length at.table.now }
+    ensures grown { OnOk result (HasGrown at.entry.table.now (IsFace at.entry.face) distance marks.old marks.new next.old.items next.new.items) }
+    ensures is_table { IsTable at.entry.table.now }
 {
-    let Some(glue) = table.glue(face) else {
+    let Some(glue) = at.table.glue(at.face) else {
         return Ok(());
     };
     if marks[glue.tet as usize].is_some() {
@@ -32,20 +31,22 @@ fn cross_face(
     Ok(())
 }
 
-/// As `cross_face`, for the four faces of tetrahedron `tet`.
+/// As `cross_face`, for the four faces of the tetrahedron `at`.
 fn mark_neighbours(
-    table: &Table,
-    tet: u32,
+    at: TetOfTable<'_>,
     distance: u32,
     marks: &mut [Option<u32>],
     next: &mut Vec<u32>,
 ) -> Result<(), AllocError>
-    requires in_range { tet < length table.now }
-    requires one_each { length marks.old ≡ length table.now }
-    ensures { OnOk result (HasGrown table.now (IsFaceOf tet) distance marks.old marks.new next.old.items next.new.items) }
+    requires { length marks.old ≡ length at.table.now }
+    ensures { OnOk result (HasGrown at.entry.table.now (IsFaceOf at.entry.tet) distance marks.old marks.new next.old.items next.new.items) }
 {
     for face in 0..4 {
-        cross_face(table, Face { tet, face }, distance, marks, next)?;
+        let face = FaceOfTable {
+            table: at.table,
+            face: Face { tet: at.tet, face },
+        };
+        cross_face(face, distance, marks, next)?;
     }
     Ok(())
 }
@@ -53,18 +54,20 @@ fn mark_neighbours(
 /// Marks with `distance` the unmarked neighbours of the tetrahedra in `level`, and returns them.
 fn next_level(
     alloc: Global,
-    table: &Table,
-    level: &[u32],
+    level: Level<'_>,
     distance: u32,
     marks: &mut [Option<u32>],
 ) -> Result<Vec<u32>, AllocError>
-    requires in_range { All (λ t. t < length table.now) level.now }
-    requires one_each { length marks.old ≡ length table.now }
-    ensures { IfOk result (λ next. IsGrown table.now (IsFaceOfSome level.now) distance marks.old marks.new next.items) }
+    requires { length marks.old ≡ length level.table.now }
+    ensures { IfOk result (λ next. IsGrown level.entry.table.now (IsFaceOfSome level.entry.tets.now) distance marks.old marks.new next.items) }
 {
     let mut next = Vec::new(alloc);
-    for tet in level {
-        mark_neighbours(table, *tet, distance, marks, &mut next)?;
+    for tet in level.tets {
+        let at = TetOfTable {
+            table: level.table,
+            tet: *tet,
+        };
+        mark_neighbours(at, distance, marks, &mut next)?;
     }
     Ok(next)
 }
@@ -89,7 +92,11 @@ fn breadth_first(alloc: Global, table: &Table) -> Result<Vec<Option<u32>>, Alloc
     let mut distance = 0;
     'levels: while !level.is_empty() {
         distance += 1;
-        level = next_level(alloc, table, &level, distance, &mut marks)?;
+        let here = Level {
+            table,
+            tets: &level,
+        };
+        level = next_level(alloc, here, distance, &mut marks)?;
     }
     Ok(marks)
 }

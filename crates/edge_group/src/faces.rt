@@ -53,13 +53,26 @@ pub fn tree_classes(
     Ok(marks)
 }
 
-/// Whether face class `class` is a generator: it has two faces and none of them is in the tree.
-pub fn is_generator(skeleton: &Skeleton, in_tree: &[bool], firsts: &[u32], class: u32) -> bool
-    requires in_tree { AreTreeClasses skeleton.now in_tree.now }
-    requires firsts { AreLeastFaces skeleton.now firsts.now }
-    requires in_range { class < skeleton.now.faces.count }
-    ensures { IsTrue result ↔ IsGenerator skeleton.now class }
+/// Face class `class` of `skeleton`. Invariant: `firsts` has the least face of each face class.
+#[derive(Clone, Copy)]
+pub struct FaceClass<'a> {
+    pub skeleton: &'a Skeleton,
+    pub firsts: &'a [u32],
+    pub class: u32,
+    pub ghost least: { AreLeastFaces skeleton.now firsts.now },
+    pub ghost in_range: { class < skeleton.now.faces.count },
+}
+
+/// Whether the face class `of` is a generator: it has two faces and none of them is in the tree.
+pub fn is_generator(in_tree: &[bool], of: FaceClass<'_>) -> bool
+    requires { AreTreeClasses of.skeleton.now in_tree.now }
+    ensures { IsTrue result ↔ IsGenerator of.entry.skeleton.now of.entry.class }
 {
+    let FaceClass {
+        skeleton,
+        firsts,
+        class,
+    } = of;
     let first = face_of(firsts[class as usize]);
     !in_tree[class as usize] && skeleton.table().glue(first).is_some()
 }

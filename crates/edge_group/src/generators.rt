@@ -5,7 +5,7 @@ ghost use Rattle.presentation_definitions.specs.Groups.{IsTree};
 ghost use Rattle.presentation_definitions.specs.Presentations.{AreGenerators};
 ghost use Rattle.presentation_laws.specs.Classes.{generator_number};
 
-use crate::faces::{first_faces, is_generator, tree_classes};
+use crate::faces::{FaceClass, first_faces, is_generator, tree_classes};
 use gluing_table::Face;
 use out_of_memory::NoMemory;
 use skeleton::Skeleton;
@@ -46,7 +46,12 @@ impl<'a> Generators<'a> {
         let in_tree = tree_classes(alloc, skeleton, tree)?;
         let mut classes = Vec::new(alloc);
         for class in 0..skeleton.faces() {
-            if is_generator(skeleton, &in_tree, &firsts, class) {
+            let of = FaceClass {
+                skeleton,
+                firsts: &firsts,
+                class,
+            };
+            if is_generator(&in_tree, of) {
                 classes.push(class)?;
             }
         }

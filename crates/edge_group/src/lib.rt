@@ -13,6 +13,7 @@ mod distances;
 mod faces;
 mod generators;
 mod group;
+mod places;
 mod relators;
 mod tree;
 mod turning;

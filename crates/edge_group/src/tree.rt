@@ -1,12 +1,13 @@
 //! The maximal tree of shortest paths from tetrahedron 0.
 
-ghost use Rattle.std.specs.Prelude.{◌<◌, ◌↔◌, length, IsTrue, IfOk};
+ghost use Rattle.std.specs.Prelude.{◌↔◌, IsTrue, IfOk};
 ghost use Rattle.table_definitions.specs.Places.{IsConnected};
 ghost use Rattle.edge_group.specs.Searches.{AreDistances};
 ghost use Rattle.edge_group.specs.Behind.{IsOneLess, IsCloserFace, IsLeastOf, IsLeastCloser, AreLeastCloser};
 ghost use Rattle.edge_group.specs.Turns.{IsTreeWith};
 
 use crate::distances::distances;
+use crate::places::{FaceOfTable, TetOfTable};
 use gluing_table::{Face, Table};
 use out_of_memory::NoMemory;
 use std::alloc::{AllocError, Global};
@@ -31,13 +32,13 @@ fn is_one_less(near: Option<u32>, far: Option<u32>) -> bool
     near < far && far - near == 1
 }
 
-/// The face glued to `face`, if its tetrahedron is closer to tetrahedron 0.
-fn closer_face(table: &Table, distances: &[Option<u32>], face: Face) -> Option<Face>
-    requires distances { AreDistances table.now distances.now }
-    requires in_range { face.tet < length table.now }
-    ensures { IsCloserFace table.now face result }
+/// The face glued to the face `at`, if its tetrahedron is closer to tetrahedron 0.
+fn closer_face(distances: &[Option<u32>], at: FaceOfTable<'_>) -> Option<Face>
+    requires { AreDistances at.table.now distances.now }
+    ensures { IsCloserFace at.entry.table.now at.entry.face result }
 {
-    let Some(glue) = table.glue(face) else {
+    let face = at.face;
+    let Some(glue) = at.table.glue(face) else {
         return None;
     };
     if is_one_less(distances[glue.tet as usize], distances[face.tet as usize]) {
@@ -64,15 +65,18 @@ fn lesser(first: Option<Face>, second: Option<Face>) -> Option<Face>
     }
 }
 
-/// The least face glued to tetrahedron `tet` of a tetrahedron closer to tetrahedron 0.
-fn tree_face(table: &Table, distances: &[Option<u32>], tet: u32) -> Option<Face>
-    requires distances { AreDistances table.now distances.now }
-    requires in_range { tet < length table.now }
-    ensures { IsLeastCloser table.now tet 4 result }
+/// The least face glued to the tetrahedron `at` of a tetrahedron closer to tetrahedron 0.
+fn tree_face(distances: &[Option<u32>], at: TetOfTable<'_>) -> Option<Face>
+    requires { AreDistances at.table.now distances.now }
+    ensures { IsLeastCloser at.entry.table.now at.entry.tet 4 result }
 {
     let mut least = None;
     for face in 0..4 {
-        least = lesser(least, closer_face(table, distances, Face { tet, face }));
+        let face = FaceOfTable {
+            table: at.table,
+            face: Face { tet: at.tet, face },
+        };
+        least = lesser(least, closer_face(distances, face));
     }
     least
 }
@@ -88,7 +92,7 @@ fn tree_faces(
 {
     let mut faces = Vec::with_capacity(alloc, distances.len())?;
     for tet in 0..table.len() {
-        faces.push(tree_face(table, distances, tet))?;
+        faces.push(tree_face(distances, TetOfTable { table, tet }))?;
     }
     Ok(faces)
 }

@@ -1,6 +1,6 @@
 //! Determines which generators reverse orientation.
 
-ghost use Rattle.std.specs.Prelude.{◌≡◌, ◌<◌, length, IsSome, IfOk};
+ghost use Rattle.std.specs.Prelude.{◌≡◌, IfOk};
 ghost use Rattle.std.specs.List.{AllZip};
 ghost use Rattle.table_definitions.specs.Table as gluings;
 ghost use Rattle.table_definitions.specs.Table.{IsTable};
@@ -10,51 +10,58 @@ ghost use Rattle.edge_group.specs.Turns.{IsPathOdd, IsTreeWith};
 
 use crate::faces::face_of;
 use crate::generators::Generators;
+use crate::places::{FaceOfTable, GluedFace, TetOfTable};
 use crate::tree::FaceTree;
-use gluing_table::{Face, Table};
 use out_of_memory::NoMemory;
 use std::alloc::Global;
 
-/// Whether `face` has an even gluing.
-fn is_even(table: &Table, face: Face) -> bool
-    requires { face.tet < length table.now }
-    ensures value { result ≡ is_even_gluing (gluings.glue table.now face) }
-    ensures is_table { IsTable table.now }
+/// Whether the face `at` has an even gluing.
+fn is_even(at: FaceOfTable<'_>) -> bool
+    ensures value { result ≡ is_even_gluing (gluings.glue at.entry.table.now at.entry.face) }
+    ensures is_table { IsTable at.entry.table.now }
 {
-    match table.glue(face) {
+    match at.table.glue(at.face) {
         Some(glue) => !glue.perm.is_odd(),
         None => false,
     }
 }
 
-/// Whether the path in the tree to tetrahedron `tet` has an odd number of even gluings.
-fn is_path_odd(table: &Table, tree: &FaceTree, tet: u32) -> bool
-    requires tree { IsTreeWith table.now tree.now.faces.items tree.now.distances.items }
-    requires in_range { tet < length table.now }
-    ensures { IsPathOdd table.now tet result }
+/// Whether the path in the tree to the tetrahedron `at` has an odd number of even gluings.
+fn is_path_odd(tree: &FaceTree, at: TetOfTable<'_>) -> bool
+    requires { IsTreeWith at.table.now tree.now.faces.items tree.now.distances.items }
+    ensures { IsPathOdd at.entry.table.now at.entry.tet result }
 {
+    let table = at.table;
     let mut odd = false;
-    let mut tet = tet;
+    let mut tet = at.tet;
     'path: while let Some(face) = tree.faces[tet as usize] {
-        odd = odd != is_even(table, face);
+        odd = odd != is_even(FaceOfTable { table, face });
         tet = face.tet;
     }
     odd
 }
 
-/// Whether the loop through the tree to `face`, across it, and back through the tree has an odd number of even gluings.
-fn turns(table: &Table, tree: &FaceTree, face: Face) -> bool
-    requires tree { IsTreeWith table.now tree.now.faces.items tree.now.distances.items }
-    requires in_range { face.tet < length table.now }
-    requires glued { IsSome (gluings.glue table.now face) }
-    ensures { IsTurningFace table.now face result }
+/// Whether the loop through the tree to the face `at`, across it, and back through the tree has an odd number of even
+/// gluings.
+fn turns(tree: &FaceTree, at: GluedFace<'_>) -> bool
+    requires { IsTreeWith at.table.now tree.now.faces.items tree.now.distances.items }
+    ensures { IsTurningFace at.entry.table.now at.entry.face result }
 {
+    let GluedFace { table, face } = at;
     let Some(glue) = table.glue(face) else {
         unreachable!();
     };
-    let forth = is_path_odd(table, tree, face.tet);
-    let back = is_path_odd(table, tree, glue.tet);
-    (forth != is_even(table, face)) != back
+    let start = TetOfTable {
+        table,
+        tet: face.tet,
+    };
+    let end = TetOfTable {
+        table,
+        tet: glue.tet,
+    };
+    let forth = is_path_odd(tree, start);
+    let back = is_path_odd(tree, end);
+    (forth != is_even(FaceOfTable { table, face })) != back
 }
 
 impl Generators<'_> {
@@ -66,7 +73,13 @@ impl Generators<'_> {
         let table = self.skeleton.table();
         let mut turning = Vec::with_capacity(alloc, self.classes.len())?;
         for class in &self.classes {
-            turning.push(turns(table, tree, face_of(self.firsts[*class as usize])))?;
+            turning.push(turns(
+                tree,
+                GluedFace {
+                    table,
+                    face: face_of(self.firsts[*class as usize]),
+                },
+            ))?;
         }
         Ok(turning)
     }

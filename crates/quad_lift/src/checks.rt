@@ -3,20 +3,20 @@
 ghost use Rattle.std.specs.Prelude.{◌≡◌, ◌*◌, ◌<◌, false, length, IsTrue};
 ghost use Rattle.quad_lift.specs.Agreements.{Agrees, AgreesRound, IsLeastWrong};
 
+use crate::crossing::VertexWithFace;
 use crate::quad_vector::Heights;
 
 impl Heights<'_> {
-    /// Whether height plus quads at `vertex` are equal on both sides of `face`.
-    fn agrees(&self, vertex: u32, face: u8) -> bool
-        requires in_range { vertex < 4 * length self.now.vector.skeleton.now.rows }
-        requires a_face { face < 4 }
-        ensures agrees { IsTrue result → Agrees self.now.vector.skeleton.now self.now.vector.entries.now self.now.values.now vertex face }
-        ensures wrong { result ≡ false → Agrees self.now.vector.skeleton.now self.now.vector.entries.now self.now.values.now vertex face → ⊥ }
+    /// Whether height plus quads at the vertex `at` are equal on both sides of its face.
+    fn agrees(&self, at: VertexWithFace) -> bool
+        requires { at.vertex < 4 * length self.now.vector.skeleton.now.rows }
+        ensures agrees { IsTrue result → Agrees self.now.vector.skeleton.now self.now.vector.entries.now self.now.values.now at.vertex at.face }
+        ensures wrong { result ≡ false → Agrees self.now.vector.skeleton.now self.now.vector.entries.now self.now.values.now at.vertex at.face → ⊥ }
     {
-        match self.vector.across(vertex, face) {
+        match self.vector.across(at) {
             None => true,
             Some(step) => {
-                self.values[vertex as usize] + step.up
+                self.values[at.vertex as usize] + step.up
                     == self.values[step.other as usize] + step.down
             }
         }
@@ -24,12 +24,12 @@ impl Heights<'_> {
 
     /// Whether height plus quads at `vertex` are equal on both sides of each face.
     fn agrees_round(&self, vertex: u32) -> bool
-        requires in_range { vertex < 4 * length self.now.vector.skeleton.now.rows }
+        requires { vertex < 4 * length self.now.vector.skeleton.now.rows }
         ensures agrees { IsTrue result → AgreesRound self.now.vector.skeleton.now self.now.vector.entries.now self.now.values.now vertex }
         ensures wrong { result ≡ false → AgreesRound self.now.vector.skeleton.now self.now.vector.entries.now self.now.values.now vertex → ⊥ }
     {
         for face in 0..4 {
-            if !self.agrees(vertex, face) {
+            if !self.agrees(VertexWithFace { vertex, face }) {
                 return false;
             }
         }

@@ -6,28 +6,27 @@ ghost use Rattle.table_walk_laws.specs.Search.{IsMarked, IsClosed, IsSearch, IsS
 ghost use Rattle.skeleton_definitions.specs.Skeleton.{IsSkeleton};
 ghost use Rattle.quad_lift.specs.Spreads.{vertices_round, round_before, AreSpread, AreAllSpread};
 
+use crate::crossing::VertexWithFace;
 use crate::quad_vector::QuadVector;
 use std::alloc::{AllocError, Global};
 
 impl QuadVector<'_> {
-    /// Sets the height of the vertex across `face`, and appends it to `pending`, unless it is marked.
+    /// Sets the height of the vertex across the face `at`, and appends it to `pending`, unless it is marked.
     fn cross(
         &self,
         marked: &mut [bool],
         heights: &mut [u128],
         pending: &mut Vec<u32>,
-        vertex: u32,
-        face: u8,
+        at: VertexWithFace,
     ) -> Result<(), AllocError>
         requires spread { AreSpread self.now.skeleton.now self.now.entries.now marked.old heights.old }
-        requires marked { IsMarked marked.old vertex }
-        requires a_face { face < 4 }
+        requires marked { IsMarked marked.old at.vertex }
         ensures spread { OnOk result (AreSpread self.now.skeleton.now self.now.entries.now marked.new heights.new) }
         ensures kept { OnOk result ((i : ℕ) → IsMarked marked.old i → IsMarked marked.new i) }
-        ensures turn { OnOk result ((first : List Bool) → IsSearchStep (vertices_round self.now.skeleton.now.rows) first vertex (round_before self.now.skeleton.now.rows vertex face) marked.old pending.old.items → IsSearchStep (vertices_round self.now.skeleton.now.rows) first vertex (round_before self.now.skeleton.now.rows vertex (face + 1)) marked.new pending.new.items) }
+        ensures turn { OnOk result ((first : List Bool) → IsSearchStep (vertices_round self.now.skeleton.now.rows) first at.vertex (round_before self.now.skeleton.now.rows at.vertex at.face) marked.old pending.old.items → IsSearchStep (vertices_round self.now.skeleton.now.rows) first at.vertex (round_before self.now.skeleton.now.rows at.vertex (at.face + 1)) marked.new pending.new.items) }
         ensures work { OnOk result (work_left marked.new pending.new.items ≡ work_left marked.old pending.old.items) }
     {
-        let Some(step) = self.across(vertex, face) else {
+        let Some(step) = self.across(at) else {
             return Ok(());
         };
         let other = step.other as usize;
@@ -35,7 +34,7 @@ impl QuadVector<'_> {
             return Ok(());
         }
         pending.push(step.other)?;
-        heights[other] = heights[vertex as usize] + step.up - step.down;
+        heights[other] = heights[at.vertex as usize] + step.up - step.down;
         marked[other] = true;
         Ok(())
     }
@@ -55,7 +54,8 @@ impl QuadVector<'_> {
         ensures work { OnOk result (work_left marked.new pending.new.items ≡ work_left marked.old pending.old.items) }
     {
         for face in 0..4 {
-            self.cross(marked, heights, pending, vertex, face)?;
+            let at = VertexWithFace { vertex, face };
+            self.cross(marked, heights, pending, at)?;
         }
         Ok(())
     }

@@ -1,4 +1,4 @@
--- What the pairs of places taken so far give, one pair on.
+-- The combinations of the pairs done so far, with one more pair.
 use Rattle.std.proofs.Common.{◌≡◌, ◌≢◌, ℕ, ◌+◌, ◌<◌, ◌≤◌, ◌⊎◌, inl, inr, ⊎_elim, List, [], ◌∷◌, ◌++◌, length, slice_index_or, subst, subst₂, ap, sym, ◌∙◌, refl, arith}
 use Rattle.std.proofs.lemmas.List.Elements.{All-push, All-weaker, Contains-push, Contains-append_left}
 use Rattle.std.proofs.lemmas.List.Quantifiers.{all_pairs_push}
@@ -16,7 +16,7 @@ use Rattle.ray_steps.specs.declared.signs.Sign.TheVariants.{Zero, Positive, Nega
 use Rattle.ray_steps.specs.Next.{step_of}
 use Rattle.ray_steps.specs.Signs.{IsSignAt, AreSigns, IsSignedPair, IsDoneBefore, ComesFromPlaces, GivesFrom, IsStepAt, IsMadeUpTo}
 
--- a combination by the values of a row is that of the row
+-- a combination by the values of a row at both rays is that of the row
 pub combination_by_row : (row : Row) (at_u at_w : ℕ) (u w z : List ℕ) → at_u ≡ value_at row u → at_w ≡ magnitude_at row w → IsCombinationBy at_u at_w u w z → IsCombination row u w z
 combination_by_row row at_u at_w u w z u_is w_is h =
     let k = subst₂ (λ a b. IsCombinationBy a b u w z) u_is w_is h in record { divisor = k.divisor; greatest = k.greatest; sum = k.sum }
@@ -31,7 +31,7 @@ reduced_by_row limit row at_u at_w u w x u_is w_is h = record {
 }
 
 module _ (limit : ℕ) (pairs : List Clash) (rays : List (List ℕ)) (signs : List Sign) where
-  -- the row at a ray by its sign
+  -- the sign that was read is that of the row at the ray
   pub sign_read : (row : Row) → AreSigns limit row rays signs → (k : ℕ) (sign : Sign) → k < length rays → slice_index_or signs k Zero ≡ sign → IsSignAt row (ray_at rays k) sign
   sign_read row h k sign within is = subst (IsSignAt row (ray_at rays k)) is (h.each k Zero (let e = h.count in omega arith))
 
@@ -58,7 +58,7 @@ module _ (limit : ℕ) (pairs : List Clash) (rays : List (List ℕ)) (signs : Li
         ComesFromPair (step_of pairs step.columns step.before step.row) x
     comes_read u w x p h = record { u = ray_at rays u; w = ray_at rays w; pair = pair_read u w p; reduced = reduced_read u w x p h }
 
-    -- different pairs of places give different vectors
+    -- different pairs have different combinations
     pub places_differ : (i j u w : ℕ) (x : List ℕ) (p : IsSignedPair pairs rays signs i j) (q : IsSignedPair pairs rays signs u w) →
         IsReducedBy limit p.at_u p.at_w (ray_at rays i) (ray_at rays j) x → IsReducedBy limit q.at_u q.at_w (ray_at rays u) (ray_at rays w) x → (u ≡ i) × (w ≡ j)
     unfolding comes_read
@@ -79,7 +79,7 @@ module _ (limit : ℕ) (pairs : List Clash) (rays : List (List ℕ)) (signs : Li
   comes_weaker : (i j k l : ℕ) → ((u w : ℕ) → IsDoneBefore u w i j → IsDoneBefore u w k l) → (x : List ℕ) → ComesFromPlaces limit pairs rays signs i j x → ComesFromPlaces limit pairs rays signs k l x
   comes_weaker i j k l more x h = record { u = h.u; w = h.w; taken = more h.u h.w h.taken; pair = h.pair; reduced = h.reduced }
 
-  -- a pair of places that is none gives nothing
+  -- two rays that are no pair contribute no combination
   pub made_skip : (i j : ℕ) (made : List (List ℕ)) → IsMadeUpTo limit pairs rays signs i j made → ¬ IsSignedPair pairs rays signs i j → IsMadeUpTo limit pairs rays signs i (j + 1) made
   made_skip i j made h none = record {
     comes = All-weaker (ComesFromPlaces limit pairs rays signs i j) (ComesFromPlaces limit pairs rays signs i (j + 1)) (comes_weaker i j i (j + 1) (taken_weaker i j)) made h.comes;
@@ -89,7 +89,7 @@ module _ (limit : ℕ) (pairs : List Clash) (rays : List (List ℕ)) (signs : Li
     apart = h.apart;
   }
 
-  -- a pair of places gives one vector
+  -- a pair contributes one combination
   pub made_push : (i j : ℕ) (made : List (List ℕ)) (x : List ℕ) → IsMadeUpTo limit pairs rays signs i j made → (p : IsSignedPair pairs rays signs i j) →
       IsReducedBy limit p.at_u p.at_w (ray_at rays i) (ray_at rays j) x → IsMadeUpTo limit pairs rays signs i (j + 1) (made ++ x ∷ [])
   made_push i j made x h p reduced = record {
@@ -109,7 +109,7 @@ module _ (limit : ℕ) (pairs : List Clash) (rays : List (List ℕ)) (signs : Li
           let places = places_differ step i j c.u c.w x p c.pair reduced (subst (IsReducedBy limit c.pair.at_u c.pair.at_w (ray_at rays c.u) (ray_at rays c.w)) same c.reduced) in
           ⊎_elim (λ less. let e = places.0 in omega arith) (λ less. let e = places.1 in let f = less.1 in omega arith) c.taken
 
-  -- all pairs with one positive ray are taken
+  -- all pairs with one positive ray are done
   pub made_next : (i n : ℕ) (made : List (List ℕ)) → length rays ≤ n → IsMadeUpTo limit pairs rays signs i n made → IsMadeUpTo limit pairs rays signs (i + 1) 0 made
   made_next i n made all h = record {
     comes = All-weaker (ComesFromPlaces limit pairs rays signs i n) (ComesFromPlaces limit pairs rays signs (i + 1) 0)
@@ -120,7 +120,7 @@ module _ (limit : ℕ) (pairs : List Clash) (rays : List (List ℕ)) (signs : Li
     apart = h.apart;
   }
 
-  -- a ray that is not positive is in no such pair
+  -- a ray that is not positive is the first of no pair
   pub made_skip_all : (i : ℕ) (made : List (List ℕ)) → ((at_u : ℕ) → ¬ (slice_index_or signs i Zero ≡ Positive at_u)) → IsMadeUpTo limit pairs rays signs i 0 made → IsMadeUpTo limit pairs rays signs (i + 1) 0 made
   made_skip_all i made none h = record {
     comes = All-weaker (ComesFromPlaces limit pairs rays signs i 0) (ComesFromPlaces limit pairs rays signs (i + 1) 0)

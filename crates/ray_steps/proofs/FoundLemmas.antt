@@ -1,4 +1,4 @@
--- Places that are found by residuals: those of the rays that make a face pair with one, and the pairs with them in turn.
+-- Indices that are found by residuals: those of the rays adjacent to a given one, and the combinations with them.
 use Rattle.std.proofs.Common.{◌≡◌, ◌≢◌, ℕ, ◌+◌, ◌<◌, ◌≤◌, inl, inr, ⊎_elim, List, Bool, [], Contains, length, get_or, subst, sym, ap, ◌∙◌, arith}
 use Rattle.std.specs.List.{AllPairs}
 use Rattle.std.proofs.Math.ListN.{get_or-map}
@@ -25,11 +25,11 @@ use Rattle.ray_steps.proofs.RivalLemmas.{apart_inside, not_face_clash}
 use Rattle.ray_steps.proofs.SupportLemmas.{inside_iff}
 use Rattle.ray_steps.proofs.UnionLemmas.{near_face}
 
--- the places of a pair differ
+-- the indices of a pair differ
 places_apart : (pairs : List Clash) (rays : List (List ℕ)) (signs : List Sign) (i j : ℕ) → IsSignedPair pairs rays signs i j → j ≢ i
 places_apart pairs rays signs i j p e = subst IsNegative (sym p.negative ∙ ap (λ k. get_or signs k Zero) e ∙ p.positive) tt
 
--- ---- minimal residuals make face pairs
+-- ---- minimal residuals are those of adjacent rays
 
 module _ (pairs : List Clash) (rays : List (List ℕ)) (i columns most : ℕ) (joined : List Bool) (table : Table) (h : HasAllSupports rays columns table)
     (joins : AreClashingColumns pairs (support_of (ray_at rays i)) joined) (outer : List Bool) (outer_is : outer ≡ support_of (ray_at rays i)) where
@@ -50,7 +50,7 @@ module _ (pairs : List Clash) (rays : List (List ℕ)) (i columns most : ℕ) (j
       (subst (λ o. IsInsideUnionOf (support_at table.supports k) o (support_at table.supports j)) outer_is
       (inside_union outer (support_at table.supports k) (support_at table.supports j) inside))))
 
-  -- a third ray inside the union is as near
+  -- the union with a ray whose residual lies inside that of a candidate has at most `most` columns
   third_near : (k j : ℕ) → IsRival table.supports outer joined i most j → IsResidualInside outer (support_at table.supports k) (support_at table.supports j) → columns_in_either outer (support_at table.supports k) ≤ most
   third_near k j rival inside =
       let near = rival.near in
@@ -96,11 +96,11 @@ module _ (pairs : List Clash) (rays : List (List ℕ)) (i columns most : ℕ) (j
   pub pairs_found : HaveSmallUnions columns most pairs rays → i < length rays → length (ray_at rays i) ≡ columns → (signs : List Sign) (places : List ℕ) → AreMinimal table.supports outer joined i most places → (w : ℕ) → IsSignedPair pairs rays signs i w → Contains places w
   pairs_found small i_in wide signs places m w p = m.complete w (minimal_if_face small i_in wide w p.w_in_range (places_apart pairs rays signs i w p) p.face)
 
--- ---- the found places in turn
+-- ---- the found indices, one after another
 
 module _ (limit : ℕ) (pairs : List Clash) (rays : List (List ℕ)) (signs : List Sign) (i : ℕ) (places : List ℕ) (up : AllPairs (λ p q. p < q) places)
     (complete : (w : ℕ) → IsSignedPair pairs rays signs i w → Contains places w) where
-  -- places between that make no pair are passed over
+  -- indices between that are in no pair are skipped
   made_past : (j k : ℕ) (made : List (List ℕ)) → j ≤ k → ((w : ℕ) → j ≤ w → w < k → ¬ IsSignedPair pairs rays signs i w) →
       IsMadeUpTo limit pairs rays signs i j made → IsMadeUpTo limit pairs rays signs i k made
   made_past j k made low none h = record {

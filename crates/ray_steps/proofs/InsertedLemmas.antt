@@ -7,7 +7,7 @@ use Rattle.cone_definitions.proofs.Units.{length-unit, entry-unit_same, entry-un
 use Rattle.support_bits.specs.Columns.{support_of}
 use Rattle.support_bits.proofs.WordLemmas.{get_or-support_of, length-support_of}
 
--- an entry that is not 0 gives its column
+-- setting an entry to a nonzero number inserts its column into the support
 pub inserted : (x : List ℕ) (column left : ℕ) → column < length x → 1 ≤ left → set (support_of x) column true ≡ support_of (set x column left)
 inserted x column left within some = ext_get_or false (set (support_of x) column true) (support_of (set x column left))
     (length-set (support_of x) column true ∙ length-support_of x ∙ sym (length-set x column left) ∙ sym (length-support_of (set x column left)))
@@ -18,7 +18,7 @@ inserted x column left within some = ext_get_or false (set (support_of x) column
     ∙ sym (get_or-support_of (set x column left) j ∙ ap (ltb 0) (get_or-set_other x column j left 0 other)))
     (cases_eq j column))
 
--- a unit vector has its column alone
+-- the support of a unit vector is its column
 pub unit_support : (columns place : ℕ) → place < columns → set (replicate columns false) place true ≡ support_of (unit columns place)
 unit_support columns place within = ext_get_or false (set (replicate columns false) place true) (support_of (unit columns place))
     (length-set (replicate columns false) place true ∙ length-replicate columns false ∙ sym (length-support_of (unit columns place) ∙ length-unit columns place))

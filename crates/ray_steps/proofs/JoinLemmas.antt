@@ -14,7 +14,7 @@ pub joined_width : (pairs : List Clash) (ray_list : List RayWithSupport) (i colu
 joined_width pairs ray_list i columns joined within widths joins =
     joins.count ∙ length-map (ray_at (rays_of ray_list) i) (λ entry. ltb 0 entry) ∙ ray_width ray_list i columns within widths
 
--- what is joined to the support at a place is joined to that of the ray
+-- the columns that clash with the support of an element are those that clash with its ray
 pub joined_to_ray : (pairs : List Clash) (ray_list : List RayWithSupport) (i : ℕ) (kept : RayWithSupport) (joined : List Bool) → i < length ray_list →
     AreClashingColumns pairs (get_or ray_list i kept).support joined → AreClashingColumns pairs (support_of (ray_at (rays_of ray_list) i)) joined
 joined_to_ray pairs ray_list i kept joined within joins = subst (λ s. AreClashingColumns pairs s joined)

@@ -1,4 +1,4 @@
--- What a refusal names, read from the places of the rays, and the width of combinations.
+-- What a refusal names, by the indices of the rays, and the width of combinations.
 use Rattle.std.proofs.Common.{◌≡◌, ℕ, ◌/◌, List, length, subst₂, ap, sym, ◌∙◌}
 use Rattle.cone_definitions.specs.Vectors.{multiple, ray_at}
 use Rattle.cone_definitions.specs.Surfaces.{Clash}
@@ -11,7 +11,7 @@ use Rattle.cone_definitions.specs.declared.LargeKind.TheVariants.{Value, Pair}
 use Rattle.ray_steps.specs.Faults.{IfLarge, IsLargeSumOf, IsFirstLargeSum}
 use Rattle.ray_steps.specs.Signs.{IsSignedPair, IsMadeUpTo}
 
--- the combination of a pair that is the first past the limit
+-- the pair is the first whose combination exceeds the limit
 pub first_large : (limit : ℕ) (pairs : List Clash) (rays : List (List ℕ)) (signs : List Sign) (i j : ℕ) (made : List (List ℕ)) → IsMadeUpTo limit pairs rays signs i j made →
     (p : IsSignedPair pairs rays signs i j) (u w : List ℕ) → ray_at rays i ≡ u → ray_at rays j ≡ w → (fault : StepFault) →
     IfLarge (IsLargeSumOf limit p.at_u p.at_w u w) fault → IfLarge (IsFirstLargeSum limit pairs rays signs) fault
@@ -28,7 +28,7 @@ first_large limit pairs rays signs i j made h p u w u_is w_is (Large (Pair x y))
 }
 first_large limit pairs rays signs i j made h p u w u_is w_is NoMemory k = k
 
--- a combination without its common divisor has as many columns as the two
+-- a combination divided by its greatest common divisor is as wide as the two rays
 pub reduced_width : (limit at_u at_w : ℕ) (u w x : List ℕ) → IsReducedBy limit at_u at_w u w x → length u ≡ length w → length x ≡ length w
 reduced_width limit at_u at_w u w x h same =
     sym (length-multiple h.divisor x) ∙ sym (ap length h.is_multiple) ∙ ap length h.combines.sum ∙

@@ -1,4 +1,4 @@
--- Lemmas on the negative rays that are far from a positive one.
+-- Lemmas on the negative rays that are ruled out for a positive one.
 use Rattle.std.proofs.Common.{◌≡◌, ℕ, ◌+◌, ◌<◌, ◌≤◌, ⊎_elim, List, Bool, length, get_or, [], subst, arith}
 use Rattle.cone_definitions.specs.Surfaces.{Clash}
 use Rattle.support_bits.specs.Columns.{support_of, Meets}
@@ -17,7 +17,7 @@ use Rattle.ray_steps.proofs.CombinationLemmas.{made_next}
 use Rattle.ray_steps.proofs.PlaceLemmas.{HaveTaken, taken_none, taken_to, made_end}
 use Rattle.ray_steps.proofs.UnionLemmas.{not_face_large}
 
--- a far ray makes no pair
+-- a ray that is ruled out is not adjacent
 pub not_face_far : (pairs : List Clash) (rays : List (List ℕ)) (signs : List Sign) (i columns most k : ℕ) (joined : List Bool) (negatives : Negatives) (a : List Bool) →
     AreClashingColumns pairs (support_of (ray_at rays i)) joined → HaveSmallUnions columns most pairs rays → AreNegatives rays signs columns negatives → length signs ≡ length rays →
     i < length rays → length (ray_at rays i) ≡ columns → a ≡ support_of (ray_at rays i) → k < length negatives.places.items →
@@ -31,7 +31,7 @@ not_face_far pairs rays signs i columns most k joined negatives a h small n coun
     (λ large. not_face_large columns most pairs rays i j a (get_or negatives.table.supports k []) small i_in j_in a_is b_is wide large)
     far
 
--- up to the first ray that is not far, the pairs are taken
+-- the pairs up to the first ray that is not ruled out are done
 pub near_taken : (limit : ℕ) (pairs : List Clash) (ray_list : List RayWithSupport) (signs : List Sign) (i columns most m n : ℕ) (joined : List Bool) (negatives : Negatives) (u : RayWithSupport) (made : List (List ℕ)) →
     AreClashingColumns pairs (support_of (ray_at (rays_of ray_list) i)) joined → HaveSmallUnions columns most pairs (rays_of ray_list) → AreNegatives (rays_of ray_list) signs columns negatives → length signs ≡ length ray_list →
     i < length ray_list → AreOfWidth columns ray_list → ray_at (rays_of ray_list) i ≡ u.ray → IsFirstNotRuledOut u.support joined most negatives.table.supports m n →
@@ -49,7 +49,7 @@ near_taken limit pairs ray_list signs i columns most m n joined negatives u made
           taken,
     )
 
--- where no negative ray is near, there is no pair
+-- if all negative rays are ruled out, there is no pair
 pub none_near : (limit : ℕ) (pairs : List Clash) (ray_list : List RayWithSupport) (signs : List Sign) (i columns most n : ℕ) (joined : List Bool) (negatives : Negatives) (u : RayWithSupport) (made : List (List ℕ)) →
     AreClashingColumns pairs (support_of (ray_at (rays_of ray_list) i)) joined → HaveSmallUnions columns most pairs (rays_of ray_list) → AreNegatives (rays_of ray_list) signs columns negatives → length signs ≡ length ray_list →
     i < length ray_list → AreOfWidth columns ray_list → ray_at (rays_of ray_list) i ≡ u.ray → IsFirstNotRuledOut u.support joined most negatives.table.supports 0 n → length negatives.places.items ≤ n →

@@ -1,4 +1,4 @@
--- The negative places, one place on, and the words of their supports.
+-- The indices of negative rays, with one more ray, and the words of their supports.
 use Rattle.std.proofs.Common.{◌≡◌, ℕ, ◌+◌, ◌/◌, ◌<◌, ⊎_elim, Bool, List, [], ◌∷◌, ◌++◌, Contains, length, slice_index_or, subst, sym, ◌∙◌, ap, arith}
 use Rattle.std.proofs.lemmas.Bool.{cases_lt}
 use Rattle.std.proofs.lemmas.List.Elements.{All-push, Contains-push, Contains-append_left}
@@ -28,6 +28,6 @@ negative_skip signs n places h none = record {
       (cases_lt place n);
 }
 
--- supports of as many columns have as many words
+-- supports of equally many columns have equally many words
 pub same_words : (s t : List Bool) (words other : List ℕ) → AreWordsOf s words → AreWordsOf t other → length s ≡ length t → length words ≡ length other
 same_words s t words other of_s of_t same = of_s.count ∙ ap (λ n. (n + 63) / 64) same ∙ sym of_t.count

@@ -16,7 +16,7 @@ no_column n column h = ⊎_elim
     (λ past. false≢true (sym (get_or_past (replicate n false) column false (omega (arith, length-replicate n false))) ∙ h))
     (cases_lt column n)
 
--- with no pair a column has no partner
+-- without pairs a column clashes with none
 pub partner_none : (columns column : ℕ) → IsClashSetOf columns [] column (replicate columns false)
 partner_none columns column = record {
   count = length-replicate columns false;
@@ -26,7 +26,7 @@ partner_none columns column = record {
   );
 }
 
--- a column that is not one of the support
+-- a column that is not in the support
 pub joined_skip : (n : ℕ) (partners : List (List Bool)) (support joined : List Bool) → IsJoinedBelow n partners support joined → ¬ HasColumn support n → IsJoinedBelow (n + 1) partners support joined
 joined_skip n partners support joined h none = record {
   count = h.count;
@@ -71,7 +71,7 @@ joined_all columns pairs partners support joined p wide h = record {
     within : (column : ℕ) → HasColumn support column → column < length support
     within column has = ⊎_elim (λ less. less) (λ past. absurd (false≢true (sym (get_or_past support column false past) ∙ has))) (cases_lt column (length support))
 
--- ---- partners that are noted
+-- ---- insertion into the sets of clashing columns
 
 inserted_column : (support : List Bool) (other column : ℕ) → other < length support → HasColumn (set support other true) column ↔ (HasColumn support column ⊎ (column ≡ other))
 inserted_column support other column within = ⊎_elim
@@ -114,7 +114,7 @@ module _ (one other : ℕ) (old : List (List Bool)) (within : one < length old) 
     each = each_noted;
   }
 
--- the partners by pairs and one pair more
+-- the sets by some pairs and one more pair
 pub partners_more : (columns : ℕ) (pairs : List Clash) (pair : Clash) (old mid new : List (List Bool)) → AreClashSets columns pairs old →
     IsInserted pair.0 pair.1 old mid → IsInserted pair.1 pair.0 mid new → AreClashSets columns (pairs ++ pair ∷ []) new
 partners_more columns pairs pair old mid new h first second = record {
@@ -149,7 +149,7 @@ partners_more columns pairs pair old mid new h first second = record {
         (λ (e : pair ≡ (k, other)). (second.each k other).1 (inl ((first.each k other).1 (inr (sym (ap (λ p. p.0) e), sym (ap (λ p. p.1) e))))))
         (Contains-push_cases pairs pair (k, other) c)
 
--- one column more has its partners
+-- the set of one more column
 pub partners_push : (columns : ℕ) (pairs : List Clash) (partners : List (List Bool)) (partner : List Bool) (column : ℕ) → length partners ≡ column →
     ((k : ℕ) → k < length partners → IsClashSetOf columns pairs k (get_or partners k [])) → IsClashSetOf columns pairs column partner →
     (k : ℕ) → k < length (partners ++ partner ∷ []) → IsClashSetOf columns pairs k (get_or (partners ++ partner ∷ []) k [])
@@ -159,6 +159,6 @@ partners_push columns pairs partners partner column count each last k within = �
     subst₂ (λ i p. IsClashSetOf columns pairs i p) e (sym (get_or_push partners partner [] k (count ∙ e))) last)
     (cases_lt k (length partners))
 
--- each partner is as wide as there are columns
+-- the sets are as wide as there are columns
 pub partner_widths : (columns n : ℕ) (pairs : List Clash) (partners : List (List Bool)) → AreClashSets columns pairs partners → columns ≡ n → All (λ partner. length partner ≡ n) partners
 partner_widths columns n pairs partners h same k d less = ap length (get_or_default partners k d [] less) ∙ (h.each k less).count ∙ same

@@ -1,4 +1,4 @@
--- The negative places in turn: up to which place the pairs with one positive ray are taken.
+-- The indices of negative rays, one after another: the index up to which the pairs with one positive ray are done.
 use Rattle.std.proofs.Common.{◌≡◌, ℕ, zero, suc, ◌+◌, ◌-◌, ◌<◌, ◌≤◌, inl, inr, ⊎_elim, List, length, get_or, slice_index_or, subst, ap, sym, arith}
 use Rattle.std.proofs.lemmas.List.Elements.{All-weaker}
 use Rattle.std.proofs.lemmas.List.{get_or_default, get_or_past}
@@ -9,7 +9,7 @@ use Rattle.ray_steps.specs.declared.signs.Sign.TheVariants.{Zero}
 use Rattle.ray_steps.specs.Signs.{IsNegative, AreNegativePlaces, IsSignedPair, ComesFromPlaces, IsMadeUpTo}
 use Rattle.ray_steps.proofs.CombinationLemmas.{made_skip}
 
--- the first m places come before a place, and the others do not
+-- the first m indices of the list are below `up_to`, and the others are not
 pub record AreReached (places : List ℕ) (m up_to : ℕ) : Type 0 where
   pub before : (k d : ℕ) → k < m → k < length places → get_or places k d < up_to
   pub after : (k d : ℕ) → m ≤ k → k < length places → up_to ≤ get_or places k d
@@ -29,7 +29,7 @@ reached_more signs n places m d h within = record {
     get_same : (xs : List ℕ) (k e d : ℕ) → k < length xs → get_or xs k e ≡ get_or xs k d
     get_same xs k e d l = get_or_default xs k e d l
 
--- no place between is negative
+-- no index between is that of a negative ray
 pub none_between : (signs : List Sign) (n : ℕ) (places : List ℕ) (m up_to k : ℕ) → AreNegativePlaces signs n places → AreReached places m up_to →
     up_to ≤ k → k < n → ((q d : ℕ) → m ≤ q → q < length places → k < get_or places q d) → ¬ IsNegative (slice_index_or signs k Zero)
 none_between signs n places m up_to k h r low within later negative =
@@ -38,7 +38,7 @@ none_between signs n places m up_to k h r low within later negative =
     ⊎_elim (λ early. let a = r.before c.0 k early c.1 in omega arith) (λ late. let a = later c.0 k late c.1 in omega arith) (cases_lt c.0 m)
 
 module _ (limit : ℕ) (pairs : List Clash) (rays : List (List ℕ)) (signs : List Sign) where
-  -- places between with no negative sign are passed over
+  -- indices between that are not those of negative rays are skipped
   pub made_skip_to : (i j k : ℕ) (made : List (List ℕ)) → j ≤ k → ((w : ℕ) → j ≤ w → w < k → ¬ IsNegative (slice_index_or signs w Zero)) →
       IsMadeUpTo limit pairs rays signs i j made → IsMadeUpTo limit pairs rays signs i k made
   made_skip_to i j k made low none h = record {
@@ -50,7 +50,7 @@ module _ (limit : ℕ) (pairs : List Clash) (rays : List (List ℕ)) (signs : Li
     apart = h.apart;
   }
 
-  -- up to the next negative place
+  -- all pairs up to the next negative ray are done
   pub made_at : (i m up_to : ℕ) (places : List ℕ) (made : List (List ℕ)) → AreNegativePlaces signs (length signs) places → m < length places → AreReached places m up_to →
       IsMadeUpTo limit pairs rays signs i up_to made → IsMadeUpTo limit pairs rays signs i (get_or places m 0) made
   made_at i m up_to places made h within r taken =
@@ -61,7 +61,7 @@ module _ (limit : ℕ) (pairs : List Clash) (rays : List (List ℕ)) (signs : Li
       (cases_lt m q)))
       taken
 
-  -- past the last negative place
+  -- all pairs after the last negative ray are done
   pub made_end : (i m up_to : ℕ) (places : List ℕ) (made : List (List ℕ)) → AreNegativePlaces signs (length signs) places → length places ≤ m → AreReached places m up_to →
       IsMadeUpTo limit pairs rays signs i up_to made → IsMadeUpTo limit pairs rays signs i (up_to + length signs) made
   made_end i m up_to places made h past r taken =
@@ -72,7 +72,7 @@ module _ (limit : ℕ) (pairs : List Clash) (rays : List (List ℕ)) (signs : Li
       (cases_lt w (length signs)))
       taken
 
-  -- the pairs up to a place are taken, of which the first m negative places come before and the others do not
+  -- the pairs up to an index are done: the first m negative rays come before it, and the others do not
   pub record HaveTaken (places : List ℕ) (i m : ℕ) (made : List (List ℕ)) : Type 0 where
     pub up_to : ℕ
     pub reached : AreReached places m up_to
@@ -81,12 +81,12 @@ module _ (limit : ℕ) (pairs : List Clash) (rays : List (List ℕ)) (signs : Li
   pub taken_none : (places : List ℕ) (i : ℕ) (made : List (List ℕ)) → IsMadeUpTo limit pairs rays signs i 0 made → HaveTaken places i 0 made
   taken_none places i made h = record { up_to = 0; reached = reached_none places; so_far = h }
 
-  -- one negative place more
+  -- one more negative ray
   pub taken_more : (places : List ℕ) (i m : ℕ) (made : List (List ℕ)) → AreNegativePlaces signs (length signs) places → m < length places →
       IsMadeUpTo limit pairs rays signs i (get_or places m 0 + 1) made → HaveTaken places i (m + 1) made
   taken_more places i m made h within taken = record { up_to = get_or places m 0 + 1; reached = reached_more signs (length signs) places m 0 h within; so_far = taken }
 
-  -- negative places that make no pair are passed over
+  -- negative rays that are in no pair are skipped
   taken_past : (d i m : ℕ) (places : List ℕ) (made : List (List ℕ)) → AreNegativePlaces signs (length signs) places → m + d ≤ length places →
       ((k : ℕ) → m ≤ k → k < m + d → ¬ IsSignedPair pairs rays signs i (get_or places k 0)) → HaveTaken places i m made → HaveTaken places i (m + d) made
   taken_past zero i m places made h within none t = subst (λ n. HaveTaken places i n made) {x = m} {y = m + 0} (omega arith) t

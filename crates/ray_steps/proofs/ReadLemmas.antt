@@ -1,4 +1,4 @@
--- What holds at the places that a step reads, over plain values, so that no goal of a long function is searched.
+-- What holds at the indices that a step reads, for plain values: the prover need not search for it in long functions.
 use Rattle.std.proofs.Common.{◌≡◌, ℕ, ◌+◌, ◌-◌, ◌<◌, ◌≤◌, List, length, get_or, slice_index_or, subst, sym, ◌∙◌, ap, arith}
 use Rattle.std.specs.List.{All}
 use Rattle.support_table.specs.Tables.{Table}
@@ -10,23 +10,23 @@ use Rattle.ray_steps.specs.Signs.{AreNegativePlaces, IsBoundedSign}
 use Rattle.ray_steps.specs.Rivals.{HasSupportsOf}
 use Rattle.ray_steps.proofs.RivalLemmas.{count_of_rivals}
 
--- a place that was read from the list of the negative ones
+-- an index from the list of the negative rays is in range
 pub place_within : (signs : List Sign) (places read : List ℕ) (m : ℕ) → AreNegativePlaces signs (length signs) places → read ≡ places → m < length read → get_or read m 0 < length signs
 place_within signs places read m h same less = subst (All (λ place. place < length signs)) (sym same) h.in_range m 0 less
 
--- it is one of a ray too
+-- an index from the list of the negative rays is in range for the list of rays
 pub place_of_kept : (signs : List Sign) (ray_list : List RayWithSupport) (places read : List ℕ) (m : ℕ) → length signs ≡ length ray_list → AreNegativePlaces signs (length signs) places → read ≡ places → m < length read →
     get_or read m 0 < length ray_list
 place_of_kept signs ray_list places read m count h same less = subst (λ n. get_or read m 0 < n) count (place_within signs places read m h same less)
 
--- the supports go as far as the places
+-- the table has a support for each index
 pub place_next : (rays : List (List ℕ)) (columns : ℕ) (places read : List ℕ) (table : Table) (m : ℕ) → HasSupportsOf rays columns places table → read ≡ places → m < length read → m + 1 ≤ length table.supports
 place_next rays columns places read table m h same less =
     let n = ap length same in
     let k = count_of_rivals rays columns places table h in
     omega arith
 
--- fewer places are left
+-- fewer indices are left
 pub fewer_left : (places read : List ℕ) (m n : ℕ) → read ≡ places → m < length read → m + 1 ≤ n → length places - n < length places - m
 fewer_left places read m n same less more = let k = ap length same in omega arith
 

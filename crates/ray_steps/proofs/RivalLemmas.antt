@@ -1,4 +1,4 @@
--- Lemmas on the rays that can lie in the union of one ray and another.
+-- Lemmas on the rays that can lie in the union of two rays.
 use Rattle.std.proofs.Common.{◌≡◌, ◌≢◌, ℕ, ◌+◌, ◌<◌, ◌↔◌, inl, inr, ⊎_elim, Bool, true, IsTrue, List, [], ◌∷◌, ◌++◌, Contains, length, get_or, ltb, subst, subst₂, sym, ◌∙◌, ap, arith}
 use Rattle.std.specs.Prelude.{Result, Ok, Err, IfOk}
 use Rattle.std.proofs.lemmas.Bool.{cases_lt, cases_eq}
@@ -23,7 +23,7 @@ use Rattle.support_table.proofs.JoinLemmas.{nonzero_from_column}
 pub support_read : (v : RayWithSupport) (x : List ℕ) → x ≡ v.ray → v.support ≡ support_of x
 support_read v x x_is = v.matches ∙ ap support_of (sym x_is)
 
--- the clashes of two rays that were read
+-- the clashing pairs in the union of two rays that were read
 pub clash_read : (clashes : List Clash) (u w : RayWithSupport) (y z : List ℕ) → y ≡ u.ray → z ≡ w.ray → IsClashFree clashes u.support w.support ↔ IsAdmissibleUnion clashes y z
 clash_read clashes u w y z y_is z_is =
     let i = clash_free_iff clashes u.ray w.ray in (
@@ -38,7 +38,7 @@ width_read v x columns wide x_is x_wide same = ap length (support_read v x x_is)
 pub meets_from_test : (v : RayWithSupport) (x : List ℕ) (columns : List Bool) (test : Bool) → x ≡ v.ray → IsTrue test ↔ Meets v.support columns → test ≡ true → Meets (support_of x) columns
 meets_from_test v x columns test x_is answers is = subst (λ s. Meets s columns) (support_read v x x_is) (answers.0 is)
 
--- one place more
+-- one more index
 pub apart_push : (rays : List (List ℕ)) (columns : List Bool) (n : ℕ) (places : List ℕ) → AreCompatible rays columns n places → AreCompatible rays columns (n + 1) (places ++ n ∷ [])
 apart_push rays columns n places h = record {
   in_range = All-push (λ k. k < n + 1) places n (λ k d within. let less = h.in_range k d within in omega arith) (omega arith);
@@ -57,7 +57,7 @@ apart_skip rays columns n places h none = record {
       (cases_lt k n);
 }
 
--- a pair with a column of u and one of a ray inside the union
+-- the union contains both columns of a pair of which u has one and a ray inside the union the other
 holds_pair : (v u w : List ℕ) (column other : ℕ) → IsInsideUnion v u w → HasColumn (support_of v) column → HasColumn (support_of u) other →
     ¬ IsFreeOf u w (column, other) × ¬ IsFreeOf u w (other, column)
 holds_pair v u w column other inside has_v has_u = (
@@ -81,12 +81,12 @@ apart_inside pairs v u w joined joins admissible inside meets =
     (λ c. none.1 (subst (IsFreeOf u w) c.2 (admissible c.0 (is.0, meets.0) c.1)))
     is.2
 
--- a pair whose second ray has a column that clashes with one of the first
+-- two rays are not adjacent if the second one contains a column that clashes with one of the first
 pub not_face_clash : (pairs : List Clash) (rays : List (List ℕ)) (i j : ℕ) (joined : List Bool) → AreClashingColumns pairs (support_of (ray_at rays i)) joined → Meets (support_of (ray_at rays j)) joined → ¬ IsAdjacentPair pairs rays i j
 not_face_clash pairs rays i j joined joins meets face =
     apart_inside pairs (ray_at rays j) (ray_at rays i) (ray_at rays j) joined joins face.no_clash (λ column at_u at_w. at_w) meets
 
--- the support of a rival
+-- the support of a compatible ray
 pub support_of_rival : (rays : List (List ℕ)) (columns : ℕ) (places : List ℕ) (table : Table) (m : ℕ) → HasSupportsOf rays columns places table → m < length places →
     get_or table.supports m [] ≡ support_of (ray_at rays (get_or places m 0))
 support_of_rival rays columns places table m h within =
@@ -95,14 +95,14 @@ support_of_rival rays columns places table m h within =
 pub count_of_rivals : (rays : List (List ℕ)) (columns : ℕ) (places : List ℕ) (table : Table) → HasSupportsOf rays columns places table → length table.supports ≡ length places
 count_of_rivals rays columns places table h = ap length h.supports ∙ length-map places (λ k. support_of (ray_at rays k))
 
--- the support of a rival lies inside the union of two if and only if its ray does
+-- the support of a compatible ray lies inside the union of two if and only if its vector does
 inside_rival : (rays : List (List ℕ)) (i j columns m : ℕ) (places : List ℕ) (table : Table) (a b : List Bool) → HasSupportsOf rays columns places table → m < length places →
     a ≡ support_of (ray_at rays i) → b ≡ support_of (ray_at rays j) →
     IsInsideUnionOf (get_or table.supports m []) a b ↔ IsInsideUnion (ray_at rays (get_or places m 0)) (ray_at rays i) (ray_at rays j)
 inside_rival rays i j columns m places table a b h within a_is b_is =
     rw (support_of_rival rays columns places table m h within, a_is, b_is) (inside_iff (ray_at rays (get_or places m 0)) (ray_at rays i) (ray_at rays j))
 
--- a pair with a third ray
+-- two rays with a third ray inside their union are not adjacent
 pub not_face_third : (pairs : List Clash) (rays : List (List ℕ)) (i j columns m : ℕ) (rivals : CompatibleRays) (a b : List Bool) → AreCompatibleWith pairs rays i columns rivals → a ≡ support_of (ray_at rays i) → b ≡ support_of (ray_at rays j) →
     m < length rivals.places.items → IsThirdInside rivals.places.items rivals.table.supports i j a b m → ¬ IsAdjacentPair pairs rays i j
 not_face_third pairs rays i j columns m rivals a b h a_is b_is within third face =
@@ -110,7 +110,7 @@ not_face_third pairs rays i j columns m rivals a b h a_is b_is within third face
     ⊎_elim third.0 third.1
     (face.no_third k (h.listed.places.in_range m 0 within) ((inside_rival rays i j columns m rivals.places.items rivals.table a b h.listed.table within a_is b_is).0 third.2))
 
--- where no third rival lies inside, an admissible union makes a pair
+-- if no third compatible ray lies inside, two rays with an admissible union are adjacent
 pub face_from_rivals : (pairs : List Clash) (rays : List (List ℕ)) (i j columns : ℕ) (rivals : CompatibleRays) (a b : List Bool) → AreCompatibleWith pairs rays i columns rivals → a ≡ support_of (ray_at rays i) → b ≡ support_of (ray_at rays j) →
     ((m : ℕ) → m < length rivals.places.items → ¬ IsThirdInside rivals.places.items rivals.table.supports i j a b m) →
     IsAdmissibleUnion pairs (ray_at rays i) (ray_at rays j) → IsAdjacentPair pairs rays i j
@@ -135,7 +135,7 @@ face_from_rivals pairs rays i j columns rivals a b h a_is b_is none admissible =
               (subst (λ n. IsInsideUnion (ray_at rays n) (ray_at rays i) (ray_at rays j)) (sym at) inside),
         )
 
--- the same columns clash with the ray at i, so the rivals at hand are its own
+-- if the same columns clash with ray i, its compatible rays are those in memory
 pub rivals_kept : (pairs : List Clash) (ray_list : List RayWithSupport) (i columns : ℕ) (before : CompatibleRays) (v : RayWithSupport) (joined : List Bool) → ray_at (rays_of ray_list) i ≡ v.ray → AreClashingColumns pairs v.support joined → joined ≡ before.joined →
     HaveCompatible (rays_of ray_list) columns before → AreCompatibleWith pairs (rays_of ray_list) i columns before
 rivals_kept pairs ray_list i columns before v joined read joins same listed = record {

@@ -1,4 +1,4 @@
--- Rays of a single column: no third ray lies in the union of one of them and another.
+-- Rays with a single column: no third ray lies in the union of one of them and another ray.
 use Rattle.std.proofs.Common.{◌≡◌, ◌≢◌, ℕ, zero, suc, ◌+◌, ◌<◌, ◌≤◌, ◌⊎◌, inl, inr, ⊎_elim, Bool, true, cond, List, [], length, slice_index, refl, sym, ◌∙◌, ap, arith}
 use Rattle.std.specs.List.{count_by, range_with_len}
 use Rattle.std.proofs.lemmas.Bool.{cases_eq, cases_lt, lt-ltb}
@@ -18,7 +18,7 @@ use Rattle.ray_steps.specs.Unions.{HasSingle, IsSingle, MakeSinglesPairs}
 use Rattle.cone_definitions.specs.Unordered.{HasSurfaces}
 use Rattle.basic_lemmas.proofs.Lists.{one_place}
 
--- a ray inside the union of one of a single column and another is one of them
+-- a ray inside the union of two rays, of which one has a single column, is one of the two
 no_third_beside_single : (columns : ℕ) (rows : List Row) (u w v : List ℕ) → IsPrimitiveExtreme columns rows u → IsPrimitiveExtreme columns rows w → IsPrimitiveExtreme columns rows v →
     IsSingle u → IsInsideUnion v u w → (v ≡ u) ⊎ (v ≡ w)
 no_third_beside_single columns rows u w v hu hw hv single inside = ⊎_elim
@@ -36,7 +36,7 @@ no_third_beside_single columns rows u w v hu hw hv single inside = ⊎_elim
     in_it some j at_v = single.1 j (λ same. some (ap (slice_index v) (sym same) ∙ at_v))
 
 module _ (columns : ℕ) (rows : List Row) (pairs : List Clash) (rays : List (List ℕ)) (h : HasSurfaces columns rows pairs rays) where
-  -- a step after these rows, whatever its row
+  -- a step after these rows, for any row
   step : Step
   step = record { columns = columns; pairs = pairs; before = rows; row = [] }
 
@@ -54,7 +54,7 @@ module _ (columns : ℕ) (rows : List Row) (pairs : List Clash) (rays : List (Li
   pub single_pairs : MakeSinglesPairs pairs rays
   single_pairs i j i_in j_in single admissible = record { no_clash = admissible; no_third = λ k k_in inside. third_of_two i j k i_in j_in k_in single inside }
 
--- a number with a property is counted, and two are
+-- the count is at least 1 if a number has the property, and at least 2 if two have it
 count_one : (p : ℕ → Bool) (a n j : ℕ) → a ≤ j → j < a + n → p j ≡ true → 1 ≤ count_by p (range_with_len a n)
 count_one p a zero j low less is = absurd (omega arith)
 count_one p a (suc n) j low less is = let c = count_cons p a (range_with_len (a + 1) n) in ⊎_elim

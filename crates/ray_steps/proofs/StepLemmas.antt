@@ -1,4 +1,4 @@
--- One step of the elimination, from the places of the rays to the surface list of one row more.
+-- One step of the elimination, from the indices of the rays to the surface list of one more row.
 use Rattle.std.proofs.Common.{◌≡◌, ℕ, ◌≤◌, ◌⊎◌, List, [], All, Contains, length, slice_index_or, slice_index, subst, subst₂, sym, ◌∙◌, arith, nat_cmp, IsSorted}
 use Rattle.std.specs.Cmp.Lexicographic.{slice_cmp}
 use Rattle.std.specs.List.Sorted.{IsPermutation}
@@ -56,7 +56,7 @@ module _ (limit columns : ℕ) (pairs : List Clash) (before : List Row) (row : R
         );
   }
 
-  -- an entry of a combination that was made is within the limit
+  -- an entry of a combination in the list is within the limit
   entry_within : (i j : ℕ) (p : IsSignedPair pairs rays signs i j) (x : List ℕ) → IsReducedBy limit p.at_u p.at_w (ray_at rays i) (ray_at rays j) x →
       (z : List ℕ) → IsCombination row (ray_at rays i) (ray_at rays j) z → (column : ℕ) → slice_index z column ≤ limit
   entry_within i j p x h z combines column =
@@ -71,7 +71,7 @@ module _ (limit columns : ℕ) (pairs : List Clash) (before : List Row) (row : R
       let g = h.gives i j (signed_pair limit columns pairs before row rays signs unordered signed i j i_in j_in p) in
       entry_within i j g.pair g.x g.reduced z combines column)
 
-  -- the first pair past the limit is the least
+  -- the first pair whose combination exceeds the limit is the least
   pub named_pair : (x y : List ℕ) → IsFirstLargePair limit pairs rays signs x y → IsLargePair limit (step_of pairs columns before row) x y
   named_pair x y h = subst₂ (IsLargePair limit (step_of pairs columns before row)) (sym h.x_is) (sym h.y_is)
       (large_pair_from_list (step_of pairs columns before row) rays surfaces limit h.u h.w h.pair.u_in_range h.pair.w_in_range signed.within
@@ -87,13 +87,13 @@ module _ (limit columns : ℕ) (pairs : List Clash) (before : List Row) (row : R
       let e = h.earlier k l taken (signed_pair limit columns pairs before row rays signs unordered signed k l k_in l_in p) in
       entry_within k l e.0 e.1 e.2 z combines column))
 
--- the first ray past the limit is the least
+-- the first ray at which a part of the row exceeds the limit is the least
 pub named_ray : (limit columns : ℕ) (pairs : List Clash) (before : List Row) (row : Row) (rays : List (List ℕ)) → IsSurfaceList columns before pairs rays → (x : List ℕ) →
     IsFirstLargeRay limit row rays x → IsLargeRay limit (step_of pairs columns before row) x
 named_ray limit columns pairs before row rays surfaces x h = subst (IsLargeRay limit (step_of pairs columns before row)) (sym h.is)
     (large_ray_from_list (step_of pairs columns before row) rays surfaces limit h.place h.in_range h.large h.earlier)
 
--- the list in ascending order is what the step gives
+-- the list in ascending order is the result of the step
 pub next_of : (limit columns : ℕ) (pairs : List Clash) (row : Row) (rays : List (List ℕ)) (signs : List Sign) (next sorted : List (List ℕ)) → AreSigns limit row rays signs →
     IsNextFrom limit pairs rays signs 0 next → IsPermutation next sorted → IsSorted (slice_cmp nat_cmp) sorted → All (λ x. length x ≡ columns) sorted →
     IsNextOf limit columns pairs row rays sorted
@@ -103,7 +103,7 @@ next_of limit columns pairs row rays signs next sorted signed h permutation up w
   within = λ before surfaces. within_step limit columns pairs before row rays signs surfaces signed next h;
 }
 
--- what a refusal names is what the step names
+-- a refusal names what the step names
 pub named_value : (limit columns : ℕ) (pairs : List Clash) (row : Row) (rays : List (List ℕ)) (fault : StepFault) →
     IfLarge (IsFirstLargeValue limit row rays) fault → IfLarge (IsNamedFrom limit columns pairs row rays) fault
 named_value limit columns pairs row rays (Large (Value x)) h = λ before surfaces. named_ray limit columns pairs before row rays surfaces x h

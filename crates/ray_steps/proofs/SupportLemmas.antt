@@ -1,4 +1,4 @@
--- What supports say of vectors.
+-- Supports and their vectors.
 use Rattle.std.proofs.Common.{◌≡◌, ℕ, ◌⊎◌, ◌↔◌, inl, inr, ⊎_elim, List, get_or}
 use Rattle.std.proofs.lemmas.Bool.{cases_eq}
 use Rattle.cone_definitions.specs.Vectors.{IsInsideUnion}
@@ -7,7 +7,7 @@ use Rattle.support_bits.specs.Columns.{support_of, IsInsideUnionOf}
 use Rattle.support_table.proofs.JoinLemmas.{nonzero_from_column, column_from_nonzero}
 use Rattle.ray_steps.specs.Clashes.{IsInUnion, IsClashFree}
 
--- inside a union
+-- a support lies inside a union if and only if its vector does
 pub inside_iff : (v u w : List ℕ) → IsInsideUnionOf (support_of v) (support_of u) (support_of w) ↔ IsInsideUnion v u w
 inside_iff v u w = (forth, back)
   where
@@ -22,7 +22,7 @@ inside_iff v u w = (forth, back)
         (λ some. inl (column_from_nonzero u column some))
         (cases_eq (get_or u column 0) 0)
 
--- a column is one of a union, or 0 at both
+-- both vectors are 0 at the column
 abbrev AreZeroAt : List ℕ → List ℕ → ℕ → Type 0
 AreZeroAt u w column = (get_or u column 0 ≡ 0) × (get_or w column 0 ≡ 0)
 
@@ -35,7 +35,7 @@ in_union_or_zero u w column = ⊎_elim
 not_both : (u w : List ℕ) (column : ℕ) → AreZeroAt u w column → ¬ IsInUnion (support_of u) (support_of w) column
 not_both u w column zero has = ⊎_elim (λ h. nonzero_from_column u column h zero.0) (λ h. nonzero_from_column w column h zero.1) has
 
--- free of clashing pairs
+-- a union of supports is free of clashing pairs if and only if that of the vectors is
 pub clash_free_iff : (clashes : List Clash) (u w : List ℕ) → IsClashFree clashes (support_of u) (support_of w) ↔ IsAdmissibleUnion clashes u w
 clash_free_iff clashes u w = (
   λ free k d h. choose (get_or clashes k d) (free k d h),

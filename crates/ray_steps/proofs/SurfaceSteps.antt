@@ -1,4 +1,4 @@
--- One step, from the vertex surfaces of the rows before in any order to those of one row more.
+-- One step, from the vertex surfaces of the rows before, in any order, to those of one more row.
 use Rattle.std.proofs.Common.{◌≡◌, ℕ, ◌<◌, ◌≤◌, ◌⊎◌, inl, inr, List, [], ◌∷◌, ◌++◌, Contains, length, slice_index_or, subst, subst₂, sym, refl, arith}
 use Rattle.std.proofs.lemmas.List.Elements.{All-contains, Contains-get_or}
 use Rattle.cone_definitions.specs.Vectors.{ray_at}
@@ -17,7 +17,7 @@ use Rattle.ray_steps.specs.Signs.{IsSignAt, AreSigns, IsSignedPair, ComesFromPla
 use Rattle.cone_definitions.proofs.Unordered.{place_of, pair_third_place}
 use Rattle.ray_steps.proofs.CombinationLemmas.{sign_read, reduced_read, comes_read}
 
--- a sign at which the row is zero, positive or negative
+-- the sign of a vector at which the row is 0, positive or negative
 pub zero_sign : (row : Row) (x : List ℕ) (sign : Sign) → IsSignAt row x sign → IsZeroAt row x → sign ≡ Zero
 zero_sign row x Zero at zero = refl
 zero_sign row x (Positive value) at zero = absurd (let p = at.0 in omega arith)
@@ -41,7 +41,7 @@ module _ (limit columns : ℕ) (pairs : List Clash) (before : List Row) (row : R
   pub sign_at_place : (k : ℕ) → k < length rays → IsSignAt row (ray_at rays k) (slice_index_or signs k Zero)
   sign_at_place k h = sign_read limit pairs rays signs row signed k (slice_index_or signs k Zero) h refl
 
-  -- a pair of places that is a pair of the step has the signs of one
+  -- the indices of a pair of the step are those of a pair with signs
   pub signed_pair : (i j : ℕ) → i < length rays → j < length rays → IsPair (step_of pairs columns before row) (ray_at rays i) (ray_at rays j) → IsSignedPair pairs rays signs i j
   signed_pair i j i_in j_in p =
       let at_i = positive_sign row (ray_at rays i) (slice_index_or signs i Zero) (sign_at_place i i_in) p.positive in
@@ -56,7 +56,7 @@ module _ (limit columns : ℕ) (pairs : List Clash) (before : List Row) (row : R
         face = record { no_clash = p.no_clash; no_third = pair_third_place (step_of pairs columns before row) rays surfaces i j i_in j_in p };
       }
 
-  -- what stands in the list is kept or made
+  -- a vector of the list comes from a ray of sign zero or from a pair
   pub kept_or_made_read : (x : List ℕ) → ComesFromZero rays signs 0 x ⊎ ComesFromPlaces limit pairs rays signs (length rays) 0 x →
       (Contains rays x × IsZeroAt row x) ⊎ ComesFromPair (step_of pairs columns before row) x
   kept_or_made_read x (inl z) = inl (
@@ -65,7 +65,7 @@ module _ (limit columns : ℕ) (pairs : List Clash) (before : List Row) (row : R
   )
   kept_or_made_read x (inr c) = inr (comes_read limit pairs rays signs the_step c.u c.w x c.pair c.reduced)
 
-  -- what comes from a pair stands in a list that has what each pair of places gives
+  -- the combination of a pair is in a list that has the combinations of all pairs
   pub pair_stands : (next : List (List ℕ)) → ((u w : ℕ) → IsSignedPair pairs rays signs u w → GivesFrom limit pairs rays signs next u w) →
       (x : List ℕ) → ComesFromPair (step_of pairs columns before row) x → Contains next x
   pair_stands next gives x c =
@@ -77,7 +77,7 @@ module _ (limit columns : ℕ) (pairs : List Clash) (before : List Row) (row : R
       (subst₂ (λ a b. IsReducedCombination row a b g.x) i.2 j.2 (reduced_read limit pairs rays signs the_step i.0 j.0 g.x g.pair g.reduced))
       union.solution.width union.nonzero)) g.stands
 
-  -- a ray at which the row is 0 stands in a list that keeps those
+  -- a ray at which the row is 0 is in a list that retains all of these
   pub zero_stands : (next : List (List ℕ)) → ((k : ℕ) → 0 ≤ k → k < length rays → slice_index_or signs k Zero ≡ Zero → Contains next (ray_at rays k)) →
       (x : List ℕ) → IsRay (step_of pairs columns before row) x → IsZeroAt row x → Contains next x
   zero_stands next keeps x ray zero_at =
@@ -94,7 +94,7 @@ module _ (limit columns : ℕ) (pairs : List Clash) (before : List Row) (row : R
   next_surface x (inl kept) = (step_gives_next_lem (step_of pairs columns before row) x).1 (inl (All-contains (IsVertexSurface columns before pairs) rays x surfaces.vertex_surfaces kept.0, kept.1))
   next_surface x (inr made) = (step_gives_next_lem (step_of pairs columns before row) x).1 (inr made)
 
-  -- the rays kept and those made are the vertex surfaces of one row more
+  -- the rays retained and the combinations are the vertex surfaces of one more row
   pub next_surfaces : (next : List (List ℕ)) → IsNextFrom limit pairs rays signs 0 next → HasSurfaces columns (before ++ row ∷ []) pairs next
   next_surfaces next h = record {
     apart = h.apart the_step;

@@ -1,4 +1,4 @@
--- The rivals in turn, over plain values.
+-- The compatible rays, one after another, for plain values.
 use Rattle.std.proofs.Common.{◌≡◌, ◌≢◌, ℕ, ◌+◌, ◌<◌, ◌≤◌, List, [], Bool, length, get_or, slice_index_or, subst, ◌∙◌, ap, arith}
 use Rattle.support_bits.specs.Columns.{IsInsideUnionOf}
 use Rattle.ray_steps.specs.Rivals.{IsThirdInside}
@@ -6,7 +6,7 @@ use Rattle.ray_steps.specs.Rivals.{IsThirdInside}
 pub from_zero : (k : ℕ) → 0 ≤ k
 from_zero k = omega arith
 
--- a place that was read is a third one
+-- the ray of an index that was read is a third one
 pub third_found : (places read : List ℕ) (supports : List (List Bool)) (i j m : ℕ) (a b : List Bool) → read ≡ places → m < length read →
     (m < length places → IsInsideUnionOf (slice_index_or supports m []) a b) → (get_or read m 0 ≢ i) × (get_or read m 0 ≢ j) → (m < length places) × IsThirdInside places supports i j a b m
 third_found places read supports i j m a b same within inside third =

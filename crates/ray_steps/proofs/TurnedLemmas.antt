@@ -1,4 +1,4 @@
--- What the pairs give with all signs turned is what they give.
+-- The combinations with all signs negated are those of the signs.
 use Rattle.std.proofs.Common.{◌≡◌, ℕ, inl, inr, ⊎_elim, List, [], ◌∷◌, All, map, length, slice_index_or, subst, sym, ◌∙◌, ap, ap₂, refl, arith}
 use Rattle.std.proofs.Math.Nat.{add_comm}
 use Rattle.std.proofs.Math.ListN.{get_or-map}
@@ -32,7 +32,7 @@ bounded-turned limit Zero h = h
 bounded-turned limit (Positive value) h = h
 bounded-turned limit (Negative value) h = h
 
--- a sign before it was turned
+-- a sign before it was negated
 sign_before : (signs : List Sign) (k : ℕ) (sign : Sign) → slice_index_or (map turned_sign signs) k Zero ≡ sign → slice_index_or signs k Zero ≡ turned_sign sign
 sign_before signs k sign is = sym (turned-twice (slice_index_or signs k Zero)) ∙ ap turned_sign (sym (sign_at-turned signs k) ∙ is)
 
@@ -112,7 +112,7 @@ module _ (limit : ℕ) (pairs : List Clash) (rays : List (List ℕ)) (signs : Li
   step-turned : IsStepAt limit pairs rays signs → IsStepAt limit pairs rays (map turned_sign signs)
   step-turned h = record { columns = h.columns; before = h.before; row = turned h.row; surfaces = h.surfaces; signed = signs-turned limit rays signs h.row h.signed }
 
-  -- all pairs were taken with the signs turned
+  -- all pairs were done with the signs negated
   pub made-turned : (made : List (List ℕ)) → length signs ≡ length rays →
       IsMadeUpTo limit pairs rays (map turned_sign signs) (length (map turned_sign signs)) 0 made → IsMadeUpTo limit pairs rays signs (length signs) 0 made
   made-turned made count h = record {
@@ -134,7 +134,7 @@ module _ (limit : ℕ) (pairs : List Clash) (rays : List (List ℕ)) (signs : Li
     apart = λ step. h.apart (step-turned step);
   }
 
--- the values stay within the limit
+-- the values remain within the limit
 pub all_bounded-turned : (limit : ℕ) (signs : List Sign) → All (IsBoundedSign limit) signs → All (IsBoundedSign limit) (map turned_sign signs)
 all_bounded-turned limit signs h k d within =
     let n = length-map signs turned_sign in

@@ -1,4 +1,4 @@
--- The union of a pair has at most two columns more than there are rows.
+-- The union of a pair has at most two more columns than there are rows.
 use Rattle.std.proofs.Common.{◌≡◌, ℕ, ◌+◌, ◌<◌, ◌≤◌, List, Bool, length, subst, arith}
 use Rattle.cone_definitions.specs.Rows.{Row}
 use Rattle.cone_definitions.specs.Surfaces.{Clash, IsSurfaceList}
@@ -14,7 +14,7 @@ use Rattle.support_table.proofs.BitCounts.{columns_of_vectors}
 pub small_unions : (columns : ℕ) (rows : List Row) (pairs : List Clash) (rays : List (List ℕ)) → IsSurfaceList columns rows pairs rays → HaveSmallUnions columns (length rows + 2) pairs rays
 small_unions columns rows pairs rays h i j i_in j_in face = places_bound columns rows pairs rays h i j i_in j_in face.no_clash face.no_third
 
--- the union of a pair has few columns, as the supports have it
+-- the union of the supports of adjacent rays has at most `most` columns
 pub near_face : (columns most : ℕ) (pairs : List Clash) (rays : List (List ℕ)) (i j : ℕ) (a b : List Bool) → HaveSmallUnions columns most pairs rays →
     i < length rays → j < length rays → a ≡ support_of (ray_at rays i) → b ≡ support_of (ray_at rays j) → length (ray_at rays i) ≡ columns →
     IsAdjacentPair pairs rays i j → columns_in_either a b ≤ most
@@ -24,7 +24,7 @@ near_face columns most pairs rays i j a b small i_in j_in a_is b_is wide face =
     (columns_of_vectors a b (ray_at rays i) (ray_at rays j) a_is b_is) in
     omega (arith, bound, e)
 
--- places whose union has more columns are no pair
+-- rays whose union has more than `most` columns are not adjacent
 pub not_face_large : (columns most : ℕ) (pairs : List Clash) (rays : List (List ℕ)) (i j : ℕ) (a b : List Bool) → HaveSmallUnions columns most pairs rays →
     i < length rays → j < length rays → a ≡ support_of (ray_at rays i) → b ≡ support_of (ray_at rays j) → length (ray_at rays i) ≡ columns →
     most < columns_in_either a b → ¬ IsAdjacentPair pairs rays i j

@@ -13,7 +13,7 @@ use Rattle.cone_arithmetic.specs.Filled.{AreInside}
 use Rattle.cone_arithmetic.proofs.EntryLemmas.{quotient_positive}
 use Rattle.ray_steps.proofs.LargeLemmas.{reduced_width}
 
--- one of two truth values is true
+-- a disjunction is true if one of the truth values is
 pub left_true : (a b : Bool) → a ≡ true → IsTrue (a || b)
 left_true a b is = rw is refl
 
@@ -21,7 +21,7 @@ pub right_true : (a b : Bool) → b ≡ true → IsTrue (a || b)
 right_true true b is = refl
 right_true false b is = is
 
--- a number is positive where one of two is
+-- a number is positive if and only if one of two numbers is
 pub either_positive : (a b x : ℕ) → (x ≡ 0 → a ≡ 0) → (x ≡ 0 → b ≡ 0) → (a ≡ 0 → b ≡ 0 → x ≡ 0) → (ltb 0 a || ltb 0 b) ≡ ltb 0 x
 either_positive a b x of_a of_b of_x = ⊎_elim
     (λ gone. rw (of_a gone, of_b gone, gone) refl)
@@ -57,7 +57,7 @@ module _ (limit at_u at_w : ℕ) (u w x : List ℕ) (some_u : 1 ≤ at_u) (some_
   x_inside j u_gone w_gone = x_inside_multiple h.divisor x h.combination h.is_multiple combination_nonzero j
       (ap (λ z. slice_index z j) h.combines.sum ∙ combined_inside_union (length w) p q u w same refl j u_gone w_gone)
 
-  -- where the ray is 0, the combination is
+  -- the combination is 0 at each column at which x is 0
   gone_there : (j : ℕ) → slice_index x j ≡ 0 → slice_index h.combination j ≡ 0
   gone_there j gone = ap (λ z. slice_index z j) h.is_multiple ∙ entry-multiple h.divisor x j ∙ ap (λ n. h.divisor * n) gone ∙ omega arith
 
@@ -73,7 +73,7 @@ gone_where x s column is none = ⊎_elim (λ gone. gone)
     (λ some. absurd (true≢false (sym (lt-ltb 0 (slice_index x column) (omega (arith, some))) ∙ sym (get_or-support_of x column) ∙ ap (λ t. get_or t column false) (sym is) ∙ none)))
     (cases_eq (slice_index x column) 0)
 
--- outside the union of their supports two vectors are 0
+-- two vectors are 0 outside the union of their supports
 pub outside_union : (u w : List ℕ) (a b union : List Bool) → a ≡ support_of u → b ≡ support_of w → IsUnion a b union → AreInside union u w
 outside_union u w a b union a_is b_is is column none =
     let parts = or_parts (get_or a column false) (get_or b column false) (sym (is.each column) ∙ none) in

@@ -1,4 +1,4 @@
--- A step's facts, read from its value and from its fields.
+-- Properties of a step, from its value and from its fields.
 use Rattle.std.proofs.Common.{◌≡◌, ℕ, ◌<◌, List, length, subst, sym, ap, ◌∙◌}
 use Rattle.cone_definitions.specs.Rows.{Row}
 use Rattle.ray_steps.specs.declared.rays.RayWithSupport.{RayWithSupport}
@@ -22,7 +22,7 @@ place_in_rays ray_list rays i same less = subst (λ n. i < n) (sym (length-rays_
 pub negatives_read : (a d : StepData) → a ≡ d → (negatives : Negatives) → AreNegatives d.rays d.signs d.columns negatives → AreNegatives a.rays a.signs a.columns negatives
 negatives_read a d same negatives h = subst (λ (s : StepData). AreNegatives s.rays s.signs s.columns negatives) (sym same) h
 
--- what follows a step of a row at rays
+-- the list after a step by a row from some rays
 pub next_of_step : (limit : ℕ) (clashes : ClashData) (row : Row) (rays : List (List ℕ)) (step : StepData) (next : List (List ℕ)) → IsStepOf limit clashes row rays step →
     IsNextFrom step.limit step.pairs step.rays step.signs 0 next → IsNextFrom limit clashes.pairs rays step.signs 0 next
 next_of_step limit clashes row rays step next h from =
@@ -30,7 +30,7 @@ next_of_step limit clashes row rays step next h from =
     (subst (λ ps. IsNextFrom step.limit ps rays step.signs 0 next) h.pairs
     (subst (λ rs. IsNextFrom step.limit step.pairs rs step.signs 0 next) h.rays_are from))
 
--- what a step is refused for
+-- the refusal of a step
 pub large_of_step : (limit : ℕ) (clashes : ClashData) (row : Row) (rays : List (List ℕ)) (step : StepData) (fault : StepFault) → IsStepOf limit clashes row rays step →
     IfLarge (IsFirstLargeOf step) fault → IfLarge (IsFirstLargeSum limit clashes.pairs rays step.signs) fault
 large_of_step limit clashes row rays step fault h large =

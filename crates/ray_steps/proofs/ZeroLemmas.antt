@@ -1,4 +1,4 @@
--- The rays with the sign zero beside what the pairs give, one ray on.
+-- The rays of sign zero together with the combinations of pairs, with one more ray.
 use Rattle.std.proofs.Common.{◌≡◌, ◌≢◌, ℕ, zero, suc, ◌+◌, ◌<◌, ◌≤◌, ◌⊎◌, inl, inr, ⊎_elim, List, [], ◌∷◌, ◌++◌, Contains, length, take, get_or, get_or-take, slice_index_or, subst, ap, sym, ◌∙◌, refl, arith}
 use Rattle.std.proofs.lemmas.List.Elements.{All-push, All-weaker, Contains-push, Contains-append_left}
 use Rattle.std.proofs.lemmas.List.Quantifiers.{all_pairs_push}
@@ -20,7 +20,7 @@ use Rattle.ray_steps.specs.Signs.{ComesFromPlaces, ComesFromZero, IsStepAt, IsMa
 use Rattle.ray_steps.proofs.CombinationLemmas.{sign_read, comes_read}
 
 module _ (limit : ℕ) (pairs : List Clash) (rays : List (List ℕ)) (signs : List Sign) where
-  -- what the pairs give, and no ray yet
+  -- the combinations of all pairs, and no ray yet
   pub next_none : (made : List (List ℕ)) → IsMadeUpTo limit pairs rays signs (length rays) 0 made → IsNextFrom limit pairs rays signs (length rays) made
   next_none made h = record {
     comes = All-weaker (ComesFromPlaces limit pairs rays signs (length rays) 0) (λ x. ComesFromZero rays signs (length rays) x ⊎ ComesFromPlaces limit pairs rays signs (length rays) 0 x)
@@ -35,7 +35,7 @@ module _ (limit : ℕ) (pairs : List Clash) (rays : List (List ℕ)) (signs : Li
   zero_weaker m x (inl z) = inl (record { place = z.place; from = let f = z.from in omega arith; in_range = z.in_range; zero = z.zero; is = z.is })
   zero_weaker m x (inr c) = inr c
 
-  -- a ray with another sign is left out
+  -- a ray of another sign is left out
   pub next_skip : (m : ℕ) (next : List (List ℕ)) → ¬ (slice_index_or signs m Zero ≡ Zero) → IsNextFrom limit pairs rays signs (m + 1) next → IsNextFrom limit pairs rays signs m next
   next_skip m next other h = record {
     comes = All-weaker (λ x. ComesFromZero rays signs (m + 1) x ⊎ ComesFromPlaces limit pairs rays signs (length rays) 0 x)
@@ -45,7 +45,7 @@ module _ (limit : ℕ) (pairs : List Clash) (rays : List (List ℕ)) (signs : Li
     apart = h.apart;
   }
 
-  -- a ray with the sign zero is kept
+  -- a ray of sign zero is retained
   pub next_push : (m : ℕ) (next : List (List ℕ)) (x : List ℕ) → m < length rays → slice_index_or signs m Zero ≡ Zero → x ≡ ray_at rays m → IsNextFrom limit pairs rays signs (m + 1) next →
       IsNextFrom limit pairs rays signs m (next ++ x ∷ [])
   next_push m next x within at_zero is h = record {
@@ -72,7 +72,7 @@ module _ (limit : ℕ) (pairs : List Clash) (rays : List (List ℕ)) (signs : Li
           (subst (λ v. ComesFromPair (step_of pairs step.columns step.before step.row) v) (same ∙ is)
           (comes_read limit pairs rays signs step c.u c.w y c.pair c.reduced))
 
-  -- a ray by its sign
+  -- a ray is retained or left out by its sign
   pub next_one : (m : ℕ) (sign : Sign) (kept : RayWithSupport) (old new : List RayWithSupport) → m < length rays → slice_index_or signs m Zero ≡ sign → kept.ray ≡ ray_at rays m → AppendsIfZero sign kept old new →
       IsNextFrom limit pairs rays signs (m + 1) (rays_of old) → IsNextFrom limit pairs rays signs m (rays_of new)
   next_one m Zero kept old new within sign is appends h =
@@ -88,7 +88,7 @@ module _ (limit : ℕ) (pairs : List Clash) (rays : List (List ℕ)) (signs : Li
       not_zero : Negative value ≡ Zero → ⊥
       not_zero e = cc
 
--- the widths after a ray by its sign
+-- the widths once a ray is retained or left out
 pub widths_one : (columns : ℕ) (sign : Sign) (kept : RayWithSupport) (old new : List RayWithSupport) → AppendsIfZero sign kept old new → length kept.ray ≡ columns → AreOfWidth columns old → AreOfWidth columns new
 widths_one columns Zero kept old new appends width h = subst (AreOfWidth columns) (sym appends) (All-push (λ k. length k.ray ≡ columns) old kept h width)
 widths_one columns (Positive value) kept old new appends width h = subst (AreOfWidth columns) (sym appends) h
@@ -100,7 +100,7 @@ take_take (suc m) zero xs h = absurd (omega arith)
 take_take (suc m) (suc n) [] h = refl
 take_take (suc m) (suc n) (x ∷ xs) h = ap (λ ys. x ∷ ys) (take_take m n xs (omega arith))
 
--- the front of a list, one element less
+-- the list without its last element
 pub record Popped {X : Type 0} (xs items new : List X) (x : X) : Type 0 where
   pub left : new ≡ take (length new) xs
   pub few : length new < length xs

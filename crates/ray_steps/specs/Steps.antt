@@ -1,5 +1,5 @@
 -- A step as one value, its invariant, and the combinations of its pairs.
-use Rattle.std.specs.Prelude.{◌≡◌, ℕ, ◌<◌, ◌≤◌, ◌⊎◌, List, length, map, IfSome}
+use Rattle.std.specs.Prelude.{◌≡◌, ℕ, ◌<◌, ◌⊎◌, List, length, map, IfSome}
 use Rattle.std.specs.List.{All}
 use Rattle.cone_definitions.specs.Surfaces.{Clash, IsAdmissibleUnion}
 use Rattle.ray_steps.specs.declared.rays.RayWithSupport.{RayWithSupport}

@@ -8,7 +8,8 @@ ghost use Rattle.ray_steps.specs.Steps.{AreMadeBelow, AreMadeTo, AreMadeOf, IsAd
 
 use crate::combinations::CombinationsSoFar;
 use crate::compatible::Compatible;
-use crate::negatives::{Negatives, first_not_excluded, negatives_of};
+use crate::found::FoundPair;
+use crate::negatives::{NegativeSearch, Negatives, first_not_excluded, negatives_of};
 use crate::pairs::{SignedPair, combine_pair};
 use crate::ray_list::RayList;
 use crate::rays::{RayWithSupport, StepFault};
@@ -18,6 +19,34 @@ use crate::thirds::is_single;
 use crate::turned::has_positive;
 use std::alloc::Global;
 use support_table::{RayTable, minimal_places};
+
+impl<'a, 'b, C: Compatible> FoundPair<'a, 'b, C> {
+    /// Appends the combination of the two rays, if they are positive and negative and the union of their supports
+    /// contains no clashing pair; then they are known to be adjacent. Fails with `Large` if an entry exceeds the limit.
+    fn combine(&self, alloc: Global, made: &mut Vec<RayWithSupport>) -> Result<(), StepFault>
+        requires face { IsAdjacentIfAdmissible self.now.step.now self.now.i self.now.j }
+        requires made { AreMadeTo self.now.step.now self.now.i self.now.j made.old.items }
+        ensures ok { OnOk result (AreMadeTo self.now.step.now self.now.i (self.now.j + 1) made.new.items) }
+        ensures err { IfErr result (IfLarge (IsFirstLargeOf self.now.step.now)) }
+    {
+        let step = self.step;
+        let Sign::Positive(at_u) = step.signs[self.i] else {
+            return Ok(());
+        };
+        let Sign::Negative(at_w) = step.signs[self.j] else {
+            return Ok(());
+        };
+        let clashes = step.clashes;
+        let u = &step.ray_list[self.i];
+        let w = &step.ray_list[self.j];
+        if clashes.allows(&u.support, &w.support) {
+            let pair = SignedPair { u, w, at_u, at_w };
+            let kept = combine_pair(alloc, pair, step.limit)?;
+            made.push(kept)?;
+        }
+        Ok(())
+    }
+}
 
 impl<'a, C: Compatible> Step<'a, C> {
     /// Appends the combinations of ray `i`, if it is positive, with each adjacent negative ray, by a search for third
@@ -42,7 +71,13 @@ impl<'a, C: Compatible> Step<'a, C> {
         let mut search = self.search_at(alloc, i, made.rivals.take())?;
         let places = negatives.places.as_slice();
         let table = &negatives.table;
-        let mut m = first_not_excluded(table, &u.support, &search.joined, self.most, 0);
+        let near = NegativeSearch {
+            table,
+            support: &u.support,
+            joined: &search.joined,
+            most: self.most,
+        };
+        let mut m = first_not_excluded(near, 0);
         while m < places.len() {
             let j = places[m];
             if let Sign::Negative(at_w) = self.signs[j] {
@@ -53,42 +88,15 @@ impl<'a, C: Compatible> Step<'a, C> {
                     made.ray_list.push(kept)?;
                 }
             }
-            m = first_not_excluded(table, &u.support, &search.joined, self.most, m + 1);
+            let next = NegativeSearch {
+                table,
+                support: &u.support,
+                joined: &search.joined,
+                most: self.most,
+            };
+            m = first_not_excluded(next, m + 1);
         }
         made.rivals = search.rivals;
-        Ok(())
-    }
-
-    /// Appends the combination of rays `i` and `j`, if they are positive and negative and the union of their supports
-    /// contains no clashing pair; then they are known to be adjacent. Fails with `Large` if an entry exceeds the limit.
-    fn combine_found(
-        &self,
-        alloc: Global,
-        i: usize,
-        j: usize,
-        made: &mut Vec<RayWithSupport>,
-    ) -> Result<(), StepFault>
-        requires first { i < length self.now.rays }
-        requires second { j < length self.now.rays }
-        requires face { IsAdjacentIfAdmissible self.now i j }
-        requires made { AreMadeTo self.now i j made.old.items }
-        ensures ok { OnOk result (AreMadeTo self.now i (j + 1) made.new.items) }
-        ensures err { IfErr result (IfLarge (IsFirstLargeOf self.now)) }
-    {
-        let Sign::Positive(at_u) = self.signs[i] else {
-            return Ok(());
-        };
-        let Sign::Negative(at_w) = self.signs[j] else {
-            return Ok(());
-        };
-        let clashes = self.clashes;
-        let u = &self.ray_list[i];
-        let w = &self.ray_list[j];
-        if clashes.allows(&u.support, &w.support) {
-            let pair = SignedPair { u, w, at_u, at_w };
-            let kept = combine_pair(alloc, pair, self.limit)?;
-            made.push(kept)?;
-        }
         Ok(())
     }
 
@@ -116,13 +124,24 @@ impl<'a, C: Compatible> Step<'a, C> {
         let clashes = self.clashes;
         let u = &self.ray_list[i];
         let joined = clashes.joined(alloc, &u.support)?;
-        let near = first_not_excluded(&negatives.table, &u.support, &joined, self.most, 0);
+        let search = NegativeSearch {
+            table: &negatives.table,
+            support: &u.support,
+            joined: &joined,
+            most: self.most,
+        };
+        let near = first_not_excluded(search, 0);
         if near == negatives.places.len() {
             return Ok(());
         }
         let places = minimal_places(alloc, supports, &u.support, &joined, i, self.most)?;
         for place in &places {
-            self.combine_found(alloc, i, *place, made)?;
+            let pair = FoundPair {
+                step: self,
+                i,
+                j: *place,
+            };
+            pair.combine(alloc, made)?;
         }
         Ok(())
     }

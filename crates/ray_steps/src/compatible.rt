@@ -5,7 +5,7 @@ ghost use Rattle.cone_definitions.specs.Surfaces.{Clash};
 ghost use Rattle.ray_steps.specs.Clashes.{AreClashes, IsClashFree, IsFree};
 ghost use Rattle.support_table.specs.Joins.{AreClashingColumns};
 
-use crate::partners::{clash_sets, clashing_columns};
+use crate::partners::{ClashPairs, clash_sets};
 use out_of_memory::NoMemory;
 use std::alloc::Global;
 use std::marker::Model;
@@ -66,7 +66,11 @@ impl<C: Compatible> Clashes<C> {
         ensures columns { IfOk result (λ clashes. clashes.columns ≡ C.width test) }
         ensures pairs { IfOk result (λ clashes. clashes.pairs ≡ C.clashing test) }
     {
-        let partners = clash_sets(alloc, test.pairs(), test.columns())?;
+        let clashes = ClashPairs {
+            columns: test.columns(),
+            items: test.pairs(),
+        };
+        let partners = clash_sets(alloc, clashes)?;
         Ok(Clashes { test, partners })
     }
 
@@ -108,6 +112,12 @@ impl<C: Compatible> Clashes<C> {
         requires { length support.now ≡ self.now.columns }
         ensures { IfOk result (AreClashingColumns self.now.pairs support.now) }
     {
-        clashing_columns(alloc, &self.partners, support)
+        let mut joined = Support::none(alloc, support.columns())?;
+        for column in 0..support.columns() {
+            if support.contains(column) {
+                joined.add(&self.partners[column as usize]);
+            }
+        }
+        Ok(joined)
     }
 }

@@ -5,6 +5,7 @@
 mod combinations;
 mod combine;
 mod compatible;
+mod found;
 mod input;
 mod lists;
 mod negatives;

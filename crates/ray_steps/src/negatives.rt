@@ -43,36 +43,46 @@ pub fn negatives_of(alloc: Global, rays: RayList, signs: &[Sign]) -> Result<Nega
     Ok(Negatives { places, table })
 }
 
-/// Whether the support with index `place` rules out adjacency to a ray of support `a`: it contains a column of
-/// `joined`, or its union with `a` has more than `most` columns.
-fn is_excluded(table: &SupportTable, place: usize, a: &Support, joined: &Support, most: u64) -> bool
-    requires in_range { place < length table.now.supports }
-    requires first { length a.now ≡ table.now.columns }
-    requires second { length joined.now ≡ table.now.columns }
-    ensures { IsTrue result ↔ IsRuledOut a.now joined.now most (slice_index_or table.now.supports place []) }
+/// The supports of the negative rays, and a positive ray with the support `support`, which clashes with the columns
+/// `joined`. The union of the supports of an adjacent pair has at most `most` columns. Invariant: `support` and
+/// `joined` have the columns of `table`.
+#[derive(Clone, Copy)]
+pub struct NegativeSearch<'a> {
+    pub table: &'a SupportTable,
+    pub support: &'a Support,
+    pub joined: &'a Support,
+    pub most: u64,
+    pub ghost first: { length support.now ≡ table.now.columns },
+    pub ghost second: { length joined.now ≡ table.now.columns },
+}
+
+/// Whether the support with index `place` rules out adjacency to the positive ray: it contains a column of
+/// `search.joined`, or its union with `search.support` has more than `search.most` columns.
+fn is_excluded(search: NegativeSearch, place: usize) -> bool
+    requires { place < length search.table.now.supports }
+    ensures { IsTrue result ↔ IsRuledOut search.entry.support.now search.entry.joined.now search.entry.most (slice_index_or search.entry.table.now.supports place []) }
 {
-    let _columns = a.columns();
+    let NegativeSearch {
+        table,
+        support,
+        joined,
+        most,
+    } = search;
+    let _columns = support.columns();
     let words = table.words_at(place);
-    have_common(words, joined.words()) || union_count(a.words(), words) > most
+    have_common(words, joined.words()) || union_count(support.words(), words) > most
 }
 
 /// The least index from `start` on whose support is not excluded (see `is_excluded`), or the number of supports if all
 /// are.
-pub fn first_not_excluded(
-    table: &SupportTable,
-    a: &Support,
-    joined: &Support,
-    most: u64,
-    start: usize,
-) -> usize
-    requires start { start ≤ length table.now.supports }
-    requires first { length a.now ≡ table.now.columns }
-    requires second { length joined.now ≡ table.now.columns }
-    ensures { IsFirstNotRuledOut a.now joined.now most table.now.supports start result }
+pub fn first_not_excluded(search: NegativeSearch, start: usize) -> usize
+    requires { start ≤ length search.table.now.supports }
+    ensures { IsFirstNotRuledOut search.entry.support.now search.entry.joined.now search.entry.most search.entry.table.now.supports start result }
 {
+    let table = search.table;
     let mut place = start;
     while place < table.len() {
-        if !is_excluded(table, place, a, joined, most) {
+        if !is_excluded(search, place) {
             return place;
         }
         place += 1;

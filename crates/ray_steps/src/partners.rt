@@ -1,9 +1,8 @@
 //! For each column the set of columns that clash with it.
 
-ghost use Rattle.std.specs.Prelude.{◌≡◌, ◌<◌, [], length, slice_index_or, IfOk};
-ghost use Rattle.std.specs.List.{All};
+ghost use Rattle.std.specs.Prelude.{◌<◌, [], length, slice_index_or, IfOk};
 ghost use Rattle.ray_steps.specs.Clashes.{AreClashes};
-ghost use Rattle.ray_steps.specs.Partners.{IsInserted, AreClashSets, IsJoinedBelow};
+ghost use Rattle.ray_steps.specs.Partners.{IsInserted, AreClashSets};
 
 use out_of_memory::NoMemory;
 use std::alloc::Global;
@@ -29,38 +28,22 @@ fn insert_clash(partners: &mut Vec<Support>, one: u32, other: u32)
     partners[one as usize].insert(other);
 }
 
-/// For each of `columns` columns the set of columns that clash with it, from the clashing pairs.
-pub fn clash_sets(
-    alloc: Global,
-    clashes: &[(u32, u32)],
-    columns: u32,
-) -> Result<Vec<Support>, NoMemory>
-    requires { AreClashes columns clashes.now }
-    ensures { IfOk result (λ partners. AreClashSets columns clashes.now partners.items) }
+/// The pairs of columns that clash. Invariant: each consists of two different columns below `columns`.
+#[derive(Clone, Copy)]
+pub struct ClashPairs<'a> {
+    pub columns: u32,
+    pub items: &'a [(u32, u32)],
+    pub ghost different: { AreClashes columns items.now },
+}
+
+/// For each column the set of columns that clash with it by `clashes`.
+pub fn clash_sets(alloc: Global, clashes: ClashPairs) -> Result<Vec<Support>, NoMemory>
+    ensures { IfOk result (λ partners. AreClashSets clashes.entry.columns clashes.entry.items.now partners.items) }
 {
-    let mut partners = empty_clash_sets(alloc, columns)?;
-    for pair in clashes {
+    let mut partners = empty_clash_sets(alloc, clashes.columns)?;
+    for pair in clashes.items {
         insert_clash(&mut partners, pair.0, pair.1);
         insert_clash(&mut partners, pair.1, pair.0);
     }
     Ok(partners)
-}
-
-/// The columns that clash with a column of `support`: the union of the sets `partners[c]` over its columns `c`.
-pub fn clashing_columns(
-    alloc: Global,
-    partners: &[Support],
-    support: &Support,
-) -> Result<Support, NoMemory>
-    requires count { length partners.now ≡ length support.now }
-    requires widths { All (λ partner. length partner ≡ length support.now) partners.now }
-    ensures { IfOk result (IsJoinedBelow (length support.now) partners.now support.now) }
-{
-    let mut joined = Support::none(alloc, support.columns())?;
-    for column in 0..support.columns() {
-        if support.contains(column) {
-            joined.add(&partners[column as usize]);
-        }
-    }
-    Ok(joined)
 }

@@ -10,7 +10,7 @@ use crate::compatible::Compatible;
 use crate::ray_list::RayList;
 use crate::rivals::{CompatibleRays, all_supports, compatible_rays};
 use crate::step::Step;
-use crate::thirds::{has_single, third_inside};
+use crate::thirds::{PairAmong, has_single, third_inside};
 use crate::turned::positive_count;
 use out_of_memory::NoMemory;
 use std::alloc::Global;
@@ -90,7 +90,14 @@ impl<'a, C: Compatible> Step<'a, C> {
             return Ok(clashes.allows(&u.support, &w.support));
         }
         let rivals = self.gather(alloc, &search.joined, search.rivals.take())?;
-        let third = third_inside(&rivals, &u.support, &w.support, i, j, search.hint);
+        let pair = PairAmong {
+            rivals: &rivals,
+            i,
+            j,
+            a: &u.support,
+            b: &w.support,
+        };
+        let third = third_inside(pair, search.hint);
         search.rivals = Some(rivals);
         match third {
             Some(m) => {

@@ -53,17 +53,21 @@ fn sign_at(row: &SparseRow, kept: &RayWithSupport, limit: u128) -> Result<Sign, 
     Ok(sign_of(parts))
 }
 
-/// The sign of `row` at each ray. Fails with `Large` and the first ray at which a part of the row exceeds `limit`.
-pub fn signs_at(
-    alloc: Global,
-    row: &SparseRow,
-    ray_list: &[RayWithSupport],
-    limit: u128,
-) -> Result<Vec<Sign>, StepFault>
-    requires in_range { All (λ kept. IsInRange (length kept.ray) row.now) ray_list.now }
-    ensures ok { IfOk result (λ signs. AreSigns limit row.now (rays_of ray_list.now) signs.items) }
-    ensures err { IfErr result (IfLarge (IsFirstLargeValue limit row.now (rays_of ray_list.now))) }
+/// A row and rays. Invariant: the columns of the row are below the number of entries of each ray.
+#[derive(Clone, Copy)]
+pub struct RowAndRays<'a> {
+    pub row: &'a SparseRow,
+    pub ray_list: &'a [RayWithSupport],
+    pub ghost in_range: { All (λ kept. IsInRange (length kept.ray) row.now) ray_list.now },
+}
+
+/// The sign of the row of `input` at each of its rays. Fails with `Large` and the first ray at which a part of the row
+/// exceeds `limit`.
+pub fn signs_at(alloc: Global, input: RowAndRays, limit: u128) -> Result<Vec<Sign>, StepFault>
+    ensures ok { IfOk result (λ signs. AreSigns limit input.entry.row.now (rays_of input.entry.ray_list.now) signs.items) }
+    ensures err { IfErr result (IfLarge (IsFirstLargeValue limit input.entry.row.now (rays_of input.entry.ray_list.now))) }
 {
+    let RowAndRays { row, ray_list } = input;
     let mut signs = Vec::with_capacity(alloc, ray_list.len())?;
     for kept in ray_list {
         match sign_at(row, kept, limit) {

@@ -10,7 +10,7 @@ use crate::combinations::Combinations;
 use crate::compatible::{Clashes, Compatible};
 use crate::input::StepInput;
 use crate::rays::{RayWithSupport, StepFault};
-use crate::signs::{Sign, signs_at};
+use crate::signs::{RowAndRays, Sign, signs_at};
 use crate::turned::{has_more_positives, negated_signs};
 use crate::zeros::keep_zeros;
 use cone_arithmetic::Limit;
@@ -52,7 +52,11 @@ impl<'a, C: Compatible> Step<'a, C> {
         ensures ok { IfOk result (IsStepOf limit.number input.entry.clashes.now input.entry.row.now (rays_of input.entry.ray_list.items)) }
         ensures err { IfErr result (IfLarge (IsFirstLargeValue limit.number input.entry.row.now (rays_of input.entry.ray_list.items))) }
     {
-        let signs = signs_at(alloc, input.row, &input.ray_list, limit.number)?;
+        let row_and_rays = RowAndRays {
+            row: input.row,
+            ray_list: &input.ray_list,
+        };
+        let signs = signs_at(alloc, row_and_rays, limit.number)?;
         Ok(Step {
             clashes: input.clashes,
             ray_list: input.ray_list,

@@ -31,22 +31,27 @@ fn is_third(place: usize, i: usize, j: usize) -> bool
     place != i && place != j
 }
 
-/// The index in `rivals` of a ray other than `i` and `j` whose support lies in the union of `a` and `b`: `hint` if that
-/// is one, or else the first; `None` if there is none.
-pub fn third_inside(
-    rivals: &CompatibleRays,
-    a: &Support,
-    b: &Support,
-    i: usize,
-    j: usize,
-    hint: usize,
-) -> Option<usize>
-    requires count { length rivals.now.table.supports ≡ length rivals.now.places.items }
-    requires first { length a.now ≡ rivals.now.table.columns }
-    requires second { length b.now ≡ rivals.now.table.columns }
-    ensures some { IfSome result (λ m. (m < length rivals.now.places.items) × IsThirdInside rivals.now.places.items rivals.now.table.supports i j a.now b.now m) }
-    ensures none { IfNone result ((m : ℕ) → m < length rivals.now.places.items → ¬ IsThirdInside rivals.now.places.items rivals.now.table.supports i j a.now b.now m) }
+/// Rays `i` and `j` with the supports `a` and `b`, and the rays among which a third ray is looked for. Invariant: all
+/// supports have as many columns, and `rivals` has a support for each index.
+#[derive(Clone, Copy)]
+pub struct PairAmong<'a> {
+    pub rivals: &'a CompatibleRays,
+    pub i: usize,
+    pub j: usize,
+    pub a: &'a Support,
+    pub b: &'a Support,
+    pub ghost count: { length rivals.now.table.supports ≡ length rivals.now.places.items },
+    pub ghost first: { length a.now ≡ rivals.now.table.columns },
+    pub ghost second: { length b.now ≡ rivals.now.table.columns },
+}
+
+/// The index in `pair.rivals` of a third ray, whose support lies in the union of those of the pair: `hint` if that is
+/// one, or else the first; `None` if there is none.
+pub fn third_inside(pair: PairAmong, hint: usize) -> Option<usize>
+    ensures some { IfSome result (λ m. (m < length pair.entry.rivals.now.places.items) × IsThirdInside pair.entry.rivals.now.places.items pair.entry.rivals.now.table.supports pair.entry.i pair.entry.j pair.entry.a.now pair.entry.b.now m) }
+    ensures none { IfNone result ((m : ℕ) → m < length pair.entry.rivals.now.places.items → ¬ IsThirdInside pair.entry.rivals.now.places.items pair.entry.rivals.now.table.supports pair.entry.i pair.entry.j pair.entry.a.now pair.entry.b.now m) }
 {
+    let PairAmong { rivals, i, j, a, b } = pair;
     let places = rivals.places.as_slice();
     let table = &rivals.table;
     if hint < places.len() && is_third(places[hint], i, j) && table.is_covered(hint, a, b) {

@@ -2,12 +2,11 @@
 
 ghost use Rattle.std.specs.Prelude.{◌≡◌, ◌+◌, ◌-◌, ◌<◌, length, IfSome, IfNone, if◌then◌else◌};
 ghost use Rattle.surface_definitions.specs.Pieces as pieces;
-ghost use Rattle.surface_laws.specs.PieceLaws.{IsPieceOf};
 ghost use Rattle.surface_pieces.specs.Arcs.{IsOnlyArcOf, HasNoArc};
 
 use crate::columns::{FaceCorner, SurfaceArc, first_nonzero_of};
 use crate::counts::NumberedDisc;
-use crate::surface::SmallSurface;
+use crate::surface::{ArcInSurface, ListedDisc};
 use normal_discs::{keeping, octagon_arcs, partner, quad_column, tet_of, triangle_column, type_of};
 
 /// The column of the arcs after those of the triangles, and whether its discs have the vertex on the side of vertex 0.
@@ -29,71 +28,74 @@ fn number_from_end(entry: u32, place: u32, by_zero: bool) -> u32
     }
 }
 
-impl<'a> SmallSurface<'a> {
-    /// The number of triangles around the vertex of `arc`.
-    fn triangles(&self, arc: SurfaceArc) -> u32
-        requires { arc.tet < length self.now.table.now }
-        ensures { result ≡ pieces.triangles_around self.now.coords.system self.now.entries.now arc }
+impl<'a> ArcInSurface<'a> {
+    /// The number of triangles around the vertex of the arc.
+    fn triangles(&self) -> u32
+        ensures { result ≡ pieces.triangles_around self.now.surface.coords.system self.now.surface.entries.now self.now.arc }
     {
-        self.entries[triangle_column(self.coords, arc.tet, arc.vertex) as usize]
+        let arc = self.arc;
+        self.surface.entries[triangle_column(self.surface.coords, arc.tet, arc.vertex) as usize]
     }
 
-    /// The column of the arcs after those of the triangles around the vertex of `arc`.
-    fn behind(&self, arc: SurfaceArc) -> Further
-        requires { arc.tet < length self.now.table.now }
-        ensures column { result.column ≡ pieces.further_column self.now.coords.system self.now.entries.now arc }
-        ensures in_range { result.column < length self.now.entries.now }
-        ensures side { result.by_zero ≡ pieces.keeps_by_zero (pieces.type_in self.now.coords.system result.column) arc.vertex }
+    /// The column of the arcs after those of the triangles around the vertex of the arc.
+    fn behind(&self) -> Further
+        ensures column { result.column ≡ pieces.further_column self.now.surface.coords.system self.now.surface.entries.now self.now.arc }
+        ensures in_range { result.column < length self.now.surface.entries.now }
+        ensures side { result.by_zero ≡ pieces.keeps_by_zero (pieces.type_in self.now.surface.coords.system result.column) self.now.arc.vertex }
     {
-        let system = self.coords.system;
+        let arc = self.arc;
+        let surface = self.surface;
+        let system = surface.coords.system;
         let octagons = octagon_arcs(system, arc.tet, arc.face, arc.vertex);
         let quads = quad_column(system, arc.tet, keeping(arc.vertex, arc.face));
-        let column = first_nonzero_of(self.entries, octagons.as_slice(), quads);
-        let kind = type_of(self.coords, column);
+        let column = first_nonzero_of(surface.entries, octagons.as_slice(), quads);
+        let kind = type_of(surface.coords, column);
         Further {
             column,
             by_zero: arc.vertex == 0 || partner(kind, arc.vertex) == 0,
         }
     }
 
-    /// The normal disc that has `arc` on its boundary.
-    pub fn piece_of(&self, arc: SurfaceArc) -> NumberedDisc
-        requires { arc.tet < length self.now.table.now }
-        ensures { result ≡ pieces.disc_of self.now.coords.system self.now.entries.now arc }
+    /// The normal disc that has the arc on its boundary.
+    pub fn piece_of(&self) -> NumberedDisc
+        ensures { result ≡ pieces.disc_of self.now.surface.coords.system self.now.surface.entries.now self.now.arc }
     {
-        let triangles = self.triangles(arc);
+        let arc = self.arc;
+        let triangles = self.triangles();
         if arc.place < triangles {
             return NumberedDisc {
-                column: triangle_column(self.coords, arc.tet, arc.vertex),
+                column: triangle_column(self.surface.coords, arc.tet, arc.vertex),
                 number: arc.place,
             };
         }
-        let further = self.behind(arc);
-        let entry = self.entries[further.column as usize];
+        let further = self.behind();
+        let entry = self.surface.entries[further.column as usize];
         NumberedDisc {
             column: further.column,
             number: number_from_end(entry, arc.place - triangles, further.by_zero),
         }
     }
 
-    /// Whether the disc of `arc` faces the vertex of the arc with its positive side.
-    pub fn looks_positive(&self, arc: SurfaceArc) -> bool
-        requires { arc.tet < length self.now.table.now }
-        ensures { result ≡ pieces.looks_positive self.now.coords.system self.now.entries.now arc }
+    /// Whether the disc of the arc faces the vertex of the arc with its positive side.
+    pub fn looks_positive(&self) -> bool
+        ensures { result ≡ pieces.looks_positive self.now.surface.coords.system self.now.surface.entries.now self.now.arc }
     {
-        if arc.place < self.triangles(arc) {
+        if self.arc.place < self.triangles() {
             return true;
         }
-        self.behind(arc).by_zero
+        self.behind().by_zero
     }
+}
 
-    /// The arc of the disc `piece` around a vertex of a face, or `None` if it has none there.
-    pub fn arc_of(&self, piece: NumberedDisc, corner: FaceCorner) -> Option<SurfaceArc>
-        requires { IsPieceOf self.now.entries.now piece }
-        ensures some { IfSome result (IsOnlyArcOf self.now.coords.system self.now.entries.now piece corner.face corner.vertex) }
-        ensures none { IfNone result (HasNoArc self.now.coords.system self.now.entries.now piece corner.face corner.vertex) }
+impl<'a> ListedDisc<'a> {
+    /// The arc of the disc around the vertex of `corner`, in its face, or `None` if the disc has none there.
+    pub fn arc_of(&self, corner: FaceCorner) -> Option<SurfaceArc>
+        ensures some { IfSome result (IsOnlyArcOf self.now.pieces.surface.coords.system self.now.pieces.surface.entries.now self.now.piece corner.face corner.vertex) }
+        ensures none { IfNone result (HasNoArc self.now.pieces.surface.coords.system self.now.pieces.surface.entries.now self.now.piece corner.face corner.vertex) }
     {
-        let tet = tet_of(self.coords.system, piece.column);
+        let surface = self.pieces.surface;
+        let piece = self.piece;
+        let tet = tet_of(surface.coords.system, piece.column);
         let FaceCorner { face, vertex } = corner;
         let first = SurfaceArc {
             tet,
@@ -101,7 +103,7 @@ impl<'a> SmallSurface<'a> {
             vertex,
             place: 0,
         };
-        if piece.column == triangle_column(self.coords, tet, vertex) {
+        if piece.column == triangle_column(surface.coords, tet, vertex) {
             return Some(SurfaceArc {
                 tet,
                 face,
@@ -109,17 +111,21 @@ impl<'a> SmallSurface<'a> {
                 place: piece.number,
             });
         }
-        let further = self.behind(first);
+        let around = ArcInSurface {
+            surface,
+            arc: first,
+        };
+        let further = around.behind();
         if piece.column != further.column {
             return None;
         }
-        let entry = self.entries[further.column as usize];
+        let entry = surface.entries[further.column as usize];
         let place = number_from_end(entry, piece.number, further.by_zero);
         Some(SurfaceArc {
             tet,
             face,
             vertex,
-            place: self.triangles(first) + place,
+            place: around.triangles() + place,
         })
     }
 }

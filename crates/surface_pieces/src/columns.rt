@@ -17,15 +17,23 @@ pub struct FaceCorner {
     pub ghost off: { vertex ≢ face },
 }
 
-/// The vertex around which a disc has arc number `slot / 4` in face `slot % 4`, by the index of its column among those
-/// of its tetrahedron, or the face itself if the disc has no such arc. A triangle and a quad have at most one arc in a
-/// face, and an octagon has two.
-fn slot_vertex(place: u32, slot: u32) -> u8
-    requires place { place < 10 }
-    requires slot { slot < 8 }
-    ensures value { result ≡ slots.slot_vertex place slot }
+/// A slot of a disc, which is given by the index of its column among those of its tetrahedron. Invariant: `place` is
+/// less than 10, and `slot` less than 8.
+#[derive(Clone, Copy)]
+pub struct DiscSlot {
+    pub place: u32,
+    pub slot: u32,
+    pub ghost a_place: { place < 10 },
+    pub ghost a_slot: { slot < 8 },
+}
+
+/// The vertex around which a disc has arc number `slot / 4` in face `slot % 4`, or the face itself if the disc has no
+/// such arc. A triangle and a quad have at most one arc in a face, and an octagon has two.
+fn slot_vertex(of: DiscSlot) -> u8
+    ensures value { result ≡ slots.slot_vertex of.place of.slot }
     ensures in_range { result < 4 }
 {
+    let DiscSlot { place, slot } = of;
     let face = (slot % 4) as u8;
     if place >= 7 {
         return partner(((place - 6 + slot / 4) % 3) as u8, face);
@@ -39,16 +47,13 @@ fn slot_vertex(place: u32, slot: u32) -> u8
     partner((place - 4) as u8, face)
 }
 
-/// The face and the vertex of `slot` for a disc, by the index of its column among those of its tetrahedron, or `None`
-/// if the disc has no such arc.
-pub fn corner_at(place: u32, slot: u32) -> Option<FaceCorner>
-    requires place { place < 10 }
-    requires slot { slot < 8 }
-    ensures some { IfSome result (λ corner. corner.face ≡ slot % 4 × corner.vertex ≡ slots.slot_vertex place slot) }
-    ensures none { IfNone result (slots.slot_vertex place slot ≡ slot % 4) }
+/// The face and the vertex of the arc that a disc has for a slot, or `None` if it has no such arc.
+pub fn corner_at(of: DiscSlot) -> Option<FaceCorner>
+    ensures some { IfSome result (λ corner. corner.face ≡ of.slot % 4 × corner.vertex ≡ slots.slot_vertex of.place of.slot) }
+    ensures none { IfNone result (slots.slot_vertex of.place of.slot ≡ of.slot % 4) }
 {
-    let face = (slot % 4) as u8;
-    let vertex = slot_vertex(place, slot);
+    let face = (of.slot % 4) as u8;
+    let vertex = slot_vertex(of);
     if vertex == face {
         return None;
     }

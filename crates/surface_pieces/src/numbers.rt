@@ -3,11 +3,10 @@
 ghost use Rattle.std.specs.Prelude.{◌≡◌, ◌+◌, ◌++◌, map, IfOk, OnOk};
 ghost use Rattle.table_definitions.specs.Lists.{below};
 ghost use Rattle.surface_definitions.specs.Pieces as pieces;
-ghost use Rattle.surface_laws.specs.PieceLaws.{IsPieceOf};
 ghost use Rattle.surface_pieces.specs.Starts.{AreStarts};
 
 use crate::counts::NumberedDisc;
-use crate::surface::{NumberedDiscs, SmallSurface};
+use crate::surface::{ListedDisc, SmallSurface};
 use std::alloc::{AllocError, Global};
 
 /// Appends the `entry` discs of `column`.
@@ -44,12 +43,12 @@ pub fn all_pieces(alloc: Global, surface: &SmallSurface) -> Result<Vec<NumberedD
     Ok(listed)
 }
 
-impl<'a> NumberedDiscs<'a> {
-    /// The index of `piece` among all discs.
-    pub fn number_of(&self, piece: NumberedDisc) -> u32
-        requires { IsPieceOf self.now.surface.entries.now piece }
-        ensures { result ≡ pieces.disc_number self.now.surface.entries.now piece }
+impl<'a> ListedDisc<'a> {
+    /// The index of the disc among all discs.
+    pub fn number_of(&self) -> u32
+        ensures { result ≡ pieces.disc_number self.now.pieces.surface.entries.now self.now.piece }
     {
-        self.starts[piece.column as usize] + piece.number
+        let piece = self.piece;
+        self.pieces.starts[piece.column as usize] + piece.number
     }
 }

@@ -14,7 +14,7 @@ use crate::joined::{Adjacent, SearchKind, SignKind};
 use crate::numbers::{all_pieces, starts_of};
 use crate::rows::joined_rows;
 use crate::signs::signs_of;
-use crate::surface::{AdjacentDiscs, NumberedDiscs, SmallSurface};
+use crate::surface::{AdjacentDiscs, DiscComponents, NumberedDiscs, SmallSurface};
 use crate::vectors::vectors_of;
 use normal_discs::{DiscCoords, has_octagons};
 use out_of_memory::Failure;
@@ -73,7 +73,12 @@ fn find_components<const N: usize>(
         rows: &rows,
     };
     let all = joined.classes_of(alloc, SearchKind::Pieces)?;
-    let vectors = vectors_of(alloc, &pieces, &all.classes, all.count)?;
+    let of = DiscComponents {
+        pieces,
+        components: &all.classes,
+        count: all.count,
+    };
+    let vectors = vectors_of(alloc, of)?;
     let two_sided = signs_of(alloc, &joined, &all, SignKind::Sides)?;
     let orientable = signs_of(alloc, &joined, &all, SignKind::Orientation)?;
     Ok(Pieces {

@@ -1,24 +1,21 @@
 //! The neighbours of each disc.
 
 ghost use Rattle.std.specs.Prelude.{◌≡◌, IfOk};
-ghost use Rattle.surface_laws.specs.PieceLaws.{IsPieceOf};
 ghost use Rattle.surface_pieces.specs.Joinings.{IsJoinedRow, AreJoined};
 ghost use Rattle.surface_pieces.specs.Slots.{slots_each};
 
-use crate::counts::NumberedDisc;
 use crate::joined::Adjacent;
-use crate::surface::NumberedDiscs;
+use crate::surface::{ListedDisc, NumberedDiscs};
 use std::alloc::{AllocError, Global};
 
-/// The neighbours of `piece` across its arcs, by slot.
-fn joined_row<const N: usize>(pieces: &NumberedDiscs, piece: NumberedDisc) -> [Option<Adjacent>; N]
-    requires slots { N ≡ slots_each pieces.now.surface.coords.system }
-    requires piece { IsPieceOf pieces.now.surface.entries.now piece }
-    ensures { IsJoinedRow pieces.now.surface.table.now pieces.now.surface.coords.system pieces.now.surface.entries.now piece result }
+/// The neighbours of `disc` across its arcs, by slot.
+fn joined_row<const N: usize>(disc: &ListedDisc) -> [Option<Adjacent>; N]
+    requires { N ≡ slots_each disc.now.pieces.surface.coords.system }
+    ensures { IsJoinedRow disc.now.pieces.surface.table.now disc.now.pieces.surface.coords.system disc.now.pieces.surface.entries.now disc.now.piece result }
 {
     let mut row = [None; N];
     for slot in 0..N {
-        row[slot] = pieces.joined_at(piece, slot as u32);
+        row[slot] = disc.joined_at(slot as u32);
     }
     row
 }
@@ -33,7 +30,11 @@ pub fn joined_rows<const N: usize>(
 {
     let mut joined = Vec::with_capacity(alloc, pieces.listed.len())?;
     for piece in pieces.listed {
-        joined.push(joined_row(pieces, *piece))?;
+        let disc = ListedDisc {
+            pieces: *pieces,
+            piece: *piece,
+        };
+        joined.push(joined_row(&disc))?;
     }
     Ok(joined)
 }

@@ -21,18 +21,22 @@ fn mark(free: &mut [bool], component: u32, same: bool)
     }
 }
 
-/// For each of `components` whether none of its discs is connected to itself with the other sign, by the classes
-/// `signed`.
-fn free_components(
-    alloc: Global,
-    signed: &[u32],
-    components: &Numbering,
-) -> Result<Vec<bool>, AllocError>
-    requires in_range { (p : ℕ) → p < length components.now.classes.items → slice_index components.now.classes.items p < components.now.count }
-    requires signed { length signed.now ≡ 2 * length components.now.classes.items }
-    ensures size { IfOk result (λ free. length free.items ≡ components.now.count) }
-    ensures each { IfOk result (λ free. (i : ℕ) → i < components.now.count → (slice_index_or free.items i true ≡ true) ↔ IsFree signed.now components.now.classes.items i) }
+/// The components of discs, and the classes of discs with signs. Invariant: each component is less than the number of
+/// components, and `signed` has two classes for each disc.
+#[derive(Clone, Copy)]
+struct SignedComponents<'a> {
+    components: &'a Numbering,
+    signed: &'a [u32],
+    ghost in_range: { (p : ℕ) → p < length components.now.classes.items → slice_index components.now.classes.items p < components.now.count },
+    ghost two_each: { length signed.now ≡ 2 * length components.now.classes.items },
+}
+
+/// For each component whether none of its discs is connected to itself with the other sign.
+fn free_components(alloc: Global, by: SignedComponents) -> Result<Vec<bool>, AllocError>
+    ensures size { IfOk result (λ free. length free.items ≡ by.entry.components.now.count) }
+    ensures each { IfOk result (λ free. (i : ℕ) → i < by.entry.components.now.count → (slice_index_or free.items i true ≡ true) ↔ IsFree by.entry.signed.now by.entry.components.now.classes.items i) }
 {
+    let SignedComponents { components, signed } = by;
     let mut free = vec![in alloc; true; components.count as usize]?;
     for piece in 0..components.classes.len() {
         let same = signed[2 * piece] == signed[2 * piece + 1];
@@ -53,6 +57,10 @@ pub fn signs_of<const N: usize>(
     ensures { IfOk result (λ free. AreSigned signs joined.now.surface.table.now joined.now.surface.coords.system joined.now.surface.entries.now components.now.classes.items components.now.count free.items) }
 {
     let signed = joined.classes_of(alloc, SearchKind::Signed(signs))?;
-    let free = free_components(alloc, &signed.classes, components)?;
+    let by = SignedComponents {
+        components,
+        signed: &signed.classes,
+    };
+    let free = free_components(alloc, by)?;
     Ok(free)
 }

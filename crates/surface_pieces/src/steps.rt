@@ -2,15 +2,13 @@
 
 ghost use Rattle.std.specs.Prelude.{◌≡◌, ◌<◌, ◌%◌, IfSome, IfNone};
 ghost use Rattle.surface_definitions.specs.Pieces as pieces;
-ghost use Rattle.surface_laws.specs.PieceLaws.{IsPieceOf};
 ghost use Rattle.surface_pieces.specs.Meetings.{IsMeetingAt, HasNoMeeting};
 ghost use Rattle.surface_pieces.specs.Joinings.{IsJoinedAt};
 ghost use Rattle.surface_pieces.specs.Slots.{vertex_of_slot};
 
-use crate::columns::{FaceCorner, SurfaceArc, corner_at};
-use crate::counts::NumberedDisc;
+use crate::columns::{DiscSlot, FaceCorner, SurfaceArc, corner_at};
 use crate::joined::Adjacent;
-use crate::surface::{NumberedDiscs, SmallSurface};
+use crate::surface::{ArcInSurface, ListedDisc};
 use gluing_table::{Face, Glue};
 use normal_discs::place_of;
 
@@ -34,15 +32,14 @@ pub struct Meeting {
     pub odd: bool,
 }
 
-impl<'a> SmallSurface<'a> {
-    /// The arc of `piece` around a vertex of a face, if it has one there and the face is glued.
-    fn meeting_at(&self, piece: NumberedDisc, corner: FaceCorner) -> Option<Meeting>
-        requires { IsPieceOf self.now.entries.now piece }
-        ensures some { IfSome result (λ m. IsMeetingAt self.now.table.now self.now.coords.system self.now.entries.now piece corner.face corner.vertex m.arc m.other m.odd) }
-        ensures none { IfNone result (HasNoMeeting self.now.table.now self.now.coords.system self.now.entries.now piece corner.face corner.vertex) }
+impl<'a> ListedDisc<'a> {
+    /// The arc of the disc around the vertex of `corner`, if it has one there and the face is glued.
+    fn meeting_at(&self, corner: FaceCorner) -> Option<Meeting>
+        ensures some { IfSome result (λ m. IsMeetingAt self.now.pieces.surface.table.now self.now.pieces.surface.coords.system self.now.pieces.surface.entries.now self.now.piece corner.face corner.vertex m.arc m.other m.odd) }
+        ensures none { IfNone result (HasNoMeeting self.now.pieces.surface.table.now self.now.pieces.surface.coords.system self.now.pieces.surface.entries.now self.now.piece corner.face corner.vertex) }
     {
-        let arc = self.arc_of(piece, corner)?;
-        let glue = self.table.glue(Face {
+        let arc = self.arc_of(corner)?;
+        let glue = self.pieces.surface.table.glue(Face {
             tet: arc.tet,
             face: corner.face,
         })?;
@@ -52,26 +49,37 @@ impl<'a> SmallSurface<'a> {
             odd: glue.perm.is_odd(),
         })
     }
-}
 
-impl<'a> NumberedDiscs<'a> {
-    /// The neighbour of `piece` across its arc of `slot`, or `None` if it has no such arc or the arc is in a boundary
+    /// The neighbour of the disc across its arc of `slot`, or `None` if it has no such arc or the arc is in a boundary
     /// face.
-    pub fn joined_at(&self, piece: NumberedDisc, slot: u32) -> Option<Adjacent>
-        requires piece { IsPieceOf self.now.surface.entries.now piece }
-        requires a_slot { slot < 8 }
-        ensures some { IfSome result (IsJoinedAt self.now.surface.table.now self.now.surface.coords.system self.now.surface.entries.now piece (slot % 4) (vertex_of_slot self.now.surface.coords.system piece slot)) }
-        ensures none { IfNone result (HasNoMeeting self.now.surface.table.now self.now.surface.coords.system self.now.surface.entries.now piece (slot % 4) (vertex_of_slot self.now.surface.coords.system piece slot)) }
+    pub fn joined_at(&self, slot: u32) -> Option<Adjacent>
+        requires { slot < 8 }
+        ensures some { IfSome result (IsJoinedAt self.now.pieces.surface.table.now self.now.pieces.surface.coords.system self.now.pieces.surface.entries.now self.now.piece (slot % 4) (vertex_of_slot self.now.pieces.surface.coords.system self.now.piece slot)) }
+        ensures none { IfNone result (HasNoMeeting self.now.pieces.surface.table.now self.now.pieces.surface.coords.system self.now.pieces.surface.entries.now self.now.piece (slot % 4) (vertex_of_slot self.now.pieces.surface.coords.system self.now.piece slot)) }
     {
-        let place = place_of(self.surface.coords.system, piece.column);
-        let corner = corner_at(place, slot)?;
-        let meeting = self.surface.meeting_at(piece, corner)?;
-        let other = self.surface.piece_of(meeting.other);
-        let from = self.surface.looks_positive(meeting.arc);
-        let to = self.surface.looks_positive(meeting.other);
+        let piece = self.piece;
+        let pieces = self.pieces;
+        let surface = pieces.surface;
+        let place = place_of(surface.coords.system, piece.column);
+        let corner = corner_at(DiscSlot { place, slot })?;
+        let meeting = self.meeting_at(corner)?;
+        let near = ArcInSurface {
+            surface,
+            arc: meeting.arc,
+        };
+        let far = ArcInSurface {
+            surface,
+            arc: meeting.other,
+        };
+        let other = ListedDisc {
+            pieces,
+            piece: far.piece_of(),
+        };
+        let from = near.looks_positive();
+        let to = far.looks_positive();
         let keeps_sides = from == to;
         Some(Adjacent {
-            piece: self.number_of(other),
+            piece: other.number_of(),
             keeps_sides,
             keeps_orientation: meeting.odd == keeps_sides,
         })

@@ -1,10 +1,10 @@
 //! The vectors of the components.
 
-ghost use Rattle.std.specs.Prelude.{◌≡◌, ◌+◌, ◌<◌, ◌^◌, ℕ, length, replicate, slice_set, slice_index, IfOk};
+ghost use Rattle.std.specs.Prelude.{◌≡◌, ◌+◌, ◌<◌, ◌^◌, length, replicate, slice_set, slice_index, IfOk};
 ghost use Rattle.surface_vector_definitions.specs.Entries.{all_entries};
 ghost use Rattle.surface_pieces.specs.Vectors.{AreVectors};
 
-use crate::surface::NumberedDiscs;
+use crate::surface::DiscComponents;
 use std::alloc::{AllocError, Global};
 
 /// `count` vectors of `columns` zeros.
@@ -27,17 +27,15 @@ fn count_piece(vector: &mut [u128], column: u32)
     vector[column as usize] += 1;
 }
 
-/// For each of `count` components its number of discs in each column. `components` has the component of each disc.
-pub fn vectors_of(
-    alloc: Global,
-    pieces: &NumberedDiscs,
-    components: &[u32],
-    count: u32,
-) -> Result<Vec<Vec<u128>>, AllocError>
-    requires size { length components.now ≡ length pieces.now.listed.now }
-    requires in_range { (p : ℕ) → p < length components.now → slice_index components.now p < count }
-    ensures { IfOk result (λ vectors. AreVectors pieces.now.surface.entries.now components.now count (all_entries vectors.items)) }
+/// For each component its number of discs in each column.
+pub fn vectors_of(alloc: Global, of: DiscComponents) -> Result<Vec<Vec<u128>>, AllocError>
+    ensures { IfOk result (λ vectors. AreVectors of.entry.pieces.surface.entries.now of.entry.components.now of.entry.count (all_entries vectors.items)) }
 {
+    let DiscComponents {
+        pieces,
+        components,
+        count,
+    } = of;
     let mut vectors = zeros(alloc, count, pieces.surface.entries.len())?;
     for number in 0..pieces.listed.len() {
         let piece = pieces.listed[number];

@@ -10,8 +10,8 @@ ghost use Rattle.surface_properties.specs.Capped.{capped};
 ghost use Rattle.surface_properties.specs.Counted.{counted as counted_at};
 
 use crate::sums::{add, sum_at};
-use crate::vectors::DiscVector;
-use gluing_table::{Face, Table};
+use crate::vectors::{DiscVector, VectorFace};
+use gluing_table::Face;
 use normal_discs::arc_columns;
 
 // The vertices of each face, by face.
@@ -27,49 +27,51 @@ fn corner(face: Face, number: usize) -> u8
     CORNERS[face.face as usize][number]
 }
 
-/// Whether `face` is a boundary face, or the first of two faces glued to each other: true once for each face class.
-fn is_first_side(table: &Table, face: Face) -> bool
-    requires { face.tet < length table.now }
-    ensures { result ≡ is_first face (gluings.glue table.now face) }
-{
-    match table.glue(face) {
-        None => true,
-        Some(glue) => face.is_before(glue.other_side(face)),
+impl<'a> VectorFace<'a> {
+    /// Whether the face is a boundary face, or the first of two faces glued to each other: true once for each face
+    /// class.
+    fn is_first_side(&self) -> bool
+        ensures { result ≡ is_first self.now.face (gluings.glue self.now.vector.table.now self.now.face) }
+    {
+        let face = self.face;
+        match self.vector.table.glue(face) {
+            None => true,
+            Some(glue) => face.is_before(glue.other_side(face)),
+        }
+    }
+
+    /// The number of arcs in the face around its vertex `number` (0 to 2).
+    fn arcs_round(&self, number: usize) -> u128
+        requires { number < 3 }
+        ensures a_face { self.now.face.face < 4 }
+        ensures value { result ≡ capped (pieces.arcs_around self.now.vector.coords.system self.now.vector.entries.now self.now.face.tet self.now.face.face (slice_index (others self.now.face.face) number)) }
+    {
+        let vector = self.vector;
+        let face = self.face;
+        let columns = arc_columns(vector.coords, face.tet, face.face, corner(face, number));
+        sum_at(vector.entries, columns.as_slice())
+    }
+
+    /// The number of arcs in the face.
+    pub fn arcs_in(&self) -> u128
+        ensures { result ≡ capped (characteristic.arcs_in self.now.vector.coords.system self.now.vector.entries.now self.now.face) }
+    {
+        let one = self.arcs_round(0);
+        let two = add(one, self.arcs_round(1));
+        add(two, self.arcs_round(2))
     }
 }
 
 impl<'a> DiscVector<'a> {
-    /// The number of arcs in `face` around its vertex `number` (0 to 2).
-    fn arcs_round(&self, face: Face, number: usize) -> u128
-        requires in_range { face.tet < length self.now.table.now }
-        requires one_of_three { number < 3 }
-        ensures a_face { face.face < 4 }
-        ensures value { result ≡ capped (pieces.arcs_around self.now.coords.system self.now.entries.now face.tet face.face (slice_index (others face.face) number)) }
-    {
-        let columns = arc_columns(self.coords, face.tet, face.face, corner(face, number));
-        sum_at(self.entries, columns.as_slice())
-    }
-
-    /// The number of arcs in `face`.
-    pub fn arcs_in(&self, face: Face) -> u128
-        requires { face.tet < length self.now.table.now }
-        ensures { result ≡ capped (characteristic.arcs_in self.now.coords.system self.now.entries.now face) }
-    {
-        let one = self.arcs_round(face, 0);
-        let two = add(one, self.arcs_round(face, 1));
-        add(two, self.arcs_round(face, 2))
-    }
-
-    /// The number of arcs in `face` if `is_first_side` holds of it, and 0 otherwise.
+    /// The number of arcs in `face` if it is a boundary face or the first of two faces glued to each other, and 0
+    /// otherwise.
     fn arcs_if_first(&self, face: Face) -> u128
         requires { face.tet < length self.now.table.now }
         ensures { result ≡ capped (counted_at self.now.table.now self.now.coords.system self.now.entries.now face) }
     {
-        if is_first_side(self.table, face) {
-            self.arcs_in(face)
-        } else {
-            0
-        }
+        let vector = *self;
+        let at = VectorFace { vector, face };
+        if at.is_first_side() { at.arcs_in() } else { 0 }
     }
 
     /// The number of arcs, counted once for each face class.

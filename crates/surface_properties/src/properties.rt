@@ -8,7 +8,7 @@ ghost use Rattle.surface_definitions.specs.Characteristic as characteristic;
 ghost use Rattle.surface_vector_definitions.specs.Properties.{IsPropertyAnswer};
 
 use crate::sums::{add, sum_of};
-use crate::vectors::DiscVector;
+use crate::vectors::{DiscVector, VectorFace};
 use gluing_table::Face;
 use normal_discs::{DiscCoords, columns_each, triangles_each};
 use skeleton::Skeleton;
@@ -38,19 +38,20 @@ pub fn is_linking(coords: Coords, x: &[u128]) -> bool
     true
 }
 
-impl<'a> DiscVector<'a> {
-    /// Whether `face` is a boundary face that the surface meets.
-    fn has_free_arcs(&self, face: Face) -> bool
-        requires { face.tet < length self.now.table.now }
-        ensures some { IsTrue result → gluings.glue self.now.table.now face ≡ None × (0 < characteristic.arcs_in self.now.coords.system self.now.entries.now face) }
-        ensures none { result ≡ false → gluings.glue self.now.table.now face ≡ None → characteristic.arcs_in self.now.coords.system self.now.entries.now face ≡ 0 }
+impl<'a> VectorFace<'a> {
+    /// Whether the face is a boundary face that the surface meets.
+    fn has_free_arcs(&self) -> bool
+        ensures some { IsTrue result → gluings.glue self.now.vector.table.now self.now.face ≡ None × (0 < characteristic.arcs_in self.now.vector.coords.system self.now.vector.entries.now self.now.face) }
+        ensures none { result ≡ false → gluings.glue self.now.vector.table.now self.now.face ≡ None → characteristic.arcs_in self.now.vector.coords.system self.now.vector.entries.now self.now.face ≡ 0 }
     {
-        match self.table.glue(face) {
-            None => self.arcs_in(face) > 0,
+        match self.vector.table.glue(self.face) {
+            None => self.arcs_in() > 0,
             Some(_) => false,
         }
     }
+}
 
+impl<'a> DiscVector<'a> {
     /// Whether the surface meets a boundary face.
     fn meets_boundary(&self) -> bool
         ensures { result ≡ characteristic.meets_boundary self.now.table.now self.now.coords.system self.now.entries.now }
@@ -60,7 +61,11 @@ impl<'a> DiscVector<'a> {
                 tet: place / 4,
                 face: (place % 4) as u8,
             };
-            if self.has_free_arcs(face) {
+            let at = VectorFace {
+                vector: *self,
+                face,
+            };
+            if at.has_free_arcs() {
                 return true;
             }
         }
@@ -68,13 +73,23 @@ impl<'a> DiscVector<'a> {
     }
 }
 
-/// The Euler characteristic of a surface, from its number of points and normal discs together (`points_and_pieces`),
-/// and of `arcs`.
-fn euler(points_and_pieces: u128, arcs: u128) -> i128
-    requires first { points_and_pieces ≤ limit }
-    requires second { arcs ≤ limit }
-    ensures { result ≡ pos points_and_pieces -ℤ pos arcs }
+/// The number of points and normal discs of a surface together, and that of its arcs.
+#[derive(Clone, Copy)]
+struct EulerTerms {
+    points_and_pieces: u128,
+    arcs: u128,
+    ghost first: { points_and_pieces ≤ limit },
+    ghost second: { arcs ≤ limit },
+}
+
+/// The Euler characteristic of a surface.
+fn euler(terms: EulerTerms) -> i128
+    ensures { result ≡ pos terms.points_and_pieces -ℤ pos terms.arcs }
 {
+    let EulerTerms {
+        points_and_pieces,
+        arcs,
+    } = terms;
     points_and_pieces as i128 - arcs as i128
 }
 
@@ -116,11 +131,15 @@ pub fn properties_of(
             sum: SurfaceSum::PointsAndPieces,
         });
     }
+    let terms = EulerTerms {
+        points_and_pieces: both,
+        arcs,
+    };
     Ok(Properties {
         points,
         arcs,
         pieces,
-        euler: euler(both, arcs),
+        euler: euler(terms),
         linking: is_linking(coords, x),
         boundary: vector.meets_boundary(),
     })

@@ -28,9 +28,10 @@ levels-init c = record {
     start : c.in_ok-level.level.items ≡ 0 ∷ []
     start = c.in_ok-level.ensures.items_if_clones_equal (λ y e. e)
 
-pub next_level-requires-clause-in_range : goal.next_level-requires-clause-in_range
-next_level-requires-clause-in_range c =
-    subst (All (λ t. t < length c.args.table.now)) (sym c.deref.ensures.value) (level_inside c.args.table.now c.len.ensures.is_table c.levels.distance c.levels.marks.items c.levels.level.items c.levels.invariant.searched)
+pub invariant_of-here : goal.invariant_of-here
+invariant_of-here c = record {
+  in_range = subst (All (λ t. t < length c.args.table.now)) (sym c.deref.ensures.value) (level_inside c.args.table.now c.len.ensures.is_table c.levels.distance c.levels.marks.items c.levels.level.items c.levels.invariant.searched);
+}
 
 pub levels-preserved : goal.levels-preserved
 levels-preserved c = record {

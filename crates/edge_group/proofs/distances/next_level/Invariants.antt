@@ -3,4 +3,4 @@ use Rattle.edge_group.specs.Searches.{HasGrown, IsFaceOfSome}
 use Rattle.edge_group.proofs.distances.next_level.Given as goal
 
 abbrev pub invariant-loop-tet : goal.invariant-loop-tet
-invariant-loop-tet l = HasGrown l.table (IsFaceOfSome (take l.tet-index l.level)) l.distance l.fn.marks l.marks [] l.next.items
+invariant-loop-tet l = HasGrown l.level.table.now (IsFaceOfSome (take l.tet-index l.level.tets.now)) l.distance l.fn.marks l.marks [] l.next.items

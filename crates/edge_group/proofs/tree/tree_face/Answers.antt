@@ -6,8 +6,8 @@ use Rattle.edge_group.proofs.tree.tree_face.Goals as goal
 
 pub loop-face-preserved : goal.loop-face-preserved
 loop-face-preserved c =
-    least_more c.args.table.now c.args.tet c.loop-face.face c.loop-face.least c.closer_face.result c.lesser-least.result c.loop-face.invariant c.closer_face.ensures c.lesser-least.ensures
+    least_more c.args.at.table.now c.args.at.tet c.loop-face.face c.loop-face.least c.closer_face.result c.lesser-least.result c.loop-face.invariant c.closer_face.ensures c.lesser-least.ensures
 
 pub returns : goal.returns
 returns c = let all : c.loop-face.face ≡ 4 = omega arith in
-    subst (λ n. IsLeastCloser c.args.table.now c.args.tet n c.loop-face.least) all c.loop-face.invariant
+    subst (λ n. IsLeastCloser c.args.at.table.now c.args.at.tet n c.loop-face.least) all c.loop-face.invariant

@@ -5,8 +5,8 @@ use Rattle.edge_group.proofs.turning.is_path_odd.Given as goal
 
 abbrev pub invariant-path : goal.invariant-path
 invariant-path l = record {
-  in_range : l.tet < length l.table;
-  on : IsPathOn l.table l.fn.tet l.tet l.odd;
+  in_range : l.tet < length l.at.table.now;
+  on : IsPathOn l.at.table.now l.fn.at.tet l.tet l.odd;
 }
 
 abbrev pub decreases-path : goal.decreases-path

@@ -1,4 +1,4 @@
--- the rays so far are made, and the others are left
+-- the rays so far are converted, and the others are left
 use Rattle.std.proofs.Common.{◌≡◌, ◌++◌, length}
 use Rattle.std.specs.Vec.Iter.{into_iter_items, into_iter_len}
 use Rattle.ray_steps.specs.Rays.{rays_of}

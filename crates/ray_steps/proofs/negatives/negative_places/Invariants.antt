@@ -1,4 +1,4 @@
--- the negative places so far are listed
+-- the indices of the negative rays so far are listed
 use Rattle.ray_steps.specs.Signs.{AreNegativePlaces}
 use Rattle.ray_steps.proofs.negatives.negative_places.Given as goal
 

@@ -1,4 +1,4 @@
--- the columns so far have no partners
+-- the columns so far have empty sets
 use Rattle.std.proofs.Common.{◌≡◌, ℕ, ◌<◌, [], length, slice_index_or}
 use Rattle.ray_steps.specs.Partners.{IsClashSetOf}
 use Rattle.ray_steps.proofs.partners.empty_clash_sets.Given as goal

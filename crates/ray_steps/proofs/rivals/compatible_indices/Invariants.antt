@@ -1,4 +1,4 @@
--- the places so far are listed
+-- the indices so far are listed
 use Rattle.ray_steps.specs.Rays.{rays_of}
 use Rattle.ray_steps.specs.Rivals.{AreCompatible}
 use Rattle.ray_steps.proofs.rivals.compatible_indices.Given as goal

@@ -1,4 +1,4 @@
--- the supports of the rays at the places so far
+-- the supports of the rays with the indices so far
 use Rattle.std.proofs.Common.{take}
 use Rattle.ray_steps.specs.Rays.{rays_of}
 use Rattle.ray_steps.specs.Rivals.{HasSupportsOf}

@@ -10,7 +10,7 @@ use Rattle.ray_steps.proofs.signs.signs_at.Goals as goal
 
 pub returns-in-Err-clause-err : goal.returns-in-Err-clause-err
 returns-in-Err-clause-err c =
-    let ray_list = c.args.ray_list.now in
+    let ray_list = c.args.input.ray_list.now in
     let i = c.loop-kept.kept-index in
     let rays = rays_of ray_list in
     let read = ray_read ray_list i c.kept-item.result c.loop-kept-test.true c.kept-item.is in
@@ -19,21 +19,21 @@ returns-in-Err-clause-err c =
       place = i;
       in_range = omega arith;
       is = c.in_ok-ray-in-Err.ensures ∙ sym read;
-      large = subst (HasLargePart c.args.limit c.args.row.now) (sym read) c.in-Err.ensures.passed;
-      earlier = λ k less. subst (HasPartsWithin c.args.limit c.args.row.now) (get_or-take i rays k [] less) (c.loop-kept.invariant.within k [] (let e = length-take-le i rays (omega arith) in omega arith));
+      large = subst (HasLargePart c.args.limit c.args.input.row.now) (sym read) c.in-Err.ensures.passed;
+      earlier = λ k less. subst (HasPartsWithin c.args.limit c.args.input.row.now) (get_or-take i rays k [] less) (c.loop-kept.invariant.within k [] (let e = length-take-le i rays (omega arith) in omega arith));
     }
 
 pub loop-kept-preserved : goal.loop-kept-preserved
 loop-kept-preserved c =
-    let ray_list = c.args.ray_list.now in
+    let ray_list = c.args.input.ray_list.now in
     let i = c.loop-kept.kept-index in
     let rays = rays_of ray_list in
     let read = ray_read ray_list i c.kept-item.result c.loop-kept-test.true c.kept-item.is in
     let n = length-rays_of ray_list in
     rw c.in_ok-push-in-Ok.ensures.items
-    (signs_push c.args.limit c.args.row.now rays c.loop-kept.signs.items c.in-Ok.sign i (omega arith) c.loop-kept.invariant
-    (subst (λ x. IsSignAt c.args.row.now x c.in-Ok.sign) (sym read) c.in-Ok.ensures.sign)
-    (subst (HasPartsWithin c.args.limit c.args.row.now) (sym read) c.in-Ok.ensures.within))
+    (signs_push c.args.limit c.args.input.row.now rays c.loop-kept.signs.items c.in-Ok.sign i (omega arith) c.loop-kept.invariant
+    (subst (λ x. IsSignAt c.args.input.row.now x c.in-Ok.sign) (sym read) c.in-Ok.ensures.sign)
+    (subst (HasPartsWithin c.args.limit c.args.input.row.now) (sym read) c.in-Ok.ensures.within))
 
 pub returns-in_err-signs-clause-ok : goal.returns-in_err-signs-clause-ok
 returns-in_err-signs-clause-ok c = let p = err_from_is_err_and c.from_residual.result c.from_residual.ensures.1 in rw p.1 tt

@@ -1,4 +1,4 @@
--- no place before the one that was found is that of a third ray inside the union
+-- no index before the found one is that of a third ray inside the union
 use Rattle.std.proofs.Common.{ℕ, ◌-◌, ◌<◌, ◌≤◌, [], length, slice_index_or}
 use Rattle.support_bits.specs.Columns.{IsInsideUnionOf}
 use Rattle.ray_steps.specs.Rivals.{IsThirdInside}
@@ -6,10 +6,10 @@ use Rattle.ray_steps.proofs.thirds.third_inside.Given as goal
 
 abbrev pub invariant-loop-m : goal.invariant-loop-m
 invariant-loop-m l = record {
-  most : l.m ≤ length l.rivals.places.items;
-  inside : l.m < length l.rivals.places.items → IsInsideUnionOf (slice_index_or l.rivals.table.supports l.m []) l.a l.b;
-  earlier : (k : ℕ) → k < l.m → ¬ IsThirdInside l.rivals.places.items l.rivals.table.supports l.i l.j l.a l.b k;
+  most : l.m ≤ length l.pair.rivals.now.places.items;
+  inside : l.m < length l.pair.rivals.now.places.items → IsInsideUnionOf (slice_index_or l.pair.rivals.now.table.supports l.m []) l.pair.a.now l.pair.b.now;
+  earlier : (k : ℕ) → k < l.m → ¬ IsThirdInside l.pair.rivals.now.places.items l.pair.rivals.now.table.supports l.pair.i l.pair.j l.pair.a.now l.pair.b.now k;
 }
 
 abbrev pub decreases-loop-m : goal.decreases-loop-m
-decreases-loop-m l = length l.rivals.places.items - l.m
+decreases-loop-m l = length l.pair.rivals.now.places.items - l.m

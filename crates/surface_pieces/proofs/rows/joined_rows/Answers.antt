@@ -11,7 +11,10 @@ use Rattle.surface_pieces.proofs.RowsOfPieces.{item_is, item_piece, rows_push}
 use Rattle.surface_pieces.proofs.rows.joined_rows.Goals as goal
 
 pub joined_row-requires : goal.joined_row-requires
-joined_row-requires g c = (omega (arith, c.requires, slots_few c.args.pieces.now.surface.coords.system), (c.requires, item_piece c.args.pieces.now.surface.entries.now c.args.pieces.now.listed.now c.loop-piece.piece-index c.piece-item.result c.args.pieces.now.all c.loop-piece-test.true c.piece-item.is))
+joined_row-requires g c = (omega (arith, c.requires, slots_few c.args.pieces.now.surface.coords.system), c.requires)
+
+pub invariant_of-disc : goal.invariant_of-disc
+invariant_of-disc g c = record { there = item_piece c.args.pieces.now.surface.entries.now c.args.pieces.now.listed.now c.loop-piece.piece-index c.piece-item.result c.args.pieces.now.all c.loop-piece-test.true c.piece-item.is }
 
 pub loop-piece-preserved : goal.loop-piece-preserved
 loop-piece-preserved g c = record {

@@ -9,8 +9,8 @@ use Rattle.surface_pieces.proofs.Held.{held}
 use Rattle.surface_pieces.proofs.SignsFound.{free_is}
 use Rattle.surface_pieces.proofs.signs.signs_of.Goals as goal
 
-pub free_components-requires-clause-signed : goal.free_components-requires-clause-signed
-free_components-requires-clause-signed g c =
+pub invariant_of-by-clause-two_each : goal.invariant_of-by-clause-two_each
+invariant_of-by-clause-two_each g c =
     let h : HasClasses (Signed c.args.signs) c.args.joined.now.surface.table.now c.args.joined.now.surface.coords.system c.args.joined.now.surface.entries.now c.in_ok-signed.signed.classes.items c.in_ok-signed.signed.count = c.in_ok-signed.ensures in
     omega (arith, ap (λ (ks : List ℕ). length ks) c.deref.ensures.value, (h.numbered).one_each, (h.are).size, (c.requires.components).one_each)
 

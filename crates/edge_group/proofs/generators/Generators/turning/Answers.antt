@@ -17,8 +17,8 @@ index-requires c =
     let g = generator_at c.self.inside.skeleton.now c.deref-class-items.result.now c.loop-class.class-index (subst (AreGenerators c.self.inside.skeleton.now) (sym c.deref-class-items.ensures.value) c.self.invariant.generators) c.loop-class-test.true in
     omega (arith, g.0, c.self.invariant.firsts.one_each, c.self.inside.firsts.ok.0)
 
-pub turns-requires-clause-in_range : goal.turns-requires-clause-in_range
-turns-requires-clause-in_range c =
+pub invariant_of-turns-clause-in_range : goal.invariant_of-turns-clause-in_range
+invariant_of-turns-clause-in_range c =
     let g = generator_at c.self.inside.skeleton.now c.deref-class-items.result.now c.loop-class.class-index (subst (AreGenerators c.self.inside.skeleton.now) (sym c.deref-class-items.ensures.value) c.self.invariant.generators) c.loop-class-test.true in
     let class = slice_index c.deref-class-items.result.now c.loop-class.class-index in
     let inside : class < length c.self.inside.firsts.items = subst (λ n. class < n) (sym c.self.invariant.firsts.one_each) g.0 in
@@ -27,12 +27,12 @@ turns-requires-clause-in_range c =
     let e : c.face_of.result.tet ≡ c.index.result.now / 4 = ap (λ (x : Face). x.tet) c.face_of.ensures.value in
     let r : length c.table-table.result.now ≡ length c.self.inside.skeleton.now.rows = ap length c.table-table.ensures.rows in omega arith
 
-pub turns-requires-clause-tree : goal.turns-requires-clause-tree
-turns-requires-clause-tree c =
+pub turns-requires : goal.turns-requires
+turns-requires c =
     subst (λ (rows : List Row). IsTreeWith rows c.args.tree.now.faces.items c.args.tree.now.distances.items) (sym (c.table-table.ensures.rows ∙ ap (λ (g : Generators). g.skeleton.rows) c.self.view_is)) c.requires
 
-pub turns-requires-clause-glued : goal.turns-requires-clause-glued
-turns-requires-clause-glued c =
+pub invariant_of-turns-clause-glued : goal.invariant_of-turns-clause-glued
+invariant_of-turns-clause-glued c =
     let g = generator_at c.self.inside.skeleton.now c.deref-class-items.result.now c.loop-class.class-index (subst (AreGenerators c.self.inside.skeleton.now) (sym c.deref-class-items.ensures.value) c.self.invariant.generators) c.loop-class-test.true in
     let class = slice_index c.deref-class-items.result.now c.loop-class.class-index in
     let inside : class < length c.self.inside.firsts.items = subst (λ n. class < n) (sym c.self.invariant.firsts.one_each) g.0 in

@@ -1,4 +1,4 @@
--- With the signs turned the same pairs are taken.
+-- With the signs negated the pairs are the same.
 use Rattle.std.proofs.Common.{◌≡◌, length, subst, sym, ap, ◌∙◌}
 use Rattle.ray_steps.specs.Rays.{rays_of, AreOfWidth}
 use Rattle.ray_steps.proofs.RayLemmas.{length-rays_of}

@@ -58,8 +58,8 @@ returns-then-near-len g c =
 pub loop-place-init : goal.loop-place-init
 loop-place-init g c = record { taken = taken_none _ _ _ _ _ _ _ c.requires.made.so_far; widths = c.requires.made.widths }
 
-pub combine_found-requires-clause-second : goal.combine_found-requires-clause-second
-combine_found-requires-clause-second g c =
+pub invariant_of-pair-clause-second : goal.invariant_of-pair-clause-second
+invariant_of-pair-clause-second g c =
     let d = c.args.self.now in
     let ray_list = c.self.inside.ray_list.items in
     let i = c.args.i in
@@ -72,8 +72,8 @@ combine_found-requires-clause-second g c =
     let found = subst (AreMinimal c.args.supports.now.supports u.support joined i c.self.inside.most) (sym c.deref-place-items.ensures.value) c.in_ok-places.ensures in
     found_in_range d.pairs d.rays i d.columns c.self.inside.most joined c.args.supports.now c.requires.supports joins u.support outer_is xs c.loop-place.place-index 0 found c.loop-place-test.true
 
-pub combine_found-requires-clause-face : goal.combine_found-requires-clause-face
-combine_found-requires-clause-face g c =
+pub combine-requires-clause-face : goal.combine-requires-clause-face
+combine-requires-clause-face g c =
     let d = c.args.self.now in
     let ray_list = c.self.inside.ray_list.items in
     let i = c.args.i in
@@ -86,8 +86,8 @@ combine_found-requires-clause-face g c =
     let found = subst (AreMinimal c.args.supports.now.supports u.support joined i c.self.inside.most) (sym c.deref-place-items.ensures.value) c.in_ok-places.ensures in
     found_face d.pairs d.rays i d.columns c.self.inside.most joined c.args.supports.now c.requires.supports joins u.support outer_is xs c.loop-place.place-index 0 found c.loop-place-test.true
 
-pub combine_found-requires-clause-made : goal.combine_found-requires-clause-made
-combine_found-requires-clause-made g c =
+pub combine-requires-clause-made : goal.combine-requires-clause-made
+combine-requires-clause-made g c =
     let d = c.args.self.now in
     let ray_list = c.self.inside.ray_list.items in
     let i = c.args.i in
@@ -124,8 +124,8 @@ loop-place-preserved g c =
     let found = subst (AreMinimal c.args.supports.now.supports u.support joined i c.self.inside.most) (sym c.deref-place-items.ensures.value) c.in_ok-places.ensures in
     record {
       taken = after_found d.limit d.pairs d.rays d.signs i xs found.ascending (pairs_found d.pairs d.rays i d.columns c.self.inside.most joined c.args.supports.now c.requires.supports joins u.support outer_is small i_in wide d.signs xs found)
-          c.loop-place.place-index (rays_of c.combine_found.new.made.items) c.loop-place-test.true c.in_ok-combine_found.ensures.ok.so_far;
-      widths = c.in_ok-combine_found.ensures.ok.widths;
+          c.loop-place.place-index (rays_of c.combine.new.made.items) c.loop-place-test.true c.in_ok-combine.ensures.ok.so_far;
+      widths = c.in_ok-combine.ensures.ok.widths;
     }
 
 pub returns-clause-ok : goal.returns-clause-ok

@@ -1,4 +1,4 @@
--- the pairs of the places so far are taken
+-- the pairs with the indices so far are done
 use Rattle.ray_steps.specs.Rays.{rays_of, AreOfWidth}
 use Rattle.ray_steps.proofs.PlaceLemmas.{HaveTaken}
 use Rattle.ray_steps.proofs.step.Step.combine_minimal.Given as goal

@@ -109,15 +109,15 @@ returns-in_err-kept-clause-err g c =
     (sym (c.index-in-loop-m.ensures ∙ get_or_default signs j c.index-in-loop-m.result.now Zero j_in) ∙ c.in-Negative.is) face)
     c.index-u.result.now.ray c.index-w.result.now.ray u w c.in_err-kept.field-0.0 c.in_err-kept.ensures.err))
 
-pub first_not_excluded-m-requires-in-loop-m-clause-first : goal.first_not_excluded-m-requires-in-loop-m-clause-first
-first_not_excluded-m-requires-in-loop-m-clause-first g c =
+pub invariant_of-next-clause-first : goal.invariant_of-next-clause-first
+invariant_of-next-clause-first g c =
     let ray_list = c.self.inside.ray_list.items in
     let i_in = place_of_rays ray_list c.args.self.now.rays c.args.i (ap (λ (d : StepData). d.rays) c.self.view_is) c.requires.in_range in
     width_read c.index-u.result.now _ c.self.inside.clashes.now.columns _ (ray_read ray_list c.args.i c.index-u.result.now i_in c.index-u.ensures)
     (ray_width ray_list c.args.i c.self.inside.clashes.now.columns i_in c.self.invariant.rays.widths) (negatives_read _ _ c.self.view_is _ c.requires.negatives).table.width
 
-pub first_not_excluded-m-requires-in-loop-m-clause-second : goal.first_not_excluded-m-requires-in-loop-m-clause-second
-first_not_excluded-m-requires-in-loop-m-clause-second g c =
+pub invariant_of-next-clause-second : goal.invariant_of-next-clause-second
+invariant_of-next-clause-second g c =
     let s = c.self.inside in
     let ray_list = s.ray_list.items in
     let i = c.args.i in

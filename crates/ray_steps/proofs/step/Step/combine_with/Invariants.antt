@@ -1,4 +1,4 @@
--- the pairs of the negative places so far are taken
+-- the pairs with the negative rays so far are done
 use Rattle.std.proofs.Common.{◌-◌, ◌≤◌, length}
 use Rattle.ray_steps.specs.Rays.{rays_of, AreOfWidth}
 use Rattle.ray_steps.proofs.PlaceLemmas.{HaveTaken}

@@ -1,4 +1,5 @@
--- Beside a ray of a single column the test decides; else a pair is refused by a third ray, or by the test.
+-- If a ray has a single column, the clash test decides; else a third ray inside the union, or the clash test, rules a
+-- pair out.
 use Rattle.std.proofs.Common.{subst, sym, ap, ◌∙◌, arith}
 use Rattle.std.specs.Prelude.{IsTrue}
 use Rattle.std.proofs.lemmas.Bool.{false≢true}
@@ -8,12 +9,31 @@ use Rattle.support_bits.specs.Columns.{support_of}
 use Rattle.support_table.specs.Joins.{AreClashingColumns}
 use Rattle.ray_steps.specs.Rays.{rays_of}
 use Rattle.ray_steps.specs.Signs.{IsAdjacentPair}
-use Rattle.ray_steps.proofs.RayLemmas.{length-rays_of, ray_read}
+use Rattle.ray_steps.proofs.RayLemmas.{length-rays_of, ray_read, ray_width}
 use Rattle.ray_steps.proofs.SingleLemmas.{single_of_two}
-use Rattle.ray_steps.proofs.RivalLemmas.{support_read, clash_read, not_face_third, face_from_rivals}
+use Rattle.ray_steps.proofs.RivalLemmas.{support_read, clash_read, width_read, count_of_rivals, not_face_third, face_from_rivals}
 use Rattle.ray_steps.specs.Steps.{StepData}
 use Rattle.ray_steps.proofs.ViewLemmas.{place_of_rays}
 use Rattle.ray_steps.proofs.step.Step.is_face.Goals as goal
+
+pub invariant_of-pair : goal.invariant_of-pair
+invariant_of-pair g c =
+    let ray_list = c.self.inside.ray_list.items in
+    let columns = c.self.inside.clashes.now.columns in
+    let i = c.args.i in
+    let j = c.args.j in
+    let same = ap (λ (d : StepData). d.rays) c.self.view_is in
+    let i_in = place_of_rays ray_list c.args.self.now.rays i same c.requires.search.in_range in
+    let j_in = place_of_rays ray_list c.args.self.now.rays j same c.requires.second in
+    let a = c.index-u.result.now in
+    let b = c.index-w.result.now in
+    let listed = c.in_ok-rivals.ensures.rivals in
+    let wide = listed.table.width ∙ sym (ap (λ (d : StepData). d.columns) c.self.view_is) in
+    record {
+      count = count_of_rivals _ _ _ _ listed.table;
+      first = width_read a _ columns _ (ray_read ray_list i a i_in c.index-u.ensures) (ray_width ray_list i columns i_in c.self.invariant.rays.widths) wide;
+      second = width_read b _ columns _ (ray_read ray_list j b j_in c.index-w.ensures) (ray_width ray_list j columns j_in c.self.invariant.rays.widths) wide;
+    }
 
 pub returns-then-has_single-clause-face : goal.returns-then-has_single-clause-face
 returns-then-has_single-clause-face g c =

@@ -2,7 +2,7 @@
 use Rattle.std.proofs.Common.{◌<◌, ◌≤◌, sym, subst}
 use Rattle.std.proofs.lemmas.Bool.{ltb-true, ltb-false}
 use Rattle.surface_properties.proofs.CappedSums.{capped_some, capped_none}
-use Rattle.surface_properties.proofs.vectors.DiscVector.has_free_arcs.Goals as goal
+use Rattle.surface_properties.proofs.vectors.VectorFace.has_free_arcs.Goals as goal
 
 pub returns-in-None-clause-some : goal.returns-in-None-clause-some
 returns-in-None-clause-some c = λ t. (sym c.in-None.ensures.value, capped_some _ (subst (λ n. 0 < n) c.arcs_in.ensures (ltb-true 0 c.arcs_in.result t)))

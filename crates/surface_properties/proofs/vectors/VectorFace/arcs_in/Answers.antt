@@ -6,15 +6,15 @@ use Rattle.surface_definitions.specs.Pieces.{arcs_around}
 use Rattle.surface_properties.specs.Capped.{capped}
 use Rattle.surface_properties.proofs.CappedSums.{capped_three}
 use Rattle.surface_properties.proofs.ArcSums.{three_others}
-use Rattle.surface_properties.proofs.vectors.DiscVector.arcs_in.Goals as goal
+use Rattle.surface_properties.proofs.vectors.VectorFace.arcs_in.Goals as goal
 
 pub returns : goal.returns
 returns c =
     c.add.ensures
-    ∙ capped_three (round (slice_index (others c.args.face.face) 0)) (round (slice_index (others c.args.face.face) 1)) (round (slice_index (others c.args.face.face) 2))
+    ∙ capped_three (round (slice_index (others c.args.self.now.face.face) 0)) (round (slice_index (others c.args.self.now.face.face) 1)) (round (slice_index (others c.args.self.now.face.face) 2))
     c.arcs_round-one.result c.arcs_round.result c.arcs_round-2.result c.add-two.result
     c.arcs_round-one.ensures.value c.arcs_round.ensures.value c.arcs_round-2.ensures.value
-    c.add-two.ensures ∙ ap capped (sym (three_others round c.args.face.face c.arcs_round.ensures.a_face))
+    c.add-two.ensures ∙ ap capped (sym (three_others round c.args.self.now.face.face c.arcs_round.ensures.a_face))
   where
     round : ℕ → ℕ
-    round v = arcs_around c.args.self.now.coords.system c.args.self.now.entries.now c.args.face.tet c.args.face.face v
+    round v = arcs_around c.args.self.now.vector.coords.system c.args.self.now.vector.entries.now c.args.self.now.face.tet c.args.self.now.face.face v
