@@ -19,6 +19,10 @@ use Rattle.ray_decompose.specs.Sums.{term_of, terms_of, HasWidth}
 pub entry_is : (xs : List ℕ) (i entry : ℕ) → i < length xs → entry ≡ get_or xs i entry → entry ≡ slice_index xs i
 entry_is xs i entry l e = e ∙ get_or_default xs i entry 0 l
 
+-- each term has a column that the vector has
+pub wide : (x : List ℕ) (terms : List Given) (column : ℕ) → column < length x → All (HasWidth (length x)) terms → All (λ (g : Given). column < length g.entries.items) terms
+wide x terms column l widths k d m = let e = widths k d m in omega (arith, l, e)
+
 -- with one more term, the sum in a column exceeds the vector's entry
 pub too_much : (terms : List Given) (sum left column i : ℕ) (g : Given) → i < length terms → g ≡ get_or terms i g → sum ≡ sum_at (terms_of (take i terms)) column + left →
     left < g.count * slice_index g.entries.items column → sum ≡ sum_at (terms_of terms) column → ⊥

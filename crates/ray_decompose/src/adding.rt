@@ -17,14 +17,26 @@ pub struct Given {
     pub entries: Vec<u128>,
 }
 
+/// The column `index` of a test whether `times` times `x` is the sum of `terms`. Invariant: the column is one of `x`,
+/// and each term has as many columns.
+#[derive(Clone, Copy)]
+struct Column<'a> {
+    x: &'a [u128],
+    times: u128,
+    terms: &'a [Given],
+    index: usize,
+    ghost width: { length x.now < 2 ^ 32 },
+    ghost in_range: { index < length x.now },
+    ghost widths: { All (HasWidth (length x.now)) terms.now },
+}
+
 /// Whether the terms add up to `sum` in `column`.
-fn are_equal(sum: u128, terms: &[Given], column: usize) -> bool
-    requires { All (λ given. column < length given.entries.items) terms.now }
-    ensures { IsTrue result ↔ (sum ≡ sum_at (terms_of terms.now) column) }
+fn are_equal(sum: u128, column: Column) -> bool
+    ensures { IsTrue result ↔ (sum ≡ sum_at (terms_of column.entry.terms.now) column.entry.index) }
 {
     let mut left = sum;
-    for term in terms {
-        match product_within(term.count, term.entries[column], left) {
+    for term in column.terms {
+        match product_within(term.count, term.entries[column.index], left) {
             Some(product) => left -= product,
             None => return false,
         }
@@ -33,19 +45,16 @@ fn are_equal(sum: u128, terms: &[Given], column: usize) -> bool
 }
 
 /// The error at `column`, if there is one.
-fn fault_at(x: &[u128], times: u128, terms: &[Given], column: usize) -> Option<AddFault>
-    requires width { length x.now < 2 ^ 32 }
-    requires in_range { column < length x.now }
-    requires terms { All (HasWidth (length x.now)) terms.now }
-    ensures { result ≡ column_fault MAX_ENTRY x.now times (terms_of terms.now) column }
+fn fault_at(column: Column) -> Option<AddFault>
+    ensures { result ≡ column_fault MAX_ENTRY column.entry.x.now column.entry.times (terms_of column.entry.terms.now) column.entry.index }
 {
-    match product_within(times, x[column], MAX_ENTRY) {
-        Some(sum) if are_equal(sum, terms, column) => None,
+    match product_within(column.times, column.x[column.index], MAX_ENTRY) {
+        Some(sum) if are_equal(sum, column) => None,
         Some(_) => Some(AddFault::NotEqual {
-            column: column as u32,
+            column: column.index as u32,
         }),
         None => Some(AddFault::Large {
-            column: column as u32,
+            column: column.index as u32,
         }),
     }
 }
@@ -62,8 +71,14 @@ pub fn add_up(x: &[u128], times: u128, terms: &[Given]) -> Result<(), AddFault>
     if times == 0 {
         return Err(AddFault::ZeroTimes);
     }
-    for column in 0..x.len() {
-        if let Some(fault) = fault_at(x, times, terms, column) {
+    for index in 0..x.len() {
+        let column = Column {
+            x,
+            times,
+            terms,
+            index,
+        };
+        if let Some(fault) = fault_at(column) {
             return Err(fault);
         }
     }

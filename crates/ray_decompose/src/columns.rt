@@ -5,15 +5,16 @@ ghost use Rattle.cone_definitions.specs.Vectors.{IsInside};
 ghost use Rattle.sum_definitions.specs.Sums.{IsWithinTimes};
 ghost use Rattle.ray_decompose.specs.Sums.{IsFirstLarge};
 
+use crate::fraction::Division;
 use crate::products::product_within;
 
-/// Whether each nonzero column of `x` is nonzero in `other`, of equal length.
-pub fn is_inside(x: &[u128], other: &[u128]) -> bool
-    requires { length x.now ≡ length other.now }
-    ensures { IsTrue result ↔ IsInside x.now other.now }
+/// Whether each nonzero column of the ray of `division` is nonzero in `rest`.
+pub fn is_inside(division: Division) -> bool
+    ensures { IsTrue result ↔ IsInside division.entry.ray.now division.entry.rest.now }
 {
-    for (column, entry) in x.iter().enumerate() {
-        if *entry != 0 && other[column] == 0 {
+    let Division { rest, ray } = division;
+    for (column, entry) in ray.iter().enumerate() {
+        if *entry != 0 && rest[column] == 0 {
             return false;
         }
     }

@@ -6,8 +6,8 @@ ghost use Rattle.sum_definitions.specs.Sums.{HasRays, IsSum, IsLargeStep};
 ghost use Rattle.sum_laws.specs.Laws.{IsSumOfRays};
 
 use crate::columns::first_large;
-use crate::fraction::fraction_inside;
-use crate::taking::take_ray;
+use crate::fraction::{Division, fraction_inside};
+use crate::taking::{Subtraction, take_ray};
 use cone_arithmetic::{Ray, System};
 use out_of_memory::Failure;
 use std::alloc::Global;
@@ -49,12 +49,22 @@ pub fn decompose(
     let mut terms: Vec<Term> = Vec::with_capacity(alloc, system.columns() as usize)?;
     let mut rest = x.to_vec(alloc)?;
     for ray in list {
-        if let Some(fraction) = fraction_inside(&rest, ray.entries()) {
+        let division = Division {
+            rest: &rest,
+            ray: ray.entries(),
+        };
+        if let Some(fraction) = fraction_inside(division) {
             if let Some(column) = first_large(x, fraction.denominator, times, limit) {
                 let turn = terms.len() as u32;
                 return Err(Failure::Fault(LargeTurn { turn, column }));
             }
-            take_ray(alloc, fraction, ray, &mut terms, &mut rest)?;
+            let taking = Subtraction {
+                rest,
+                fraction,
+                ray,
+            };
+            let left = take_ray(alloc, &mut terms, taking)?;
+            rest = left;
             times = fraction.denominator * times;
         }
     }

@@ -8,42 +8,60 @@ ghost use Rattle.ray_decompose.specs.Fractions.{IsLeastColumn};
 use crate::columns::is_inside;
 use cone_arithmetic::gcd;
 
-/// A fraction of two natural numbers.
+/// A fraction of two natural numbers. Invariant: `denominator` is not 0.
 #[derive(Clone, Copy)]
 pub struct Fraction {
     pub numerator: u128,
     pub denominator: u128,
+    pub ghost some: { 1 ≤ denominator },
 }
 
-/// Whether `a` / `b` is at most `c` / `d`. Compares the integer parts, and if they are equal the reciprocals of what
+/// A vector `rest` that is divided by a ray, column by column. Invariant: both have equally many columns, and `ray` is
+/// not 0.
+#[derive(Clone, Copy)]
+pub struct Division<'a> {
+    pub rest: &'a [u128],
+    pub ray: &'a [u128],
+    pub ghost lengths: { length rest.now ≡ length ray.now },
+    pub ghost nonzero: { ∥ IsNonzero ray.now ∥₁ },
+}
+
+/// Whether `first` is at most `second`. Compares the integer parts, and if they are equal the reciprocals of what
 /// remains, as Euclid's algorithm does, so that no product can overflow.
-fn is_at_most(a: u128, b: u128, c: u128, d: u128) -> bool
-    requires first { 1 ≤ b }
-    requires second { 1 ≤ d }
-    ensures { IsTrue result ↔ (a * d ≤ c * b) }
+fn is_at_most(first: Fraction, second: Fraction) -> bool
+    ensures { IsTrue result ↔ (first.numerator * second.denominator ≤ second.numerator * first.denominator) }
 {
-    if a / b != c / d {
-        return a / b < c / d;
+    let first_whole = first.numerator / first.denominator;
+    let second_whole = second.numerator / second.denominator;
+    if first_whole != second_whole {
+        return first_whole < second_whole;
     }
-    let first_rest = a % b;
-    let second_rest = c % d;
+    let first_rest = first.numerator % first.denominator;
+    let second_rest = second.numerator % second.denominator;
     if first_rest == 0 {
-        true
-    } else if second_rest == 0 {
-        false
-    } else {
-        is_at_most(d, second_rest, b, first_rest)
+        return true;
     }
+    if second_rest == 0 {
+        return false;
+    }
+    let first_inverse = Fraction {
+        numerator: first.denominator,
+        denominator: first_rest,
+    };
+    let second_inverse = Fraction {
+        numerator: second.denominator,
+        denominator: second_rest,
+    };
+    is_at_most(second_inverse, first_inverse)
 }
 
-/// The first nonzero column of `ray`, which is not 0.
-fn first_column(ray: &[u128]) -> usize
-    requires { IsNonzero ray.now }
-    ensures in_range { result < length ray.now }
-    ensures some { slice_index ray.now result ≢ 0 }
-    ensures first { (earlier : ℕ) → earlier < result → slice_index ray.now earlier ≡ 0 }
+/// The first nonzero column of the ray of `division`.
+fn first_column(division: Division) -> usize
+    ensures in_range { result < length division.entry.ray.now }
+    ensures some { slice_index division.entry.ray.now result ≢ 0 }
+    ensures first { (earlier : ℕ) → earlier < result → slice_index division.entry.ray.now earlier ≡ 0 }
 {
-    for (column, entry) in ray.iter().enumerate() {
+    for (column, entry) in division.ray.iter().enumerate() {
         if *entry != 0 {
             return column;
         }
@@ -51,29 +69,37 @@ fn first_column(ray: &[u128]) -> usize
     unreachable!()
 }
 
-/// The first column, among the nonzero ones of `ray`, at which the entry of `rest` divided by that of `ray` is least.
-fn least_column(rest: &[u128], ray: &[u128]) -> usize
-    requires lengths { length rest.now ≡ length ray.now }
-    requires nonzero { IsNonzero ray.now }
-    ensures { IsLeastColumn rest.now ray.now (length ray.now) result }
+/// The first column at which the quotient of `division` is least, among the nonzero columns of its ray.
+fn least_column(division: Division) -> usize
+    ensures { IsLeastColumn division.entry.rest.now division.entry.ray.now (length division.entry.ray.now) result }
 {
-    let mut least = first_column(ray);
+    let Division { rest, ray } = division;
+    let mut least = first_column(division);
     for column in least + 1..ray.len() {
-        if ray[column] != 0 && !is_at_most(rest[least], ray[least], rest[column], ray[column]) {
+        if ray[column] == 0 {
+            continue;
+        }
+        let former = Fraction {
+            numerator: rest[least],
+            denominator: ray[least],
+        };
+        let quotient = Fraction {
+            numerator: rest[column],
+            denominator: ray[column],
+        };
+        if !is_at_most(former, quotient) {
             least = column;
         }
     }
     least
 }
 
-/// The least quotient of an entry of `rest` by the nonzero entry of `ray` in its column, in lowest terms. `ray` is not
-/// 0.
-pub fn least_fraction(rest: &[u128], ray: &[u128]) -> Fraction
-    requires lengths { length rest.now ≡ length ray.now }
-    requires nonzero { IsNonzero ray.now }
-    ensures { IsLeastFraction rest.now ray.now result.numerator result.denominator }
+/// The least quotient of `division`, of an entry of `rest` by a nonzero entry of `ray` in its column, in lowest terms.
+pub fn least_fraction(division: Division) -> Fraction
+    ensures { IsLeastFraction division.entry.rest.now division.entry.ray.now result.numerator result.denominator }
 {
-    let column = least_column(rest, ray);
+    let Division { rest, ray } = division;
+    let column = least_column(division);
     let divisor = gcd(rest[column], ray[column]);
     Fraction {
         numerator: rest[column] / divisor,
@@ -81,16 +107,14 @@ pub fn least_fraction(rest: &[u128], ray: &[u128]) -> Fraction
     }
 }
 
-/// As `least_fraction`, or `None` if the support of `ray` does not lie in that of `rest`.
-pub fn fraction_inside(rest: &[u128], ray: &[u128]) -> Option<Fraction>
-    requires lengths { length rest.now ≡ length ray.now }
-    requires nonzero { IsNonzero ray.now }
-    ensures inside { IfSome result (λ _. IsInside ray.now rest.now) }
-    ensures least { IfSome result (λ fraction. IsLeastFraction rest.now ray.now fraction.numerator fraction.denominator) }
-    ensures none { IfNone result (IsInside ray.now rest.now → ⊥) }
+/// As `least_fraction`, or `None` if the support of the ray of `division` does not lie in that of `rest`.
+pub fn fraction_inside(division: Division) -> Option<Fraction>
+    ensures inside { IfSome result (λ _. IsInside division.entry.ray.now division.entry.rest.now) }
+    ensures least { IfSome result (λ fraction. IsLeastFraction division.entry.rest.now division.entry.ray.now fraction.numerator fraction.denominator) }
+    ensures none { IfNone result (IsInside division.entry.ray.now division.entry.rest.now → ⊥) }
 {
-    if is_inside(ray, rest) {
-        Some(least_fraction(rest, ray))
+    if is_inside(division) {
+        Some(least_fraction(division))
     } else {
         None
     }

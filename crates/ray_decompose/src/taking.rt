@@ -1,6 +1,6 @@
 //! Subtracts a ray from the remainder.
 
-ghost use Rattle.std.specs.Prelude.{◌≡◌, ℕ, ◌*◌, ◌<◌, ◌≤◌, ◌^◌, [], ◌∷◌, ◌++◌, map, length, slice_index, OnOk};
+ghost use Rattle.std.specs.Prelude.{◌≡◌, ℕ, ◌*◌, ◌<◌, ◌≤◌, ◌^◌, [], ◌∷◌, ◌++◌, map, length, slice_index, OnOk, IfOk};
 ghost use Rattle.std.specs.List.{All};
 ghost use Rattle.cone_definitions.specs.Vectors.{multiple};
 ghost use Rattle.sum_definitions.specs.Sums.{Term as Taken, repeated, difference};
@@ -21,39 +21,48 @@ fn repeat(terms: &mut [Term], times: u128)
     }
 }
 
-/// Replaces `rest` by the denominator times `rest` less the numerator times `ray`.
-fn take_out(rest: &mut [u128], fraction: Fraction, ray: &[u128])
-    requires lengths { length ray.now ≡ length rest.old }
-    requires fits { (column : ℕ) → fraction.denominator * slice_index rest.old column < 2 ^ 128 }
-    requires enough { (column : ℕ) → fraction.numerator * slice_index ray.now column ≤ fraction.denominator * slice_index rest.old column }
-    ensures { rest.new ≡ difference (multiple fraction.denominator rest.old) (multiple fraction.numerator ray.now) }
-{
-    for (column, entry) in rest.iter_mut().enumerate() {
-        *entry = fraction.denominator * *entry - fraction.numerator * ray[column];
-    }
+/// A ray that is taken out of a remainder: the numerator of `fraction` times `ray` is subtracted from the denominator
+/// times `rest`. Invariant: both have equally many columns, no multiple of `rest` exceeds 2^128 - 1, and no difference
+/// is negative.
+#[derive(Drop)]
+pub struct Subtraction<'a> {
+    pub rest: Vec<u128>,
+    pub fraction: Fraction,
+    pub ray: &'a Ray,
+    pub ghost lengths: { length ray.now ≡ length rest.items },
+    pub ghost fits: { (column : ℕ) → fraction.denominator * slice_index rest.items column < 2 ^ 128 },
+    pub ghost enough: { (column : ℕ) → fraction.numerator * slice_index ray.now column ≤ fraction.denominator * slice_index rest.items column },
 }
 
-/// Replaces `rest` by the denominator of `fraction` times `rest` less the numerator times `ray`, multiplies the counts
-/// of `terms` by the denominator, and appends `ray` to them, taken numerator times.
+/// What `taking` leaves of its remainder.
+fn take_out(taking: Subtraction) -> Vec<u128>
+    ensures { result.items ≡ difference (multiple taking.entry.fraction.denominator taking.entry.rest.items) (multiple taking.entry.fraction.numerator taking.entry.ray.now) }
+{
+    let fraction = taking.fraction;
+    let ray = taking.ray.entries();
+    let mut rest = taking.rest;
+    for column in 0..rest.len() {
+        rest[column] = fraction.denominator * rest[column] - fraction.numerator * ray[column];
+    }
+    rest
+}
+
+/// Multiplies the counts of `terms` by the denominator of `taking`, appends its ray to them, taken numerator times, and
+/// returns what is left of its remainder.
 pub fn take_ray(
     alloc: Global,
-    fraction: Fraction,
-    ray: &Ray,
     terms: &mut Vec<Term>,
-    rest: &mut Vec<u128>,
-) -> Result<(), NoMemory>
-    requires lengths { length ray.now ≡ length rest.old.items }
-    requires counts { All (λ (term : Taken). fraction.denominator * term.count < 2 ^ 128) terms.old.items }
-    requires fits { (column : ℕ) → fraction.denominator * slice_index rest.old.items column < 2 ^ 128 }
-    requires enough { (column : ℕ) → fraction.numerator * slice_index ray.now column ≤ fraction.denominator * slice_index rest.old.items column }
-    ensures terms { OnOk result (terms.new.items ≡ map (repeated fraction.denominator) terms.old.items ++ record { count = fraction.numerator; vector = ray.now } ∷ []) }
-    ensures rest { OnOk result (rest.new.items ≡ difference (multiple fraction.denominator rest.old.items) (multiple fraction.numerator ray.now)) }
+    taking: Subtraction,
+) -> Result<Vec<u128>, NoMemory>
+    requires { All (λ (term : Taken). taking.fraction.denominator * term.count < 2 ^ 128) terms.old.items }
+    ensures terms { OnOk result (terms.new.items ≡ map (repeated taking.entry.fraction.denominator) terms.old.items ++ record { count = taking.entry.fraction.numerator; vector = taking.entry.ray.now } ∷ []) }
+    ensures rest { IfOk result (λ left. left.items ≡ difference (multiple taking.entry.fraction.denominator taking.entry.rest.items) (multiple taking.entry.fraction.numerator taking.entry.ray.now)) }
 {
+    let fraction = taking.fraction;
     repeat(terms, fraction.denominator);
     terms.push(Term {
         count: fraction.numerator,
-        vector: ray.copy(alloc)?,
+        vector: taking.ray.copy(alloc)?,
     })?;
-    take_out(rest, fraction, ray.entries());
-    Ok(())
+    Ok(take_out(taking))
 }

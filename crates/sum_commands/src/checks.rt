@@ -16,7 +16,8 @@ pub struct FirstFault<F> {
     pub fault: F,
 }
 
-/// Fails at the first of `vectors` that is no admissible solution of `equations`, with its index and what is wrong first.
+/// Fails at the first of `vectors` that is no admissible solution of `equations`, with its index and what is wrong
+/// first.
 pub fn check_vectors(
     equations: TableEquations<'_>,
     vectors: &[Vec<u128>],
@@ -37,8 +38,8 @@ pub fn check_vectors(
     Ok(())
 }
 
-/// Fails at the first of `terms` whose vector is no admissible solution of `equations`, with its index and what is wrong
-/// first.
+/// Fails at the first of `terms` whose vector is no admissible solution of `equations`, with its index and what is
+/// wrong first.
 pub fn check_terms(
     equations: TableEquations<'_>,
     terms: &[Given],

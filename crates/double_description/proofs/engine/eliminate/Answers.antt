@@ -44,10 +44,11 @@ loop-left-init g c =
       widths = subst (λ n. AreOfWidth n c.in_ok-rays.rays.items) (sym c.requires.columns) (widths_from_surfaces system.columns (in_order system.rows c.in_ok-order.order.items) pairs c.in_ok-rays.rays.items first);
     }
 
-pub pick-position-requires-clause-rows : goal.pick-position-requires-clause-rows
-pick-position-requires-clause-rows g c =
-    subst (AreRowsOf c.args.system.now) (sym c.deref.ensures.value)
-    (left_rows c.args.system.now c.loop-left.order.items c.loop-left.left.items c.loop-left.invariant.rows_left (let e : 0 < length c.loop-left.left.items = grind arith in e))
+pub invariant_of-rows_left : goal.invariant_of-rows_left
+invariant_of-rows_left g c = record {
+  are_rows = subst (AreRowsOf c.args.system.now) (sym c.deref.ensures.value)
+      (left_rows c.args.system.now c.loop-left.order.items c.loop-left.left.items c.loop-left.invariant.rows_left (let e : 0 < length c.loop-left.left.items = grind arith in e));
+}
 
 pub row-requires : goal.row-requires
 row-requires g c =
@@ -204,5 +205,5 @@ returns-clause-err g c = tt
 pub invariant_of-bound : goal.invariant_of-bound
 invariant_of-bound g c = record { fits = c.requires.most_limit }
 
-pub pick-position-requires-clause-chooses : goal.pick-position-requires-clause-chooses
-pick-position-requires-clause-chooses g c = c.requires.chooses
+pub pick-position-requires : goal.pick-position-requires
+pick-position-requires g c = c.requires.chooses

@@ -6,10 +6,10 @@ pub returns-then-times-eq0-clause-fault : goal.returns-then-times-eq0-clause-fau
 returns-then-times-eq0-clause-fault c = zero_fault _ _ _ _ c.if-times-eq0.true
 
 pub returns-in-Some-clause-fault : goal.returns-in-Some-clause-fault
-returns-in-Some-clause-fault c = first_fault _ _ _ _ c.loop-column.column c.in-Some.fault c.if-times-eq0.false c.loop-column-test.true c.loop-column.invariant (sym c.in-Some.ensures)
+returns-in-Some-clause-fault c = first_fault _ _ _ _ c.loop-index.index c.in-Some.fault c.if-times-eq0.false c.loop-index-test.true c.loop-index.invariant (sym c.in-Some.ensures)
 
 pub returns-clause-ok : goal.returns-clause-ok
-returns-clause-ok c = no_faults _ _ _ _ c.if-times-eq0.false (λ k l. c.loop-column.invariant k (omega arith))
+returns-clause-ok c = no_faults _ _ _ _ c.if-times-eq0.false (λ k l. c.loop-index.invariant k (omega arith))
 
 pub returns-clause-adds_up : goal.returns-clause-adds_up
-returns-clause-adds_up c = (λ e. given_add_up _ _ _ _ c.requires.terms (no_faults _ _ _ _ c.if-times-eq0.false (λ k l. c.loop-column.invariant k (omega arith))), λ a. refl)
+returns-clause-adds_up c = (λ e. given_add_up _ _ _ _ c.requires.terms (no_faults _ _ _ _ c.if-times-eq0.false (λ k l. c.loop-index.invariant k (omega arith))), λ a. refl)

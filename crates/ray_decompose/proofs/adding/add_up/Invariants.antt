@@ -4,5 +4,5 @@ use Rattle.sum_definitions.specs.Adding.{column_fault}
 use Rattle.ray_decompose.specs.Sums.{terms_of}
 use Rattle.ray_decompose.proofs.adding.add_up.Given as goal
 
-abbrev pub invariant-loop-column : goal.invariant-loop-column
-invariant-loop-column l = (k : ℕ) → k < l.column → column_fault MAX_ENTRY l.x l.times (terms_of l.terms) k ≡ None
+abbrev pub invariant-loop-index : goal.invariant-loop-index
+invariant-loop-index l = (k : ℕ) → k < l.index → column_fault MAX_ENTRY l.x l.times (terms_of l.terms) k ≡ None

@@ -2,4 +2,4 @@ use Rattle.std.proofs.Common.{◌≡◌, ℕ, ◌<◌, slice_index}
 use Rattle.ray_decompose.proofs.columns.is_inside.Given as goal
 
 abbrev pub invariant-loop-column : goal.invariant-loop-column
-invariant-loop-column l = (k : ℕ) → k < l.column → slice_index l.other k ≡ 0 → slice_index l.x k ≡ 0
+invariant-loop-column l = (k : ℕ) → k < l.column → slice_index l.division.rest.now k ≡ 0 → slice_index l.division.ray.now k ≡ 0

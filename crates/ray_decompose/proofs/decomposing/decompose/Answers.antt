@@ -1,15 +1,19 @@
 -- Each step continues the decomposition, and its numbers are within the limit.
-use Rattle.std.proofs.Common.{◌≡◌, length, refl, sym, ap, ◌∙◌, arith, subst₂, ◌∷◌, ◌++◌, [], map}
-use Rattle.cone_definitions.specs.Vectors.{IsInside, multiple}
+use Rattle.std.proofs.Common.{◌≡◌, length, refl, sym, ap, ◌∙◌, arith, subst, subst₂, ◌∷◌, ◌++◌, [], map}
+use Rattle.cone_definitions.specs.Vectors.{IsInside, IsNonzero, multiple}
 use Rattle.sum_definitions.specs.Sums.{repeated, difference}
 use Rattle.sum_laws.proofs.Runs.{sum_is_right}
 use Rattle.ray_decompose.proofs.Bounds.{turn_is, turn_fits, turns_are_few, ray_width, large_turn, counts_fit, goes_on, none_there, ends, widths, at_place, same_lengths}
 use Rattle.ray_decompose.proofs.decomposing.decompose.Goals as goal
-use Rattle.ray_decompose.proofs.decomposing.decompose.Goals.{in-Some+in_default-first_large+in_ok-take_ray, in_default}
+use Rattle.ray_decompose.proofs.decomposing.decompose.Goals.{in-Some+in_default-first_large+in_ok-left, in_default}
 
-pub fraction_inside-requires-clause-lengths : goal.fraction_inside-requires-clause-lengths
-fraction_inside-requires-clause-lengths c = sym (same_lengths _ _ _ _ (at_place c.args.list.now c.loop-ray.ray-index _ _ c.loop-ray-test.true c.ray-item.is c.entries.ensures.entries) c.deref.ensures.value (widths c.args.system.now.columns c.args.system.now.rows c.args.list.now c.args.x.now c.requires c.args.limit (length c.loop-ray.terms.items)
+pub invariant_of-division-clause-lengths : goal.invariant_of-division-clause-lengths
+invariant_of-division-clause-lengths c = sym (same_lengths _ _ _ _ (at_place c.args.list.now c.loop-ray.ray-index _ _ c.loop-ray-test.true c.ray-item.is c.entries.ensures.entries) c.deref.ensures.value (widths c.args.system.now.columns c.args.system.now.rows c.args.list.now c.args.x.now c.requires c.args.limit (length c.loop-ray.terms.items)
     (record { times = c.loop-ray.times; terms = c.loop-ray.terms.items; rest = c.loop-ray.rest.items }) c.loop-ray.invariant.led c.loop-ray.ray-index c.loop-ray-test.true))
+
+pub invariant_of-division-clause-nonzero : goal.invariant_of-division-clause-nonzero
+invariant_of-division-clause-nonzero c = ∣ subst IsNonzero (sym (at_place c.args.list.now c.loop-ray.ray-index _ _ c.loop-ray-test.true c.ray-item.is c.entries.ensures.entries))
+    (c.requires.rays c.loop-ray.ray-index [] c.loop-ray-test.true).extreme.nonzero ∣₁
 
 pub overflow_cast-turn : goal.overflow_cast-turn
 overflow_cast-turn c =
@@ -33,20 +37,20 @@ returns-in-Some-first_large-clause-err c =
     c.entries.ensures.entries c.deref.ensures.value c.in-Some.ensures.inside c.in-Some.ensures.least)
     _ _ (c.len-turn.ensures ∙ c.loop-ray.terms.ok.0) c.in-Some-first_large.ensures.some
 
-pub take_ray-requires-clause-lengths : goal.take_ray-requires-clause-lengths
-take_ray-requires-clause-lengths c = ap length (at_place c.args.list.now c.loop-ray.ray-index _ _ c.loop-ray-test.true c.ray-item.is refl) ∙ (widths c.args.system.now.columns c.args.system.now.rows c.args.list.now c.args.x.now c.requires c.args.limit (length c.loop-ray.terms.items)
+pub invariant_of-taking-clause-lengths : goal.invariant_of-taking-clause-lengths
+invariant_of-taking-clause-lengths c = ap length (at_place c.args.list.now c.loop-ray.ray-index _ _ c.loop-ray-test.true c.ray-item.is refl) ∙ (widths c.args.system.now.columns c.args.system.now.rows c.args.list.now c.args.x.now c.requires c.args.limit (length c.loop-ray.terms.items)
     (record { times = c.loop-ray.times; terms = c.loop-ray.terms.items; rest = c.loop-ray.rest.items }) c.loop-ray.invariant.led c.loop-ray.ray-index c.loop-ray-test.true)
 
-pub take_ray-requires-clause-counts : goal.take_ray-requires-clause-counts
-take_ray-requires-clause-counts c k d l =
+pub take_ray-requires : goal.take_ray-requires
+take_ray-requires c k d l =
     let f = turn_fits c.args.system.now.columns c.args.system.now.rows c.args.list.now c.args.x.now c.args.limit c.loop-ray.times c.loop-ray.terms.items c.loop-ray.rest.items c.loop-ray.ray-index
     c.in-Some.fraction.numerator c.in-Some.fraction.denominator (turn_is c.args.system.now.columns c.args.system.now.rows c.args.list.now c.args.x.now c.args.limit c.loop-ray.times c.loop-ray.terms.items c.loop-ray.rest.items c.loop-ray.ray-index
     c.in-Some.fraction.numerator c.in-Some.fraction.denominator _ _ _ c.requires c.loop-ray.invariant.led c.loop-ray.invariant.none c.loop-ray-test.true c.ray-item.is
     c.entries.ensures.entries c.deref.ensures.value c.in-Some.ensures.inside c.in-Some.ensures.least) c.in_default-first_large.ensures.none in
     counts_fit c.loop-ray.terms.items _ c.in-Some.fraction.denominator c.args.limit 340282366920938463463374607431768211456 refl f.counts (omega arith) k d l
 
-pub take_ray-requires-clause-fits : goal.take_ray-requires-clause-fits
-take_ray-requires-clause-fits c column =
+pub invariant_of-taking-clause-fits : goal.invariant_of-taking-clause-fits
+invariant_of-taking-clause-fits c column =
     let f = turn_fits c.args.system.now.columns c.args.system.now.rows c.args.list.now c.args.x.now c.args.limit c.loop-ray.times c.loop-ray.terms.items c.loop-ray.rest.items c.loop-ray.ray-index
     c.in-Some.fraction.numerator c.in-Some.fraction.denominator (turn_is c.args.system.now.columns c.args.system.now.rows c.args.list.now c.args.x.now c.args.limit c.loop-ray.times c.loop-ray.terms.items c.loop-ray.rest.items c.loop-ray.ray-index
     c.in-Some.fraction.numerator c.in-Some.fraction.denominator _ _ _ c.requires c.loop-ray.invariant.led c.loop-ray.invariant.none c.loop-ray-test.true c.ray-item.is
@@ -54,8 +58,8 @@ take_ray-requires-clause-fits c column =
     let l = f.rest column in
     omega (arith, l)
 
-pub take_ray-requires-clause-enough : goal.take_ray-requires-clause-enough
-take_ray-requires-clause-enough c column =
+pub invariant_of-taking-clause-enough : goal.invariant_of-taking-clause-enough
+invariant_of-taking-clause-enough c column =
     let f = turn_fits c.args.system.now.columns c.args.system.now.rows c.args.list.now c.args.x.now c.args.limit c.loop-ray.times c.loop-ray.terms.items c.loop-ray.rest.items c.loop-ray.ray-index
     c.in-Some.fraction.numerator c.in-Some.fraction.denominator (turn_is c.args.system.now.columns c.args.system.now.rows c.args.list.now c.args.x.now c.args.limit c.loop-ray.times c.loop-ray.terms.items c.loop-ray.rest.items c.loop-ray.ray-index
     c.in-Some.fraction.numerator c.in-Some.fraction.denominator _ _ _ c.requires c.loop-ray.invariant.led c.loop-ray.invariant.none c.loop-ray-test.true c.ray-item.is
@@ -73,7 +77,7 @@ overflow_mul-times c =
 
 pub loop-ray-preserved : goal.loop-ray-preserved
 loop-ray-preserved c = elim c.match-fraction_inside.branch [
-  | in-Some+in_default-first_large+in_ok-take_ray w ↦
+  | in-Some+in_default-first_large+in_ok-left w ↦
       let at = at_place c.args.list.now c.loop-ray.ray-index _ _ c.loop-ray-test.true c.ray-item.is refl in
       goes_on c.args.system.now.columns c.args.system.now.rows c.args.list.now c.args.x.now c.args.limit c.loop-ray.times c.loop-ray.terms.items c.loop-ray.rest.items c.loop-ray.ray-index
       w.in-Some.fraction.numerator w.in-Some.fraction.denominator
@@ -81,8 +85,8 @@ loop-ray-preserved c = elim c.match-fraction_inside.branch [
       w.in-Some.fraction.numerator w.in-Some.fraction.denominator _ _ _ c.requires c.loop-ray.invariant.led c.loop-ray.invariant.none c.loop-ray-test.true c.ray-item.is
       c.entries.ensures.entries c.deref.ensures.value w.in-Some.ensures.inside w.in-Some.ensures.least)
       _ _ _ w.in_default-first_large.ensures.none w.times-is
-      (rw w.terms-is (w.in_ok-take_ray.ensures.terms ∙ ap (λ v. map (repeated w.in-Some.fraction.denominator) c.loop-ray.terms.items ++ record { count = w.in-Some.fraction.numerator; vector = v } ∷ []) at))
-      (rw w.rest-is (w.in_ok-take_ray.ensures.rest ∙ ap (λ v. difference (multiple w.in-Some.fraction.denominator c.loop-ray.rest.items) (multiple w.in-Some.fraction.numerator v)) at))
+      (rw w.terms-is (w.in_ok-left.ensures.terms ∙ ap (λ v. map (repeated w.in-Some.fraction.denominator) c.loop-ray.terms.items ++ record { count = w.in-Some.fraction.numerator; vector = v } ∷ []) at))
+      (rw w.rest-is (w.in_ok-left.ensures.rest ∙ ap (λ v. difference (multiple w.in-Some.fraction.denominator c.loop-ray.rest.items) (multiple w.in-Some.fraction.numerator v)) at))
   | in_default w ↦ rw (w.times-is, w.terms-is, w.rest-is) (record {
     led = c.loop-ray.invariant.led;
     none = none_there c.args.list.now c.loop-ray.rest.items c.loop-ray.ray-index c.loop-ray.invariant.none

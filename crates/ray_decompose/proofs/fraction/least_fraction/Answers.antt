@@ -2,6 +2,7 @@ use Rattle.std.proofs.Common.{◌≢◌, ℕ, ◌*◌, ◌<◌, ◌≤◌, List,
 use Rattle.std.proofs.Math.Nat.{pos_of_dvd_of_pos}
 use Rattle.std.specs.Int.{IsGcd}
 use Rattle.cone_definitions.proofs.Ratio.{IsLeastRatio}
+use Rattle.cone_arithmetic.proofs.EntryLemmas.{quotient_positive}
 use Rattle.sum_laws.proofs.Fractions.{fraction_at}
 use Rattle.ray_decompose.specs.Fractions.{IsLeastColumn}
 use Rattle.ray_decompose.proofs.fraction.least_fraction.Goals as goal
@@ -22,5 +23,10 @@ nonzero_div-result c = positive _ _ _ c.gcd-divisor.ensures c.least_column-colum
 pub nonzero_div-result-2 : goal.nonzero_div-result-2
 nonzero_div-result-2 c = positive _ _ _ c.gcd-divisor.ensures c.least_column-column.ensures.some
 
+pub invariant_of-result : goal.invariant_of-result
+invariant_of-result c = record {
+  some = let some = c.least_column-column.ensures.some in quotient_positive _ _ c.gcd-divisor.ensures.1 (omega (arith, some));
+}
+
 pub returns : goal.returns
-returns c = fraction_at c.args.rest.now c.args.ray.now c.least_column-column.result c.gcd-divisor.result (least_ratio _ _ _ c.least_column-column.ensures) c.gcd-divisor.ensures
+returns c = fraction_at c.args.division.rest.now c.args.division.ray.now c.least_column-column.result c.gcd-divisor.result (least_ratio _ _ _ c.least_column-column.ensures) c.gcd-divisor.ensures
