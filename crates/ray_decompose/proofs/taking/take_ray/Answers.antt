@@ -1,4 +1,4 @@
--- The terms are lent to be repeated, and stand in their place again.
+-- The remainder after a ray is taken out, and the terms with the one of the ray.
 use Rattle.std.proofs.Common.{length, ap, ◌∙◌, sym}
 use Rattle.std.proofs.lemmas.List.{length-map}
 use Rattle.ray_decompose.proofs.Vectors.{refilled, term_pushed, lent_terms}
