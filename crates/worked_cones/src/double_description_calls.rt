@@ -17,6 +17,7 @@ use support_bits::Support;
 
 /// What an enumeration returns: the vectors of its list, or the one with an entry that exceeds the limit, and the rows
 /// up to there, in the order in which they were processed.
+#[derive(Drop)]
 struct Expected<'a> {
     vectors: &'a [&'a [u128]],
     rows: &'a [u32],
