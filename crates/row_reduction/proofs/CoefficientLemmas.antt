@@ -8,7 +8,7 @@ use Rattle.cone_definitions.specs.Rows.{Row}
 use Rattle.cone_arithmetic.specs.Sparse.{IsSparse}
 use Rattle.row_reduction.specs.Clearing.{IsUnitAt}
 use Rattle.row_reduction.specs.Merging.{term_at, IsCoefficientSum}
-use Rattle.row_reduction.specs.Eliminating.{IsUnit, HasNoTerm, CancelsAt, Thins}
+use Rattle.row_reduction.specs.Eliminating.{IsUnit, HasNoTerm, CancelsAt, CancelsTerm}
 use Rattle.row_reduction.proofs.ColumnLemmas.{AreBefore}
 
 same_coefficient : (row : Row) (column : ℕ) (one other : ℤ) → IsSparse row → Contains row (column, one) → Contains row (column, other) → one ≡ other
@@ -90,7 +90,7 @@ module _ (rows : List Row) (i : ℕ) (row : Row) (column : ℕ) (within : i < le
 
 -- by a row that has an equal or opposite coefficient there
 pub thins_shared : (row other : Row) (i j : ℕ) (factor : ℤ) → i < length row → j < length other → (term_at other j).0 ≡ (term_at row i).0 → IsUnit factor →
-    IsCoefficientSum (term_at row i).1 factor (term_at other j).1 (pos 0) → Thins row factor other
+    IsCoefficientSum (term_at row i).1 factor (term_at other j).1 (pos 0) → CancelsTerm row factor other
 thins_shared row other i j factor within other_within same unit sum = record {
   unit = unit;
   column = (term_at row i).0;

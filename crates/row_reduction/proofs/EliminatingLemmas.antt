@@ -1,5 +1,5 @@
 -- Rows that are cleared, eliminated, retained and made sparser step by step.
-use Rattle.std.proofs.Common.{◌≡◌, ℕ, ◌<◌, ◌≤◌, ◌+◌, inl, inr, ℤ, List, [], ◌∷◌, ◌++◌, length, get_or, take, drop, zero, suc, subst, subst₂, sym, ap, ◌∙◌, refl, arith, Contains, Option, Some, None, Bool, true, ◌==◌}
+use Rattle.std.proofs.Common.{◌≡◌, ℕ, ◌<◌, ◌≤◌, ◌+◌, inl, inr, ℤ, List, [], ◌∷◌, ◌++◌, length, get_or, take, drop, suc, subst, subst₂, sym, ap, ◌∙◌, refl, arith, Contains, Option, Some, None, Bool, true, ◌==◌}
 use Rattle.std.specs.List.{remove}
 use Rattle.std.proofs.lemmas.Bool.{cases_lt, eqb-true}
 use Rattle.std.proofs.lemmas.List.{take_more, length-set, get_or-set_other, get_or-set_same, get_or_default}
@@ -11,6 +11,7 @@ use Rattle.row_reduction.specs.declared.fault.SolveFault.{SolveFault}
 use Rattle.row_reduction.specs.declared.fault.SolveFault.TheVariants.{Passed, NoMemory}
 use Rattle.row_reduction.specs.Clearing.{AddsMultipleAt, IsUnitAt}
 use Rattle.row_reduction.specs.Eliminating.{row_at, HasNoTerm, CancelsAt, IsCleared, AreCleared, IsPivotBelow, AreSolvedFor, AreEliminated, no_columns, column_more, AreKept, Thins, AreThinned, as_they_are, row_more}
+use Rattle.row_reduction.proofs.FewerLemmas.{sum_is_shorter}
 use Rattle.row_reduction.specs.Passing.{PassesAtColumn, PassesClearing, PassesFor, PassesAtPivot, PassesThinned, PassesAmong, HasPassedSum, IfPassed}
 
 -- ---- the index of a pivot row
@@ -154,8 +155,8 @@ passes_again start middle h NoMemory p = tt
 
 module _ (columns : ℕ) (rows : List Row) (i j : ℕ) (factor : ℤ) (other : Row) (within : i < length rows) (other_within : j < length rows) (different : i ≡ j → ⊥)
     (is : other ≡ row_at rows j) (thins : Thins (row_at rows i) factor other) where
-  pub thinned_once : (new : List Row) → AddsMultipleAt columns rows i factor other new → AreThinned rows new
-  thinned_once new adds = row_more rows new as_they_are (record {
+  pub thinned_once : (new : List Row) → IsSparse (row_at rows i) → IsSparse (row_at rows j) → AddsMultipleAt columns rows i factor other new → AreThinned rows new
+  thinned_once new sparse other_sparse adds = row_more rows new as_they_are (record {
     i = i;
     j = j;
     within = within;
@@ -165,6 +166,7 @@ module _ (columns : ℕ) (rows : List Row) (i j : ℕ) (factor : ℤ) (other : R
     thins = subst (λ r. Thins (row_at rows i) factor r) is thins;
     sum = adds.sum;
     is_sum = record { is_sum = subst (λ r. IsSumWith (row_at rows i) factor r adds.sum) is adds.is_sum; is_sparse = adds.is_sparse };
+    shorter = sum_is_shorter (row_at rows i) factor other adds.sum sparse (subst IsSparse (sym is) other_sparse) adds.is_sparse adds.is_sum thins.fewer;
     replaced = adds.replaced;
   })
 

@@ -1,7 +1,7 @@
 -- The rows that an elimination has after each of its columns, and the rows that are made sparser afterwards.
-use Rattle.std.specs.Prelude.{◌≡◌, ◌≢◌, ℕ, ◌<◌, ◌≤◌, ◌⊎◌, List, [], ◌∷◌, ◌++◌, length, ℤ, pos, negsuc, Contains, slice_index_or, slice_set, Option, Some, None}
-use Rattle.std.specs.List.{remove}
-use Rattle.cone_definitions.specs.Rows.{Row}
+use Rattle.std.specs.Prelude.{◌≡◌, ◌≢◌, ℕ, ◌+◌, ◌*◌, ◌<◌, ◌≤◌, ◌⊎◌, Bool, ◌&&◌, ◌==◌, List, [], ◌∷◌, ◌++◌, length, count_by, ℤ, pos, negsuc, Contains, slice_index_or, slice_set, Option, Some, None}
+use Rattle.std.specs.List.{remove, list_any}
+use Rattle.cone_definitions.specs.Rows.{Row, positive_coefficient, negative_coefficient}
 use Rattle.cone_arithmetic.specs.Sparse.{IsSparse}
 use Rattle.cone_row_laws.specs.Operations.{IsSumWith, turned}
 use Rattle.row_reduction.specs.Clearing.{IsUnitAt}
@@ -91,12 +91,36 @@ pub data AreKept : List Row → List Row → Type 0 where
   kept_more : (rows kept new : List Row) (row : Row) → AreKept rows kept → KeepsRow kept row new → AreKept (rows ++ row ∷ []) new
 
 -- factor times the other row, for the factor 1 or -1, cancels a term of the row
-pub record Thins (row : Row) (factor : ℤ) (other : Row) : Type 0 where
+pub record CancelsTerm (row : Row) (factor : ℤ) (other : Row) : Type 0 where
   pub unit : IsUnit factor
   pub column : ℕ
   pub cancels : CancelsAt column row factor other
 
--- a row is replaced by its sum or difference with another row of the list
+-- whether number + factor * other is 0
+abbrev pub is_zero_sum : ℤ → ℤ → ℤ → Bool
+is_zero_sum number factor other =
+    negative_coefficient number + (positive_coefficient factor * negative_coefficient other + negative_coefficient factor * positive_coefficient other)
+    == positive_coefficient number + (positive_coefficient factor * positive_coefficient other + negative_coefficient factor * negative_coefficient other)
+
+-- whether the other row has a term at the column of the term
+abbrev pub is_shared : Row → ℕ × ℤ → Bool
+is_shared other term = list_any (λ (at : ℕ × ℤ). term.0 == at.0) other
+
+-- whether factor times the other row cancels the term
+abbrev pub is_cancelled : ℤ → Row → ℕ × ℤ → Bool
+is_cancelled factor other term = list_any (λ (at : ℕ × ℤ). (term.0 == at.0) && is_zero_sum term.1 factor at.1) other
+
+-- row + factor * other has fewer terms than the row, if neither has two terms at one column: the terms of the other row
+-- at columns where the row has none are fewer than the terms that are cancelled
+abbrev pub HasFewerTerms : Row → ℤ → Row → Type 0
+HasFewerTerms row factor other = length other < count_by (is_shared other) row + count_by (is_cancelled factor other) row
+
+-- factor times the other row, for the factor 1 or -1, cancels more terms of the row than it adds
+pub record Thins (row : Row) (factor : ℤ) (other : Row) : Type 0 where
+  pub cancels : CancelsTerm row factor other
+  pub fewer : HasFewerTerms row factor other
+
+-- a row is replaced by its sum or difference with another row of the list; the new row has fewer terms than the old one
 pub record ThinsRow (rows new : List Row) : Type 0 where
   pub i : ℕ
   pub j : ℕ
@@ -107,6 +131,7 @@ pub record ThinsRow (rows new : List Row) : Type 0 where
   pub thins : Thins (row_at rows i) factor (row_at rows j)
   pub sum : Row
   pub is_sum : IsSparseSum (row_at rows i) factor (row_at rows j) sum
+  pub shorter : length sum < length (row_at rows i)
   pub replaced : new ≡ slice_set rows i sum
 
 -- the rows after some replacements, one after the other

@@ -1,9 +1,9 @@
 //! Makes rows sparser: a row is replaced by its sum or difference with another if that has fewer terms.
 
-ghost use Rattle.std.specs.Prelude.{◌≡◌, ◌<◌, ◌≢◌, ◌≤◌, ◌⊎◌, pos, negsuc, length, IfSome, IfOk, OnOk, IfErr};
+ghost use Rattle.std.specs.Prelude.{◌≡◌, ◌+◌, ◌<◌, ◌≢◌, ◌≤◌, ◌⊎◌, pos, negsuc, length, count_by, IfSome, IfOk, OnOk, IfErr};
 ghost use Rattle.cone_row_laws.specs.Solutions.{HaveSameZeros};
 ghost use Rattle.row_reduction.specs.Merging.{IsCoefficientSum};
-ghost use Rattle.row_reduction.specs.Eliminating.{Thins, AreThinned};
+ghost use Rattle.row_reduction.specs.Eliminating.{CancelsTerm, is_shared, is_cancelled, Thins, AreThinned};
 ghost use Rattle.row_reduction.specs.Passing.{PassesThinned, IfPassed};
 
 use crate::clear::{add_at, copy};
@@ -36,8 +36,9 @@ fn place_from(terms: &[(u32, i32)], from: usize, column: u32) -> usize
 
 /// `shared` with one more common column, at which the rows have the coefficients `one` and `other`.
 fn with_column(shared: SharedColumns, one: i32, other: i32) -> SharedColumns
-    ensures same { 0 < result.same → (0 < shared.same) ⊎ IsCoefficientSum one (negsuc 0) other (pos 0) }
-    ensures opposite { 0 < result.opposite → (0 < shared.opposite) ⊎ IsCoefficientSum one (pos 1) other (pos 0) }
+    ensures any { result.any ≤ shared.any + 1 }
+    ensures same { (result.same ≤ shared.same) ⊎ ((result.same ≤ shared.same + 1) × IsCoefficientSum one (negsuc 0) other (pos 0)) }
+    ensures opposite { (result.opposite ≤ shared.opposite) ⊎ ((result.opposite ≤ shared.opposite + 1) × IsCoefficientSum one (pos 1) other (pos 0)) }
 {
     SharedColumns {
         same: shared.same.saturating_add(usize::from(one == other)),
@@ -50,8 +51,11 @@ fn with_column(shared: SharedColumns, one: i32, other: i32) -> SharedColumns
 
 /// Counts the columns that `row` and `other` have in common.
 fn shared_columns(row: &[(u32, i32)], other: &[(u32, i32)]) -> SharedColumns
-    ensures same { 0 < result.same → Thins row.now (negsuc 0) other.now }
-    ensures opposite { 0 < result.opposite → Thins row.now (pos 1) other.now }
+    ensures same { 0 < result.same → CancelsTerm row.now (negsuc 0) other.now }
+    ensures opposite { 0 < result.opposite → CancelsTerm row.now (pos 1) other.now }
+    ensures any_shared { result.any ≤ count_by (is_shared other.now) row.now }
+    ensures same_cancelled { result.same ≤ count_by (is_cancelled (negsuc 0) other.now) row.now }
+    ensures opposite_cancelled { result.opposite ≤ count_by (is_cancelled (pos 1) other.now) row.now }
 {
     let mut shared = SharedColumns {
         same: 0,

@@ -1,8 +1,9 @@
 -- The other row is unchanged.
-use Rattle.std.proofs.Common.{rules, [], sym, ◌∙◌, subst₂, w32, FitsSigned}
+use Rattle.std.proofs.Common.{rules, [], sym, ◌∙◌, subst, subst₂, w32, FitsSigned}
 use Rattle.std.proofs.lemmas.Int.{to_z-of_z}
 use Rattle.std.proofs.lemmas.List.{get_or_default}
 use Rattle.std.proofs.lemmas.Result.{err_from_is_err_and}
+use Rattle.cone_arithmetic.specs.Sparse.{IsSparse}
 use Rattle.row_reduction.specs.Eliminating.{Thins, as_they_are}
 use Rattle.row_reduction.proofs.EliminatingLemmas.{thinned_once, passes_once}
 use Rattle.row_reduction.proofs.RowLemmas.{count_at}
@@ -27,7 +28,9 @@ returns-in_ok-add_at-in-Some-clause-thinned c =
     let row_is = c.entries.ensures.entries ∙ c.index.ensures ∙ sym (get_or_default rows c.args.i [] c.index.result.now c.requires.place) in
     let other_is = c.entries-2.ensures.entries ∙ c.index-2.ensures ∙ sym (get_or_default rows c.args.j [] c.index-2.result.now c.requires.other_place) ∙ sym is in
     let thins = subst₂ (λ row other. Thins row c.in-Some.factor other) row_is other_is c.in-Some.ensures in
-    thinned_once c.args.self.now.list.columns rows c.args.i c.args.j c.in-Some.factor c.in_ok-other-in-Some.other c.requires.place c.requires.other_place c.requires.apart is thins c.add_at.new.list.rows.items
+    let sparse = subst IsSparse (c.index.ensures ∙ sym (get_or_default rows c.args.i [] c.index.result.now c.requires.place)) c.entries.ensures.sparse in
+    let other_sparse = subst IsSparse (c.index-2.ensures ∙ sym (get_or_default rows c.args.j [] c.index-2.result.now c.requires.other_place)) c.entries-2.ensures.sparse in
+    thinned_once c.args.self.now.list.columns rows c.args.i c.args.j c.in-Some.factor c.in_ok-other-in-Some.other c.requires.place c.requires.other_place c.requires.apart is thins c.add_at.new.list.rows.items sparse other_sparse
     (simp to_z-of_z at c.in_ok-add_at-in-Some.ensures.adds)
 
 pub returns-in_err-add_at-in-Some-clause-passed : goal.returns-in_err-add_at-in-Some-clause-passed
