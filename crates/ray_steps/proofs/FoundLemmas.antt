@@ -3,7 +3,7 @@ use Rattle.std.proofs.Common.{◌≡◌, ◌≢◌, ℕ, ◌+◌, ◌<◌, ◌�
 use Rattle.std.specs.List.{AllPairs}
 use Rattle.std.proofs.Math.ListN.{get_or-map}
 use Rattle.std.proofs.lemmas.Bool.{cases_eq, cases_lt}
-use Rattle.std.proofs.lemmas.List.{get_or_default, length-map}
+use Rattle.std.proofs.lemmas.List.{get_or_default, get_or_past, length-map}
 use Rattle.std.proofs.lemmas.List.Elements.{All-weaker}
 use Rattle.cone_definitions.specs.Surfaces.{Clash, IsAdmissibleUnion}
 use Rattle.cone_definitions.specs.Vectors.{IsInsideUnion, ray_at}
@@ -11,11 +11,12 @@ use Rattle.support_bits.specs.Columns.{support_of, IsInsideUnionOf, Meets}
 use Rattle.support_table.specs.Counts.{columns_in_either}
 use Rattle.support_table.specs.Joins.{AreClashingColumns}
 use Rattle.support_table.specs.Tables.{Table}
-use Rattle.support_table.specs.Residuals.{support_at, IsResidualInside, IsRival, IsMinimal, AreMinimal}
+use Rattle.support_table.specs.Residuals.{support_at, IsResidualInside, IsRival, IsMinimal, AreMinimalOf}
 use Rattle.support_table.proofs.CandidateLemmas.{inside_union, inside_residual}
 use Rattle.support_table.proofs.SizeLemmas.{size_within}
 use Rattle.ray_steps.specs.declared.signs.Sign.{Sign}
 use Rattle.ray_steps.specs.declared.signs.Sign.TheVariants.{Zero}
+use Rattle.ray_steps.specs.Negatives.{TellNegatives}
 use Rattle.ray_steps.specs.Rivals.{HasAllSupports}
 use Rattle.ray_steps.specs.Unions.{HaveSmallUnions}
 use Rattle.ray_steps.specs.Signs.{IsNegative, IsAdjacentPair, IsSignedPair, ComesFromPlaces, IsMadeUpTo}
@@ -86,15 +87,20 @@ module _ (pairs : List Clash) (rays : List (List ℕ)) (i columns most : ℕ) (j
     ];
   }
 
-  pub found_in_range : (places : List ℕ) (k d : ℕ) → AreMinimal table.supports outer joined i most places → k < length places → get_or places k d < length rays
-  found_in_range places k d m within = let less = (m.each k d within).rival.in_range in omega (arith, as_many)
+  pub found_in_range : (wanted : List Bool) (places : List ℕ) (k d : ℕ) → AreMinimalOf table.supports outer joined i most wanted places → k < length places → get_or places k d < length rays
+  found_in_range wanted places k d m within = let less = (m.each k d within).0.rival.in_range in omega (arith, as_many)
 
-  pub found_face : (places : List ℕ) (k d : ℕ) → AreMinimal table.supports outer joined i most places → k < length places →
+  pub found_face : (wanted : List Bool) (places : List ℕ) (k d : ℕ) → AreMinimalOf table.supports outer joined i most wanted places → k < length places →
       IsAdmissibleUnion pairs (ray_at rays i) (ray_at rays (get_or places k d)) → IsAdjacentPair pairs rays i (get_or places k d)
-  found_face places k d m within = face_if_minimal (get_or places k d) (m.each k d within)
+  found_face wanted places k d m within = face_if_minimal (get_or places k d) (m.each k d within).0
 
-  pub pairs_found : HaveSmallUnions columns most pairs rays → i < length rays → length (ray_at rays i) ≡ columns → (signs : List Sign) (places : List ℕ) → AreMinimal table.supports outer joined i most places → (w : ℕ) → IsSignedPair pairs rays signs i w → Contains places w
-  pairs_found small i_in wide signs places m w p = m.complete w (minimal_if_face small i_in wide w p.w_in_range (places_apart pairs rays signs i w p) p.face)
+  pub pairs_found : HaveSmallUnions columns most pairs rays → i < length rays → length (ray_at rays i) ≡ columns → (signs : List Sign) (wanted : List Bool) → TellNegatives signs (length signs) wanted → (places : List ℕ) → AreMinimalOf table.supports outer joined i most wanted places →
+      (w : ℕ) → IsSignedPair pairs rays signs i w → Contains places w
+  pairs_found small i_in wide signs wanted tell places m w p = m.complete w (minimal_if_face small i_in wide w p.w_in_range (places_apart pairs rays signs i w p) p.face)
+      (elim (cases_lt w (length signs)) [
+        | inl less ↦ (tell.each w less).0 (subst IsNegative (sym p.negative) tt)
+        | inr past ↦ absurd (subst IsNegative (sym p.negative ∙ get_or_past signs w Zero past) tt)
+      ])
 
 -- ---- the found indices, one after another
 

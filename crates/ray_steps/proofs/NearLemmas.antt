@@ -1,20 +1,19 @@
 -- Lemmas on the negative rays that are ruled out for a positive one.
-use Rattle.std.proofs.Common.{◌≡◌, ℕ, ◌+◌, ◌<◌, ◌≤◌, ⊎_elim, List, Bool, length, get_or, [], subst, arith}
+use Rattle.std.proofs.Common.{◌≡◌, ℕ, ◌<◌, ◌≤◌, ⊎_elim, List, Bool, length, get_or, [], subst, arith}
 use Rattle.cone_definitions.specs.Surfaces.{Clash}
 use Rattle.support_bits.specs.Columns.{support_of, Meets}
 use Rattle.support_table.specs.Joins.{AreClashingColumns}
 use Rattle.ray_steps.specs.declared.negatives.Negatives.{Negatives}
 use Rattle.ray_steps.specs.declared.signs.Sign.{Sign}
 use Rattle.cone_definitions.specs.Vectors.{ray_at}
-use Rattle.ray_steps.specs.Signs.{IsAdjacentPair, IsMadeUpTo}
+use Rattle.ray_steps.specs.Signs.{IsAdjacentPair}
 use Rattle.ray_steps.specs.declared.rays.RayWithSupport.{RayWithSupport}
 use Rattle.ray_steps.specs.Rays.{rays_of, AreOfWidth}
 use Rattle.ray_steps.specs.Unions.{HaveSmallUnions}
 use Rattle.ray_steps.specs.Negatives.{AreNegatives, IsRuledOut, IsFirstNotRuledOut}
 use Rattle.ray_steps.proofs.RayLemmas.{length-rays_of, ray_width}
 use Rattle.ray_steps.proofs.RivalLemmas.{support_read, support_of_rival, count_of_rivals, not_face_clash}
-use Rattle.ray_steps.proofs.CombinationLemmas.{made_next}
-use Rattle.ray_steps.proofs.PlaceLemmas.{HaveTaken, taken_none, taken_to, made_end}
+use Rattle.ray_steps.proofs.PlaceLemmas.{HaveTaken, taken_to}
 use Rattle.ray_steps.proofs.UnionLemmas.{not_face_large}
 
 -- a ray that is ruled out is not adjacent
@@ -48,16 +47,3 @@ near_taken limit pairs ray_list signs i columns most m n joined negatives u made
           (ray_width ray_list i columns i_in widths) (support_read u (ray_at rays i) read) (omega arith) (near.earlier k low less) p.face)
           taken,
     )
-
--- if all negative rays are ruled out, there is no pair
-pub none_near : (limit : ℕ) (pairs : List Clash) (ray_list : List RayWithSupport) (signs : List Sign) (i columns most n : ℕ) (joined : List Bool) (negatives : Negatives) (u : RayWithSupport) (made : List (List ℕ)) →
-    AreClashingColumns pairs (support_of (ray_at (rays_of ray_list) i)) joined → HaveSmallUnions columns most pairs (rays_of ray_list) → AreNegatives (rays_of ray_list) signs columns negatives → length signs ≡ length ray_list →
-    i < length ray_list → AreOfWidth columns ray_list → ray_at (rays_of ray_list) i ≡ u.ray → IsFirstNotRuledOut u.support joined most negatives.table.supports 0 n → length negatives.places.items ≤ n →
-    IsMadeUpTo limit pairs (rays_of ray_list) signs i 0 made → IsMadeUpTo limit pairs (rays_of ray_list) signs (i + 1) 0 made
-none_near limit pairs ray_list signs i columns most n joined negatives u made h small neg count i_in widths read near past so_far =
-    let rays = rays_of ray_list in
-    let places = negatives.places.items in
-    let all = length-rays_of ray_list in
-    let taken = (near_taken limit pairs ray_list signs i columns most 0 n joined negatives u made h small neg count i_in widths read near (taken_none limit pairs rays signs places i made so_far)).1 in
-    made_next limit pairs rays signs i (taken.up_to + length signs) made (omega (arith, all, count))
-    (made_end limit pairs rays signs i n taken.up_to places made neg.places past taken.reached taken.so_far)

@@ -1,11 +1,14 @@
 -- The indices of negative rays, with one more ray, and the words of their supports.
-use Rattle.std.proofs.Common.{◌≡◌, ℕ, ◌+◌, ◌/◌, ◌<◌, ⊎_elim, Bool, List, [], ◌∷◌, ◌++◌, Contains, length, slice_index_or, subst, sym, ◌∙◌, ap, arith}
+use Rattle.std.proofs.Common.{◌≡◌, ℕ, ◌+◌, ◌/◌, ◌<◌, ◌↔◌, ⊎_elim, inl, inr, Bool, true, false, List, [], ◌∷◌, ◌++◌, Contains, length, length-append, slice_index_or, refl, subst, sym, ◌∙◌, ap, arith}
 use Rattle.std.proofs.lemmas.Bool.{cases_lt}
+use Rattle.std.proofs.lemmas.List.{get_or_append_left}
+use Rattle.std.proofs.Math.Seq.{get_or-append_seam}
 use Rattle.std.proofs.lemmas.List.Elements.{All-push, Contains-push, Contains-append_left}
 use Rattle.std.proofs.lemmas.List.Quantifiers.{all_pairs_push}
 use Rattle.support_bits.specs.Words.{AreWordsOf}
 use Rattle.ray_steps.specs.declared.signs.Sign.{Sign}
 use Rattle.ray_steps.specs.declared.signs.Sign.TheVariants.{Zero}
+use Rattle.ray_steps.specs.Negatives.{TellNegatives}
 use Rattle.ray_steps.specs.Signs.{IsNegative, AreNegativePlaces}
 
 pub negative_push : (signs : List Sign) (n : ℕ) (places : List ℕ) → AreNegativePlaces signs n places → AreNegativePlaces signs (n + 1) (places ++ n ∷ [])
@@ -26,6 +29,19 @@ negative_skip signs n places h none = record {
       (λ old. h.complete place old negative)
       (λ last. let e : place ≡ n = omega arith in absurd (none (subst (λ k. IsNegative (slice_index_or signs k Zero)) e negative)))
       (cases_lt place n);
+}
+
+pub tell_none : (signs : List Sign) → TellNegatives signs 0 []
+tell_none signs = record { count = refl; each = λ k less. absurd (omega arith) }
+
+pub tell_push : (signs : List Sign) (n : ℕ) (flags : List Bool) (flag : Bool) → TellNegatives signs n flags → IsNegative (slice_index_or signs n Zero) ↔ (flag ≡ true) → TellNegatives signs (n + 1) (flags ++ flag ∷ [])
+tell_push signs n flags flag h is = record {
+  count = length-append flags (flag ∷ []) ∙ ap (λ k. k + 1) h.count;
+  each = λ k less. elim (cases_lt k n) [
+    | inl old ↦ let same = get_or_append_left flags (flag ∷ []) false k (let c = h.count in omega arith) in subst (λ b. IsNegative (slice_index_or signs k Zero) ↔ (b ≡ true)) (sym same) (h.each k old)
+    | inr past ↦ let e : n ≡ k = omega arith in subst (λ k. IsNegative (slice_index_or signs k Zero) ↔ (slice_index_or (flags ++ flag ∷ []) k false ≡ true)) e
+        (subst (λ b. IsNegative (slice_index_or signs n Zero) ↔ (b ≡ true)) (sym (ap (λ m. slice_index_or (flags ++ flag ∷ []) m false) (sym h.count) ∙ get_or-append_seam flags flag [] false)) is)
+  ];
 }
 
 -- supports of equally many columns have equally many words

@@ -1,16 +1,28 @@
 -- The negative rays of a step, and which of them cannot be adjacent to a positive ray.
-use Rattle.std.specs.Prelude.{ℕ, ◌<◌, ◌≤◌, ◌⊎◌, List, Bool, [], length, slice_index_or}
+use Rattle.std.specs.Prelude.{◌≡◌, ℕ, ◌<◌, ◌≤◌, ◌⊎◌, ◌↔◌, List, Bool, true, false, [], length, slice_index_or}
 use Rattle.support_bits.specs.Columns.{Meets}
 use Rattle.support_table.specs.Counts.{columns_in_either}
 use Rattle.ray_steps.specs.declared.negatives.Negatives.{Negatives}
+use Rattle.ray_steps.specs.declared.search.AllRays.{AllRays}
 use Rattle.ray_steps.specs.declared.signs.Sign.{Sign}
-use Rattle.ray_steps.specs.Signs.{AreNegativePlaces}
-use Rattle.ray_steps.specs.Rivals.{HasSupportsOf}
+use Rattle.ray_steps.specs.declared.signs.Sign.TheVariants.{Zero}
+use Rattle.ray_steps.specs.Signs.{AreNegativePlaces, IsNegative}
+use Rattle.ray_steps.specs.Rivals.{HasSupportsOf, HasAllSupports}
 
 -- the indices of all negative rays, ascending, with their supports
 pub record AreNegatives (rays : List (List ℕ)) (signs : List Sign) (columns : ℕ) (negatives : Negatives) : Type 0 where
   pub places : AreNegativePlaces signs (length signs) negatives.places.items
   pub table : HasSupportsOf rays columns negatives.places.items negatives.table
+
+-- which of the first n signs are negative
+pub record TellNegatives (signs : List Sign) (n : ℕ) (flags : List Bool) : Type 0 where
+  pub count : length flags ≡ n
+  pub each : (k : ℕ) → k < n → IsNegative (slice_index_or signs k Zero) ↔ (slice_index_or flags k false ≡ true)
+
+-- the supports of all rays, and which are negative
+pub record AreAllRays (rays : List (List ℕ)) (signs : List Sign) (columns : ℕ) (all : AllRays) : Type 0 where
+  pub supports : HasAllSupports rays columns all.table
+  pub negative : TellNegatives signs (length signs) all.negative.items
 
 -- the support contains a joined column, or its union with a has more than `most` columns
 abbrev pub IsRuledOut : List Bool → List Bool → ℕ → List Bool → Type 0

@@ -2,8 +2,7 @@
 
 ghost use Rattle.std.specs.Prelude.{◌+◌, ◌<◌, length, IfOk, IfErr, IfSome, OnOk};
 ghost use Rattle.ray_steps.specs.Faults.{IfLarge};
-ghost use Rattle.ray_steps.specs.Negatives.{AreNegatives};
-ghost use Rattle.ray_steps.specs.Rivals.{HasAllSupports};
+ghost use Rattle.ray_steps.specs.Negatives.{AreAllRays, AreNegatives};
 ghost use Rattle.ray_steps.specs.Steps.{AreMadeBelow, AreMadeTo, AreMadeOf, IsAdjacentIfAdmissible, IsFirstLargeOf};
 
 use crate::combinations::CombinationsSoFar;
@@ -13,12 +12,13 @@ use crate::negatives::{NegativeSearch, Negatives, first_not_excluded, negatives_
 use crate::pairs::{SignedPair, combine_pair};
 use crate::ray_list::RayList;
 use crate::rays::{RayWithSupport, StepFault};
+use crate::search::AllRays;
 use crate::signs::Sign;
 use crate::step::Step;
 use crate::thirds::is_single;
 use crate::turned::has_positive;
 use std::alloc::Global;
-use support_table::{RayTable, minimal_places};
+use support_table::minimal_places;
 
 impl<'a, 'b, C: Compatible> FoundPair<'a, 'b, C> {
     /// Appends the combination of the two rays, if they are positive and negative and the union of their supports
@@ -101,19 +101,17 @@ impl<'a, C: Compatible> Step<'a, C> {
     }
 
     /// Appends the combinations of ray `i`, if it is positive, with each adjacent negative ray, which are found by
-    /// minimal residuals: one pass over all rays for each positive ray. Skipped if no negative ray passes the test of
-    /// `first_not_excluded`. Fails with `Large` at the first pair of which an entry exceeds the limit.
+    /// minimal residuals: one pass over all rays for each positive ray. Fails with `Large` at the first pair of which an
+    /// entry exceeds the limit.
     fn combine_minimal(
         &self,
         alloc: Global,
         i: usize,
-        negatives: &Negatives,
-        supports: &RayTable,
+        all: &AllRays,
         made: &mut Vec<RayWithSupport>,
     ) -> Result<(), StepFault>
         requires in_range { i < length self.now.rays }
-        requires negatives { AreNegatives self.now.rays self.now.signs self.now.columns negatives.now }
-        requires supports { HasAllSupports self.now.rays self.now.columns supports.now }
+        requires all { AreAllRays self.now.rays self.now.signs self.now.columns all.now }
         requires made { AreMadeTo self.now i 0 made.old.items }
         ensures ok { OnOk result (AreMadeTo self.now (i + 1) 0 made.new.items) }
         ensures err { IfErr result (IfLarge (IsFirstLargeOf self.now)) }
@@ -124,17 +122,15 @@ impl<'a, C: Compatible> Step<'a, C> {
         let clashes = self.clashes;
         let u = &self.ray_list[i];
         let joined = clashes.joined(alloc, &u.support)?;
-        let search = NegativeSearch {
-            table: &negatives.table,
-            support: &u.support,
-            joined: &joined,
-            most: self.most,
-        };
-        let near = first_not_excluded(search, 0);
-        if near == negatives.places.len() {
-            return Ok(());
-        }
-        let places = minimal_places(alloc, supports, &u.support, &joined, i, self.most)?;
+        let places = minimal_places(
+            alloc,
+            &all.table,
+            &all.negative,
+            &u.support,
+            &joined,
+            i,
+            self.most,
+        )?;
         for place in &places {
             let pair = FoundPair {
                 step: self,
@@ -146,41 +142,41 @@ impl<'a, C: Compatible> Step<'a, C> {
         Ok(())
     }
 
-    /// Appends the combinations of ray `i`: by residuals if `supports` is given and the ray has more than one column,
+    /// Appends the combinations of ray `i`: by residuals if `all` is given and the ray has more than one column,
     /// otherwise by a search for third rays. Fails with `Large` at the first pair of which an entry exceeds the limit.
     fn combine_one(
         &self,
         alloc: Global,
         i: usize,
         negatives: &Negatives,
-        supports: &Option<RayTable>,
+        all: &Option<AllRays>,
         made: &mut CombinationsSoFar,
     ) -> Result<(), StepFault>
         requires in_range { i < length self.now.rays }
         requires negatives { AreNegatives self.now.rays self.now.signs self.now.columns negatives.now }
-        requires supports { IfSome supports.now (HasAllSupports self.now.rays self.now.columns) }
+        requires all { IfSome all.now (AreAllRays self.now.rays self.now.signs self.now.columns) }
         requires made { AreMadeBelow self.now i made.old }
         ensures ok { OnOk result (AreMadeBelow self.now (i + 1) made.new) }
         ensures err { IfErr result (IfLarge (IsFirstLargeOf self.now)) }
     {
-        if let Some(table) = supports {
+        if let Some(rays) = all {
             if !is_single(&self.ray_list[i].support) {
-                return self.combine_minimal(alloc, i, negatives, table, &mut made.ray_list);
+                return self.combine_minimal(alloc, i, rays, &mut made.ray_list);
             }
         }
         self.combine_with(alloc, i, negatives, made)
     }
 
     /// The combinations of all adjacent pairs, each once, by the negative rays `negatives` and, if they are to be used,
-    /// the supports of all rays `supports`. Fails with `Large` at the first pair of which an entry exceeds the limit.
+    /// all rays `all`. Fails with `Large` at the first pair of which an entry exceeds the limit.
     fn combine_each(
         &self,
         alloc: Global,
         negatives: &Negatives,
-        supports: &Option<RayTable>,
+        all: &Option<AllRays>,
     ) -> Result<Vec<RayWithSupport>, StepFault>
         requires negatives { AreNegatives self.now.rays self.now.signs self.now.columns negatives.now }
-        requires supports { IfSome supports.now (HasAllSupports self.now.rays self.now.columns) }
+        requires all { IfSome all.now (AreAllRays self.now.rays self.now.signs self.now.columns) }
         ensures ok { IfOk result (λ made. AreMadeOf self.now made.items) }
         ensures err { IfErr result (IfLarge (IsFirstLargeOf self.now)) }
     {
@@ -189,7 +185,7 @@ impl<'a, C: Compatible> Step<'a, C> {
             rivals: None,
         };
         for i in 0..self.ray_list.len() {
-            self.combine_one(alloc, i, negatives, supports, &mut made)?;
+            self.combine_one(alloc, i, negatives, all, &mut made)?;
         }
         Ok(made.ray_list)
     }
@@ -211,7 +207,7 @@ impl<'a, C: Compatible> Step<'a, C> {
             items: &self.ray_list,
         };
         let negatives = negatives_of(alloc, rays, &self.signs)?;
-        let supports = self.supports_if_large(alloc)?;
-        self.combine_each(alloc, &negatives, &supports)
+        let all = self.rays_if_large(alloc)?;
+        self.combine_each(alloc, &negatives, &all)
     }
 }

@@ -3,7 +3,7 @@
 ghost use Rattle.std.specs.Prelude.{◌≡◌, ◌<◌, ◌≤◌, ◌↔◌, [], length, IsTrue, IfOk, slice_index_or};
 ghost use Rattle.ray_steps.specs.Rays.{rays_of};
 ghost use Rattle.ray_steps.specs.Signs.{AreNegativePlaces};
-ghost use Rattle.ray_steps.specs.Negatives.{AreNegatives, IsRuledOut, IsFirstNotRuledOut};
+ghost use Rattle.ray_steps.specs.Negatives.{AreNegatives, TellNegatives, IsRuledOut, IsFirstNotRuledOut};
 
 use crate::ray_list::RayList;
 use crate::rivals::supports_at;
@@ -31,6 +31,17 @@ fn negative_places(alloc: Global, signs: &[Sign]) -> Result<Vec<usize>, NoMemory
         }
     }
     Ok(places)
+}
+
+/// For each sign of `signs` whether it is negative.
+pub fn are_negative(alloc: Global, signs: &[Sign]) -> Result<Vec<bool>, NoMemory>
+    ensures { IfOk result (λ flags. TellNegatives signs.now (length signs.now) flags.items) }
+{
+    let mut flags = Vec::with_capacity(alloc, signs.len())?;
+    for sign in signs {
+        flags.push(is_negative(*sign))?;
+    }
+    Ok(flags)
 }
 
 /// Collects the rays of `rays` that are negative by `signs`, and their supports.

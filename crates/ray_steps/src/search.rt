@@ -1,12 +1,14 @@
 //! The search for adjacent pairs: whether two rays have no third ray between them, and whether residuals are used.
 
 ghost use Rattle.std.specs.Prelude.{◌≡◌, ◌<◌, ◌↔◌, length, IsTrue, IfOk, IfSome, OnOk};
-ghost use Rattle.ray_steps.specs.Rivals.{HaveCompatible, HasAllSupports};
+ghost use Rattle.ray_steps.specs.Negatives.{AreAllRays};
+ghost use Rattle.ray_steps.specs.Rivals.{HaveCompatible};
 ghost use Rattle.ray_steps.specs.Signs.{IsAdjacentPair};
 ghost use Rattle.ray_steps.specs.Steps.{IsSearchAt};
 
 use crate::combinations::ThirdRaySearch;
 use crate::compatible::Compatible;
+use crate::negatives::are_negative;
 use crate::ray_list::RayList;
 use crate::rivals::{CompatibleRays, all_supports, compatible_rays};
 use crate::step::Step;
@@ -19,6 +21,13 @@ use support_table::RayTable;
 
 /// Adjacent pairs are found by residuals only in steps with at least this many rays.
 const MANY_RAYS: usize = 1000;
+
+/// The supports of all rays, and for each ray whether it is negative.
+#[derive(Drop)]
+pub struct AllRays {
+    pub table: RayTable,
+    pub negative: Vec<bool>,
+}
 
 impl<'a, C: Compatible> Step<'a, C> {
     /// A search for the third rays of ray `i`, given compatible rays that an earlier search gathered.
@@ -116,9 +125,9 @@ impl<'a, C: Compatible> Step<'a, C> {
             && positive_count(&self.signs) >= clashes.columns() as usize
     }
 
-    /// The supports of all rays if `is_large` holds, and else `None`. Both ways find the same pairs.
-    pub(crate) fn supports_if_large(&self, alloc: Global) -> Result<Option<RayTable>, NoMemory>
-        ensures { IfOk result (λ supports. IfSome supports (HasAllSupports self.now.rays self.now.columns)) }
+    /// All rays if `is_large` holds, and else `None`. Both ways find the same pairs.
+    pub(crate) fn rays_if_large(&self, alloc: Global) -> Result<Option<AllRays>, NoMemory>
+        ensures { IfOk result (λ all. IfSome all (AreAllRays self.now.rays self.now.signs self.now.columns)) }
     {
         if !self.is_large() {
             return Ok(None);
@@ -131,8 +140,9 @@ impl<'a, C: Compatible> Step<'a, C> {
             columns: clashes.columns(),
             items: &self.ray_list,
         };
-        let table = all_supports(alloc, rays)?;
-        let supports = RayTable::of(alloc, table, count)?;
-        Ok(Some(supports))
+        let supports = all_supports(alloc, rays)?;
+        let table = RayTable::of(alloc, supports, count)?;
+        let negative = are_negative(alloc, &self.signs)?;
+        Ok(Some(AllRays { table, negative }))
     }
 }

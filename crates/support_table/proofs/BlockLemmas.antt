@@ -1,14 +1,17 @@
 -- The columns that all supports of a block have.
-use Rattle.std.proofs.Common.{◌≡◌, ℕ, ◌+◌, ◌*◌, ◌/◌, ◌%◌, ◌<◌, ◌≤◌, min, ⊎_elim, List, [], ◌++◌, true, Bool, length, length-append, length-drop, length-take, take, drop, get_or, get_or-take, ap, sym, subst, ◌∙◌, arith, bit_and}
+use Rattle.std.proofs.Common.{◌≡◌, ℕ, ◌+◌, ◌*◌, ◌/◌, ◌%◌, ◌<◌, ◌≤◌, min, inl, inr, ⊎_elim, List, [], ◌++◌, true, Bool, length, length-append, length-drop, length-take, take, drop, get_or, get_or-take, ap, sym, subst, ◌∙◌, arith, bit_and}
 use Rattle.std.specs.Int.{bit_at}
-use Rattle.std.proofs.lemmas.Bool.{cases_lt, eq-eqb}
+use Rattle.std.proofs.lemmas.Bool.{cases_lt, cases_Bool, eq-eqb}
 use Rattle.std.proofs.lemmas.List.{get_or_append_left, get_or-append-add, get_or-drop}
 use Rattle.std.proofs.lemmas.Nat.Bits.{bit_at_and, bit_at-lt}
-use Rattle.support_bits.specs.Words.{bit_of, AreWordsOf, AreCovered}
-use Rattle.support_bits.proofs.WordLemmas.{is_one, within_words}
+use Rattle.support_bits.specs.Columns.{HasColumn}
+use Rattle.support_bits.specs.Words.{bit_of, spelled, AreWordsOf, AreCovered}
+use Rattle.support_bits.proofs.WordLemmas.{get_or-spelled, is_one, within_words}
 use Rattle.support_table.specs.Blocks.{block_size, AreWithin, AreBlocks, KeepsCommon, AreCommonOf, IsBlockPushed}
-use Rattle.support_table.specs.Tables.{Table, listed, IsTable, CanPass}
-use Rattle.support_table.proofs.TableLemmas.{part_within, covered_iff, table_of, count_of, words_of_place}
+use Rattle.support_table.specs.Counts.{columns_in_either}
+use Rattle.support_table.specs.Tables.{Table, listed, IsTable, AreCommonAt, CanPass, IsFarBlock}
+use Rattle.support_table.proofs.SizeLemmas.{column_within, size_within}
+use Rattle.support_table.proofs.TableLemmas.{part_within, table_of, count_of, words_of_place, width_of_place}
 
 -- ---- the bits that two words have
 
@@ -101,26 +104,51 @@ set_within width start first blocks words column h is_set =
     sym (ap (λ n. bit_at n (column % 64)) (word_of_part width start (column / 64) blocks less)) ∙ is_one _ _ is_set in
     eq-eqb _ 1 (ap (λ n. bit_at n (column % 64)) (word_of_part width first (column / 64) words less) ∙ h (column / 64) less (column % 64) one)
 
--- if the columns that some supports have in common are not all in the union, none of the supports lies inside it
-pub passes : (columns width count closed : ℕ) (words blocks : List ℕ) (table : Table) (a b : List Bool) (aw bw : List ℕ) (place : ℕ) →
-    IsTable columns width count closed words blocks → table_of columns (listed columns width count words) ≡ table → AreWordsOf a aw → AreWordsOf b bw →
-    place % block_size ≡ 0 → place / block_size < closed → ¬ AreCovered (take width (drop (place / block_size * width) blocks)) aw bw → CanPass table.supports a b place
-passes columns width count closed words blocks table a b aw bw place h is of_a of_b whole less outside = record {
-  within = omega (arith, count_of columns width count words table is, h.common.most);
-  none = λ k from to inside.
-      let e : k / block_size ≡ place / block_size = omega arith in
-      let of_k = words_of_place columns width count words table k h.spelled is (omega (arith, h.common.most)) in
-      let covered = (covered_iff _ a b _ aw bw of_k of_a of_b).1 inside in
-      let common = h.common.common k (omega arith) in
-      outside (λ column is_set. covered column (set_within width (place / block_size * width) (k * width) blocks words column
-      (subst (λ n. AreWithin width blocks (n * width) words (k * width)) e common) is_set));
+-- the columns of a closed block are in each of its supports
+pub common_of_block : (columns width count closed : ℕ) (words blocks : List ℕ) (table : Table) (place : ℕ) → IsTable columns width count closed words blocks →
+    table_of columns (listed columns width count words) ≡ table → place % block_size ≡ 0 → place / block_size < closed → AreCommonAt table place (take width (drop (place / block_size * width) blocks))
+common_of_block columns width count closed words blocks table place h is whole less = record {
+  within = omega (arith, count_is, h.common.most);
+  padded = record {
+    count = length_of_part width (place / block_size * width) blocks (let w = part_within (place / block_size) closed width less in omega (arith, w, h.common.total)) ∙ h.spelled.needed ∙
+        ap (λ (t : Table). (t.columns + 63) / 64) is;
+    unused = λ column past. elim (cases_Bool (bit_of common column)) [
+      | inl set ↦ absurd (let few = column_within _ column (each place column (omega arith) (omega arith) set) in
+          let wide = width_of_place columns width count words table place is (omega (arith, h.common.most)) in omega (arith, few, wide, past))
+      | inr e ↦ e
+    ];
+  };
+  each = each;
 }
+  where
+    common : List ℕ
+    common = take width (drop (place / block_size * width) blocks)
 
--- a block has as many words as a support of the table
-pub block_width : (columns width count closed : ℕ) (words blocks : List ℕ) (table : Table) (a : List Bool) (aw : List ℕ) (block : ℕ) →
-    IsTable columns width count closed words blocks → table_of columns (listed columns width count words) ≡ table → AreWordsOf a aw → length a ≡ table.columns → block < closed →
-    length aw ≡ length (take width (drop (block * width) blocks))
-block_width columns width count closed words blocks table a aw block h is of_a same less =
-    let wide : length aw ≡ width = of_a.count ∙ ap (λ n. (n + 63) / 64) (same ∙ sym (ap (λ (t : Table). t.columns) is)) ∙ sym h.spelled.needed in
-    let within = part_within block closed width less in
-    wide ∙ sym (length_of_part width (block * width) blocks (omega (arith, h.common.total)))
+    count_is : length table.supports ≡ count
+    count_is = count_of columns width count words table is
+
+    each : (k column : ℕ) → place ≤ k → k < place + block_size → bit_of common column ≡ true → HasColumn (get_or table.supports k []) column
+    each k column from to set =
+        let e : k / block_size ≡ place / block_size = omega arith in
+        let of_k = words_of_place columns width count words table k h.spelled is (omega (arith, h.common.most)) in
+        sym (of_k.bits column) ∙ set_within width (place / block_size * width) (k * width) blocks words column
+        (subst (λ n. AreWithin width blocks (n * width) words (k * width)) e (h.common.common k (omega arith))) set
+
+module _ (table : Table) (a : List Bool) (common : List ℕ) (place : ℕ) (h : AreCommonAt table place common) where
+  -- a block has as many words as a support of the table
+  pub block_width : (words : List ℕ) → AreWordsOf a words → length a ≡ table.columns → length words ≡ length common
+  block_width words of_a same = of_a.count ∙ ap (λ n. (n + 63) / 64) same ∙ sym h.padded.count
+
+  -- if the columns that some supports have in common are not all in the union, none of the supports lies inside it
+  pub passes : (b : List Bool) (aw bw : List ℕ) → AreWordsOf a aw → AreWordsOf b bw → ¬ AreCovered common aw bw → CanPass table.supports a b place
+  passes b aw bw of_a of_b outside = record {
+    within = h.within;
+    none = λ k from to inside. outside (λ column set. elim (inside column (h.each k column from to set)) [ inl has ↦ inl (of_a.bits column ∙ has) | inr has ↦ inr (of_b.bits column ∙ has) ]);
+  }
+
+  -- the union with each support has all columns of the union with the columns in common
+  pub all_far : (count most : ℕ) → count ≡ columns_in_either a (spelled table.columns common) → most < count → IsFarBlock table.supports a most place
+  all_far count most is more k from to =
+      let least = size_within a (spelled table.columns common) (get_or table.supports k [])
+      (λ column has. inr (h.each k column from to (sym (get_or-spelled table.columns common h.padded column) ∙ has))) in
+      omega (arith, is, more, least)

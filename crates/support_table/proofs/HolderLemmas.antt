@@ -1,17 +1,17 @@
 -- The rays that contain a column, and those that contain one of several.
-use Rattle.std.proofs.Common.{◌≡◌, ℕ, zero, suc, ◌+◌, ◌-◌, ◌*◌, ◌/◌, ◌^◌, ◌<◌, ◌≤◌, ◌||◌, inl, inr, ⊎_elim, Bool, true, false, eqb, List, [], length, get_or, set, length-set, get_or-set_same, get_or-set_other, replicate, w64, subst, sym, ap, ◌∙◌, arith}
+use Rattle.std.proofs.Common.{◌≡◌, ℕ, zero, suc, ◌+◌, ◌-◌, ◌*◌, ◌/◌, ◌^◌, ◌<◌, ◌≤◌, ◌||◌, inl, inr, ⊎_elim, Bool, true, false, eqb, List, [], length, get_or, set, length-set, get_or-set_same, get_or-set_other, replicate, w64, bit_or, max, subst, sym, ap, ◌∙◌, arith}
 use Rattle.std.specs.Int.{bit_at, bit_not, trailing_zeros}
 use Rattle.std.proofs.lemmas.Bool.{cases_eq, cases_lt, cases_Bool, eq-eqb, false≢true, or_right}
 use Rattle.std.proofs.lemmas.List.{get_or_default, get_or_past, get_or-replicate, length-replicate}
-use Rattle.std.proofs.lemmas.Nat.Bits.{bit_at-lt, bit_at-zero, bit_at_above, bit_at_not, bit_at-trailing_zeros}
+use Rattle.std.proofs.lemmas.Nat.Bits.{bit_at-lt, bit_at-zero, bit_at_above, bit_at_not, bit_at_or, bit_at_ones_above, bit_at_mask_below, bit_at-trailing_zeros}
 use Rattle.support_bits.specs.Columns.{HasColumn, IsUnion, Meets}
 use Rattle.support_bits.specs.Words.{AreWordsOf}
 use Rattle.support_bits.proofs.WordLemmas.{bit_of-column, bit_after}
-use Rattle.support_table.specs.Tables.{Table}
-use Rattle.support_table.specs.Holders.{IsHolder, AreHolders, AreAsLong, IsMeetingBelow, IsMeeting, TellsMeeting, NamesApart}
-use Rattle.support_table.specs.Residuals.{support_at}
+use Rattle.support_table.specs.Tables.{Table, IsFarBlock}
+use Rattle.support_table.specs.Holders.{IsHolder, AreHolders, AreAsLong, IsMeetingBelow, IsMeeting, TellsMeeting}
+use Rattle.support_table.specs.Residuals.{support_at, IsRival}
 use Rattle.support_table.specs.declared.rivals.Candidate.{Candidate}
-use Rattle.support_table.specs.Rivals.{AreRivals}
+use Rattle.support_table.specs.Rivals.{AreRivals, NamesCandidates}
 use Rattle.support_table.proofs.RivalLemmas.{rival_skip}
 use Rattle.support_table.proofs.SizeLemmas.{column_within}
 
@@ -139,53 +139,90 @@ next_before place end rest h some fits = h (trailing_zeros w64 rest) (bit_at-tra
 pub before_more : (place end rest : ℕ) → AreBefore place end rest → AreBefore (place + trailing_zeros w64 rest + 1) end (rest / 2 ^ trailing_zeros w64 rest / 2)
 before_more place end rest h i one = let b = h (trailing_zeros w64 rest + suc i) (sym (bit_after rest (trailing_zeros w64 rest) i) ∙ one) in omega arith
 
-module _ (supports : List (List Bool)) (columns : List Bool) where
-  pub apart_first : (first word : ℕ) → word < 2 ^ 64 → bit_not w64 word < 2 ^ 64 → TellsMeeting supports columns first word → NamesApart supports columns first (first + 64) (bit_not w64 word)
-  apart_first first word fits not_fits tells = record {
-    set = λ i one. elim (cases_lt i 64) [
-      | inl less ↦ (omega arith, tells.unset i less (let e = bit_at_not w64 word i fits less in let b = bit_at-lt word i in omega (arith, e, b, one)))
-      | inr past ↦ absurd (let e = bit_at_above (bit_not w64 word) 64 i not_fits past in omega (arith, e, one))
-    ];
-    unset = λ i none less. tells.set i (omega arith) (let e = bit_at_not w64 word i fits (omega arith) in let b = bit_at-lt word i in omega (arith, e, b, none));
-  }
+module _ (supports : List (List Bool)) (outer joined : List Bool) (own most : ℕ) where
+  module _ (first word one other : ℕ) (fits : bit_or word (bit_or one other) < 2 ^ 64) (not_fits : bit_not w64 (bit_or word (bit_or one other)) < 2 ^ 64)
+      (one_far : (i : ℕ) → bit_at one i ≡ 1 → (bit_at (2 ^ 32 - 1) i ≡ 1) × IsFarBlock supports outer most first)
+      (other_far : (i : ℕ) → bit_at other i ≡ 1 → (bit_at (2 ^ 64 - 2 ^ 32) i ≡ 1) × IsFarBlock supports outer most (first + 32)) where
+    abbrev any : ℕ
+    any = bit_or word (bit_or one other)
 
-  module _ (place end rest : ℕ) (names : NamesApart supports columns place end rest) (some : 0 < rest) (fits : rest < 2 ^ 64) where
+    any_bit : (i : ℕ) → bit_at any i ≡ max (bit_at word i) (max (bit_at one i) (bit_at other i))
+    any_bit i = bit_at_or word (bit_or one other) i ∙ ap (max (bit_at word i)) (bit_at_or one other i)
+
+    low_bit : (i : ℕ) → bit_at (2 ^ 32 - 1) i ≡ 1 → i < 32
+    low_bit i is = elim (cases_lt i 32) [
+      | inl less ↦ less
+      | inr past ↦ absurd (let e = bit_at_ones_above 32 i past in omega (arith, e, is))
+    ]
+
+    high_bit : (i : ℕ) → bit_at (2 ^ 64 - 2 ^ 32) i ≡ 1 → 32 ≤ i
+    high_bit i is = elim (cases_lt i 32) [
+      | inl below ↦ absurd (let e = bit_at_mask_below 32 64 i below in omega (arith, e, is))
+      | inr past ↦ past
+    ]
+
+    in_first : (i : ℕ) → bit_at one i ≡ 1 → ¬ IsRival supports outer joined own most (first + i)
+    in_first i is r = let f = one_far i is in let low = low_bit i f.0 in let far = f.1 (first + i) (omega arith) (omega (arith, low)) in let near = r.near in omega (arith, far, near)
+
+    in_second : (i : ℕ) → i < 64 → bit_at other i ≡ 1 → ¬ IsRival supports outer joined own most (first + i)
+    in_second i less is r = let f = other_far i is in let high = high_bit i f.0 in let far = f.1 (first + i) (omega (arith, high)) (omega (arith, less)) in let near = r.near in omega (arith, far, near)
+
+    -- the bits of rays that contain one of the columns, or are too far, are left out
+    pub names_first : TellsMeeting supports joined first word → NamesCandidates supports outer joined own most first (first + 64) (bit_not w64 (bit_or word (bit_or one other)))
+    names_first tells = record {
+      set = λ i is. elim (cases_lt i 64) [
+        | inl less ↦ (omega arith, tells.unset i less (let e = bit_at_not w64 any i fits less in let m = any_bit i in let b = bit_at-lt word i in omega (arith, e, m, b, is)))
+        | inr past ↦ absurd (let e = bit_at_above (bit_not w64 any) 64 i not_fits past in omega (arith, e, is))
+      ];
+      unset = λ i none within r.
+          let less : i < 64 = omega arith in
+          let e = bit_at_not w64 any i fits less in
+          let m = any_bit i in
+          let b = bit_at-lt any i in
+          let is : max (bit_at word i) (max (bit_at one i) (bit_at other i)) ≡ 1 = omega (arith, e, m, b, none) in
+          elim (cases_eq (bit_at word i) 1) [
+            | inl meets ↦ r.apart (tells.set i less meets)
+            | inr without ↦ elim (cases_eq (bit_at one i) 1) [
+              | inl far ↦ in_first i far r
+              | inr neither ↦ in_second i less (let w = bit_at-lt word i in let o = bit_at-lt one i in omega (arith, is, without, neither, w, o)) r
+            ]
+          ];
+    }
+
+  module _ (place end rest : ℕ) (names : NamesCandidates supports outer joined own most place end rest) (some : 0 < rest) (fits : rest < 2 ^ 64) where
     next_place : place + trailing_zeros w64 rest < end
     next_place = (names.set (trailing_zeros w64 rest) (bit_at-trailing_zeros w64 rest some fits).1).0
 
-    pub next_within : place + trailing_zeros w64 rest < end
-    next_within = next_place
-
-    pub next_apart : ¬ Meets (support_at supports (place + trailing_zeros w64 rest)) columns
+    pub next_apart : ¬ Meets (support_at supports (place + trailing_zeros w64 rest)) joined
     next_apart = (names.set (trailing_zeros w64 rest) (bit_at-trailing_zeros w64 rest some fits).1).1
 
-    pub passed_meet : (i : ℕ) → i < trailing_zeros w64 rest → Meets (support_at supports (place + i)) columns
-    passed_meet i less = names.unset i ((bit_at-trailing_zeros w64 rest some fits).2 i less) (let n = next_place in omega arith)
+    pub none_before : (i : ℕ) → i < trailing_zeros w64 rest → ¬ IsRival supports outer joined own most (place + i)
+    none_before i less = names.unset i ((bit_at-trailing_zeros w64 rest some fits).2 i less) (let n = next_place in omega arith)
 
-    pub apart_more : NamesApart supports columns (place + trailing_zeros w64 rest + 1) end (rest / 2 ^ trailing_zeros w64 rest / 2)
-    apart_more = record {
+    pub names_more : NamesCandidates supports outer joined own most (place + trailing_zeros w64 rest + 1) end (rest / 2 ^ trailing_zeros w64 rest / 2)
+    names_more = record {
       set = λ i one. let e : place + (trailing_zeros w64 rest + suc i) ≡ place + trailing_zeros w64 rest + 1 + i = omega arith in
-          subst (λ j. (j < end) × (¬ Meets (support_at supports j) columns)) e (names.set (trailing_zeros w64 rest + suc i) (sym (bit_after rest (trailing_zeros w64 rest) i) ∙ one));
+          subst (λ j. (j < end) × (¬ Meets (support_at supports j) joined)) e (names.set (trailing_zeros w64 rest + suc i) (sym (bit_after rest (trailing_zeros w64 rest) i) ∙ one));
       unset = λ i none less. let e : place + (trailing_zeros w64 rest + suc i) ≡ place + trailing_zeros w64 rest + 1 + i = omega arith in
-          subst (λ j. Meets (support_at supports j) columns) e (names.unset (trailing_zeros w64 rest + suc i) (sym (bit_after rest (trailing_zeros w64 rest) i) ∙ none) (omega arith));
+          subst (λ j. ¬ IsRival supports outer joined own most j) e (names.unset (trailing_zeros w64 rest + suc i) (sym (bit_after rest (trailing_zeros w64 rest) i) ∙ none) (omega arith));
     }
 
-  -- rays that contain one of the columns are skipped
-  pub rivals_past : (outer : List Bool) (own most n d : ℕ) (rivals : List Candidate) → ((i : ℕ) → i < d → Meets (support_at supports (n + i)) columns) → AreRivals supports outer columns own most n rivals → AreRivals supports outer columns own most (n + d) rivals
-  rivals_past outer own most n zero rivals meet h = subst (λ k. AreRivals supports outer columns own most k rivals) {x = n} {y = n + 0} (omega arith) h
-  rivals_past outer own most n (suc d) rivals meet h =
-      subst (λ k. AreRivals supports outer columns own most k rivals) {x = n + 1 + d} {y = n + suc d} (omega arith)
-      (rivals_past outer own most (n + 1) d rivals (λ i less. let e : n + suc i ≡ n + 1 + i = omega arith in subst (λ k. Meets (support_at supports k) columns) e (meet (suc i) (omega arith)))
-      (rival_skip supports outer columns own most n rivals h (λ r. r.apart (let e : n + 0 ≡ n = omega arith in subst (λ k. Meets (support_at supports k) columns) e (meet 0 (omega arith))))))
+  -- rays that are no candidates are skipped
+  pub rivals_past : (n d : ℕ) (rivals : List Candidate) → ((i : ℕ) → i < d → ¬ IsRival supports outer joined own most (n + i)) → AreRivals supports outer joined own most n rivals → AreRivals supports outer joined own most (n + d) rivals
+  rivals_past n zero rivals none h = subst (λ k. AreRivals supports outer joined own most k rivals) {x = n} {y = n + 0} (omega arith) h
+  rivals_past n (suc d) rivals none h =
+      subst (λ k. AreRivals supports outer joined own most k rivals) {x = n + 1 + d} {y = n + suc d} (omega arith)
+      (rivals_past (n + 1) d rivals (λ i less. let e : n + suc i ≡ n + 1 + i = omega arith in subst (λ k. ¬ IsRival supports outer joined own most k) e (none (suc i) (omega arith)))
+      (rival_skip supports outer joined own most n rivals h (let e : n + 0 ≡ n = omega arith in subst (λ k. ¬ IsRival supports outer joined own most k) e (none 0 (omega arith)))))
 
-  pub rivals_to_end : (outer : List Bool) (own most first place : ℕ) (rivals : List Candidate) → place ≤ first + 64 → NamesApart supports columns place (first + 64) 0 → AreRivals supports outer columns own most place rivals →
-      AreRivals supports outer columns own most (first + 64) rivals
-  rivals_to_end outer own most first place rivals low names h =
-      subst (λ k. AreRivals supports outer columns own most k rivals) {x = place + (first + 64 - place)} {y = first + 64} (omega arith)
-      (rivals_past outer own most place (first + 64 - place) rivals (λ i less. names.unset i (bit_at-zero i) (omega arith)) h)
+  pub rivals_to_end : (first place : ℕ) (rivals : List Candidate) → place ≤ first + 64 → NamesCandidates supports outer joined own most place (first + 64) 0 → AreRivals supports outer joined own most place rivals →
+      AreRivals supports outer joined own most (first + 64) rivals
+  rivals_to_end first place rivals low names h =
+      subst (λ k. AreRivals supports outer joined own most k rivals) {x = place + (first + 64 - place)} {y = first + 64} (omega arith)
+      (rivals_past place (first + 64 - place) rivals (λ i less. names.unset i (bit_at-zero i) (omega arith)) h)
 
-  pub rivals_all : (outer : List Bool) (own most n : ℕ) (rivals : List Candidate) → length supports ≤ n → AreRivals supports outer columns own most n rivals → AreRivals supports outer columns own most (length supports) rivals
-  rivals_all outer own most n rivals all h = record {
+  pub rivals_all : (n : ℕ) (rivals : List Candidate) → length supports ≤ n → AreRivals supports outer joined own most n rivals → AreRivals supports outer joined own most (length supports) rivals
+  rivals_all n rivals all h = record {
     each = h.each;
     below = λ k d within. (h.each k d within).rival.in_range;
     ascending = h.ascending;

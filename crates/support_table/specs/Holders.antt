@@ -37,8 +37,3 @@ pub record IsMeeting (supports : List (List Bool)) (columns places : List Bool) 
 pub record TellsMeeting (supports : List (List Bool)) (columns : List Bool) (first word : ℕ) : Type 0 where
   pub set : (i : ℕ) → i < 64 → bit_at word i ≡ 1 → Meets (support_at supports (first + i)) columns
   pub unset : (i : ℕ) → i < 64 → bit_at word i ≡ 0 → ¬ Meets (support_at supports (first + i)) columns
-
--- from place to before end, the set bits are those of rays that contain none of the columns
-pub record NamesApart (supports : List (List Bool)) (columns : List Bool) (place end bits : ℕ) : Type 0 where
-  pub set : (i : ℕ) → bit_at bits i ≡ 1 → (place + i < end) × (¬ Meets (support_at supports (place + i)) columns)
-  pub unset : (i : ℕ) → bit_at bits i ≡ 0 → place + i < end → Meets (support_at supports (place + i)) columns

@@ -1,5 +1,5 @@
 -- Candidates for adjacency to an outer ray, and their residuals: the columns that they have outside its support.
-use Rattle.std.specs.Prelude.{◌≡◌, ◌≢◌, ℕ, ◌<◌, ◌≤◌, List, Bool, [], length, slice_index_or, Contains}
+use Rattle.std.specs.Prelude.{◌≡◌, ◌≢◌, ℕ, ◌<◌, ◌≤◌, List, Bool, true, false, [], length, slice_index_or, Contains}
 use Rattle.std.specs.List.{All, AllPairs}
 use Rattle.support_bits.specs.Columns.{HasColumn, Meets}
 use Rattle.support_table.specs.Counts.{columns_in_either}
@@ -25,8 +25,8 @@ pub record IsMinimal (supports : List (List Bool)) (outer joined : List Bool) (o
   pub rival : IsRival supports outer joined own most place
   pub minimal : (k : ℕ) → IsRival supports outer joined own most k → IsResidualInside outer (support_at supports k) (support_at supports place) → k ≡ place
 
--- the indices of all minimal candidates, ascending
-pub record AreMinimal (supports : List (List Bool)) (outer joined : List Bool) (own most : ℕ) (places : List ℕ) : Type 0 where
-  pub each : All (IsMinimal supports outer joined own most) places
+-- the indices of all minimal candidates with the flag `true`, ascending
+pub record AreMinimalOf (supports : List (List Bool)) (outer joined : List Bool) (own most : ℕ) (wanted : List Bool) (places : List ℕ) : Type 0 where
+  pub each : All (λ place. IsMinimal supports outer joined own most place × (slice_index_or wanted place false ≡ true)) places
   pub ascending : AllPairs (λ one other. one < other) places
-  pub complete : (place : ℕ) → IsMinimal supports outer joined own most place → Contains places place
+  pub complete : (place : ℕ) → IsMinimal supports outer joined own most place → slice_index_or wanted place false ≡ true → Contains places place

@@ -1,10 +1,10 @@
 -- Lists of candidates on the way to those of minimal residual.
-use Rattle.std.specs.Prelude.{◌≡◌, ◌≢◌, ℕ, ◌+◌, ◌/◌, ◌<◌, ◌≤◌, ◌⊎◌, List, [], ◌∷◌, ◌++◌, Bool, true, false, length, map, Contains, slice_index_or, slice_set}
+use Rattle.std.specs.Prelude.{◌≡◌, ℕ, ◌+◌, ◌/◌, ◌<◌, ◌≤◌, ◌⊎◌, List, Bool, true, false, length, Contains}
+use Rattle.std.specs.Int.{bit_at}
 use Rattle.std.specs.List.{All, AllPairs}
 use Rattle.support_bits.specs.Columns.{HasColumn, IsInsideUnionOf, Meets}
 use Rattle.support_bits.specs.Words.{bit_of}
 use Rattle.support_table.specs.Counts.{columns_in_either}
-use Rattle.support_table.specs.declared.least.Least.{Least}
 use Rattle.support_table.specs.declared.rivals.Candidate.{Candidate}
 use Rattle.support_table.specs.Holders.{TellsMeeting}
 use Rattle.support_table.specs.Residuals.{support_at, IsRival, IsMinimal}
@@ -64,76 +64,15 @@ pub record AreUnhit (supports : List (List Bool)) (marks : List ℕ) (single : �
 -- candidates among which are all that are minimal, and each whose residual lies inside that of one
 pub record AreCandidates (supports : List (List Bool)) (outer joined : List Bool) (own most : ℕ) (candidates : List Candidate) : Type 0 where
   pub each : All (IsSized supports outer joined own most) candidates
-  pub apart : AllPairs (λ p q. p ≢ q) (map (λ r. r.place) candidates)
+  pub ascending : AllPairs (λ r s. r.place < s.place) candidates
   pub closed : (r : Candidate) (place : ℕ) → Contains candidates r → IsRival supports outer joined own most place → IsInsideUnionOf (support_at supports place) outer (support_at supports r.place) → HasPlace candidates place
   pub complete : (place : ℕ) → IsMinimal supports outer joined own most place → HasPlace candidates place
 
--- the candidate with index k of a list
-abbrev pub rival_at : List Candidate → ℕ → Candidate
-rival_at rivals k = slice_index_or rivals k (record { place = 0; size = 0 })
-
--- the residual of r lies inside that of s
-abbrev pub LiesInside : List (List Bool) → List Bool → Candidate → Candidate → Type 0
-LiesInside supports outer r s = IsInsideUnionOf (support_at supports r.place) outer (support_at supports s.place)
-
--- the residual of one in least lies inside that of r, and it is r itself, or smaller, or its residual occurs twice
-pub record IsCovered (supports : List (List Bool)) (outer : List Bool) (least : Least) (r : Candidate) : Type 0 where
-  pub place : ℕ
-  pub in_range : place < length least.rivals.items
-  pub inside : LiesInside supports outer (rival_at least.rivals.items place) r
-  pub how : ((rival_at least.rivals.items place).place ≡ r.place) ⊎ ((rival_at least.rivals.items place).size < r.size) ⊎ (slice_index_or least.doubled.items place false ≡ true)
-
--- another candidate has a residual inside that of r
-pub record IsDoubled (supports : List (List Bool)) (outer : List Bool) (order : List Candidate) (n : ℕ) (r : Candidate) : Type 0 where
-  pub place : ℕ
-  pub in_range : place < n
-  pub other : (rival_at order place).place ≢ r.place
-  pub inside : LiesInside supports outer (rival_at order place) r
-
--- the minimal residuals of the first n candidates: none lies inside another, one of them lies inside each, and doubled
--- says which occur twice
-pub record AreLeast (supports : List (List Bool)) (outer : List Bool) (order : List Candidate) (n : ℕ) (least : Least) : Type 0 where
-  pub count : length least.doubled.items ≡ length least.rivals.items
-  pub from : (i : ℕ) → i < length least.rivals.items → (k : ℕ) × (k < n) × (rival_at order k ≡ rival_at least.rivals.items i)
-  pub apart : (i j : ℕ) → i < length least.rivals.items → j < length least.rivals.items → LiesInside supports outer (rival_at least.rivals.items i) (rival_at least.rivals.items j) → i ≡ j
-  pub covered : (k : ℕ) → k < n → IsCovered supports outer least (rival_at order k)
-  pub doubled : (i : ℕ) → i < length least.rivals.items → slice_index_or least.doubled.items i false ≡ true → IsDoubled supports outer order n (rival_at least.rivals.items i)
-
--- the candidates by size, with different indices
-pub record AreInOrder (supports : List (List Bool)) (outer : List Bool) (order : List Candidate) : Type 0 where
-  pub found : All (λ r. r.place < length supports) order
-  pub wide : All (λ r. length (support_at supports r.place) ≡ length outer) order
-  pub sized : All (λ r. r.size ≡ columns_in_either outer (support_at supports r.place)) order
-  pub apart : AllPairs (λ r s. r.place ≢ s.place) order
-  pub ascending : AllPairs (λ r s. r.size ≤ s.size) order
-
--- the residual of the candidate with index k in `rivals` lies inside that of the ray with index place
-pub record IsInsideAt (supports : List (List Bool)) (outer : List Bool) (rivals : List Candidate) (place k : ℕ) : Type 0 where
-  pub in_range : k < length rivals
-  pub inside : IsInsideUnionOf (support_at supports (rival_at rivals k).place) outer (support_at supports place)
-
--- a candidate is added to those of minimal residual: it is one more of them, or the residual of one lies inside its own
-pub record IsOneMore (supports : List (List Bool)) (outer : List Bool) (rival : Candidate) (old new : Least) : Type 0 where
-  pub none : (k : ℕ) → k < length old.rivals.items → ¬ IsInsideAt supports outer old.rivals.items rival.place k
-  pub rivals : new.rivals.items ≡ old.rivals.items ++ rival ∷ []
-  pub doubled : new.doubled.items ≡ old.doubled.items ++ false ∷ []
-
-pub record IsRepeated (supports : List (List Bool)) (outer : List Bool) (rival : Candidate) (old new : Least) : Type 0 where
-  pub k : ℕ
-  pub at : IsInsideAt supports outer old.rivals.items rival.place k
-  pub rivals : new.rivals.items ≡ old.rivals.items
-  pub doubled : (((rival_at old.rivals.items k).size ≡ rival.size) × (new.doubled.items ≡ slice_set old.doubled.items k true)) ⊎
-      (((rival_at old.rivals.items k).size ≢ rival.size) × (new.doubled.items ≡ old.doubled.items))
-
-abbrev pub IsRecorded : List (List Bool) → List Bool → Candidate → Least → Least → Type 0
-IsRecorded supports outer rival old new = IsOneMore supports outer rival old new ⊎ IsRepeated supports outer rival old new
-
--- the indices of those of the first n of least whose residual does not occur twice
-pub record AreUnrepeated (least : Least) (n : ℕ) (places : List ℕ) : Type 0 where
-  pub each : All (λ place. (i : ℕ) × (i < n) × (slice_index_or least.doubled.items i false ≡ false) × ((rival_at least.rivals.items i).place ≡ place)) places
-  pub apart : ((i j : ℕ) → i < j → j < length least.rivals.items → (rival_at least.rivals.items i).place ≢ (rival_at least.rivals.items j).place) →
-      AllPairs (λ p q. p ≢ q) places
-  pub complete : (i : ℕ) → i < n → slice_index_or least.doubled.items i false ≡ false → Contains places (rival_at least.rivals.items i).place
+-- from place to before end, the bits of all candidates are set, and each set bit is that of a ray that contains none of
+-- joined
+pub record NamesCandidates (supports : List (List Bool)) (outer joined : List Bool) (own most place end bits : ℕ) : Type 0 where
+  pub set : (i : ℕ) → bit_at bits i ≡ 1 → (place + i < end) × (¬ Meets (support_at supports (place + i)) joined)
+  pub unset : (i : ℕ) → bit_at bits i ≡ 0 → place + i < end → ¬ IsRival supports outer joined own most (place + i)
 
 -- the ray with index place, which contains none of the columns, is appended unless it is the outer one or its union
 -- with it is too large

@@ -1,8 +1,11 @@
 //! Lists of candidates with the table that their indices refer to.
 
-ghost use Rattle.std.specs.Prelude.{◌≡◌, ◌+◌, ◌/◌, length};
-ghost use Rattle.support_table.specs.Rivals.{AreFound, AreInOrder};
+ghost use Rattle.std.specs.Prelude.{◌≡◌, ◌+◌, ◌/◌, ◌<◌, length};
+ghost use Rattle.std.specs.List.{All};
+ghost use Rattle.support_table.specs.Groups.{AreFamily};
+ghost use Rattle.support_table.specs.Rivals.{AreFound};
 
+use crate::groups::{Grouped, Ranges};
 use crate::rivals::Candidate;
 use crate::table::SupportTable;
 use support_bits::Support;
@@ -18,15 +21,24 @@ pub struct FoundCandidates<'a> {
     pub ghost found: { AreFound table.now.supports list.now },
 }
 
-/// Candidates by the size of their union with `outer`. Invariant: they are different rays of `table`, which has the
-/// columns of `outer`.
+/// Candidates with their groups, which are below `groups`.
 #[derive(Clone, Copy)]
-pub struct OrderedCandidates<'a> {
+pub struct GroupedList<'a> {
+    pub list: &'a [Grouped],
+    pub groups: usize,
+    pub ghost below: { All (λ it. it.group < groups) list.now },
+}
+
+/// Candidates in groups. Invariant: they are rays of `table`, which has the columns of `outer`; each group but 0 is one
+/// more than a column of its residuals, and `ranges` has the range of each group.
+#[derive(Clone, Copy)]
+pub struct Family<'a> {
     pub table: &'a SupportTable,
     pub outer: &'a Support,
-    pub list: &'a [Candidate],
+    pub list: &'a [Grouped],
+    pub ranges: &'a Ranges,
     pub ghost columns: { length outer.now ≡ table.now.columns },
-    pub ghost order: { AreInOrder table.now.supports outer.now list.now },
+    pub ghost family: { AreFamily table.now.supports outer.now list.now ranges.now },
 }
 
 /// Candidates with the words of the marked columns; a residual of more than one column is one of a union of more than

@@ -1,15 +1,17 @@
-//! The candidates whose residual contains that of no other candidate.
+//! The candidates among given rays whose residual contains that of no other candidate.
 
-ghost use Rattle.std.specs.Prelude.{◌≡◌, ◌+◌, ◌<◌, length, IfOk};
-ghost use Rattle.std.specs.List.Sorted.{IsPermutation, IsNonDecreasingBy};
+ghost use Rattle.std.specs.Prelude.{◌≡◌, ◌+◌, ◌<◌, ◌↔◌, false, length, IfOk, IsTrue, IsFalse, slice_index_or};
+ghost use Rattle.std.specs.List.{All};
 ghost use Rattle.support_table.specs.Counts.{columns_in_either};
-ghost use Rattle.support_table.specs.Residuals.{AreMinimal};
-ghost use Rattle.support_table.specs.Rivals.{AreCandidates, AreUnrepeated};
+ghost use Rattle.support_table.specs.Groups.{IsWantedAlone, AreWantedAlone};
+ghost use Rattle.support_table.specs.Residuals.{AreMinimalOf};
+ghost use Rattle.support_table.specs.Rivals.{AreCandidates, AreFound};
 
 use crate::counts::union_count;
-use crate::least::{Least, minimal_candidates};
-use crate::lists::{FoundCandidates, MarkedCandidates, OrderedCandidates};
+use crate::groups::{in_groups, ranges_of};
+use crate::lists::{Family, FoundCandidates, GroupedList, MarkedCandidates};
 use crate::marks::{marks_of, unhit};
+use crate::others::has_other;
 use crate::outer::OuterRay;
 use crate::ray_table::RayTable;
 use crate::rivals::{Candidate, rivals_of};
@@ -48,42 +50,66 @@ fn candidates(alloc: Global, outer: OuterRay) -> Result<Vec<Candidate>, NoMemory
     unhit(alloc, marked)
 }
 
-/// Sorts `rivals` by size.
-fn sort_by_size(rivals: &mut Vec<Candidate>)
-    ensures permutation { IsPermutation rivals.old.items rivals.new.items }
-    ensures sorted { IsNonDecreasingBy (λ r. r.size) rivals.new.items }
+/// Whether the ray with index `place` is wanted and its residual contains that of no other candidate.
+fn is_wanted_alone(family: Family, wanted: &[bool], place: usize) -> bool
+    requires place { place < length family.table.now.supports }
+    requires wanted { length wanted.now ≡ length family.table.now.supports }
+    ensures { IsTrue result ↔ IsWantedAlone family.entry.table.now.supports family.entry.outer.now family.entry.list.now wanted.now place }
 {
-    rivals.sort_unstable_by_key(|rival| rival.size);
+    wanted[place] && !has_other(family, place)
 }
 
-/// The indices of the rays in `least` whose residual no other candidate has.
-fn alone(alloc: Global, least: &Least) -> Result<Vec<usize>, NoMemory>
-    requires { length least.now.doubled.items ≡ length least.now.rivals.items }
-    ensures { IfOk result (λ places. AreUnrepeated least.now (length least.now.rivals.items) places.items) }
+/// The indices of the candidates of `list` that are wanted and whose residual contains that of no other.
+fn wanted_alone(
+    alloc: Global,
+    family: Family,
+    list: &[Candidate],
+    wanted: &[bool],
+) -> Result<Vec<usize>, NoMemory>
+    requires found { AreFound family.table.now.supports list.now }
+    requires wanted { length wanted.now ≡ length family.table.now.supports }
+    ensures { IfOk result (λ places. AreWantedAlone family.entry.table.now.supports family.entry.outer.now family.entry.list.now wanted.now list.now (length list.now) places.items) }
 {
     let mut places = Vec::new(alloc);
-    for at in 0..least.rivals.len() {
-        if !least.doubled[at] {
-            places.push(least.rivals[at].place)?;
+    for rival in list {
+        let place = rival.place;
+        if is_wanted_alone(family, wanted, place) {
+            places.push(place)?;
         }
     }
     Ok(places)
 }
 
-/// The indices, ascending, of the candidates whose residual, their columns outside `outer`, contains that of no other
-/// candidate. Candidates are the rays other than the one with index `own` that contain none of the columns `joined`,
-/// which clash with a column of `outer`, and whose union with `outer` has at most `most` columns.
+/// Whether a candidate of `list` is wanted.
+fn has_wanted(list: &[Candidate], wanted: &[bool]) -> bool
+    requires { All (λ r. r.place < length wanted.now) list.now }
+    ensures { IsFalse result → All (λ r. slice_index_or wanted.now r.place false ≡ false) list.now }
+{
+    for rival in list {
+        if wanted[rival.place] {
+            return true;
+        }
+    }
+    false
+}
+
+/// The indices, ascending, of the candidates that are `true` in `wanted` and whose residual, their columns outside
+/// `outer`, contains that of no other candidate. Candidates are the rays other than the one with index `own` that
+/// contain none of the columns `joined`, which clash with a column of `outer`, and whose union with `outer` has at most
+/// `most` columns.
 pub fn minimal_places(
     alloc: Global,
     rays: &RayTable,
+    wanted: &[bool],
     outer: &Support,
     joined: &Support,
     own: usize,
     most: u64,
 ) -> Result<Vec<usize>, NoMemory>
+    requires wanted { length wanted.now ≡ length rays.now.supports }
     requires outer { length outer.now ≡ rays.now.columns }
     requires joined { length joined.now ≡ rays.now.columns }
-    ensures { IfOk result (λ places. AreMinimal rays.now.supports outer.now joined.now own most places.items) }
+    ensures { IfOk result (λ places. AreMinimalOf rays.now.supports outer.now joined.now own most wanted.now places.items) }
 {
     let ray = OuterRay {
         rays,
@@ -92,15 +118,27 @@ pub fn minimal_places(
         own,
         most,
     };
-    let mut list = candidates(alloc, ray)?;
-    sort_by_size(&mut list);
-    let order = OrderedCandidates {
-        table: rays.table(),
+    let list = candidates(alloc, ray)?;
+    if !has_wanted(&list, wanted) {
+        return Ok(Vec::new(alloc));
+    }
+    let table = rays.table();
+    let found = FoundCandidates {
+        table,
         outer,
         list: &list,
     };
-    let least = minimal_candidates(alloc, order)?;
-    let mut places = alone(alloc, &least)?;
-    places.sort_unstable();
-    Ok(places)
+    let by_group = in_groups(alloc, found)?;
+    let groups = GroupedList {
+        list: &by_group,
+        groups: table.columns() as usize + 1,
+    };
+    let ranges = ranges_of(alloc, groups)?;
+    let family = Family {
+        table,
+        outer,
+        list: &by_group,
+        ranges: &ranges,
+    };
+    wanted_alone(alloc, family, &list, wanted)
 }

@@ -1,8 +1,12 @@
 //! The candidates for adjacency to a given ray.
 
-ghost use Rattle.std.specs.Prelude.{◌+◌, ◌<◌, ◌^◌, length, IfOk, OnOk};
-ghost use Rattle.support_table.specs.Rivals.{AreRivals, IsRivalPushed, AreRivalsPushed};
+ghost use Rattle.std.specs.Prelude.{◌≡◌, ℕ, ◌+◌, ◌<◌, ◌^◌, List, Bool, length, IfOk, OnOk};
+ghost use Rattle.std.specs.Int.{bit_at};
+ghost use Rattle.support_table.specs.Holders.{TellsMeeting};
+ghost use Rattle.support_table.specs.Rivals.{AreRivals, IsRivalPushed, AreRivalsPushed, NamesCandidates};
+ghost use Rattle.support_table.specs.Tables.{IsFarBlock};
 
+use crate::blocks::BLOCK;
 use crate::outer::OuterRay;
 use out_of_memory::NoMemory;
 use std::alloc::Global;
@@ -30,6 +34,35 @@ fn push_rival(outer: OuterRay, place: usize, rivals: &mut Vec<Candidate>) -> Res
     Ok(())
 }
 
+/// The least number of rays of a block for which the block is tested before them. Affects speed alone.
+const FEWEST: u32 = 24;
+
+/// `half`, the bits of the block of rays that begins at index `place`, if the columns that all of them contain have with
+/// `outer` a union of more than `outer.most` columns; otherwise 0. Also 0 if fewer than `FEWEST` of its bits are not set
+/// in `word`.
+fn far_bits(outer: OuterRay, place: usize, half: u64, word: u64) -> u64
+    ensures { (i : ℕ) → bit_at result i ≡ 1 → (bit_at half i ≡ 1) × IsFarBlock outer.entry.rays.now.supports outer.entry.support.now outer.entry.most place }
+{
+    let rays = outer.rays;
+    let table = rays.table();
+    let count = (half & !word).count_ones();
+    if count >= FEWEST && table.is_far_block(place, outer.support, outer.most) {
+        half
+    } else {
+        0
+    }
+}
+
+/// The bits of the 64 rays from `first` on that are not set in `word`, without those of blocks that `far_bits` returns.
+fn near_bits(outer: OuterRay, first: usize, word: u64) -> u64
+    requires { first + 64 < 2 ^ 64 }
+    ensures { (joined : List Bool) → TellsMeeting outer.entry.rays.now.supports joined first word → NamesCandidates outer.entry.rays.now.supports outer.entry.support.now joined outer.entry.own outer.entry.most first (first + 64) result }
+{
+    let low = 0xFFFF_FFFFu64;
+    let far = far_bits(outer, first, low, word) | far_bits(outer, first + BLOCK, !low, word);
+    !(word | far)
+}
+
 /// Appends the candidates among the 64 rays from `first` on whose bits in `word` are not set.
 fn push_rivals(
     outer: OuterRay,
@@ -40,7 +73,7 @@ fn push_rivals(
     requires { first + 64 < 2 ^ 64 }
     ensures { OnOk result (AreRivalsPushed outer.entry.rays.now.supports outer.entry.support.now outer.entry.own outer.entry.most first word rivals.old.items rivals.new.items) }
 {
-    let mut rest = !word;
+    let mut rest = near_bits(outer, first, word);
     let mut place = first;
     while rest != 0 {
         let skip = rest.trailing_zeros();

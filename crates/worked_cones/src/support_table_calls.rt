@@ -52,7 +52,7 @@ fn counts_each_column_once(rt: HostRuntime) -> Result<(), NoMemory> {
 }
 
 /// Besides the columns of the first ray, the second and third have one more each, the fourth has both, and the last
-/// clashes.
+/// clashes. If the second is not wanted, it is left out.
 #[test]
 fn smallest_beside_the_first(rt: HostRuntime) -> Result<(), NoMemory> {
     let alloc = rt.alloc();
@@ -66,8 +66,11 @@ fn smallest_beside_the_first(rt: HostRuntime) -> Result<(), NoMemory> {
     table.push(&joined)?;
     let rays = RayTable::of(alloc, table, 5)?;
     assert_eq!(rt; rays.meeting(alloc, &joined)?.words(), &[16u64][..]);
-    let places = minimal_places(alloc, &rays, &outer, &joined, 0, 5)?;
+    let places = minimal_places(alloc, &rays, &[true; 5], &outer, &joined, 0, 5)?;
     assert_eq!(rt; places.as_slice(), &[1usize, 2][..]);
+    let wanted = [true, false, true, true, true];
+    let some = minimal_places(alloc, &rays, &wanted, &outer, &joined, 0, 5)?;
+    assert_eq!(rt; some.as_slice(), &[2usize][..]);
     Ok(())
 }
 
@@ -84,9 +87,9 @@ fn equal_ones_spoil_each_other(rt: HostRuntime) -> Result<(), NoMemory> {
     table.push(&Support::of(alloc, &[1, 0, 1, 0, 0])?)?;
     table.push(&Support::of(alloc, &[0, 0, 0, 1, 1])?)?;
     let rays = RayTable::of(alloc, table, 4)?;
-    let places = minimal_places(alloc, &rays, &outer, &none, 0, 5)?;
+    let places = minimal_places(alloc, &rays, &[true; 4], &outer, &none, 0, 5)?;
     assert_eq!(rt; places.as_slice(), &[3usize][..]);
-    let near = minimal_places(alloc, &rays, &outer, &none, 0, 3)?;
+    let near = minimal_places(alloc, &rays, &[true; 4], &outer, &none, 0, 3)?;
     assert!(rt; near.is_empty());
     Ok(())
 }

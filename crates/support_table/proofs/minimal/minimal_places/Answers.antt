@@ -1,30 +1,45 @@
-use Rattle.std.proofs.Common.{length, subst, sym}
-use Rattle.std.proofs.lemmas.List.Sorted.{IsNonDecreasingBy-from_sort}
+use Rattle.std.proofs.Common.{◌≡◌, ◌+◌, ◌<◌, false, get_or, length, subst, sym, ap, ◌∙◌}
+use Rattle.std.specs.Prelude.{IfOk}
+use Rattle.std.specs.List.{All}
+use Rattle.std.proofs.lemmas.Result.{IfOk-weaker}
+use Rattle.support_table.specs.declared.groups.Grouped.{Grouped}
+use Rattle.support_table.specs.declared.rivals.Candidate.{Candidate}
 use Rattle.support_table.specs.Tables.{Table}
-use Rattle.support_table.specs.Rivals.{AreInOrder, AreLeast}
-use Rattle.support_table.proofs.CandidateLemmas.{candidates_moved, in_order_from_sorted, are_minimal}
+use Rattle.support_table.specs.Residuals.{AreMinimalOf}
+use Rattle.support_table.specs.Groups.{AreGrouped, AreWantedAlone}
+use Rattle.support_table.proofs.GroupLemmas.{groups_below}
+use Rattle.support_table.proofs.OtherLemmas.{none_wanted, minimal_of}
 use Rattle.support_table.proofs.minimal.minimal_places.Goals as goal
 
-pub invariant_of-order-clause-order : goal.invariant_of-order-clause-order
-invariant_of-order-clause-order c =
+pub returns-then-not-has_wanted : goal.returns-then-not-has_wanted
+returns-then-not-has_wanted c =
     let supports = c.args.rays.now.supports in
+    let wanted = c.args.wanted.now in
+    let none = subst (All (λ (r : Candidate). get_or wanted r.place false ≡ false)) c.deref.ensures.value (c.has_wanted.ensures c.if-not-has_wanted.true) in
+    subst (AreMinimalOf supports c.args.outer.now c.args.joined.now c.args.own c.args.most wanted) (sym c.new.ensures.items)
+    (none_wanted supports c.args.outer.now c.args.joined.now c.args.own c.args.most c.in_ok-list.list.items c.in_ok-list.ensures wanted none)
+
+pub invariant_of-groups : goal.invariant_of-groups
+invariant_of-groups c =
     let outer = c.args.outer.now in
-    let order = c.sort_by_size.new.rivals.items in
-    subst (λ (t : Table). AreInOrder t.supports outer c.deref.result.now) (sym c.table.ensures) (subst (AreInOrder supports outer) (sym c.deref.ensures.value)
-    (in_order_from_sorted supports outer c.args.joined.now c.args.own c.args.most order
-    (candidates_moved supports outer c.args.joined.now c.args.own c.args.most c.in_ok-list.list.items order c.sort_by_size.ensures.permutation c.in_ok-list.ensures) c.sort_by_size.ensures.sorted))
+    record {
+      below = subst (All (λ (it : Grouped). it.group < c.columns.result + 1)) (sym c.deref-3.ensures.value)
+          (groups_below c.table-table.result.now.supports outer c.columns.result c.in_ok-by_group.by_group.items (c.requires.outer ∙ sym (ap (λ (t : Table). t.columns) c.table-table.ensures) ∙ sym c.columns.ensures) c.in_ok-by_group.ensures.each);
+    }
 
 pub returns : goal.returns
 returns c =
     let supports = c.args.rays.now.supports in
     let outer = c.args.outer.now in
-    let joined = c.args.joined.now in
-    let own = c.args.own in
-    let most = c.args.most in
-    let order = c.sort_by_size.new.rivals.items in
-    let candidates = candidates_moved supports outer joined own most c.in_ok-list.list.items order c.sort_by_size.ensures.permutation c.in_ok-list.ensures in
-    are_minimal supports outer joined own most order candidates (in_order_from_sorted supports outer joined own most order candidates c.sort_by_size.ensures.sorted) c.in_ok-least.least
-    (subst (λ (t : Table). AreLeast t.supports outer order (length order) c.in_ok-least.least) c.table.ensures
-    (subst (λ rs. AreLeast c.table.result.now.supports outer rs (length rs) c.in_ok-least.least) c.deref.ensures.value c.in_ok-least.ensures))
-    c.in_ok-places.places.items c.sort_unstable.new.self.items c.in_ok-places.ensures c.sort_unstable.ensures.permutation
-    (IsNonDecreasingBy-from_sort (λ p. p) c.sort_unstable.new.self.items c.sort_unstable.ensures.sorted)
+    let wanted = c.args.wanted.now in
+    let list = c.in_ok-list.list.items in
+    let by_group = c.in_ok-by_group.by_group.items in
+    let given = c.table-table.result.now.supports in
+    let answer = c.wanted_alone.result in
+    let grouped = subst (λ (t : Table). AreGrouped t.supports outer list (length list) by_group) c.table-table.ensures
+    (subst (λ rs. AreGrouped given outer rs (length rs) by_group) c.deref-2.ensures.value c.in_ok-by_group.ensures) in
+    IfOk-weaker answer (λ places. AreWantedAlone supports outer by_group wanted list (length list) places.items) (λ places. AreMinimalOf supports outer c.args.joined.now c.args.own c.args.most wanted places.items)
+    (λ places h. minimal_of supports outer c.args.joined.now c.args.own c.args.most list c.in_ok-list.ensures by_group grouped wanted places.items h)
+    (subst (λ (t : Table). IfOk answer (λ places. AreWantedAlone t.supports outer by_group wanted list (length list) places.items)) c.table-table.ensures
+    (subst (λ rs. IfOk answer (λ places. AreWantedAlone given outer by_group wanted rs (length rs) places.items)) c.deref-5.ensures.value
+    (subst (λ gs. IfOk answer (λ places. AreWantedAlone given outer gs wanted c.deref-5.result.now (length c.deref-5.result.now) places.items)) c.deref-4.ensures.value c.wanted_alone.ensures)))

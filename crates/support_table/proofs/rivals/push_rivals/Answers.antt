@@ -1,16 +1,16 @@
--- All rays up to the next bit that is set contain one of the columns.
+-- No ray up to the next bit that is set is a candidate.
 use Rattle.std.proofs.Common.{◌≡◌, ◌+◌, ◌<◌, subst, arith, w64}
 use Rattle.std.proofs.Math.Facts.{Fits-lt-pow}
 use Rattle.std.specs.Int.{trailing_zeros}
-use Rattle.support_table.proofs.HolderLemmas.{before_first, next_before, before_more, apart_first, next_apart, passed_meet, apart_more, rivals_past, rivals_to_end}
-use Rattle.support_table.specs.Holders.{NamesApart}
+use Rattle.support_table.proofs.HolderLemmas.{before_first, next_before, before_more, next_apart, none_before, names_more, rivals_past, rivals_to_end}
+use Rattle.support_table.specs.Rivals.{NamesCandidates}
 use Rattle.support_table.proofs.rivals.push_rivals.Goals as goal
 
 pub loop-rest-init : goal.loop-rest-init
-loop-rest-init c = let fits = c.ranges.word.fits in record {
+loop-rest-init c = record {
   within = omega arith;
-  before = before_first c.args.first _ (omega arith);
-  names = λ joined tells. apart_first c.args.outer.rays.now.supports joined c.args.first c.args.word fits (omega arith) tells;
+  before = before_first c.args.first _ c.near_bits-rest.type_inv;
+  names = c.near_bits-rest.ensures;
   so_far = λ joined tells h. h;
 }
 
@@ -28,7 +28,8 @@ overflow_add-place c =
 
 pub loop-rest-preserved : goal.loop-rest-preserved
 loop-rest-preserved c =
-    let supports = c.args.outer.rays.now.supports in
+    let outer = c.args.outer in
+    let supports = outer.rays.now.supports in
     let place = c.loop-rest.place in
     let rest = c.loop-rest.rest in
     let end = c.args.first + 64 in
@@ -38,16 +39,17 @@ loop-rest-preserved c =
     record {
       within = omega (arith, next);
       before = before_more place end rest c.loop-rest.invariant.before;
-      names = λ joined tells. apart_more supports joined place end rest (c.loop-rest.invariant.names joined tells) some fits;
+      names = λ joined tells. names_more supports outer.support.now joined outer.own outer.most place end rest (c.loop-rest.invariant.names joined tells) some fits;
       so_far = λ joined tells h. let names = c.loop-rest.invariant.names joined tells in
-          c.in_ok-push_rival.ensures joined (next_apart supports joined place end rest names some fits)
-          (rivals_past supports joined c.args.outer.support.now c.args.outer.own c.args.outer.most place (trailing_zeros w64 rest) c.loop-rest.rivals.items (passed_meet supports joined place end rest names some fits)
+          c.in_ok-push_rival.ensures joined (next_apart supports outer.support.now joined outer.own outer.most place end rest names some fits)
+          (rivals_past supports outer.support.now joined outer.own outer.most place (trailing_zeros w64 rest) c.loop-rest.rivals.items (none_before supports outer.support.now joined outer.own outer.most place end rest names some fits)
           (c.loop-rest.invariant.so_far joined tells h));
     }
 
 pub returns : goal.returns
 returns c joined tells h =
+    let outer = c.args.outer in
     let none : c.loop-rest.rest ≡ 0 = omega (arith, c.loop-rest-test.false) in
-    rivals_to_end c.args.outer.rays.now.supports joined c.args.outer.support.now c.args.outer.own c.args.outer.most c.args.first c.loop-rest.place c.loop-rest.rivals.items c.loop-rest.invariant.within
-    (subst (NamesApart c.args.outer.rays.now.supports joined c.loop-rest.place (c.args.first + 64)) none (c.loop-rest.invariant.names joined tells))
+    rivals_to_end outer.rays.now.supports outer.support.now joined outer.own outer.most c.args.first c.loop-rest.place c.loop-rest.rivals.items c.loop-rest.invariant.within
+    (subst (NamesCandidates outer.rays.now.supports outer.support.now joined outer.own outer.most c.loop-rest.place (c.args.first + 64)) none (c.loop-rest.invariant.names joined tells))
     (c.loop-rest.invariant.so_far joined tells h)

@@ -1,7 +1,7 @@
 -- the candidates before the index are in the list, and the remaining bits are those of the rays from it on
 use Rattle.std.proofs.Common.{◌+◌, ◌≤◌, Bool, List}
-use Rattle.support_table.specs.Holders.{TellsMeeting, NamesApart}
-use Rattle.support_table.specs.Rivals.{AreRivals}
+use Rattle.support_table.specs.Holders.{TellsMeeting}
+use Rattle.support_table.specs.Rivals.{AreRivals, NamesCandidates}
 use Rattle.support_table.proofs.HolderLemmas.{AreBefore}
 use Rattle.support_table.proofs.rivals.push_rivals.Given as goal
 
@@ -9,7 +9,7 @@ abbrev pub invariant-loop-rest : goal.invariant-loop-rest
 invariant-loop-rest l = record {
   within : l.place ≤ l.first + 64;
   before : AreBefore l.place (l.first + 64) l.rest;
-  names : (joined : List Bool) → TellsMeeting l.outer.rays.now.supports joined l.first l.word → NamesApart l.outer.rays.now.supports joined l.place (l.first + 64) l.rest;
+  names : (joined : List Bool) → TellsMeeting l.outer.rays.now.supports joined l.first l.word → NamesCandidates l.outer.rays.now.supports l.outer.support.now joined l.outer.own l.outer.most l.place (l.first + 64) l.rest;
   so_far : (joined : List Bool) → TellsMeeting l.outer.rays.now.supports joined l.first l.word → AreRivals l.outer.rays.now.supports l.outer.support.now joined l.outer.own l.outer.most l.first l.initial.rivals.items → AreRivals l.outer.rays.now.supports l.outer.support.now joined l.outer.own l.outer.most l.place l.rivals.items;
 }
 

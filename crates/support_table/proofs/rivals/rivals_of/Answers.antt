@@ -16,5 +16,5 @@ loop-k-preserved c =
 pub returns : goal.returns
 returns c =
     let outer = c.args.outer in
-    rivals_all outer.rays.now.supports outer.joined.now outer.support.now outer.own outer.most (64 * c.loop-k.k) c.loop-k.rivals.items
+    rivals_all outer.rays.now.supports outer.support.now outer.joined.now outer.own outer.most (64 * c.loop-k.k) c.loop-k.rivals.items
     (let n = c.in_ok-places.ensures.count_is in let w = c.words-word-items.ensures.count in let all = c.loop-k-test.false in omega (arith, n, w, all)) c.loop-k.invariant

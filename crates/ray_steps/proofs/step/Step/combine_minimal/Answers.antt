@@ -1,18 +1,19 @@
 use Rattle.std.proofs.Common.{◌≡◌, ◌+◌, ◌<◌, length, subst, subst₂, sym, ◌∙◌, ap, arith}
-use Rattle.std.proofs.lemmas.List.{get_or_default}
+use Rattle.std.proofs.lemmas.List.{get_or_default, length-map}
 use Rattle.cone_definitions.specs.Vectors.{ray_at}
+use Rattle.support_bits.specs.Columns.{support_of}
 use Rattle.support_table.specs.Joins.{AreClashingColumns}
-use Rattle.support_table.specs.Residuals.{AreMinimal}
+use Rattle.support_table.specs.Residuals.{AreMinimalOf}
 use Rattle.ray_steps.specs.declared.signs.Sign.TheVariants.{Zero}
+use Rattle.ray_steps.specs.Negatives.{TellNegatives}
 use Rattle.ray_steps.specs.Rays.{rays_of}
 use Rattle.ray_steps.specs.Unions.{HaveSmallUnions}
 use Rattle.ray_steps.specs.Steps.{StepData, AreMadeTo}
 use Rattle.ray_steps.proofs.FoundLemmas.{found_in_range, found_face, pairs_found, at_found, after_found, all_found}
-use Rattle.ray_steps.proofs.RayLemmas.{ray_read, ray_width}
+use Rattle.ray_steps.proofs.RayLemmas.{ray_read, ray_width, length-rays_of}
 use Rattle.ray_steps.proofs.CombinationLemmas.{made_skip_all}
 use Rattle.ray_steps.proofs.RivalLemmas.{support_read}
-use Rattle.ray_steps.proofs.NearLemmas.{none_near}
-use Rattle.ray_steps.proofs.ViewLemmas.{place_of_rays, negatives_read}
+use Rattle.ray_steps.proofs.ViewLemmas.{place_of_rays}
 use Rattle.ray_steps.proofs.PlaceLemmas.{taken_none}
 use Rattle.ray_steps.proofs.step.Step.combine_minimal.Goals as goal
 
@@ -34,27 +35,6 @@ returns-in_default g c =
       err = tt;
     }
 
-pub returns-then-near-len : goal.returns-then-near-len
-returns-then-near-len g c =
-    let s = c.self.inside in
-    let ray_list = s.ray_list.items in
-    let i = c.args.i in
-    let made = c.args.made.now.items in
-    let u = c.index-u.result.now in
-    let facts = c.self.invariant in
-    let i_in = place_of_rays ray_list c.args.self.now.rays i (ap (λ (d : StepData). d.rays) c.self.view_is) c.requires.in_range in
-    let read = ray_read ray_list i u i_in c.index-u.ensures in
-    let before = subst (λ (d : StepData). AreMadeTo d i 0 made) (sym c.self.view_is) c.requires.made in
-    record {
-      ok = subst (λ (d : StepData). AreMadeTo d (i + 1) 0 made) c.self.view_is (record {
-        so_far = none_near s.limit.number s.clashes.now.pairs ray_list s.signs.items i s.clashes.now.columns s.most c.first_not_excluded-near.result c.in_ok-joined.joined c.args.negatives.now u (rays_of made)
-            (subst (λ t. AreClashingColumns s.clashes.now.pairs t c.in_ok-joined.joined) (support_read u (ray_at (rays_of ray_list) i) read) c.in_ok-joined.ensures) facts.rays.small (negatives_read _ _ c.self.view_is _ c.requires.negatives) facts.count i_in facts.rays.widths read c.first_not_excluded-near.ensures
-            (omega (arith, c.if-near-len.true, c.len.ensures)) before.so_far;
-        widths = before.widths;
-      });
-      err = tt;
-    }
-
 pub loop-place-init : goal.loop-place-init
 loop-place-init g c = record { taken = taken_none _ _ _ _ _ _ _ c.requires.made.so_far; widths = c.requires.made.widths }
 
@@ -69,8 +49,10 @@ invariant_of-pair-clause-second g c =
     let xs = c.deref-place-items.result.now in
     let outer_is = support_read u (ray_at d.rays i) (ap (λ rays. ray_at rays i) (sym same) ∙ ray_read ray_list i u (place_of_rays ray_list d.rays i same c.requires.in_range) c.index-u.ensures) in
     let joins = subst₂ (λ ps s. AreClashingColumns ps s joined) (ap (λ (d : StepData). d.pairs) c.self.view_is) outer_is c.in_ok-joined.ensures in
-    let found = subst (AreMinimal c.args.supports.now.supports u.support joined i c.self.inside.most) (sym c.deref-place-items.ensures.value) c.in_ok-places.ensures in
-    found_in_range d.pairs d.rays i d.columns c.self.inside.most joined c.args.supports.now c.requires.supports joins u.support outer_is xs c.loop-place.place-index 0 found c.loop-place-test.true
+    let flags = c.deref.result.now in
+    let tell = subst (TellNegatives d.signs (length d.signs)) (sym c.deref.ensures.value) c.requires.all.negative in
+    let found = subst (AreMinimalOf c.args.all.now.table.supports u.support joined i c.self.inside.most c.deref.result.now) (sym c.deref-place-items.ensures.value) c.in_ok-places.ensures in
+    found_in_range d.pairs d.rays i d.columns c.self.inside.most joined c.args.all.now.table c.requires.all.supports joins u.support outer_is flags xs c.loop-place.place-index 0 found c.loop-place-test.true
 
 pub combine-requires-clause-face : goal.combine-requires-clause-face
 combine-requires-clause-face g c =
@@ -83,8 +65,10 @@ combine-requires-clause-face g c =
     let xs = c.deref-place-items.result.now in
     let outer_is = support_read u (ray_at d.rays i) (ap (λ rays. ray_at rays i) (sym same) ∙ ray_read ray_list i u (place_of_rays ray_list d.rays i same c.requires.in_range) c.index-u.ensures) in
     let joins = subst₂ (λ ps s. AreClashingColumns ps s joined) (ap (λ (d : StepData). d.pairs) c.self.view_is) outer_is c.in_ok-joined.ensures in
-    let found = subst (AreMinimal c.args.supports.now.supports u.support joined i c.self.inside.most) (sym c.deref-place-items.ensures.value) c.in_ok-places.ensures in
-    found_face d.pairs d.rays i d.columns c.self.inside.most joined c.args.supports.now c.requires.supports joins u.support outer_is xs c.loop-place.place-index 0 found c.loop-place-test.true
+    let flags = c.deref.result.now in
+    let tell = subst (TellNegatives d.signs (length d.signs)) (sym c.deref.ensures.value) c.requires.all.negative in
+    let found = subst (AreMinimalOf c.args.all.now.table.supports u.support joined i c.self.inside.most c.deref.result.now) (sym c.deref-place-items.ensures.value) c.in_ok-places.ensures in
+    found_face d.pairs d.rays i d.columns c.self.inside.most joined c.args.all.now.table c.requires.all.supports joins u.support outer_is flags xs c.loop-place.place-index 0 found c.loop-place-test.true
 
 pub combine-requires-clause-made : goal.combine-requires-clause-made
 combine-requires-clause-made g c =
@@ -100,9 +84,11 @@ combine-requires-clause-made g c =
     let i_in = c.requires.in_range in
     let small = subst (λ (d : StepData). HaveSmallUnions d.columns c.self.inside.most d.pairs d.rays) c.self.view_is c.self.invariant.rays.small in
     let wide = subst (λ (d : StepData). length (ray_at d.rays i) ≡ d.columns) c.self.view_is (ray_width ray_list i c.self.inside.clashes.now.columns (place_of_rays ray_list d.rays i same i_in) c.self.invariant.rays.widths) in
-    let found = subst (AreMinimal c.args.supports.now.supports u.support joined i c.self.inside.most) (sym c.deref-place-items.ensures.value) c.in_ok-places.ensures in
+    let flags = c.deref.result.now in
+    let tell = subst (TellNegatives d.signs (length d.signs)) (sym c.deref.ensures.value) c.requires.all.negative in
+    let found = subst (AreMinimalOf c.args.all.now.table.supports u.support joined i c.self.inside.most c.deref.result.now) (sym c.deref-place-items.ensures.value) c.in_ok-places.ensures in
     record {
-      so_far = at_found d.limit d.pairs d.rays d.signs i xs found.ascending (pairs_found d.pairs d.rays i d.columns c.self.inside.most joined c.args.supports.now c.requires.supports joins u.support outer_is small i_in wide d.signs xs found)
+      so_far = at_found d.limit d.pairs d.rays d.signs i xs found.ascending (pairs_found d.pairs d.rays i d.columns c.self.inside.most joined c.args.all.now.table c.requires.all.supports joins u.support outer_is small i_in wide d.signs flags tell xs found)
           c.loop-place.place-index (rays_of c.loop-place.made.items) c.loop-place-test.true c.loop-place.invariant.taken;
       widths = c.loop-place.invariant.widths;
     }
@@ -121,9 +107,11 @@ loop-place-preserved g c =
     let i_in = c.requires.in_range in
     let small = subst (λ (d : StepData). HaveSmallUnions d.columns c.self.inside.most d.pairs d.rays) c.self.view_is c.self.invariant.rays.small in
     let wide = subst (λ (d : StepData). length (ray_at d.rays i) ≡ d.columns) c.self.view_is (ray_width ray_list i c.self.inside.clashes.now.columns (place_of_rays ray_list d.rays i same i_in) c.self.invariant.rays.widths) in
-    let found = subst (AreMinimal c.args.supports.now.supports u.support joined i c.self.inside.most) (sym c.deref-place-items.ensures.value) c.in_ok-places.ensures in
+    let flags = c.deref.result.now in
+    let tell = subst (TellNegatives d.signs (length d.signs)) (sym c.deref.ensures.value) c.requires.all.negative in
+    let found = subst (AreMinimalOf c.args.all.now.table.supports u.support joined i c.self.inside.most c.deref.result.now) (sym c.deref-place-items.ensures.value) c.in_ok-places.ensures in
     record {
-      taken = after_found d.limit d.pairs d.rays d.signs i xs found.ascending (pairs_found d.pairs d.rays i d.columns c.self.inside.most joined c.args.supports.now c.requires.supports joins u.support outer_is small i_in wide d.signs xs found)
+      taken = after_found d.limit d.pairs d.rays d.signs i xs found.ascending (pairs_found d.pairs d.rays i d.columns c.self.inside.most joined c.args.all.now.table c.requires.all.supports joins u.support outer_is small i_in wide d.signs flags tell xs found)
           c.loop-place.place-index (rays_of c.combine.new.made.items) c.loop-place-test.true c.in_ok-combine.ensures.ok.so_far;
       widths = c.in_ok-combine.ensures.ok.widths;
     }
@@ -142,9 +130,23 @@ returns-clause-ok g c =
     let i_in = c.requires.in_range in
     let small = subst (λ (d : StepData). HaveSmallUnions d.columns c.self.inside.most d.pairs d.rays) c.self.view_is c.self.invariant.rays.small in
     let wide = subst (λ (d : StepData). length (ray_at d.rays i) ≡ d.columns) c.self.view_is (ray_width ray_list i c.self.inside.clashes.now.columns (place_of_rays ray_list d.rays i same i_in) c.self.invariant.rays.widths) in
-    let found = subst (AreMinimal c.args.supports.now.supports u.support joined i c.self.inside.most) (sym c.deref-place-items.ensures.value) c.in_ok-places.ensures in
+    let flags = c.deref.result.now in
+    let tell = subst (TellNegatives d.signs (length d.signs)) (sym c.deref.ensures.value) c.requires.all.negative in
+    let found = subst (AreMinimalOf c.args.all.now.table.supports u.support joined i c.self.inside.most c.deref.result.now) (sym c.deref-place-items.ensures.value) c.in_ok-places.ensures in
     record {
-      so_far = all_found d.limit d.pairs d.rays d.signs i xs found.ascending (pairs_found d.pairs d.rays i d.columns c.self.inside.most joined c.args.supports.now c.requires.supports joins u.support outer_is small i_in wide d.signs xs found)
+      so_far = all_found d.limit d.pairs d.rays d.signs i xs found.ascending (pairs_found d.pairs d.rays i d.columns c.self.inside.most joined c.args.all.now.table c.requires.all.supports joins u.support outer_is small i_in wide d.signs flags tell xs found)
           c.loop-place.place-index (rays_of c.loop-place.made.items) c.loop-place-test.false c.loop-place.invariant.taken;
       widths = c.loop-place.invariant.widths;
     }
+
+pub minimal_places-requires-clause-wanted : goal.minimal_places-requires-clause-wanted
+minimal_places-requires-clause-wanted g c =
+    let d = c.args.self.now in
+    let i = c.args.i in
+    let as_many_signs = ap (λ (d : StepData). length d.signs) c.self.view_is in
+    let as_many_rays = ap (λ (d : StepData). length d.rays) c.self.view_is in
+    let signs = c.self.invariant.count in
+    let rays = length-rays_of c.self.inside.ray_list.items in
+    let tell = c.requires.all.negative.count in
+    let table = ap length c.requires.all.supports.supports ∙ length-map d.rays support_of in
+    omega (arith, c.deref.ensures.len, as_many_signs, as_many_rays, signs, rays, tell, table)

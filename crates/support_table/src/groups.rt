@@ -1,0 +1,102 @@
+//! Candidates in groups by a column of their residual, so that only the groups of a residual's own columns are tested.
+
+ghost use Rattle.std.specs.Prelude.{◌≡◌, ◌+◌, ◌<◌, ◌^◌, length, IfOk};
+ghost use Rattle.std.specs.List.Sorted.{IsPermutation};
+ghost use Rattle.support_table.specs.Groups.{IsColumnBeside, AreGrouped, AreRanges};
+
+use crate::lists::{FoundCandidates, GroupedList};
+use out_of_memory::NoMemory;
+use std::alloc::Global;
+
+/// A candidate by its index, its group: one more than the last column of its residual, or 0 if that is empty, and the
+/// number of columns in its union with the outer ray.
+#[derive(Clone, Copy)]
+pub struct Grouped {
+    pub place: usize,
+    pub group: usize,
+    pub size: u64,
+}
+
+/// For each group an index range in a list, which contains all of the group: from its start to before its end.
+#[derive(Drop)]
+pub struct Ranges {
+    pub starts: Vec<usize>,
+    pub ends: Vec<usize>,
+}
+
+/// One more than the last column that is set in `words` but not in `outer`, or 0 if there is none.
+fn group_of(words: &[u64], outer: &[u64]) -> usize
+    requires lengths { length outer.now ≡ length words.now }
+    requires short { length words.now < 2 ^ 32 }
+    ensures { IsColumnBeside words.now outer.now result }
+{
+    let mut group = 0usize;
+    for (k, word) in words.iter().enumerate() {
+        let beside = *word & !outer[k];
+        if beside != 0 {
+            group = 64 * k + (64 - beside.leading_zeros()) as usize;
+        }
+    }
+    group
+}
+
+/// The candidates of `found` with their groups, in order.
+fn with_groups(alloc: Global, found: FoundCandidates) -> Result<Vec<Grouped>, NoMemory>
+    ensures { IfOk result (λ list. AreGrouped found.entry.table.now.supports found.entry.outer.now found.entry.list.now (length found.entry.list.now) list.items) }
+{
+    let FoundCandidates { table, outer, list } = found;
+    let _columns = outer.columns();
+    let words = outer.words();
+    let mut grouped = Vec::with_capacity(alloc, list.len())?;
+    for rival in list {
+        let place = rival.place;
+        let group = group_of(table.words_at(place), words);
+        let size = rival.size;
+        grouped.push(Grouped { place, group, size })?;
+    }
+    Ok(grouped)
+}
+
+/// Brings each group together, with the smallest residuals first: they are inside others more often. The order inside a
+/// group affects speed alone, so the contract says nothing of it.
+fn sort_by_group(list: &mut Vec<Grouped>)
+    ensures { IsPermutation list.old.items list.new.items }
+{
+    list.sort_unstable_by_key(|it| (it.group, it.size));
+}
+
+/// The candidates of `found`, group after group.
+pub fn in_groups(alloc: Global, found: FoundCandidates) -> Result<Vec<Grouped>, NoMemory>
+    ensures { IfOk result (λ list. AreGrouped found.entry.table.now.supports found.entry.outer.now found.entry.list.now (length found.entry.list.now) list.items) }
+{
+    let mut list = with_groups(alloc, found)?;
+    sort_by_group(&mut list);
+    Ok(list)
+}
+
+/// Extends the range of the group of `list` at index `k` by that index.
+fn extend(list: GroupedList, k: usize, ranges: &mut Ranges)
+    requires in_range { k < length list.list.now }
+    requires so_far { AreRanges list.list.now list.groups k ranges.old }
+    ensures { AreRanges list.entry.list.now list.entry.groups (k + 1) ranges.new }
+{
+    let group = list.list[k].group;
+    if ranges.ends[group] == 0 {
+        ranges.starts[group] = k;
+    }
+    ranges.ends[group] = k + 1;
+}
+
+/// The ranges of the groups of `list`.
+pub fn ranges_of(alloc: Global, list: GroupedList) -> Result<Ranges, NoMemory>
+    ensures { IfOk result (AreRanges list.entry.list.now list.entry.groups (length list.entry.list.now)) }
+{
+    let mut ranges = Ranges {
+        starts: vec![in alloc; 0usize; list.groups]?,
+        ends: vec![in alloc; 0usize; list.groups]?,
+    };
+    for k in 0..list.list.len() {
+        extend(list, k, &mut ranges);
+    }
+    Ok(ranges)
+}
