@@ -1,0 +1,4 @@
+pub mod Solutions
+pub mod Compatible
+pub mod OneTerm
+pub mod Worked
