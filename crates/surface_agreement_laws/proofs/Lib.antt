@@ -10,5 +10,6 @@ pub mod Lists
 pub mod Divisors
 pub mod LinksOrLifts
 pub mod OneTerm
+pub mod CountedLinks
 pub mod Numbers
 pub mod Worked

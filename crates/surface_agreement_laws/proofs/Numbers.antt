@@ -2,17 +2,15 @@
 use Rattle.std.proofs.Common.{◌≡◌, ℕ, ◌+◌, ◌*◌, ◌/◌, ◌%◌, ◌<◌, ◌≤◌, Bool, true, false, not, List, [], length, map, filter, slice_index, slice_index_or, refl, sym, ap, subst, ◌∙◌, arith}
 use Rattle.std.proofs.lemmas.Bool.{le-leb}
 use Rattle.std.proofs.lemmas.List.{length-map}
-use Rattle.std.proofs.lemmas.List.FromFn.{length-range_with_len}
 use Rattle.std.proofs.lemmas.List.Filters.{length-filter_both}
 use Rattle.std.proofs.lemmas.List.Elements.{All-contains}
 use Rattle.cone_definitions.specs.Rows.{Row as EquationRow}
 use Rattle.cone_definitions.specs.Vectors.{IsBefore}
 use Rattle.cone_definitions.proofs.Entries.{nonzero_before}
 use Rattle.cone_definitions.proofs.Lexicographic.{before_irreflexive}
-use Rattle.table_definitions.specs.Lists.{below}
 use Rattle.table_definitions.proofs.TableLaws.{Among, Among-map}
-use Rattle.table_definitions.proofs.Listed.{contains_among, among_contains, Among-filter, map-among, below-among}
-use Rattle.table_definitions.proofs.DistinctLists.{AreApart, apart_from, map_apart, apart_below, apart_short}
+use Rattle.table_definitions.proofs.Listed.{contains_among, among_contains, Among-filter}
+use Rattle.table_definitions.proofs.DistinctLists.{AreApart, apart_from, apart_short}
 use Rattle.skeleton_definitions.specs.Skeleton.{Skeleton, IsSkeleton}
 use Rattle.skeleton_definitions.specs.declared.Link.{Link}
 use Rattle.surface_definitions.specs.Characteristic.{is_linking}
@@ -21,13 +19,11 @@ use Rattle.surface_definitions.specs.declared.Coords.TheVariants.{Standard, Quad
 use Rattle.surface_definitions.specs.QuadEquations.{AreEquations}
 use Rattle.surface_laws.proofs.LinkingLemmas.{linking}
 use Rattle.surface_laws.proofs.Quads.{quad_entry}
-use Rattle.surface_quad_laws.specs.LinkLaws.{link_of}
 use Rattle.surface_quad_laws.specs.SolutionLaws.{quads_of}
-use Rattle.surface_quad_laws.proofs.VertexLinks.{link_surface}
 use Rattle.surface_quad_lift_laws.specs.Laws.{HasSphereAndDiscLinks}
 use Rattle.surface_agreement_laws.specs.VertexSurfaces.{IsVertexSurfaceBy, IsSurfaceListBy, IsVertexSurfaceOf, IsSurfaceListOf}
 use Rattle.surface_agreement_laws.specs.Laws.{IsOneVertexSurfaceOver}
-use Rattle.surface_agreement_laws.proofs.LinkSurfaces.{link_vertex, same_link}
+use Rattle.surface_agreement_laws.proofs.CountedLinks.{counted}
 use Rattle.surface_agreement_laws.proofs.OneOver.{one_over}
 
 module _ (s : Skeleton) (k : IsSkeleton s) (standard : List (List ℕ)) (one : IsSurfaceListOf s Standard standard) where
@@ -39,20 +35,6 @@ module _ (s : Skeleton) (k : IsSkeleton s) (standard : List (List ℕ)) (one : I
 
   abbrev others : List (List ℕ)
   others = filter (λ ys. not (is_linking Standard ys)) standard
-
-  -- the links are different, and listed
-  links_fit : s.vertices.count ≤ length links_alone
-  links_fit = let m : length (map (link_of s Standard) (below s.vertices.count)) ≡ s.vertices.count = length-map (below s.vertices.count) (link_of s Standard) ∙ length-range_with_len 0 s.vertices.count in
-      let l : length (map (link_of s Standard) (below s.vertices.count)) ≤ length links_alone =
-      apart_short (map (link_of s Standard) (below s.vertices.count)) links_alone
-      (map_apart (link_of s Standard) (below s.vertices.count) (apart_below s.vertices.count)
-      (λ c d ac ad e. same_link s k Standard tt c d (below-among c s.vertices.count ac) (below-among d s.vertices.count ad) e))
-      (λ ys a. let c = map-among (link_of s Standard) ys (below s.vertices.count) a in
-      let lc : c.0 < s.vertices.count = below-among c.0 s.vertices.count c.1 in
-      subst (λ zs. Among zs links_alone) (sym c.2)
-      (Among-filter (is_linking Standard) (link_of s Standard c.0) standard
-      (among_contains (link_of s Standard c.0) standard (one.complete (link_of s Standard c.0) (link_vertex s k Standard tt c.0 lc))) (link_surface s k c.0 Standard tt).linking)) in
-      omega arith
 
   module _ (links : List Link) (kinds : HasSphereAndDiscLinks s links) (quad_rows : List EquationRow) (equations : AreEquations Quad s.rows quad_rows) (quads : List (List ℕ)) (other : IsSurfaceListBy s Quad quad_rows quads) where
     -- a quad vertex surface is not 0, so a vector over it is not linking
@@ -87,4 +69,4 @@ module _ (s : Skeleton) (k : IsSkeleton s) (standard : List (List ℕ)) (one : I
         omega arith
 
     pub at_least : length quads + s.vertices.count ≤ length standard
-    at_least = let both : length links_alone + length others ≡ length standard = length-filter_both (is_linking Standard) (λ ys. not (is_linking Standard ys)) (λ ys. refl) standard in omega (arith, links_fit, quads_fit)
+    at_least = let both : length links_alone + length others ≡ length standard = length-filter_both (is_linking Standard) (λ ys. not (is_linking Standard ys)) (λ ys. refl) standard in omega (arith, counted s k Standard tt standard one, quads_fit)

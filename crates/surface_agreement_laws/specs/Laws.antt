@@ -1,5 +1,5 @@
 -- The vertex surfaces of a table agree in its coordinates (Burton).
-use Rattle.std.specs.Prelude.{◌≡◌, ℕ, ◌+◌, ◌<◌, ◌≤◌, ◌↔◌, ◌⊎◌, true, List, length, map, filter}
+use Rattle.std.specs.Prelude.{◌≡◌, ◌≢◌, ℕ, ◌+◌, ◌*◌, ◌/◌, ◌%◌, ◌<◌, ◌≤◌, ◌↔◌, ◌⊎◌, true, List, length, map, filter, slice_index}
 use Rattle.std.specs.List.{All, Contains}
 use Rattle.cone_definitions.specs.Rows.{Row as EquationRow, IsSolution}
 use Rattle.cone_definitions.specs.Surfaces.{IsAdmissible}
@@ -7,7 +7,7 @@ use Rattle.cone_definitions.specs.Vectors.{IsPrimitive}
 use Rattle.skeleton_definitions.specs.Skeleton.{Skeleton, IsSkeleton}
 use Rattle.skeleton_definitions.specs.declared.Link.{Link}
 use Rattle.surface_definitions.specs.Characteristic.{is_linking}
-use Rattle.surface_definitions.specs.Coordinates.{columns, clash_list}
+use Rattle.surface_definitions.specs.Coordinates.{columns, clash_list, tri_column}
 use Rattle.surface_definitions.specs.declared.Coords.{Coords}
 use Rattle.surface_definitions.specs.declared.Coords.TheVariants.{Standard, Quad, Octagon}
 use Rattle.surface_definitions.specs.QuadEquations.{AreEquations}
@@ -78,6 +78,33 @@ abbrev pub LinksAreListed : Type 0
 LinksAreListed =
     (s : Skeleton) (coords : Coords) (list : List (List ℕ)) (c : ℕ) → IsSkeleton s → HasTriangles coords → IsSurfaceListOf s coords list → c < s.vertices.count
     → Contains list (link_of s coords c)
+
+-- the vector has a triangle around a vertex of class c
+abbrev pub HasTriangleAt : Skeleton → Coords → ℕ → List ℕ → Type 0
+HasTriangleAt s coords c ys =
+    (i : ℕ) × (i < 4 * length s.rows) × (slice_index s.vertices.classes i ≡ c) × (slice_index ys (tri_column coords (i / 4) (i % 4)) ≢ 0)
+
+-- of the surfaces of triangles alone, the list contains exactly one with a triangle around a vertex of class c: its
+-- link
+pub record HasOneListedLink (s : Skeleton) (coords : Coords) (list : List (List ℕ)) (c : ℕ) : Type 0 where
+  pub listed : Contains list (link_of s coords c)
+  pub linking : is_linking coords (link_of s coords c) ≡ true
+  pub there : HasTriangleAt s coords c (link_of s coords c)
+  pub only : (ys : List ℕ) → Contains list ys → is_linking coords ys ≡ true → HasTriangleAt s coords c ys → ys ≡ link_of s coords c
+
+-- Theorem: in standard and octagon coordinates the list contains exactly one surface of triangles alone with a triangle
+-- around a vertex of a given class: the link of the class
+abbrev pub OneListedLinkEach : Type 0
+OneListedLinkEach =
+    (s : Skeleton) (coords : Coords) (list : List (List ℕ)) (c : ℕ) → IsSkeleton s → HasTriangles coords → IsSurfaceListOf s coords list → c < s.vertices.count
+    → HasOneListedLink s coords list c
+
+-- Theorem: in standard and octagon coordinates the number of listed surfaces of triangles alone is the number of vertex
+-- classes
+abbrev pub ListedLinksAreCounted : Type 0
+ListedLinksAreCounted =
+    (s : Skeleton) (coords : Coords) (list : List (List ℕ)) → IsSkeleton s → HasTriangles coords → IsSurfaceListOf s coords list
+    → length (filter (is_linking coords) list) ≡ s.vertices.count
 
 -- so, where all links are spheres or discs, the standard list is at least as long as the quad list and that of the
 -- vertices together
