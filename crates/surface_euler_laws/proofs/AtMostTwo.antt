@@ -3,6 +3,8 @@ use Rattle.std.proofs.Common.{◌≡◌, ℕ, ◌+◌, ◌<◌, ◌*◌, ◌≤�
 use Rattle.std.specs.Prelude.{sum}
 use Rattle.std.proofs.lemmas.Bool.{cases_eq}
 use Rattle.std.proofs.lemmas.Int.{ints}
+use Rattle.table_definitions.specs.Classes.{least}
+use Rattle.table_definitions.specs.Places.{HasValidEdges}
 use Rattle.skeleton_definitions.specs.Skeleton.{Skeleton, IsSkeleton, IsFirstInvalid}
 use Rattle.surface_definitions.specs.Characteristic.{points, arcs}
 use Rattle.skeleton_definitions.specs.Links.{euler_of as euler}
@@ -12,6 +14,7 @@ use Rattle.surface_definitions.specs.Pieces.{AreComponents, component_vector}
 use Rattle.surface_laws.specs.MatchingLaws.{HasTriangles}
 use Rattle.surface_laws.specs.PieceLaws.{IsSurface, ArePieceNumbers}
 use Rattle.surface_laws.proofs.Offsets.{piece_numbers}
+use Rattle.surface_quad_laws.proofs.InnerEdges.{start_below}
 use Rattle.surface_efficiency_laws.specs.Laws.{IsPositive, IsConnectedSurface}
 use Rattle.surface_efficiency_laws.specs.Octagons.{octagons, HasOctagonalSphereNumbers}
 use Rattle.surface_efficiency_laws.proofs.Connected.{vertex_surface_connected}
@@ -67,3 +70,7 @@ pub twice_are_spheres : (s : Skeleton) (xs : List ℕ) → IsSkeleton s → IsFi
     → (octagons s xs ≡ 1) × (characteristic s Octagon xs ≡ pos 2)
 twice_are_spheres s xs k valid c h =
     one_and_two (octagons s xs) (points Octagon xs s.edges.classes s.edges.count) (arcs s.rows Octagon xs) (sum xs) h.some h.twice (connected_at_most_two s Octagon xs k valid c)
+
+-- no edge class is invalid if no edge is
+pub no_first_invalid : (s : Skeleton) → IsSkeleton s → HasValidEdges s.rows → IsFirstInvalid s None
+no_first_invalid s k valid c lc invalid = valid (least s.edges.classes c) (start_below s.rows k.table s.edges.classes s.edges.count k.edges c lc) invalid

@@ -37,13 +37,13 @@ module _ (s : Skeleton) (coords : Coords) (xs components : List ℕ) (count : �
   abbrev bel : NormalDisc → ℕ
   bel p = belongs xs components i p
 
-  own : IsSurface s.rows coords ys
+  pub own : IsSurface s.rows coords ys
   own = component_surface s.rows coords xs w components count numbered i
 
-  inside : (c : ℕ) → slice_index xs c ≡ 0 → slice_index ys c ≡ 0
+  pub inside : (c : ℕ) → slice_index xs c ≡ 0 → slice_index ys c ≡ 0
   inside c z = component_inside xs components numbered.one_each i c z
 
-  entry : (c : ℕ) → slice_index ys c ≡ sum_by (λ a. bel (piece_at c a)) (below (slice_index xs c))
+  pub entry : (c : ℕ) → slice_index ys c ≡ sum_by (λ a. bel (piece_at c a)) (below (slice_index xs c))
   entry c = component_count xs components numbered.one_each i c
 
   -- the piece in the component's vector
@@ -63,11 +63,11 @@ module _ (s : Skeleton) (coords : Coords) (xs components : List ℕ) (count : �
     abbrev b : Bool
     b = keeps_by_zero (type_in coords col) v
 
-    of_triangles : (k : ℕ) → k ≤ slice_index xs tri → rank t f v k ≡ sum_by (λ a. bel (piece_at tri a)) (below k)
+    pub of_triangles : (k : ℕ) → k ≤ slice_index xs tri → rank t f v k ≡ sum_by (λ a. bel (piece_at tri a)) (below k)
     of_triangles k l = sum_by_same (λ a. bel (disc_of coords xs (arc_at t f v a))) (λ a. bel (piece_at tri a)) (below k)
         (λ a m. let la : a < k = below-among a k m in ap bel (triangle_piece coords n xs w.triangles w.admissible t f v lt lf lv off a (omega arith)))
 
-    moved : (k : ℕ) → k < arcs_around coords xs t f v → bel (disc_of coords xs (arc_at t f v k)) ≡ 1 → disc_of coords ys (arc_at t f v (rank t f v k)) ≡ moved_piece (disc_of coords xs (arc_at t f v k))
+    pub moved : (k : ℕ) → k < arcs_around coords xs t f v → bel (disc_of coords xs (arc_at t f v k)) ≡ 1 → disc_of coords ys (arc_at t f v (rank t f v k)) ≡ moved_piece (disc_of coords xs (arc_at t f v k))
     moved k l one = elim (cases_lt k (slice_index xs tri)) [
       | inl low ↦ (let is : disc_of coords xs (arc_at t f v k) ≡ piece_at tri k = triangle_piece coords n xs w.triangles w.admissible t f v lt lf lv off k low in
           let there : bel (piece_at tri k) ≡ 1 = sym (ap bel is) ∙ one in
@@ -105,7 +105,7 @@ module _ (s : Skeleton) (coords : Coords) (xs components : List ℕ) (count : �
             ∙ ap (λ c. piece_at c (from_end (slice_index ys c) (keeps_by_zero (type_in coords c) v) further)) same
             ∙ ap (piece_at col) number ∙ sym (ap moved_piece is)
 
-    in_range : (k : ℕ) → k < arcs_around coords xs t f v → bel (disc_of coords xs (arc_at t f v k)) ≡ 1 → rank t f v k < arcs_around coords ys t f v
+    pub in_range : (k : ℕ) → k < arcs_around coords xs t f v → bel (disc_of coords xs (arc_at t f v k)) ≡ 1 → rank t f v k < arcs_around coords ys t f v
     in_range k l one =
         let e = component_arcs coords n xs w.triangles w.admissible t f v lt lf lv off components numbered.one_each i in
         let part = first_part (λ a. bel (disc_of coords xs (arc_at t f v a))) k (arcs_around coords xs t f v) l in
@@ -138,13 +138,13 @@ module _ (s : Skeleton) (coords : Coords) (xs components : List ℕ) (count : �
       (c ∷ rest.0, (g, meets, moved a.tet a.face a.vertex m.in_range x.face m.is_vertex m.off_vertex a.place m.there mine ∙ ap moved_piece e, subst (λ z. ArcsLead s.rows coords ys z rest.0 (moved_piece q)) (sym next) rest.1))
 
   -- each piece of the component's vector is one of the component
-  record IsMoved (p : NormalDisc) : Type 0 where
-    from : NormalDisc
-    is_piece : IsPieceOf xs from
-    mine : bel from ≡ 1
-    is : moved_piece from ≡ p
+  pub record IsMoved (p : NormalDisc) : Type 0 where
+    pub from : NormalDisc
+    pub is_piece : IsPieceOf xs from
+    pub mine : belongs xs components i from ≡ 1
+    pub is : moved_piece from ≡ p
 
-  moved_from : (p : NormalDisc) → IsPieceOf ys p → IsMoved p
+  pub moved_from : (p : NormalDisc) → IsPieceOf ys p → IsMoved p
   moved_from p h =
       let c : ℕ = p.column in
       let l : p.number < sum_by (λ a. bel (piece_at p.column a)) (below (slice_index xs p.column)) = let e = entry p.column in let z = h.number in omega arith in
@@ -156,7 +156,7 @@ module _ (s : Skeleton) (coords : Coords) (xs components : List ℕ) (count : �
       zero_or_one true = inr refl
       zero_or_one false = inl refl
 
-  of_component : (p : NormalDisc) → bel p ≡ 1 → slice_index components (disc_number xs p) ≡ i
+  pub of_component : (p : NormalDisc) → bel p ≡ 1 → slice_index components (disc_number xs p) ≡ i
   of_component p one = eqb-true (slice_index components (disc_number xs p)) i (go (slice_index components (disc_number xs p) == i) one)
     where
       go : (b : Bool) → one_if b ≡ 1 → b ≡ true

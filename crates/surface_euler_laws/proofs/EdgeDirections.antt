@@ -159,3 +159,20 @@ module _ (s : Skeleton) (k : IsSkeleton s) (valid : (c : ℕ) → c < s.edges.co
             (subst (λ l. IsJoined s.rows (pair t v u) (turned (edge l))) back_start (joined_turned s.rows (pair t u v) (edge (start t u v)) y)))
         go (inr (a, x)) (inr (b, y)) = absurd (not_both t v u (start t v u) e refl
             (subst (IsJoined s.rows (pair t v u)) (turned_twice (start t u v) ∙ ap edge back_start) (joined_turned s.rows (pair t u v) (turned (edge (start t u v))) y)) x)
+
+  -- two edges of one class that both run along its least edge, or both against it, are joined
+  pub same_run : (t v u t' v' u' : ℕ) → IsEdge t v u → IsEdge t' v' u' → class t v u ≡ class t' v' u' → runs t v u ≡ runs t' v' u' → IsJoined s.rows (pair t v u) (pair t' v' u')
+  unfolding start
+  same_run t v u t' v' u' e e' c r = go (runs_is t v u e) (runs_is t' v' u' e')
+    where
+      begun : start t' v' u' ≡ start t v u
+      begun = ap (least s.edges.classes) (sym c)
+
+      back : (q : Place) → IsJoined s.rows (pair t' v' u') q → IsJoined s.rows q (pair t' v' u')
+      back q h = joined_sym s.rows (pair t' v' u') q k.table (e'.lv, (e'.lu, tt)) h
+
+      go : AlongOrAgainst t v u (runs t v u) → AlongOrAgainst t' v' u' (runs t' v' u') → IsJoined s.rows (pair t v u) (pair t' v' u')
+      go (inl (a, x)) (inl (b, y)) = joined_trans s.rows (pair t v u) (edge (start t v u)) (pair t' v' u') x (back (edge (start t v u)) (subst (λ l. IsJoined s.rows (pair t' v' u') (edge l)) begun y))
+      go (inr (a, x)) (inr (b, y)) = joined_trans s.rows (pair t v u) (turned (edge (start t v u))) (pair t' v' u') x (back (turned (edge (start t v u))) (subst (λ l. IsJoined s.rows (pair t' v' u') (turned (edge l))) begun y))
+      go (inl (a, x)) (inr (b, y)) = absurd (let z : true ≡ false = sym a ∙ r ∙ b in cc)
+      go (inr (a, x)) (inl (b, y)) = absurd (let z : true ≡ false = sym b ∙ sym r ∙ a in cc)

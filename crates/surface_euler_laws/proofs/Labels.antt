@@ -1,6 +1,6 @@
 -- The points of the surface by number. The point with a given index on an edge, counted from one of its ends, is the
 -- same across each gluing, and the same if it is counted from the other end.
-use Rattle.std.proofs.Common.{◌≡◌, ℕ, ◌+◌, ◌-◌, ◌*◌, ◌/◌, ◌%◌, ◌<◌, Bool, true, false, not, List, length, map, inl, inr, refl, sym, ap, ◌∙◌, subst, arith}
+use Rattle.std.proofs.Common.{◌≡◌, ℕ, ◌+◌, ◌-◌, ◌*◌, ◌/◌, ◌%◌, ◌<◌, Bool, true, false, not, List, length, map, ◌⊎◌, inl, inr, refl, sym, ap, ◌∙◌, subst, arith}
 use Rattle.std.specs.Prelude.{slice_index, sum}
 use Rattle.std.specs.List.{slice_index_or}
 use Rattle.std.proofs.lemmas.List.{length-map}
@@ -14,13 +14,13 @@ use Rattle.surface_definitions.specs.Characteristic.{points, weight}
 use Rattle.surface_definitions.specs.declared.Coords.{Coords}
 use Rattle.surface_definitions.specs.Pieces.{NormalDisc, discs_of, disc_number}
 use Rattle.surface_laws.specs.PieceLaws.{IsSurface, IsPieceOf}
-use Rattle.surface_laws.proofs.PieceNumbers.{piece_at, no_piece, number-piece, listed_piece}
+use Rattle.surface_laws.proofs.PieceNumbers.{piece_at, no_piece, number-piece, listed_piece, piece_found}
 use Rattle.surface_quad_laws.proofs.InnerEdges.{start_below, start_class}
 use Rattle.skeleton_class_laws.specs.Crossings.{pair}
 use Rattle.skeleton_class_laws.proofs.Cases.{low, high, are_ends, edge_number-ends}
 use Rattle.surface_euler_laws.proofs.Four.{Four}
 use Rattle.surface_euler_laws.proofs.Widths.{width, width_is}
-use Rattle.surface_euler_laws.proofs.EdgeDirections.{IsEdge, class, class_below, start, runs, runs_is, one_class, one_run, back_class, back_run}
+use Rattle.surface_euler_laws.proofs.EdgeDirections.{IsEdge, back_edge, class, class_below, start, runs, runs_is, one_class, one_run, back_class, back_run, same_run}
 
 module _ (s : Skeleton) (k : IsSkeleton s) (valid : (c : ℕ) → c < s.edges.count → IsValidClass s c) (coords : Coords) (xs : List ℕ) (surface : IsSurface s.rows coords xs) where
   abbrev n : ℕ
@@ -128,3 +128,87 @@ module _ (s : Skeleton) (k : IsSkeleton s) (valid : (c : ℕ) → c < s.edges.co
         is = (λ y. disc_number weights (piece_at (same y) (place_if b (slice_index weights (same y)) (place_if b m p.number))))
             ∙ ap (λ z. disc_number weights (piece_at c z)) (place_twice b m p.number lj) ∙ number-piece weights x no_piece l;
       }
+
+  -- the number of a point is one of the numbers of points
+  piece_there : (t v u j : ℕ) → IsEdge s k valid t v u → j < wide t v u → IsPieceOf weights (piece_at (class s k valid t v u) (place_if (runs s k valid t v u) (wide t v u) j))
+  unfolding wide
+  piece_there t v u j e l = record {
+    column = (let a = class_below s k valid t v u e in let b = weights_length in omega arith);
+    number = place_below (runs s k valid t v u) (slice_index weights (class s k valid t v u)) j l;
+  }
+
+  pub point_below : (t v u j : ℕ) → IsEdge s k valid t v u → j < wide t v u → point t v u j < length (discs_of weights)
+  unfolding point
+  point_below t v u j e l = (piece_found weights (piece_at (class s k valid t v u) (place_if (runs s k valid t v u) (wide t v u) j)) (piece_there t v u j e l)).in_range
+
+  pub wide_back : (t v u : ℕ) → IsEdge s k valid t v u → wide t u v ≡ wide t v u
+  unfolding wide
+  wide_back t v u e = ap (slice_index weights) (back_class s k valid t v u e)
+
+  pub wide_across : (t v u t' v' u' : ℕ) → IsEdge s k valid t v u → IsEdge s k valid t' v' u' → IsJoined s.rows (pair t v u) (pair t' v' u') → wide t v u ≡ wide t' v' u'
+  unfolding wide
+  wide_across t v u t' v' u' e e' h = ap (slice_index weights) (one_class s k valid t v u t' v' u' e e' h)
+
+  -- two edges with the same point are joined, in one direction or the other
+  pub points_meet : (t v u j t' v' u' j' : ℕ) → IsEdge s k valid t v u → IsEdge s k valid t' v' u' → j < wide t v u → j' < wide t' v' u' → point t v u j ≡ point t' v' u' j'
+      → (IsJoined s.rows (pair t v u) (pair t' v' u') × (j ≡ j')) ⊎ (IsJoined s.rows (pair t v u) (pair t' u' v') × (j + j' + 1 ≡ wide t v u))
+  unfolding point wide place_if
+  points_meet t v u j t' v' u' j' e e' l l' same = go (runs s k valid t v u) (runs s k valid t' v' u') refl refl
+    where
+      p : NormalDisc
+      p = piece_at (class s k valid t v u) (place_if (runs s k valid t v u) (slice_index weights (class s k valid t v u)) j)
+
+      q : NormalDisc
+      q = piece_at (class s k valid t' v' u') (place_if (runs s k valid t' v' u') (slice_index weights (class s k valid t' v' u')) j')
+
+      one : p ≡ q
+      one = sym (piece_found weights p (piece_there t v u j e l)).there ∙ ap (λ i. slice_index_or (discs_of weights) i no_piece) same ∙ (piece_found weights q (piece_there t' v' u' j' e' l')).there
+
+      classes : class s k valid t v u ≡ class s k valid t' v' u'
+      classes = ap (λ (z : NormalDisc). z.column) one
+
+      places : place_if (runs s k valid t v u) (slice_index weights (class s k valid t v u)) j ≡ place_if (runs s k valid t' v' u') (slice_index weights (class s k valid t' v' u')) j'
+      places = ap (λ (z : NormalDisc). z.number) one
+
+      m : ℕ
+      m = slice_index weights (class s k valid t v u)
+
+      widths : slice_index weights (class s k valid t' v' u') ≡ slice_index weights (class s k valid t v u)
+      widths = ap (slice_index weights) (sym classes)
+
+      inside : j < slice_index weights (class s k valid t v u)
+      inside = l
+
+      inside_too : j' < slice_index weights (class s k valid t' v' u')
+      inside_too = l'
+
+      back : runs s k valid t' u' v' ≡ not (runs s k valid t' v' u')
+      back = back_run s k valid t' v' u' e'
+
+      alike : (a b : Bool) → place_if a (slice_index weights (class s k valid t v u)) j ≡ place_if b (slice_index weights (class s k valid t' v' u')) j' → a ≡ b → j ≡ j'
+      alike true true f g = f
+      alike false false f g = let w = widths in let a = inside in let b = inside_too in omega arith
+      alike true false f g = absurd cc
+      alike false true f g = absurd cc
+
+      opposed : (a b : Bool) → place_if a (slice_index weights (class s k valid t v u)) j ≡ place_if b (slice_index weights (class s k valid t' v' u')) j' → a ≡ not b → j + j' + 1 ≡ slice_index weights (class s k valid t v u)
+      opposed true false f g = let w = widths in let a = inside in let b = inside_too in omega arith
+      opposed false true f g = let w = widths in let a = inside in let b = inside_too in omega arith
+      opposed true true f g = absurd cc
+      opposed false false f g = absurd cc
+
+      go : (a b : Bool) → runs s k valid t v u ≡ a → runs s k valid t' v' u' ≡ b
+          → (IsJoined s.rows (pair t v u) (pair t' v' u') × (j ≡ j')) ⊎ (IsJoined s.rows (pair t v u) (pair t' u' v') × (j + j' + 1 ≡ slice_index weights (class s k valid t v u)))
+      go a b f g = elim (same_or_not a b) [
+        | inl h ↦ inl (same_run s k valid t v u t' v' u' e e' classes (f ∙ h ∙ sym g), alike (runs s k valid t v u) (runs s k valid t' v' u') places (f ∙ h ∙ sym g))
+        | inr h ↦ inr (
+          same_run s k valid t v u t' u' v' e (back_edge s k valid t' v' u' e') (classes ∙ sym (back_class s k valid t' v' u' e')) (f ∙ h ∙ ap not (sym g) ∙ sym back),
+          opposed (runs s k valid t v u) (runs s k valid t' v' u') places (f ∙ h ∙ ap not (sym g)),
+        )
+      ]
+        where
+          same_or_not : (a b : Bool) → (a ≡ b) ⊎ (a ≡ not b)
+          same_or_not true true = inl refl
+          same_or_not true false = inr refl
+          same_or_not false true = inr refl
+          same_or_not false false = inl refl

@@ -26,7 +26,7 @@ use Rattle.surface_euler_laws.proofs.Four.{Four, first_two, middle_two, last_two
 use Rattle.surface_euler_laws.proofs.Shapes.{octagons_are, behind_type}
 use Rattle.surface_agreement_laws.proofs.EdgeArcs.{face_by, at_edge}
 
-abbrev fourth_by : ℕ → ℕ
+abbrev pub fourth_by : ℕ → ℕ
 fourth_by zero = 3
 fourth_by (suc zero) = 3
 fourth_by (suc (suc zero)) = 2
@@ -34,7 +34,7 @@ fourth_by (suc (suc (suc zero))) = 3
 fourth_by (suc (suc (suc (suc zero)))) = 2
 fourth_by (suc (suc (suc (suc (suc e))))) = 1
 
-four_by : (e : ℕ) → e < 6 → Four (low e) (high e) (face_by e) (fourth_by e)
+pub four_by : (e : ℕ) → e < 6 → Four (low e) (high e) (face_by e) (fourth_by e)
 four_by zero l = record { lv = omega arith; lu = omega arith; lf = omega arith; lw = omega arith; vu = λ e. omega arith; vf = λ e. omega arith; vw = λ e. omega arith; uf = λ e. omega arith; uw = λ e. omega arith; fw = λ e. omega arith }
 four_by (suc zero) l = record { lv = omega arith; lu = omega arith; lf = omega arith; lw = omega arith; vu = λ e. omega arith; vf = λ e. omega arith; vw = λ e. omega arith; uf = λ e. omega arith; uw = λ e. omega arith; fw = λ e. omega arith }
 four_by (suc (suc zero)) l = record { lv = omega arith; lu = omega arith; lf = omega arith; lw = omega arith; vu = λ e. omega arith; vf = λ e. omega arith; vw = λ e. omega arith; uf = λ e. omega arith; uw = λ e. omega arith; fw = λ e. omega arith }

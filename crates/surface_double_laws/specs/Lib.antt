@@ -1,0 +1,4 @@
+pub mod Laws
+pub mod Maps
+pub mod WorkedPlane
+pub mod WorkedOctagon
