@@ -1,17 +1,14 @@
 -- The Euler characteristic of a closed table without invalid edges is at least 0, and 0 if and only if each link has 2.
-use Rattle.std.proofs.Common.{◌≡◌, ◌*◌, List, [], ◌∷◌, length, map, None, refl, arith}
+use Rattle.std.proofs.Common.{◌≡◌, List, [], ◌∷◌, map, refl, arith}
 use Rattle.std.specs.Prelude.{ℤ, pos, ◌-ℤ◌, ◌+ℤ◌, ◌≤ℤ◌}
 use Rattle.std.specs.List.{AllByRecursion, slice_index_or}
 use Rattle.std.proofs.lemmas.Int.{ints}
 use Rattle.std.proofs.lemmas.List.{get_or_default}
 use Rattle.std.proofs.lemmas.List.Elements.{All-from_recursion, recursion_from_All}
-use Rattle.table_definitions.specs.Classes.{least}
-use Rattle.table_definitions.specs.Places.{SameEdge, HasValidEdges}
-use Rattle.table_definitions.proofs.ClassLaws.{least_class}
-use Rattle.skeleton_definitions.specs.Skeleton.{Skeleton, IsSkeleton, IsFirstInvalid}
 use Rattle.skeleton_definitions.specs.declared.Link.{Link}
 use Rattle.outcome_definitions.specs.Information.{characteristic}
 use Rattle.surface_quad_laws.specs.EulerLaws.{integer_sum}
+use Rattle.surface_euler_laws.proofs.AtMostTwo.{no_first_invalid}
 use Rattle.surface_euler_laws.proofs.Links.{link_at_most_two}
 use Rattle.move_link_laws.specs.ClosedEuler.{ClosedManifoldsHaveCharacteristicZero}
 use Rattle.move_link_laws.proofs.ClosedEuler.{closed_characteristics}
@@ -58,10 +55,6 @@ half_none x y e z = omega (arith, ints)
 
 twice_none : (x y : ℤ) → x +ℤ x ≡ y → x ≡ pos 0 → y ≡ pos 0
 twice_none x y e z = omega (arith, ints)
-
--- no edge class is invalid if no edge is
-pub no_first_invalid : (s : Skeleton) → IsSkeleton s → HasValidEdges s.rows → IsFirstInvalid s None
-no_first_invalid s k valid c lc invalid = valid (least s.edges.classes c) (least_class (6 * length s.rows) (SameEdge s.rows) s.edges.classes s.edges.count k.edges c lc).0 invalid
 
 pub closed_manifolds : ClosedManifoldsHaveCharacteristicZero
 closed_manifolds s links k (directions, count, arrows, told) closed valid =

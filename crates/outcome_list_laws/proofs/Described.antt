@@ -1,95 +1,101 @@
--- The answer about each listed surface decides 0-efficiency: those of positive Euler characteristic are the links if
--- and only if they are linking.
-use Rattle.std.proofs.Common.{◌≡◌, ◌↔◌, ℕ, pos, ◌<ℤ◌, List, ◌++◌, map, Result, Ok, Err, inl, inr, All, Contains, sym, ap, ◌∙◌, subst}
-use Rattle.std.specs.List.{AllZip, slice_index_or}
-use Rattle.std.proofs.lemmas.List.Elements.{All-contains, Contains-get_or}
-use Rattle.cone_definitions.specs.Rows.{Row as EquationRow}
+-- One run of `describe` on all listed surfaces decides what parts of them do.
+use Rattle.std.proofs.Common.{◌≡◌, ℕ, List, [], ◌∷◌, ◌++◌, map, Ok, All, sym, ap, ◌∙◌, subst, append-nil}
+use Rattle.std.proofs.lemmas.List.Elements.{All-nil, All-cons, All-contains_itself}
 use Rattle.table_definitions.specs.Table.{Row}
 use Rattle.table_definitions.specs.TableText.{table_text}
-use Rattle.table_definitions.proofs.Listed.{among_contains, contains_among}
-use Rattle.skeleton_definitions.specs.Skeleton.{Skeleton, IsSkeleton}
-use Rattle.skeleton_definitions.specs.Links.{euler_of as euler}
+use Rattle.skeleton_definitions.specs.Skeleton.{Skeleton}
 use Rattle.surface_definitions.specs.declared.Coords.{Coords}
-use Rattle.surface_vector_definitions.specs.Answers.{Description, IsDescription, AreAnswered}
-use Rattle.surface_vector_definitions.specs.Properties.{characteristic, AreProperties}
-use Rattle.surface_vector_definitions.specs.declared.Refusal.{Refusal}
-use Rattle.text_document_definitions.specs.Documents.{vectors_document}
+use Rattle.surface_definitions.specs.declared.Coords.TheVariants.{Octagon}
+use Rattle.surface_vector_definitions.specs.Answers.{Description}
 use Rattle.command_definitions.specs.declared.Request.TheVariants.{Describe}
-use Rattle.outcome_definitions.specs.declared.Status.TheVariants.{Done, Refused}
+use Rattle.outcome_definitions.specs.declared.Status.TheVariants.{Done}
 use Rattle.outcome_definitions.specs.Outcomes.{Outcome}
-use Rattle.outcome_definitions.specs.Vectors.{describe_outcome, AreDescribed, IsDescribeAnswer}
-use Rattle.surface_laws.specs.MatchingLaws.{HasTriangles}
-use Rattle.surface_agreement_laws.specs.VertexSurfaces.{IsVertexSurfaceOf, IsSurfaceListOf}
-use Rattle.surface_agreement_laws.proofs.LinkSurfaces.{linking_is_link, link_is_linking}
-use Rattle.surface_efficiency_laws.specs.Laws.{PositiveAreLinks}
-use Rattle.surface_efficiency_laws.proofs.Efficiency.{list_decides}
-use Rattle.outcome_answer_laws.proofs.Asked.{answer_to, answer_to_value}
+use Rattle.outcome_definitions.specs.Vectors.{describe_outcome}
+use Rattle.surface_agreement_laws.specs.VertexSurfaces.{IsSurfaceListOf}
+use Rattle.outcome_answer_laws.specs.Requests.{IsOutcomeTo}
 use Rattle.outcome_written_laws.specs.Surfaces.{IsReadAsSurfaces}
 use Rattle.outcome_written_laws.proofs.Surfaces.{surfaces_are_read_lem}
-use Rattle.outcome_written_laws.proofs.Lifts.{never_done}
-use Rattle.outcome_list_laws.specs.Efficiency.{IsLinkingWherePositive, DecidesLinks, DescribedListsDecide}
-use Rattle.outcome_list_laws.proofs.ReadLists.{list_of}
-use Rattle.outcome_list_laws.proofs.Zipped.{zip_back, zip_on, zip_map}
+use Rattle.outcome_written_laws.proofs.Joined.{joined_are_read_lem}
+use Rattle.outcome_list_laws.specs.Runs.{IsListInput, ListRun, IsDoneRun, HaveSameVectors, vectors_of}
+use Rattle.outcome_list_laws.specs.Efficiency.{DescribedInputsDecide, DescribedFilesDecide, DescribedListsDecide, OctagonInputsDecide, OctagonFilesDecide, DescribedOctagonsDecide}
+use Rattle.outcome_list_laws.specs.Parts.{ArePrinted, PartsDecideLinks, PartsDecideAlmostNormal}
+use Rattle.outcome_list_laws.proofs.Runs.{joined, texts_of}
+use Rattle.outcome_list_laws.proofs.Parts.{parts_decide_lem}
+use Rattle.outcome_list_laws.proofs.Spheres.{spheres_decide_lem}
 
-module _ (s : Skeleton) (k : IsSkeleton s) (coords : Coords) (triangles : HasTriangles coords) (equations : List EquationRow) where
-  abbrev pub IsTold : List ℕ → Description → Type 0
-  IsTold v d = IsDescription s coords equations v (Ok d)
+-- the outcome of one run is the text of its one part
+one_text : (s : Skeleton) (coords : Coords) (o : Outcome) (parts : List (List Description)) → o ∷ [] ≡ texts_of s coords parts → o ≡ describe_outcome s coords (Ok (joined parts))
+one_text s coords o [] e = cc
+one_text s coords o (told ∷ []) e =
+    let first : o ≡ describe_outcome s coords (Ok told) = cc in
+    first ∙ ap (λ (ds : List Description). describe_outcome s coords (Ok ds)) (sym (append-nil told))
+one_text s coords o (told ∷ next ∷ parts) e = cc
 
-  properties : (v : List ℕ) (d : Description) → IsTold v d → AreProperties s coords v d.properties
-  properties v d t = t.2.1
+module _ (coords : Coords) (rows : List Row) (list asked : List (List ℕ)) (input : List ℕ) (p : Outcome) (read : IsListInput rows input list) (described : IsOutcomeTo (Describe coords) asked input p)
+    (done : p.status ≡ Done) where
+  abbrev run : ListRun
+  run = record { words = asked; input = input; vectors = list; outcome = p }
 
-  pub euler_is : (v : List ℕ) (d : Description) → IsTold v d → d.properties.euler ≡ characteristic s coords v
-  euler_is v d t = let p : AreProperties s coords v d.properties = properties v d t in p.euler ∙ (λ i. euler (p.points i) (p.arcs i) (p.pieces i))
+  one_done : All (IsDoneRun (Describe coords) rows) (run ∷ [])
+  one_done = All-cons (IsDoneRun (Describe coords) rows) run [] (record { read = read; asked = described; done = done }) (All-nil (IsDoneRun (Describe coords) rows))
 
-  module _ (list : List (List ℕ)) (told : List Description) (surfaces : IsSurfaceListOf s coords list) (zipped : AllZip IsTold list told) where
-    vertex : (v : List ℕ) → Contains list v → IsVertexSurfaceOf s coords v
-    vertex v c = All-contains (IsVertexSurfaceOf s coords) list v surfaces.vertex_surfaces c
+  all_vectors : vectors_of (run ∷ []) ≡ list
+  all_vectors = append-nil list
 
-    told_linking : PositiveAreLinks s coords → All IsLinkingWherePositive told
-    told_linking h i d l positive =
-        let m = zip_back IsTold list told zipped (slice_index_or told i d) (among_contains (slice_index_or told i d) told (Contains-get_or told i d l)) in
-        let c : Contains list m.0 = contains_among m.0 list m.1 in
-        let link = (list_decides s k coords triangles list surfaces).0 h m.0 c (subst (λ z. pos 0 <ℤ z) (euler_is m.0 (slice_index_or told i d) m.2) positive) in
-        (properties m.0 (slice_index_or told i d) m.2).linking ∙ link_is_linking s k coords triangles m.0 link
+  same_vectors : HaveSameVectors list (vectors_of (run ∷ []))
+  same_vectors = subst (HaveSameVectors list) (sym all_vectors) (All-contains_itself list, All-contains_itself list)
 
-    linking_decides : All IsLinkingWherePositive told → PositiveAreLinks s coords
-    linking_decides h = (list_decides s k coords triangles list surfaces).1 (λ v c positive.
-        let m = zip_on IsTold list told zipped v (among_contains v list c) in
-        let at : IsLinkingWherePositive m.0 = All-contains IsLinkingWherePositive told m.0 h (contains_among m.0 told m.1) in
-        let linking = at (subst (λ z. pos 0 <ℤ z) (sym (euler_is v m.0 m.2)) positive) in
-        linking_is_link s k coords triangles v (vertex v c) (sym (properties v m.0 m.2).linking ∙ linking))
+  one_outcome : (s : Skeleton) (told : List Description) → ArePrinted s coords (run ∷ []) told → p ≡ describe_outcome s coords (Ok told)
+  one_outcome s told t = one_text s coords p t.parts t.outcomes ∙ ap (λ (ds : List Description). describe_outcome s coords (Ok ds)) t.joined
 
-    pub decided : PositiveAreLinks s coords ↔ All IsLinkingWherePositive told
-    decided = (told_linking, linking_decides)
+  one_list : (s : Skeleton) (told : List Description) → ArePrinted s coords (run ∷ []) told → IsSurfaceListOf s coords list → IsSurfaceListOf s coords (map (λ (d : Description). d.vector) told)
+  one_list s told t surfaces = subst (IsSurfaceListOf s coords) (sym (t.vectors ∙ all_vectors)) surfaces
 
-    pub vectors_are : map (λ (d : Description). d.vector) told ≡ list
-    vectors_are = zip_map IsTold (λ (d : Description). d.vector) (λ v d t. t.1) list told zipped
+pub inputs_decide_lem : DescribedInputsDecide
+inputs_decide_lem coords rows list asked input p triangles listed read described done =
+    let h : PartsDecideLinks coords rows list (run coords rows list asked input p read described done ∷ []) =
+    parts_decide_lem coords rows list _ triangles listed (one_done coords rows list asked input p read described done) (same_vectors coords rows list asked input p read described done) in
+    record {
+      skeleton = h.skeleton;
+      of_rows = h.of_rows;
+      is_skeleton = h.is_skeleton;
+      told = h.printed;
+      outcome = one_outcome coords rows list asked input p read described done h.skeleton h.printed h.are_printed;
+      surfaces = one_list coords rows list asked input p read described done h.skeleton h.printed h.are_printed h.surfaces;
+      decides = h.decides;
+    }
 
-  -- an answer with the status of success describes all vectors
-  pub decides_by : (rows : List Row) → s.rows ≡ rows → (list : List (List ℕ)) → IsSurfaceListOf s coords list → (o : Outcome) → o.status ≡ Done → (told : Result (List Description) (ℕ × Refusal))
-      → AreAnswered (IsDescription s coords equations) list told → o ≡ describe_outcome s coords told → DecidesLinks coords rows o
-  decides_by rows of_rows list surfaces o done (Err refusal) t e = absurd (never_done refusal.1 (sym (ap (λ (q : Outcome). q.status) e) ∙ done))
-  decides_by rows of_rows list surfaces o done (Ok told) t e = record {
-    skeleton = s;
-    of_rows = of_rows;
-    is_skeleton = k;
-    told = told;
-    outcome = e;
-    surfaces = subst (IsSurfaceListOf s coords) (sym (vectors_are list told surfaces t)) surfaces;
-    decides = decided list told surfaces t;
-  }
+pub octagon_inputs_decide_lem : OctagonInputsDecide
+octagon_inputs_decide_lem rows list asked input p listed read described done =
+    let h : PartsDecideAlmostNormal rows list (run Octagon rows list asked input p read described done ∷ []) =
+    spheres_decide_lem rows list _ [] listed (one_done Octagon rows list asked input p read described done) (same_vectors Octagon rows list asked input p read described done) in
+    record {
+      skeleton = h.skeleton;
+      of_rows = h.of_rows;
+      is_skeleton = h.is_skeleton;
+      told = h.printed;
+      outcome = one_outcome Octagon rows list asked input p read described done h.skeleton h.printed h.are_printed;
+      surfaces = one_list Octagon rows list asked input p read described done h.skeleton h.printed h.are_printed h.surfaces;
+      decides = h.decides;
+    }
 
-pub refused_not_done : (o : Outcome) (text : List ℕ) → o ≡ record { status = Refused; text = text } → o.status ≡ Done → ⊥
-refused_not_done o text e done = let same : Refused ≡ Done = sym (ap (λ (q : Outcome). q.status) e) ∙ done in cc
+pub files_decide_lem : DescribedFilesDecide
+files_decide_lem coords front rows list asked p listed triangles file described done =
+    inputs_decide_lem coords rows list asked (front ++ 10 ∷ listed.outcome.text) p triangles listed (joined_are_read_lem front listed.outcome.text rows list file listed.printed) described done
 
+pub octagon_files_decide_lem : OctagonFilesDecide
+octagon_files_decide_lem front rows list asked p listed file described done =
+    octagon_inputs_decide_lem rows list asked (front ++ 10 ∷ listed.outcome.text) p listed (joined_are_read_lem front listed.outcome.text rows list file listed.printed) described done
+
+-- the table as it is written, and what was printed, are such an input
 pub described_lists_decide_lem : DescribedListsDecide
 described_lists_decide_lem words asked bytes o p coords order most rows triangles listed spelled done described finished =
     let read : IsReadAsSurfaces coords rows o.text = surfaces_are_read_lem words bytes o coords order most rows listed spelled done in
-    let answer : IsDescribeAnswer coords (rows, read.list) p =
-    answer_to_value (vectors_document (table_text rows ++ o.text)) (rows, read.list) (IsDescribeAnswer coords) p read.read (answer_to (Describe coords) asked (table_text rows ++ o.text) p described) in
-    elim answer.told [
-      | inl invalid ↦ absurd (refused_not_done p _ invalid.2 finished)
-      | inr told ↦ (let d : AreDescribed answer.skeleton coords read.list p = told.1 in
-          decides_by answer.skeleton answer.is_skeleton coords triangles d.equations rows answer.of_rows read.list
-          (list_of answer.skeleton coords rows answer.of_rows read.equations read.list read.all.surfaces triangles read.all.of_table) p finished d.told d.described d.outcome)
-    ]
+    inputs_decide_lem coords rows read.list asked (table_text rows ++ o.text) p triangles
+    (record { words = words; input = bytes; order = order; most = most; outcome = o; asked = listed; read = spelled; done = done; printed = read.read }) read.read described finished
+
+pub described_octagons_decide_lem : DescribedOctagonsDecide
+described_octagons_decide_lem words asked bytes o p order most rows listed spelled done described finished =
+    let read : IsReadAsSurfaces Octagon rows o.text = surfaces_are_read_lem words bytes o Octagon order most rows listed spelled done in
+    octagon_inputs_decide_lem rows read.list asked (table_text rows ++ o.text) p
+    (record { words = words; input = bytes; order = order; most = most; outcome = o; asked = listed; read = spelled; done = done; printed = read.read }) read.read described finished

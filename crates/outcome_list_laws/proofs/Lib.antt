@@ -1,6 +1,11 @@
 pub mod Zipped
 pub mod ReadLists
-pub mod Described
-pub mod DescribedOctagons
-pub mod Lists
+pub mod Runs
 pub mod Parts
+pub mod Spheres
+pub mod Described
+pub mod DescribedSpheres
+pub mod LinkCount
+pub mod Lists
+pub mod Quads
+pub mod EvenComponents

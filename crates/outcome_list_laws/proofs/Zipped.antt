@@ -1,5 +1,5 @@
 -- Two lists of which each item of the one belongs to the item of the other with the same index.
-use Rattle.std.proofs.Common.{◌≡◌, List, [], ◌∷◌, map, inl, inr, refl, sym, ap₂, subst}
+use Rattle.std.proofs.Common.{◌≡◌, List, [], ◌∷◌, ◌++◌, map, inl, inr, refl, sym, ap₂, subst}
 use Rattle.std.specs.List.{AllZip}
 use Rattle.table_definitions.proofs.TableLaws.{Among}
 
@@ -23,3 +23,9 @@ zip_map R f told [] [] z = refl
 zip_map R f told [] (y ∷ ys) z = absurd z
 zip_map R f told (x ∷ xs) [] z = absurd z
 zip_map R f told (x ∷ xs) (y ∷ ys) z = ap₂ ◌∷◌ (told x y z.0) (zip_map R f told xs ys z.1)
+
+pub zip_append : {A B : Type 0} (R : A → B → Type 0) (xs others : List A) (ys more : List B) → AllZip R xs ys → AllZip R others more → AllZip R (xs ++ others) (ys ++ more)
+zip_append R [] others [] more z w = w
+zip_append R [] others (y ∷ ys) more z w = absurd z
+zip_append R (x ∷ xs) others [] more z w = absurd z
+zip_append R (x ∷ xs) others (y ∷ ys) more z w = (z.0, zip_append R xs others ys more z.1 w)

@@ -2,7 +2,7 @@
 -- characteristic is a vertex link. In standard coordinates that is 0-efficiency by the table's numbers (Jaco and
 -- Rubinstein 2003). If the table is 0-efficient, the octagon list decides whether it has an octagonal almost normal
 -- sphere by its numbers (Rubinstein 1995; Thompson 1994).
-use Rattle.std.specs.Prelude.{◌≡◌, ◌↔◌, ℕ, pos, ◌<ℤ◌, true, List, ◌++◌, map, Ok}
+use Rattle.std.specs.Prelude.{◌≡◌, ◌↔◌, ℕ, pos, ◌<ℤ◌, true, List, [], ◌∷◌, ◌++◌, map, Ok}
 use Rattle.std.specs.List.{All, Contains}
 use Rattle.cone_definitions.specs.declared.Order.{Order}
 use Rattle.table_definitions.specs.Table.{Row}
@@ -22,6 +22,7 @@ use Rattle.surface_efficiency_laws.specs.Laws.{PositiveAreLinks, IsZeroEfficient
 use Rattle.surface_efficiency_laws.specs.Octagons.{octagons}
 use Rattle.surface_euler_laws.specs.Laws.{IsOctagonalAlmostNormalSphere}
 use Rattle.outcome_answer_laws.specs.Requests.{IsOutcomeTo}
+use Rattle.outcome_list_laws.specs.Runs.{IsListInput, AreListed}
 
 -- if the Euler characteristic that is printed is positive, `linking yes` is printed
 abbrev pub IsLinkingWherePositive : Description → Type 0
@@ -38,6 +39,13 @@ pub record DecidesLinks (coords : Coords) (rows : List Row) (o : Outcome) : Type
   pub surfaces : IsSurfaceListOf skeleton coords (map (λ (d : Description). d.vector) told)
   pub decides : PositiveAreLinks skeleton coords ↔ All IsLinkingWherePositive told
 
+-- Theorem: each answer of `describe` to an input that is read as the table and what `surfaces` listed for it decides
+-- whether each connected surface of positive Euler characteristic is a vertex link.
+abbrev pub DescribedInputsDecide : Type 0
+DescribedInputsDecide =
+    (coords : Coords) (rows : List Row) (list asked : List (List ℕ)) (input : List ℕ) (p : Outcome) → HasTriangles coords → AreListed coords rows list
+    → IsListInput rows input list → IsOutcomeTo (Describe coords) asked input p → p.status ≡ Done → DecidesLinks coords rows p
+
 -- Theorem: in standard and octagon coordinates each answer of `describe` to the table and what `surfaces` listed for it
 -- decides whether each connected surface of positive Euler characteristic is a vertex link. In octagon coordinates a
 -- sphere with octagons counts too, which a 0-efficient table may have.
@@ -46,6 +54,14 @@ DescribedListsDecide =
     (words asked : List (List ℕ)) (bytes : List ℕ) (o p : Outcome) (coords : Coords) (order : Order) (most : ℕ) (rows : List Row) → HasTriangles coords
     → IsOutcomeTo (Surfaces coords order most) words bytes o → table_document bytes ≡ Ok rows → o.status ≡ Done
     → IsOutcomeTo (Describe coords) asked (table_text rows ++ o.text) p → p.status ≡ Done → DecidesLinks coords rows p
+
+-- Theorem: the answer of `describe` to a file that is read as the table, whose last byte is a line feed, with the whole
+-- answer of `surfaces` joined to its end decides whether each connected surface of positive Euler characteristic is a
+-- vertex link.
+abbrev pub DescribedFilesDecide : Type 0
+DescribedFilesDecide =
+    (coords : Coords) (front : List ℕ) (rows : List Row) (list asked : List (List ℕ)) (p : Outcome) (listed : AreListed coords rows list) → HasTriangles coords
+    → table_document (front ++ 10 ∷ []) ≡ Ok rows → IsOutcomeTo (Describe coords) asked (front ++ 10 ∷ listed.outcome.text) p → p.status ≡ Done → DecidesLinks coords rows p
 
 -- for a vector with one octagon Euler characteristic 2 is printed
 abbrev pub IsToldAlmostNormal : Skeleton → Description → Type 0
@@ -62,6 +78,13 @@ pub record DecidesAlmostNormal (rows : List Row) (o : Outcome) : Type 0 where
   pub surfaces : IsSurfaceListOf skeleton Octagon (map (λ (d : Description). d.vector) told)
   pub decides : IsZeroEfficient skeleton → ((xs : List ℕ) × IsOctagonalAlmostNormalSphere skeleton xs) ↔ ((d : Description) × Contains told d × IsToldAlmostNormal skeleton d)
 
+-- Theorem: each answer of `describe` to an input that is read as the table and what `surfaces` listed for it in octagon
+-- coordinates decides whether a 0-efficient table has an octagonal almost normal sphere by its numbers.
+abbrev pub OctagonInputsDecide : Type 0
+OctagonInputsDecide =
+    (rows : List Row) (list asked : List (List ℕ)) (input : List ℕ) (p : Outcome) → AreListed Octagon rows list
+    → IsListInput rows input list → IsOutcomeTo (Describe Octagon) asked input p → p.status ≡ Done → DecidesAlmostNormal rows p
+
 -- Theorem: each answer of `describe` to the table and what `surfaces` listed for it in octagon coordinates decides
 -- whether a 0-efficient table has an octagonal almost normal sphere by its numbers.
 abbrev pub DescribedOctagonsDecide : Type 0
@@ -69,3 +92,11 @@ DescribedOctagonsDecide =
     (words asked : List (List ℕ)) (bytes : List ℕ) (o p : Outcome) (order : Order) (most : ℕ) (rows : List Row)
     → IsOutcomeTo (Surfaces Octagon order most) words bytes o → table_document bytes ≡ Ok rows → o.status ≡ Done
     → IsOutcomeTo (Describe Octagon) asked (table_text rows ++ o.text) p → p.status ≡ Done → DecidesAlmostNormal rows p
+
+-- Theorem: the answer of `describe` to a file that is read as the table, whose last byte is a line feed, with the whole
+-- answer of `surfaces` in octagon coordinates joined to its end decides whether a 0-efficient table has an octagonal
+-- almost normal sphere by its numbers.
+abbrev pub OctagonFilesDecide : Type 0
+OctagonFilesDecide =
+    (front : List ℕ) (rows : List Row) (list asked : List (List ℕ)) (p : Outcome) (listed : AreListed Octagon rows list) → table_document (front ++ 10 ∷ []) ≡ Ok rows
+    → IsOutcomeTo (Describe Octagon) asked (front ++ 10 ∷ listed.outcome.text) p → p.status ≡ Done → DecidesAlmostNormal rows p

@@ -20,3 +20,5 @@ pub mod WrittenDocuments
 pub mod MoveLines
 pub mod WrittenMoves
 pub mod MadeTexts
+pub mod Joined
+pub mod WorkedFile

@@ -7,3 +7,4 @@ pub mod Certificates
 pub mod Sums
 pub mod Documents
 pub mod Moves
+pub mod Joined

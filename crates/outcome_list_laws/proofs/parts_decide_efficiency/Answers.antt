@@ -1,6 +1,6 @@
--- The lemma is the law.
-use Rattle.outcome_list_laws.proofs.Parts.{parts_decide_lem}
+-- The lemmas are the laws.
+use Rattle.outcome_list_laws.proofs.Parts.{parts_decide_lem, file_parts_decide_lem}
 use Rattle.outcome_list_laws.proofs.parts_decide_efficiency.Goals as goal
 
 pub returns : goal.returns
-returns c = parts_decide_lem
+returns c = record { parts = parts_decide_lem; files = file_parts_decide_lem }

@@ -1,0 +1,6 @@
+pub mod Vectors
+pub mod Laws
+pub mod Components
+pub mod LiftLists
+pub mod SmallTables
+pub mod WorkedTable
