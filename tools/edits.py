@@ -4,15 +4,17 @@
     tools/edits.py [--counts] [--must-fail] [--notes] [LOG]
 
 Without LOG it checks in seconds that each edit has whole pairs `old:` and `new:`, that each text `old:` occurs once in its
-file, that the edit changes code and no contract and no definition, that the edited file parses, and that each wrong body of
-tools/wrong_bodies.txt has its edit. --counts prints how many edits each crate has.
+file, that the edit changes code and no contract and no definition, that the edited file parses, that each wrong body of
+tools/wrong_bodies.txt has its edit, and that the edits of tools/edits_told_apart.txt are there. The last line counts apart
+those that change no answer of the program. --counts prints how many edits each crate has.
 
 LOG is the output of `rt ci` (a file, or - for standard input). Each edit needs a line there that the prover refused it, for
 its contract. Named are also edits that could not be compiled or read (BAD EDIT), that were not tried (NOT TRIED), that are
 still proved (NOT REFUSED), that are refused only because a proof file names what the edit took away, and that are refused
 only by a limit of the prover. The last line has to say that nothing failed. `rt must-fail` prints no such line: --must-fail
-says that LOG is its output. With --notes the last two kinds are printed as notes and are not counted: the prover has refused
-these edits, and which of its reasons a log has is not the same in each run.
+says that LOG is its output. An edit refused for a name alone is a note, and is not counted, if tools/edits_told_apart.txt
+keeps it. With --notes those are notes too that are refused by a limit: the prover has refused them, and where its limits
+lie is not the same in each run.
 
 The exit status is 1 if something is named, and 0 otherwise.
 """
@@ -26,15 +28,17 @@ import subprocess
 import sys
 import tempfile
 from pathlib import Path
-from typing import Dict, Iterable, Iterator, List, NamedTuple, Optional
+from typing import Dict, Iterable, Iterator, List, NamedTuple, Optional, Set
 
 from refusals import kind
 from repository import TOP
 
 REFUSED = "refused, as it must be"
 # what `rt` says of an edit that shows nothing of the contracts
-SHOWS_LITTLE = ("only because a proof file names", "only by a limit of the prover")
-SHOWS_NOTHING = ("BAD EDIT", "NOT TRIED", "NOT REFUSED", *SHOWS_LITTLE)
+NAME_ALONE, BY_A_LIMIT = "only because a proof file names", "only by a limit of the prover"
+SHOWS_NOTHING = ("BAD EDIT", "NOT TRIED", "NOT REFUSED", NAME_ALONE, BY_A_LIMIT)
+# how tools/edits_told_apart.txt tells edits apart
+SAME_ANSWER, NAME_KEPT = "same answer", "name alone"
 LABEL = re.compile(r"^(?:rt: )?must-fail ([\w-]+/[\w.-]+)\.edit: (.*)")
 LAST = re.compile(r"[1-9]\d* passed, 0 failed")
 # how a line begins that belongs to a contract, to a definition, or to what the prover is asked
@@ -184,6 +188,43 @@ def without_edit(top: Path, edits: Iterable[Edit]) -> Iterator[str]:
             yield f"wrong body without its edit: {what}" + "".join(f" ({name} is not there)" for name in missing)
 
 
+class ToldApart(NamedTuple):
+    """An edit that shows less than a wrong answer does."""
+
+    kind: str
+    name: str
+    reason: str
+
+
+def told_apart(top: Path) -> List[ToldApart]:
+    """The edits that tools/edits_told_apart.txt tells apart from the others."""
+    lines = (top / "tools" / "edits_told_apart.txt").read_text("utf8").split("\n")
+    parts = (line.split(":", 2) for line in lines if line.strip() and not line.startswith("#"))
+    return [ToldApart(*(part.strip() for part in (*line, "", "")[:3])) for line in parts]
+
+
+def mistold(listed: List[ToldApart], edits: Iterable[Edit]) -> Iterator[str]:
+    """The lines of tools/edits_told_apart.txt that have no known kind, no reason, or an edit that is not there or occurs twice."""
+    known, count = {str(edit) for edit in edits}, collections.Counter(it.name for it in listed)
+    for kind_of, name, reason in listed:
+        if kind_of not in (SAME_ANSWER, NAME_KEPT):
+            yield f"tools/edits_told_apart.txt: `{kind_of}` is neither `{SAME_ANSWER}` nor `{NAME_KEPT}`"
+        elif name not in known:
+            yield f"tools/edits_told_apart.txt: {name or 'an edit without a name'} is not there"
+        elif not reason:
+            yield f"tools/edits_told_apart.txt: {name} has no reason"
+    yield from (f"tools/edits_told_apart.txt: {name} occurs {times} times" for name, times in count.items() if times > 1)
+
+
+def is_note(line: str, kept: Set[str], notes: bool) -> bool:
+    """Whether a line of `not_shown` is no more than a note: an edit refused by a name alone that is one of `kept`, or, with
+    `notes`, by a limit of the prover."""
+    label = LABEL.match(line)
+    if label is None or not label[2].startswith(REFUSED):
+        return False
+    return label[1] in kept if NAME_ALONE in line else notes and BY_A_LIMIT in line
+
+
 def last_line(lines: Iterable[str]) -> str:
     """The last line that is not blank."""
     return next((line.strip() for line in reversed(list(lines)) if line.strip()), "")
@@ -220,11 +261,11 @@ def read_log(path: str) -> str:
 
 def main() -> int:
     """Prints what is to be mended, and returns the exit status."""
-    parser = argparse.ArgumentParser(description="Looks at the edits that the prover must refuse.")
+    parser = argparse.ArgumentParser(description="Checks the must-fail tests.")
     parser.add_argument("log", nargs="?", help="the output of rt ci; - for standard input")
     parser.add_argument("--must-fail", action="store_true", help="the log is of rt must-fail, which prints no last line")
-    parser.add_argument("--counts", action="store_true", help="print how many edits each crate has")
-    parser.add_argument("--notes", action="store_true", help="do not count edits that were refused for a reason that shows little")
+    parser.add_argument("--counts", action="store_true", help="print the number of must-fail tests of each crate")
+    parser.add_argument("--notes", action="store_true", help="do not count must-fail tests that were refused by a limit of the prover")
     words = parser.parse_args()
     edits, formatter = edits_of(TOP), formatter_of_kit()
     if words.counts:
@@ -232,17 +273,19 @@ def main() -> int:
             print(f"{crate}: {count}")
     if formatter is None:
         print("the command rt is not on the path, so it is unknown whether the edited files parse")
-    found = [*unapplied(TOP, edits, formatter), *without_edit(TOP, edits)]
+    listed = told_apart(TOP)
+    found = [*unapplied(TOP, edits, formatter), *without_edit(TOP, edits), *mistold(listed, edits)]
     if words.log is not None:
-        found += not_shown(read_log(words.log), edits, not words.must_fail)
-    if words.notes:
-        notes = [line for line in found if REFUSED in line and any(why in line for why in SHOWS_LITTLE)]
-        found = [line for line in found if line not in notes]
-        for line in notes:
-            print(f"note: {line}")
+        kept = {it.name for it in listed if it.kind == NAME_KEPT}
+        for line in not_shown(read_log(words.log), edits, not words.must_fail):
+            if is_note(line, kept, words.notes):
+                print(f"note: {line}")
+            else:
+                found.append(line)
     for line in found:
         print(line)
-    print(f"{len(edits)} edits; {len(found)} of which something is to be mended")
+    same = sum(it.kind == SAME_ANSWER for it in listed)
+    print(f"{len(edits) - same} edits that change an answer, {same} that change none; {len(found)} of which something is to be mended")
     return 1 if found else 0
 
 

@@ -1,9 +1,12 @@
 """tools/edits.py: what it names of edits and of the gate's output."""
+import contextlib
+import io
 import subprocess
 import sys
 import tempfile
 import unittest
 from pathlib import Path
+from unittest import mock
 
 from trinorm.program import REPOSITORY
 
@@ -45,6 +48,10 @@ class MadeUp(unittest.TestCase):
         path = self.top / path
         path.parent.mkdir(parents=True, exist_ok=True)
         path.write_text(text, "utf8")
+
+    def told(self, *lines):
+        self.write("tools/edits_told_apart.txt", "".join(f"{line}\n" for line in ("# a list", "", *lines)))
+        return edits.told_apart(self.top)
 
     def edit(self, name="two", text="file: src/lib.rt\nold:     1\nnew:     2\n", crate="signs"):
         self.write(f"crates/{crate}/must-fail/{name}.edit", text)
@@ -94,6 +101,25 @@ class Edits(MadeUp):
         self.edit(crate="sign_definitions")
         self.assertEqual(self.named(), ["sign_definitions/two: sign_definitions holds definitions, and no code whose contract an edit could show"])
 
+    def test_edits_told_apart(self):
+        self.edit()
+        self.edit("one")
+        self.assertEqual(self.told("same answer: signs/one: it is slow: by half", "name alone: signs/two: why"),
+                         [("same answer", "signs/one", "it is slow: by half"), ("name alone", "signs/two", "why")])
+        self.assertEqual(list(edits.mistold(edits.told_apart(self.top), edits.edits_of(self.top))), [])
+        for line, why in (
+            ("same answer: signs/six: why", "signs/six is not there"),
+            ("same answer:", "an edit without a name is not there"),
+            ("same answer: signs/two", "signs/two has no reason"),
+            ("same answer: signs/two: ", "signs/two has no reason"),
+            ("other: signs/two: why", "`other` is neither `same answer` nor `name alone`"),
+            ("signs/two", "`signs/two` is neither `same answer` nor `name alone`"),
+            ("same answer: signs/one: again", "signs/one occurs 2 times"),
+        ):
+            with self.subTest(line):
+                listed = self.told("same answer: signs/one: why", line)
+                self.assertEqual(list(edits.mistold(listed, edits.edits_of(self.top))), [f"tools/edits_told_apart.txt: {why}"])
+
     def test_the_formatter(self):
         """What parses is not named; what doesn't, and what isn't read, is."""
         self.edit()
@@ -122,6 +148,15 @@ class Logs(unittest.TestCase):
         named = [line.partition(".edit")[0].rpartition("/")[2] for line in self.named(LOG)]
         self.assertEqual(named, ["two", "three", "four", "five", "six"])
 
+    def test_what_is_a_note(self):
+        """A refusal for a name alone is one where the edit is kept, that by a limit where notes are asked for, and no other line."""
+        for kept, notes, noted in (
+            (set(), False, []), (set(), True, ["six"]), ({"signs/three"}, False, ["three"]), ({"signs/three"}, True, ["three", "six"]),
+            ({"signs/two", "signs/four", "signs/five"}, True, ["six"]),
+        ):
+            lines = [line for line in self.named(LOG) if edits.is_note(line, kept, notes)]
+            self.assertEqual([line.partition(".edit")[0].rpartition("/")[2] for line in lines], noted)
+
     def test_an_edit_that_the_log_lacks_or_has_too_much(self):
         self.assertEqual(self.named(LOG, "one two three four five six seven")[-1], "signs/seven: the log does not say that the prover refused it")
         self.assertIn("signs/six: the log has it, and the repository does not", self.named(LOG, "one two three four five"))
@@ -137,20 +172,26 @@ class Logs(unittest.TestCase):
 
     def test_the_command(self):
         """No log that lacks the edits of this repository ends with status 0, and without a log nothing is named."""
-        tool = [sys.executable, str(REPOSITORY / "tools" / "edits.py")]
-        count = len(edits.edits_of(REPOSITORY))
-        done = subprocess.run(tool, capture_output=True, text=True, check=False)
-        self.assertEqual((done.returncode, done.stdout.splitlines()[-1]), (0, f"{count} edits; 0 of which something is to be mended"), done.stdout)
-        for given, left in (("", count + 1), ("7 passed, 0 failed\n", count)):
-            done = subprocess.run([*tool, "-"], input=given, capture_output=True, text=True, check=False)
-            self.assertEqual((done.returncode, done.stdout.splitlines()[-1]), (1, f"{count} edits; {left} of which something is to be mended"))
-        whole = "".join(f"rt: must-fail {edit}.edit: refused, as it must be: x\n" for edit in edits.edits_of(REPOSITORY)) + "7 passed, 0 failed\n"
-        done = subprocess.run([*tool, "-"], input=whole, capture_output=True, text=True, check=False)
-        self.assertEqual(done.returncode, 0, done.stdout)
-        little = whole.replace(": x\n", " (only because a proof file names what the edit took away): x\n", 1)
-        for words, status in (([], 1), (["--notes"], 0)):
-            done = subprocess.run([*tool, *words, "-"], input=little, capture_output=True, text=True, check=False)
-            self.assertEqual((done.returncode, done.stdout.count("only because")), (status, 1), done.stdout)
+        known = edits.edits_of(REPOSITORY)
+        same = sum(it.kind == edits.SAME_ANSWER for it in edits.told_apart(REPOSITORY))
+        count = f"{len(known) - same} edits that change an answer, {same} that change none"
+        done = subprocess.run([sys.executable, str(REPOSITORY / "tools" / "edits.py")], capture_output=True, text=True, check=False)
+        self.assertEqual((done.returncode, done.stdout.splitlines()[-1]), (0, f"{count}; 0 of which something is to be mended"), done.stdout)
+        whole = "".join(f"rt: must-fail {edit}.edit: refused, as it must be: x\n" for edit in known) + "7 passed, 0 failed\n"
+        name_alone = whole.replace(": x\n", " (only because a proof file names what the edit took away): x\n", 1)
+        by_a_limit = whole.replace(": x\n", " (only by a limit of the prover, which gave no verdict): x\n", 1)
+        for log, words, found in (
+            ("", [], len(known) + 1), ("7 passed, 0 failed\n", [], len(known)), (whole, [], 0),
+            (name_alone, [], 1), (name_alone, ["--notes"], 1), (by_a_limit, [], 1), (by_a_limit, ["--notes"], 0),
+        ):
+            with self.subTest(log=log[:200], words=words), tempfile.TemporaryDirectory() as room:
+                path, wrote = Path(room, "log"), io.StringIO()
+                path.write_text(log, "utf8")
+                with mock.patch.object(sys, "argv", ["edits.py", *words, str(path)]), mock.patch.object(edits, "formatter_of_kit"), \
+                        mock.patch.object(edits, "unparsed", return_value=[]), contextlib.redirect_stdout(wrote):
+                    status = edits.main()
+                self.assertEqual((status, wrote.getvalue().splitlines()[-1]), (int(found > 0), f"{count}; {found} of which something is to be mended"))
+                self.assertEqual(wrote.getvalue().count("(only b"), log.count("(only b"))
 
 
 if __name__ == "__main__":
