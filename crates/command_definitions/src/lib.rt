@@ -1,4 +1,6 @@
 //! The grammar of the command line: the accepted words and their requests. The definitions are in `specs/`.
+//!
+//! Words: a *request* is a command with the values of its options.
 #![tactic(auto)]
 
 ghost use Rattle.command_definitions.specs.Laws.{AcceptedAreInRange};
@@ -33,7 +35,9 @@ pub enum Request {
     Csame,
 }
 
-/// Theorem: the values of an accepted request are within their ranges.
+/// Lemma: let words be accepted as a request. Then its values are in range: an order is `given`, `short` or `zeros`; a
+/// greatest entry is from 1 to 2^127 - 1; the coordinates of `describe` are not `quad`; `make` has at most 1,000 moves,
+/// and `bulk` at most 5.
 pub fn accepted_requests()
     ensures { AcceptedAreInRange }
 {}

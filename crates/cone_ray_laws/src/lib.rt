@@ -1,10 +1,17 @@
 //! Extreme rays of a cone in the usual terms: solutions that are no sums of solutions off their ray.
+//!
+//! Words: rows, solutions, supports, extreme solutions and vertex surfaces are those of `cone_definitions`.
 #![tactic(auto)]
 
 ghost use Rattle.cone_ray_laws.specs.Rays.{ExtremeSolutionsSpanRays, SpanningSolutionsAreExtreme, OnRayHaveOneRay, OneRayIsOnRay, SurfacesAreRays, RaysAreSurfaces, SumsOfOneAreOnRay, OneIsNotExtreme};
 
-/// Theorem: a nonzero solution is extreme if and only if any two solutions whose sum is a positive multiple of it lie
-/// on its ray.
+/// Theorem: let S be a system of rows, and x a nonzero solution of S. A vector y is *on the ray* of x if a positive
+/// multiple of y is a multiple of x, 0 included.
+///
+/// 1. If x is extreme, and two solutions add up to a positive multiple of x, both are on its ray.
+/// 2. If any two solutions that add up to a positive multiple of x are on its ray, x is extreme.
+/// 3. Each solution on the ray of x is, with x, a multiple of one primitive solution.
+/// 4. If x and y are multiples of one primitive solution, y is on the ray of x.
 pub fn rays_in_words()
     ensures forth { ExtremeSolutionsSpanRays }
     ensures back { SpanningSolutionsAreExtreme }
@@ -12,14 +19,21 @@ pub fn rays_in_words()
     ensures on_ray { OneRayIsOnRay }
 {}
 
-/// Theorem: without clashing pairs, the vertex surfaces are exactly the primitive extreme solutions.
+/// Theorem: let S be a system of rows, without clashing pairs.
+///
+/// 1. Each vertex surface of S is a primitive extreme solution of S.
+/// 2. Each primitive extreme solution of S is a vertex surface of S.
 pub fn no_clashes()
     ensures forth { SurfacesAreRays }
     ensures back { RaysAreSurfaces }
 {}
 
-/// Example: a solution of which any two summands lie on its ray, and which is not extreme: sums of positive multiples
-/// are needed.
+/// Example: let S be the row x + y - 2z in three columns.
+///
+/// 1. If (1, 1, 1) is the sum of two solutions of S, both lie on the ray of (1, 1, 1).
+/// 2. The vector (1, 1, 1) is a nonzero solution of S and is not extreme.
+///
+/// This is why `rays_in_words` speaks of positive multiples.
 pub fn sums_are_not_enough()
     ensures sums { SumsOfOneAreOnRay }
     ensures not_extreme { OneIsNotExtreme }

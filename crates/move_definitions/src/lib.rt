@@ -1,6 +1,10 @@
 //! Pachner moves: which are legal, the resulting table, moves in text, certificates and the generator. The definitions,
 //! and the errors that definitions and code share, are here and in `specs/`; `proofs/` has worked examples. The
 //! functions have empty bodies: their contracts are theorems.
+//!
+//! Words: a *move* has a tetrahedron and a *core*: the vertex, edge, triangle or tetrahedron at which it is made (4-1,
+//! 3-2, 2-3, 1-4). It is *legal* on a table if no error is found in it, and *accepted* if its result also has at most
+//! 1,000 tetrahedra.
 #![tactic(auto)]
 
 ghost use Rattle.move_definitions.specs.TextLaws.{MovesAreRead, StepsAreRead, WrittenMovesAreRead};
@@ -20,17 +24,20 @@ pub enum MoveFault {
     TooMany,
 }
 
-/// Theorem: a line is read as a move if and only if it spells one.
+/// Lemma: let the current line of an input be given. A move is read from the line, and the line is used up, if and only
+/// if the line is a move line of this move: a kind, a tetrahedron below 2^32, and a core, as words.
 pub fn moves_are_read()
     ensures { MovesAreRead }
 {}
 
-/// Theorem: a line is read as a step if and only if it spells one.
+/// Lemma: let the current line of an input be given. A step is read from the line, and the line is used up, if and only
+/// if the line spells this step: a move line, `undo` or `redo`.
 pub fn steps_are_read()
     ensures { StepsAreRead }
 {}
 
-/// Theorem: the text of a move is one line, which is read as that move.
+/// Lemma: let a move have a tetrahedron below 2^32 and a core: a nonempty set of vertices, in ascending order. Then its
+/// text is one line, and this is a move line of the move.
 pub fn written_moves_are_read()
     ensures { WrittenMovesAreRead }
 {}

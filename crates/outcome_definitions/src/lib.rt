@@ -1,5 +1,7 @@
 //! The outcome of a run of the program: its exit status and its text, for each list of words and each input. The
 //! definitions are in `specs/`.
+//!
+//! Words: an *answer* to a request on an input is an exit status with a text.
 #![tactic(auto)]
 
 ghost use Rattle.outcome_definitions.specs.Laws.{StatusesAreOwn};
@@ -42,7 +44,8 @@ pub enum SumRefusal {
     NoSum { fault: AddFault },
 }
 
-/// Theorem: the answer to a request has one of the statuses of accepted words.
+/// Lemma: each answer to a request, on any input, has exit status 0, 3, 4 or 5: done, a faulty input, refused, or a
+/// number above the limit.
 pub fn statuses_are_own()
     ensures { StatusesAreOwn }
 {}

@@ -1,35 +1,45 @@
 //! Theorems on the tree of faces, the generators and the relators of a table. The functions have empty bodies: their
 //! contracts are the theorems.
+//!
+//! Words: the *tree face* of a tetrahedron other than 0 is the least face that is glued to it from a tetrahedron nearer
+//! to tetrahedron 0. The *generators* of a presentation are the classes of glued faces without a tree face; its
+//! *relators* are read along the tours around the internal edges. A generator *reverses orientation* if its loop
+//! through tree faces has an odd number of even gluings. A *triangulation* is a gluing table as at `table_definitions`;
+//! it has at most 1,000 tetrahedra.
 #![tactic(auto)]
 
 ghost use Rattle.presentation_laws.specs.Laws.{TreeFacesLead, OneTreePath, TreeFacesAreCounted, RelatorsTurnEvenly, NoneTurnsExactly, OnePresentation, PresentationExists};
 
-/// Theorem: in a connected table of n tetrahedra, n at least 1, there are n - 1 tree faces, and exactly one path of
-/// tree faces leads from tetrahedron 0 to each tetrahedron.
+/// Theorem: in 1 and 3, let T be a connected triangulation.
+///
+/// 1. For each tetrahedron of T, a path of tree faces from tetrahedron 0 reaches it.
+/// 2. Two paths of tree faces from tetrahedron 0 to one tetrahedron are equal.
+/// 3. If T has n >= 1 tetrahedra, it has n - 1 tree faces: one for each tetrahedron but 0, all different.
 pub fn tree_faces_lead()
     ensures lead { TreeFacesLead }
     ensures one { OneTreePath }
     ensures counted { TreeFacesAreCounted }
 {}
 
-/// Theorem: in a presentation of a connected table, each relator has an even number of letters whose generators reverse
-/// orientation.
+/// Theorem: let T be a connected triangulation with a presentation. In each relator, the number of letters whose
+/// generators reverse orientation is even.
 pub fn relators_turn_evenly()
     ensures { RelatorsTurnEvenly }
 {}
 
-/// Theorem: in a presentation of a connected table, no generator reverses orientation if and only if the table is
-/// orientable.
+/// Theorem: let T be a connected triangulation with a presentation. No generator reverses orientation if and only if T
+/// is orientable.
 pub fn turning_tells_orientation()
     ensures { NoneTurnsExactly }
 {}
 
-/// Theorem: a table has at most one presentation.
+/// Theorem: let T be a list of rows with its classes of vertices, edges and faces. There is at most one presentation of
+/// T.
 pub fn presentations_are_unique()
     ensures { OnePresentation }
 {}
 
-/// Theorem: each connected table has a presentation.
+/// Theorem: each connected triangulation has a presentation.
 pub fn presentations_exist()
     ensures { PresentationExists }
 {}

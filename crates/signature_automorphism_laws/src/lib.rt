@@ -1,38 +1,47 @@
 //! What the automorphisms of a table say of the texts of its walks, whatever the code.
+//!
+//! Words: an *automorphism* of T is a relabelling that carries T to itself. The 24n *starts* of a table of n tetrahedra
+//! are its tetrahedra with the 24 permutations, numbered in this order. A text *belongs* to a start if it spells the
+//! table to which the canonical traversal from the start leads. A *triangulation* is a gluing table as at
+//! `table_definitions`; it has at most 1,000 tetrahedra.
 #![tactic(auto)]
 
 ghost use Rattle.signature_automorphism_laws.specs.Laws.{StartsCarriedHaveOneText, EqualTextsGiveAutomorphisms, MarksKeepNoLesserText, MarkedStartsNeedNoWalk, LesserTextsKeepNoLesserText, LeastTextsAreSignatures};
 
-/// Theorem: for a table, an automorphism and a start, a text belongs to the start if and only if it belongs to the
-/// start to which the automorphism carries it.
+/// Lemma: let T be a triangulation, f an automorphism of T, and s a start: a tetrahedron of T with a permutation of
+/// four. A text belongs to s if and only if it belongs to the start to which f carries s.
 pub fn starts_carried_have_one_text()
     ensures { StartsCarriedHaveOneText }
 {}
 
-/// Theorem: if one text belongs to two starts of a table, an automorphism of the table carries the first start to the
-/// second.
+/// Theorem: let T be a triangulation, and let one text belong to two starts at tetrahedra of T. Then an automorphism of
+/// T carries the first start to the second.
 pub fn equal_texts_give_automorphisms()
     ensures { EqualTextsGiveAutomorphisms }
 {}
 
-/// Theorem: let no text of a marked start be before a text. If an automorphism carries a start without a text before it
-/// to another start and that one is marked too, no text of a marked start is before the text.
+/// Lemma: let T be a triangulation with n tetrahedra, f an automorphism of T, and w a text. Let some of the 24n starts
+/// be marked, such that no text of a marked start is before w. If no text of start i is before w, and the start to
+/// which f carries start i is marked too, no text of a marked start is before w.
 pub fn marks_keep_no_lesser_text()
     ensures { MarksKeepNoLesserText }
 {}
 
-/// Theorem: let no text of a marked start be before a text. If the text is the least of the first k starts and start k
-/// is marked, the text is the least of the first k + 1 starts.
+/// Lemma: let T be a list of rows, w a text, and let some starts be marked, such that no text of a marked start is
+/// before w. If w is a text of some start, no text of the first k starts is before w, and start k, counted from 0, is
+/// marked, then no text of the first k + 1 starts is before w.
 pub fn marked_starts_need_no_walk()
     ensures { MarkedStartsNeedNoWalk }
 {}
 
-/// Theorem: if no text of a marked start is before a text, none is before a smaller one.
+/// Lemma: let T be a list of rows, and let the text v be before the text w. If no text of a marked start is before w,
+/// none is before v.
 pub fn lesser_texts_keep_no_lesser_text()
     ensures { LesserTextsKeepNoLesserText }
 {}
 
-/// Theorem: the least text of all starts of a table is its signature.
+/// Theorem: let w be a text of some start of a table T, and let no text of a start of T be before w. Then w is the
+/// signature of T.
 pub fn least_texts_are_signatures()
     ensures { LeastTextsAreSignatures }
 {}

@@ -1,5 +1,8 @@
 //! Existence of the skeleton, orientation signs, vertex links and equations of a table, and counts of sides, directions
 //! and faces by classes.
+//!
+//! A *skeleton* of a table numbers its classes of vertices, edges and faces. An edge is *invalid* if it is identified
+//! with its own reverse. A table is *closed* if no face is a boundary face.
 #![tactic(auto)]
 
 ghost use Rattle.skeleton_laws.specs.Laws.{SomeSkeleton, InvalidOrNot, SomeFirstInvalid, SomeOrientation, SomeLinks, SomeEquations};
@@ -10,31 +13,39 @@ pub fn skeletons_exist()
     ensures { SomeSkeleton }
 {}
 
-/// Theorem: whether an edge is identified with its own reverse is decidable, so there is a least invalid edge class, or
-/// no edge class is invalid.
+/// Theorem: let T be a table.
+///
+/// 1. Each edge of a tetrahedron of T is identified with its own reverse or is not; this is proved without excluded
+///    middle.
+/// 2. T has a first invalid edge class, or no edge class of T is invalid.
 pub fn invalid_edges_are_decided()
     ensures decided { InvalidOrNot }
     ensures first { SomeFirstInvalid }
 {}
 
-/// Theorem: a table has orientation signs, or it is not orientable.
+/// Theorem: each table T has signs of its tetrahedra that orient it, positive at the first tetrahedron of each
+/// component, or T is not orientable.
 pub fn orientations_exist()
     ensures { SomeOrientation }
 {}
 
-/// Theorem: each vertex class has a link.
+/// Theorem: each vertex class of a table has a link.
 pub fn links_exist()
     ensures { SomeLinks }
 {}
 
-/// Theorem: each table has matching equations in each coordinate system.
+/// Theorem: each table has equations in each of the coordinates: matching equations in standard and octagon
+/// coordinates, and quad equations in quad coordinates.
 pub fn equations_exist()
     ensures { SomeEquations }
 {}
 
-/// Theorem: the sides of the triangles of a link are twice its edges, less those in boundary faces. If no edge is
-/// invalid, each edge class consists of two classes of directed edges; in a closed table each face class consists of
-/// two faces.
+/// Theorem: let T be a table with n tetrahedra.
+///
+/// 1. Let the link of a vertex class have k triangles. Twice the number of its edges is 3k plus the number of sides of
+///    its triangles that lie in boundary faces.
+/// 2. If no edge is invalid, there are twice as many classes of directed edges as edge classes.
+/// 3. If T is closed, 4n is twice the number of face classes.
 pub fn classes_are_counted()
     ensures sides { LinkEdgesAreSides }
     ensures directions { EdgesHaveTwoDirections }

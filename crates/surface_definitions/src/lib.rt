@@ -1,6 +1,12 @@
 //! Normal surfaces: coordinates, matching equations, the verdict on a vector, discs, Euler characteristic, crushing and
 //! lifts. The definitions are in `specs/`; `proofs/` has worked examples. The functions have empty bodies: their
 //! contracts are theorems.
+//!
+//! Words: in n columns, a *row* of an equation is 0 at a vector if both sides of the equation are equal there; its
+//! *parts* are the sums of its positive and of its negative terms. Coordinates are standard (triangles and quads),
+//! quad, or octagon (triangles, quads and octagons); two columns *clash* if they are quads or octagons of one
+//! tetrahedron, or any two octagons. A *triangulation* is a gluing table as at `table_definitions`; it has at most
+//! 1,000 tetrahedra.
 #![tactic(auto)]
 
 ghost use Rattle.surface_definitions.specs.Laws.{VectorLinesAreRead, VerdictsAreRight, RowsMeanEquations};
@@ -37,29 +43,36 @@ pub enum VectorFault {
     Clash { first: u32, second: u32 },
 }
 
-/// Theorem: a line is read as a vector if and only if it spells one.
+/// Lemma: let the current line of an input be given. A vector is read from the line, and the line is used up, if and
+/// only if the line is `vec` and the entries of the vector in decimal, each at most 2^127 - 1.
 pub fn vector_lines_are_read()
     ensures { VectorLinesAreRead }
 {}
 
-/// Theorem: a vector is accepted if and only if it is an admissible solution and no part of an equation exceeds the
-/// limit.
+/// Theorem: let rows in n columns, clashing pairs P, a limit and a vector x be given. Then the verdict on x is
+/// `solution` if and only if x has n entries, each row is 0 at x, x is 0 in one column of each pair of P, and no
+/// positive or negative part of a row at x exceeds the limit.
 pub fn verdicts_are_right()
     ensures { VerdictsAreRight }
 {}
 
-/// Theorem: the row of an equation is 0 at a vector if and only if both of its sides have the same sum.
+/// Lemma: let an equation set two sums of entries equal, all of columns below n. Then its row in n columns is 0 at a
+/// vector if and only if both sums are equal at this vector.
 pub fn rows_mean_equations()
     ensures { RowsMeanEquations }
 {}
 
-/// Theorem: each clashing pair consists of two different columns.
+/// Lemma: let T have n tetrahedra. In any coordinates, each clashing pair of T has two different columns.
 pub fn clashes_are_apart()
     ensures { ClashesAreApart }
 {}
 
-/// Theorem: the verdict on a vector of the right length names the first equation that a part of exceeds the limit at
-/// the vector, or that is not 0 there.
+/// Lemma: let rows in n columns, clashing pairs, a limit, and a vector x of n entries be given. Let the rows before row
+/// i be 0 at x, with no positive or negative part above the limit.
+///
+/// 1. If a part of row i at x exceeds the limit, the verdict on x names row i as too large.
+/// 2. If no part of row i at x exceeds the limit, and row i is not 0 at x, the verdict on x names row i as not
+///    satisfied.
 pub fn first_faults_are_answered()
     ensures large { FirstLargeIsAnswered }
     ensures fails { FirstFailureIsAnswered }

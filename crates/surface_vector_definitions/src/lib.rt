@@ -1,6 +1,10 @@
 //! Answers for one vector: its properties, its components and its lift, each with the reasons why it may be refused.
 //! The definitions are in `specs/`; `proofs/` has worked examples. The functions have empty bodies: their contracts are
 //! theorems.
+//!
+//! Words: the *sums* of a vector are the numbers of its points of intersection with the edges, of its normal arcs and
+//! of its normal discs. Its *properties* are these, its Euler characteristic, and whether it is vertex linking and
+//! meets the boundary. A *triangulation* is a gluing table as at `table_definitions`; it has at most 1,000 tetrahedra.
 #![tactic(auto)]
 
 ghost use Rattle.surface_vector_definitions.specs.Laws.{OnePropertyAnswer, OnePiecesAnswer, OneDescriptionEach};
@@ -69,18 +73,20 @@ pub enum Refusal {
     NoLift { class: u32 },
 }
 
-/// Theorem: a vector has exactly one answer: its properties, or the first sum that exceeds the maximum.
+/// Lemma: let T be a triangulation, x a vector in any coordinates, and a limit given. There is at most one answer for
+/// x: its properties if none of its sums exceeds the limit, otherwise the first sum that does.
 pub fn properties_are_determined()
     ensures { OnePropertyAnswer }
 {}
 
-/// Theorem: a vector has at most one list of components, and has none if it is refused for its number of discs.
+/// Lemma: let T be a triangulation, and x a vector in any coordinates. There is at most one answer for x: the list of
+/// its components if it has at most 100,000 normal discs, otherwise their number.
 pub fn components_are_determined()
     ensures { OnePiecesAnswer }
 {}
 
-/// Theorem: a list of vectors has at most one answer of `describe`: all descriptions, or the first vector that is
-/// refused, with its reason.
+/// Lemma: let T be a triangulation, with coordinates and equations, and let a list of vectors be given. There is at
+/// most one answer for them: a description of each, or the index of the first vector that is refused, with its reason.
 pub fn descriptions_are_determined()
     ensures { OneDescriptionEach }
 {}

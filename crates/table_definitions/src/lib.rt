@@ -1,6 +1,12 @@
 //! Permutations of four, gluing tables and their text, chains of gluings and classes. The definitions, and the errors
 //! that definitions and code share, are here and in `specs/`; `proofs/` has worked examples. The functions have empty
 //! bodies: their contracts are theorems.
+//!
+//! Words: a *gluing table* has a row for each tetrahedron, at most 1,000 of them, with four faces; each face is a
+//! boundary face or has a gluing, which names a tetrahedron and a permutation of four, reaches another face, and has
+//! its inverse there. A list p of images is a *permutation of four* if it has each of 0, 1, 2 and 3 once. A *place* is
+//! a tetrahedron with a list of its vertices; a chain of gluings, each across a face that contains these vertices,
+//! *joins* it to another place.
 #![tactic(auto)]
 
 ghost use Rattle.std.specs.Prelude.{◌≡◌};
@@ -79,7 +85,14 @@ impl<T: Drop> From<AllocFailed<T>> for TextFault {
     }
 }
 
-/// Theorem: permutations of four form a group.
+/// Theorem: let p and q be permutations of four.
+///
+/// 1. The inverse of p is a permutation of four.
+/// 2. The composition of p and q is a permutation of four.
+/// 3. The composition of p and its inverse, in either order, is the identity.
+/// 4. For each v < 4, the image p(v) is below 4, v is the preimage of p(v), and p maps the preimage of v to v.
+///
+/// Associativity and the identity are in `permutations_compose`.
 pub fn permutations_are_a_group()
     ensures inverses { InversesPermute }
     ensures composites { CompositesPermute }
@@ -87,22 +100,34 @@ pub fn permutations_are_a_group()
     ensures images { ImagesAreFound }
 {}
 
-/// Theorem: rows of four permutations are a table if and only if no error is found in them.
+/// Theorem: let R be a list of rows, each with four faces, in which each gluing is by a permutation of four. Then R is
+/// a gluing table if and only if no error is found in it: it has at most 1,000 rows, and each gluing reaches a face of
+/// a row, not the face itself, and has its inverse there.
 pub fn faults_decide_tables()
     ensures { FaultsDecideTables }
 {}
 
-/// Theorem: if rows of a table can be removed and new ones inserted, the result is a table.
+/// Lemma: let R be a gluing table, and let some of its rows be replaceable by new rows with new gluings. Then the rows
+/// after the replacement are a gluing table.
+///
+/// *Replaceable*: the result has at most 1,000 rows; the new gluings are by permutations of four, reach other faces
+/// that exist, and have inverses among new rows; in retained rows they reach faces that were glued to removed rows, no
+/// two to the same one.
 pub fn replacing_keeps_tables()
     ensures { ReplacingKeepsTables }
 {}
 
-/// Theorem: lines are read as a table if and only if they spell one.
+/// Lemma: let the next lines of an input be given. A gluing table T in the form `tri` is read from them, with a rest of
+/// lines left, if and only if the next lines are lines that spell T, followed by this rest. These are `tri N` and N
+/// lines of one row each.
 pub fn tri_tables_are_read()
     ensures { TriTablesAreRead }
 {}
 
-/// Theorem: in a table, to be joined by a chain of gluings is an equivalence relation on places.
+/// Theorem: let R be the rows of a table, and p, q, r places: a tetrahedron with a list of its vertices. Each place is
+/// joined to itself. If p is joined to q, and q to r, then p is joined to r. If R is a gluing table, the vertices of p
+/// are below 4, and p is joined to q, then the vertices of q are below 4, and q is joined to p. If p is joined to q,
+/// then p with its vertices reversed is joined to q with its vertices reversed.
 pub fn chains_make_classes()
     ensures { ChainsMakeClasses }
 {}
