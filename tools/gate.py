@@ -78,7 +78,7 @@ class Gate:
 
     def build(self, why: str) -> str:
         """Has tools/build.py make program and library. Returns a line that says so, and why."""
-        done = subprocess.run([sys.executable, str(TOP / "tools" / "build.py")], stdin=subprocess.DEVNULL, stdout=subprocess.PIPE,
+        done = subprocess.run([sys.executable, str(TOP / "tools" / "build.py"), "--browsers"], stdin=subprocess.DEVNULL, stdout=subprocess.PIPE,
                               stderr=subprocess.STDOUT, text=True, errors="replace", check=False)
         if done.returncode:
             raise NotBuilt(f"tools/build.py ended with status {done.returncode} ({why}):\n{done.stdout}")

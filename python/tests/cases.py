@@ -149,3 +149,8 @@ class Cases:
 def ascii_only(content):
     """A text of these bytes, with ? for those that UTF-8 spells by several."""
     return bytes(byte if byte < 128 else 63 for byte in content).decode("ascii")
+
+
+def timed(test):
+    """Marks a test with a limit of time that may pass on a loaded machine: tools/test.py runs it again alone if it fails."""
+    return test

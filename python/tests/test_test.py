@@ -7,6 +7,7 @@ import os
 import re
 import shutil
 import signal
+import subprocess
 import sys
 import tempfile
 import time
@@ -40,8 +41,9 @@ except NotBuilt as fault:
 
 
 class Parts(unittest.TestCase):
-    def printed(self, parts, only=(), again=False):
-        tests, out = tool.Tests(list(only), again), io.StringIO()
+    def printed(self, parts, only=(), folder=tool.PYTHON / "tests", complete=False):
+        """The status and the lines, with N for the seconds."""
+        tests, out = tool.Tests(list(only), folder, complete, folder / "kept" / "flaky.txt"), io.StringIO()
         with contextlib.redirect_stdout(out):
             tests.run_all(parts)
             status = tests.report()
@@ -49,28 +51,95 @@ class Parts(unittest.TestCase):
 
     def test_lines_and_statuses(self):
         good, bad = tool.Part("good", ["true"]), tool.Part("bad", ["sh", "-c", "echo out; echo err >&2; exit 3"])
-        self.assertEqual(self.printed([good]), (0, ["test: good: ok, N s", "test: all passed"]))
-        self.assertEqual(self.printed([bad, good]), (1, ["test: bad: FAILED", "out", "err", "test: good: ok, N s", "test: FAILED: bad"]))
+        counts = "test: %d parts passed, %d failed, 0 left out; 0 tests passed, 0 skipped"
+        self.assertEqual(self.printed([good]), (0, ["test: good: ok, N s", counts % (1, 0), "test: all passed"]))
+        self.assertEqual(self.printed([bad, good]), (1, ["test: bad: FAILED", "out", "err", "test: good: ok, N s", counts % (1, 1),
+                                                         "test: FAILED: bad"]))
         self.assertEqual(self.printed([bad, good], ["good"])[0], 0)
 
-    def test_a_second_run(self):
-        """It is asked for, prints what the first one wrote, and fails if it fails too."""
-        bad = tool.Part("bad", ["sh", "-c", "echo out; exit 3"])
-        first = ["test: bad: failed, and is run once more", "out"]
-        self.assertEqual(self.printed([bad], again=True), (1, [*first, "test: bad: FAILED", "out", "test: FAILED: bad"]))
+    def made_up(self, folder, body):
+        """A part with one test module: a timed test with this body, and one that isn't timed and fails if `other` is there."""
+        os.mkdir(os.path.join(folder, "tests"))
+        Path(folder, "tests", "__init__.py").touch()
+        Path(folder, "tests", "test_made.py").write_text(
+            "import os, unittest\n\n\ndef timed(it):\n    return it\n\n\nclass Made(unittest.TestCase):\n    @timed\n    def test_timed(self):\n"
+            f"        {body}\n\n    def test_other(self):\n        self.assertFalse(os.path.exists('other'))\n\n"
+            "    @unittest.skip('no reason')\n    def test_left_out(self):\n        pass\n", "utf8")
+        return tool.Part("made", [sys.executable, "-m", "unittest", "-v", "tests.test_made"], Path(folder))
+
+    def test_timed_tests_are_run_again(self):
+        """Alone, and only if no other one failed; they are named, and the status is neither that of success nor of failure."""
+        name = "test_made.Made.test_timed"
+        for body, other, status, last in (
+                ("if not os.path.exists('mark'):\n            open('mark', 'w').close()\n            self.fail('late')", False, 3, f"passed; flaky: {name}"),
+                ("self.fail('late')", False, 1, "FAILED: made"),
+                ("self.assertTrue(os.path.exists('mark')) or open('mark', 'w').close()", True, 1, "FAILED: made"),
+                ("pass", False, 0, "all passed")):
+            with self.subTest(body), tempfile.TemporaryDirectory() as folder:
+                part = self.made_up(folder, body)
+                if other:
+                    Path(folder, "other").touch()
+                found, lines = self.printed([part], folder=Path(folder, "tests"))
+                self.assertEqual((found, lines[-1]), (status, f"test: {last}"), lines)
+                again = f"test: made: timed tests failed, and are run again alone: {name}"
+                self.assertEqual(again in lines, status == 3 or body == "self.fail('late')")
+                self.assertIn("test: 1 skipped: no reason", lines)
+                passed = "1 parts passed, 0 failed, 0 left out; 2 tests passed" if status != 1 else "0 parts passed, 1 failed, 0 left out; 0 tests passed"
+                self.assertIn(f"test: {passed}, 1 skipped", lines)
+                kept = Path(folder, "tests", "kept", "flaky.txt")
+                self.assertEqual(kept.exists(), status == 3)
+                if status == 3:
+                    os.remove(os.path.join(folder, "mark"))
+                    again = self.printed([part], folder=Path(folder, "tests"))[1]
+                    self.assertRegex(again[-3], f"^test: flaky: {re.escape(name)}, in 2 runs on this machine since ")
+                    self.assertEqual(len(kept.read_text().splitlines()), 2)
+
+    def test_a_run_that_did_not_end_is_not_run_again(self):
+        """Nor one that failed in another way than by timed tests: what it had not tried would be lost."""
+        said = "FAIL: test_timed (tests.test_made.Made.test_timed)\n\nRan 1 test in 1s\n\n"
+        self.assertEqual(tool.failed_tests(said + "FAILED (failures=1, skipped=2)\n"), ["test_made.Made.test_timed"])
+        for end in ("", "FAILED (failures=1, unexpected successes=1)\n", "FAILED (failures=1)\n\nit had not ended after 5 s\n"):
+            self.assertEqual(tool.failed_tests(said + end), [])
+
+    def test_what_is_left_open(self):
+        for body, status in (("self.file = open(os.devnull)\n        del self.file", 1), ("open(os.devnull).close()", 0)):
+            with self.subTest(body), tempfile.TemporaryDirectory() as folder:
+                part = self.made_up(folder, body)._replace(words=tool.tests_in(["tests.test_made"]))
+                self.assertEqual(self.printed([part], folder=Path(folder, "tests"))[0], status)
+
+    def test_complete(self):
         with tempfile.TemporaryDirectory() as folder:
-            mends = tool.Part("bad", ["sh", "-c", f"cat '{folder}/mark' || {{ echo note: x >'{folder}/mark'; echo out; exit 3; }} 2>&1"])
-            status, lines = self.printed([mends], again=True)
-        self.assertEqual((status, lines[0], lines[-3:]), (0, first[0], ["test: bad: ok, N s", "note: x", "test: all passed"]))
+            part = self.made_up(folder, "pass")
+            for parts, last in (([part], "FAILED: not complete"), ([tool.Part("one", ["true"], needs="no-such-command")], "FAILED: not complete"),
+                                ([tool.Part("one", ["true"])], "all passed")):
+                status, lines = self.printed(parts, folder=Path(folder, "tests"), complete=True)
+                self.assertEqual((status, lines[-1]), (int(last != "all passed"), f"test: {last}"))
+
+    def test_a_part_that_fails_is_not_run_again(self):
+        with tempfile.TemporaryDirectory() as folder:
+            mends = tool.Part("bad", ["sh", "-c", f"cat '{folder}/mark' || {{ touch '{folder}/mark'; echo another list; exit 3; }} 2>&1"])
+            status, lines = self.printed([mends])
+        self.assertEqual((status, lines[0], lines[-1]), (1, "test: bad: FAILED", "test: FAILED: bad"))
+
+    def test_the_python_that_has_regina(self):
+        has = "import regina, numpy"
+        there = [path for path in {sys.executable, shutil.which("python3"), "/usr/bin/python3"}
+                 if path and os.path.exists(path) and subprocess.run([path, "-c", has], stderr=subprocess.DEVNULL).returncode == 0]
+        self.assertEqual(tool.python_of_tests() in there, bool(there))
 
     def test_what_is_not_there_is_left_out(self):
         parts = [tool.Part("one", ["false"], needs="no-such-command"), tool.Part("two", ["false"], needs="/no/such/file")]
         self.assertEqual(self.printed(parts), (0, ["test: one: left out, since no-such-command is not there",
-                                                   "test: two: left out, since file is not there", "test: all passed"]))
+                                                   "test: two: left out, since file is not there",
+                                                   "test: left out: one (without no-such-command)", "test: left out: two (without file)",
+                                                   "test: 0 parts passed, 0 failed, 2 left out; 0 tests passed, 0 skipped", "test: all passed"]))
 
     def test_counts(self):
-        self.assertEqual(tool.note_of("..s\nRan 3 tests in 0.1s\n\nOK (skipped=1)\n"), ", 3 tests, 1 of them skipped")
-        self.assertEqual(tool.note_of("3 examples ran\n"), "")
+        said = "test_a (tests.T.test_a)\nWhat it says. ... ok\ntest_b (tests.T.test_b) ... skipped 'no b'\nRan 3 tests in 0.1s\n\nOK (skipped=1)\n"
+        result = tool.Result(True, said)
+        self.assertEqual((result.note(), dict(result.skipped())), (", 3 tests, 1 of them skipped", {"no b": 1}))
+        self.assertEqual(tool.faults_of(said), "Ran 3 tests in 0.1s\n\nOK (skipped=1)\n")
+        self.assertEqual(tool.Result(True, "3 examples ran\n").note(), "")
 
     def test_a_part_that_does_not_end(self):
         """It is ended with all that it started, and fails."""
@@ -178,10 +247,6 @@ class Gate(unittest.TestCase):
         done = self.gate("exit 1", ["python3", "tools/test.py"])
         self.assertEqual(done.returncode, 1)
         self.assertIn("test: the parts after the gate were not run", done.stdout)
-
-    def test_the_script_of_the_merge_gate(self):
-        self.assertTrue(os.access(REPOSITORY / ".ci" / "run", os.X_OK))
-        self.assertIn("\nexec python3 tools/test.py --again\n", (REPOSITORY / ".ci" / "run").read_text())
 
 
 if __name__ == "__main__":
