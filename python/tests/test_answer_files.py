@@ -30,7 +30,7 @@ class Lines(unittest.TestCase):
         with self.assertRaisesRegex(ValueError, "file is in UTF-16"):
             self.read("one\n".encode("utf-16"))
         for content in (b"one\nab\xff\n", b"one\nab\xff"):
-            with self.assertRaisesRegex(BadLine, "file, line 2: byte 3 isn't UTF-8") as caught:
+            with self.assertRaisesRegex(BadLine, "file, line 2: byte 3 is not UTF-8") as caught:
                 count_lines(io.BytesIO(content), "file")
             self.assertEqual((caught.exception.number, caught.exception.text), (2, "ab\\xff"))
         self.assertEqual(count_lines(io.BytesIO(b"one\nab\xff"), "file", accept_bad=True), 2)
@@ -39,7 +39,7 @@ class Lines(unittest.TestCase):
         content = b"one\n" * 1000 + "tw\xe4\n".encode() * 1000 + b"thr\xff\n"
         for size in (1, 100, 1 << 18):
             with unittest.mock.patch.object(answer_files, "BLOCK", size):
-                with self.assertRaisesRegex(BadLine, "file, line 2001: byte 4 isn't UTF-8"):
+                with self.assertRaisesRegex(BadLine, "file, line 2001: byte 4 is not UTF-8"):
                     count_lines(io.BytesIO(content), "file")
                 self.assertEqual(count_lines(io.BytesIO(content), "file", accept_bad=True), 2001)
 
@@ -144,7 +144,7 @@ class Files(unittest.TestCase):
         with Output(self.out) as output:
             output.keep(lambda number, lines: lines)
             output.write("new\n")
-            with self.assertRaisesRegex(ValueError, "another run writes to"):
+            with self.assertRaisesRegex(ValueError, "another run is writing to"):
                 Output(self.out)
         self.write(self.out)
         self.assertEqual(self.content(self.out), "one\nnew\nnew\n")

@@ -3,7 +3,7 @@ import pathlib
 import unittest
 
 import trinorm
-from trinorm import BadArgument
+from trinorm import BadArgument, pictures
 
 TORUS = (1, 1, 0, 0, 1, 0, 0)
 SPHERE = "bkaagj"
@@ -23,79 +23,112 @@ class Arguments(unittest.TestCase):
 
     def test_triangulations(self):
         for value in (None, b"bkaagj", 7, pathlib.Path("a.txt")):
-            self.is_none("a triangulation is expected, and not", trinorm.info, value)
-        self.is_none("not its name", trinorm.info, "folder/a")
-        self.is_none("not its name", trinorm.info, "a.txt")
-        self.is_none("one by one", trinorm.info, "baa.bkaagj")
+            self.is_none("expected a triangulation, not", trinorm.info, value)
+        self.is_none("not the name", trinorm.info, "folder/a")
+        self.is_none("not the name", trinorm.info, "a.txt")
+        self.is_none("separately", trinorm.info, "baa.bkaagj")
         self.is_none("a list of triangulations", trinorm.group, SPHERE)
+
+    def test_texts_with_more_behind_the_triangulation(self):
+        more = "more text after it"
+        for text in (f"sig {SPHERE}\nvec 1 1 1 1 0 0 0", "# one\n\ntri 1\n0:1023 0:1023 0:1230 0:3012\nvec 1 1 1 1 0 0 0\n"):
+            for call in (trinorm.describe, trinorm.verify, trinorm.decompose, trinorm.lift):
+                self.is_none(more, call, text, [TORUS])
+        moves = f"sig {SPHERE}\n14 0\n"
+        for call in (trinorm.table, trinorm.play, trinorm.certify):
+            self.is_none(more, call, moves)
+        self.is_none(more, trinorm.same, f"sig {SPHERE}\nsig {SPHERE}", "# nothing")
+        self.is_none(more, trinorm.group, [f"sig {SPHERE}\nsig cPcbbbiht"])
+        self.is_none("not an empty string", trinorm.group, ["", f"sig {SPHERE}"])
+        self.is_none("has 0 rows of 1", trinorm.play, "tri 1", ["0:1023 0:1023 0:1230 0:3012"])
+        self.assertEqual(trinorm.verify(f"# one\r\nsig {SPHERE}\r\n\n# end", [TORUS])[0].kind, "solution")
+
+    def test_numbers_that_are_too_long(self):
+        long = 10 ** 5000
+        self.is_none("timeout must be", trinorm.sig, SPHERE, timeout=10 ** 400)
+        self.is_none("timeout must be", trinorm.sig, SPHERE, timeout=-long)
+        self.is_none("a number is too long", trinorm.verify, SPHERE, [[long] * 7])
+        self.is_none("a number is too long", trinorm.rays, [[long]])
+        self.is_none("an entry of a gluing table", trinorm.info, [["9" * 5000 + ":0132"] * 4])
+        self.is_none("an entry of a gluing table", trinorm.info, [[(long, "0132")] * 4])
+
+    def test_pictures(self):
+        for call in (pictures.face_pairing_svg, pictures.face_pairing_dot, pictures.face_pairs):
+            self.is_none("expected a Table", call, SPHERE)
+        for vertex in ("0", None, 0.0):
+            self.is_none("vertex must be the number of a vertex", pictures.vertex_link_svg, SPHERE, vertex)
+        self.is_none("nothing to draw", pictures.growth_svg, [])
+        self.is_none("points must be pairs", pictures.growth_svg, 5)
+        with self.assertRaises(BadArgument):
+            list(pictures.growth_points(5))
 
     def test_vectors(self):
         self.is_none("a list of vectors", trinorm.describe, SPHERE, TORUS)
         self.is_none("a list of vectors", trinorm.verify, SPHERE, "vec 1 1 0 0 1 0 0")
-        self.is_none("a vector is a list", trinorm.verify, SPHERE, ["vec 1 1 0 0 1 0 0"])
-        self.is_none("a vector is a list", trinorm.crush, SPHERE, [TORUS])
+        self.is_none("a vector must be a list", trinorm.verify, SPHERE, ["vec 1 1 0 0 1 0 0"])
+        self.is_none("a vector must be a list", trinorm.crush, SPHERE, [TORUS])
         self.is_none("a list of moves", trinorm.check, SPHERE, "14 0")
         self.is_none("a list of steps", trinorm.play, SPHERE, "14 0")
 
     def test_vectors_of_other_kinds(self):
-        self.is_none("1.0 is no whole number; astype", trinorm.crush, SPHERE, [1.0] * 7)
-        self.is_none("True is no whole number", trinorm.crush, SPHERE, [True] * 7)
-        self.is_none("'1' is no whole number", trinorm.crush, SPHERE, ["1"] * 7)
-        self.is_none("and not {}", trinorm.crush, SPHERE, {})
+        self.is_none("1.0 is not a whole number; convert an array with astype", trinorm.crush, SPHERE, [1.0] * 7)
+        self.is_none("True is not a whole number", trinorm.crush, SPHERE, [True] * 7)
+        self.is_none("'1' is not a whole number", trinorm.crush, SPHERE, ["1"] * 7)
+        self.is_none(", not {}", trinorm.crush, SPHERE, {})
         self.is_none("a list of vectors", trinorm.describe, SPHERE, {TORUS: 1})
-        self.is_none("a list of moves is expected", trinorm.check, SPHERE, [(14, 0)])
-        self.is_none("a list of moves is expected", trinorm.check, SPHERE, ["14 0\n41 0 3"])
-        self.is_none("a list of Sums is expected", trinorm.addup, SPHERE, [TORUS])
+        self.is_none("expected a list of moves", trinorm.check, SPHERE, [(14, 0)])
+        self.is_none("expected a list of moves", trinorm.check, SPHERE, ["14 0\n41 0 3"])
+        self.is_none("expected a list of Sum", trinorm.addup, SPHERE, [TORUS])
         [one] = trinorm.decompose(SPHERE, [TORUS])
-        self.is_none("a list of Sums is expected", trinorm.addup, SPHERE, one)
-        self.is_none("the fields of a Sum", trinorm.addup, SPHERE, [trinorm.Sum(1, 2, 3)])
+        self.is_none("expected a list of Sum", trinorm.addup, SPHERE, one)
+        self.is_none("a Sum needs a vector", trinorm.addup, SPHERE, [trinorm.Sum(1, 2, 3)])
         self.assertTrue(trinorm.addup(SPHERE, [trinorm.Sum(list(TORUS), 1, [trinorm.Term(1, list(TORUS))])]))
 
     def test_cones(self):
-        self.is_none("row 1 has 2 coefficients, and not 3", trinorm.rays, [[1, 2, 3], [1, 2]])
-        self.is_none("the rows of a cone are", trinorm.rays, [1])
-        self.is_none("the rows of a cone are", trinorm.rays, 5)
+        self.is_none("row 1 of the cone has 2 coefficients; it should have 3", trinorm.rays, [[1, 2, 3], [1, 2]])
+        self.is_none("the rows of a cone must be", trinorm.rays, [1])
+        self.is_none("the rows of a cone must be", trinorm.rays, 5)
         for columns in (-1, 10_001, "2", 2.0, True):
-            self.is_none("columns is a whole number from 0 to 10000", trinorm.rays, [], columns)
+            self.is_none("columns must be a whole number from 0 to 10,000", trinorm.rays, [], columns)
 
     def test_iterators_that_were_read(self):
         rows = iter(["0:1023 0:1023 0:1230 0:3012"])
         self.assertEqual(trinorm.sig(rows), SPHERE)
-        self.is_none("an iterator without rows: was it read before", trinorm.sig, rows)
-        self.is_none("an iterator without rows", trinorm.surfaces, (row for row in ()))
+        self.is_none("the iterator has no rows: it may be exhausted", trinorm.sig, rows)
+        self.is_none("the iterator has no rows", trinorm.surfaces, (row for row in ()))
         for value in ({}, set(), frozenset(), b"", bytearray()):
-            self.is_none("a triangulation is expected, and not", trinorm.csig, value)
+            self.is_none("expected a triangulation, not", trinorm.csig, value)
         for value in ([], (), "tri 0"):
             self.assertEqual(trinorm.csig(value), "a")
 
     def test_entries_of_rows(self):
         for entry in ((0,), (0, 1), (0, "012"), (0, (0, 1, 2, 4)), ("0", "0123"), (-1, "0123"), (0, "01x3"), "0-0123", 7, {0: "0123"}):
-            self.is_none("of a list of rows: ", trinorm.info, [[entry, None, None, None]])
-        self.is_none("a row of a gluing table is a list of four entries", trinorm.info, [["0:1023"]])
-        self.is_none("a row of a gluing table is a list of four entries", trinorm.info, [1])
+            self.is_none("As a list of rows it is wrong: ", trinorm.info, [[entry, None, None, None]])
+        self.is_none("a row of a gluing table must have four entries", trinorm.info, [["0:1023"]])
+        self.is_none("a row of a gluing table must have four entries", trinorm.info, [1])
 
     def test_limits_of_time(self):
         for value in (0, -1, -0.5, float("nan"), float("inf"), "1", b"", {}, [], True, False, 1j):
             for program in (None, trinorm.find()):
-                self.is_none("timeout is a positive number of seconds", trinorm.sig, SPHERE, timeout=value, program=program)
+                self.is_none("timeout must be a positive number of seconds", trinorm.sig, SPHERE, timeout=value, program=program)
 
     def test_programs(self):
         for value in (7, {}, [], b"trinorm", "", "a\0b", object, lambda: None, dict):
-            self.is_none("program is the path of a program", trinorm.sig, SPHERE, program=value)
+            self.is_none("program must be the path of a program", trinorm.sig, SPHERE, program=value)
         self.assertEqual(trinorm.sig(SPHERE, program=pathlib.Path(trinorm.find())), SPHERE)
 
     def test_near_misses(self):
-        self.is_none("is it 'quad'", trinorm.surfaces, SPHERE, coords="quads")
-        self.is_none("is it 'zeros'", trinorm.surfaces, SPHERE, order="zero")
+        self.is_none("did you mean 'quad'", trinorm.surfaces, SPHERE, coords="quads")
+        self.is_none("did you mean 'zeros'", trinorm.surfaces, SPHERE, order="zero")
 
     def test_options(self):
-        self.is_none("coords is one of standard, quad, octagon, and not 'quads'", trinorm.surfaces, SPHERE, coords="quads")
-        self.is_none("coords is one of standard, octagon", trinorm.describe, SPHERE, [], coords="quad")
-        self.is_none("order is one of given, short, zeros", trinorm.surfaces, SPHERE, order="zero")
-        self.is_none("max_entry is a whole number from 1", trinorm.surfaces, SPHERE, max_entry=0)
-        self.is_none("seed is a whole number", trinorm.make, -1, 2)
-        self.is_none("moves is a whole number from 0 to 5", trinorm.bulk, 1, 6)
-        self.is_none("columns must be given", trinorm.rays, [])
+        self.is_none("coords must be one of standard, quad, octagon, not 'quads'", trinorm.surfaces, SPHERE, coords="quads")
+        self.is_none("coords must be one of standard, octagon", trinorm.describe, SPHERE, [], coords="quad")
+        self.is_none("order must be one of given, short, zeros", trinorm.surfaces, SPHERE, order="zero")
+        self.is_none("max_entry must be a whole number from 1", trinorm.surfaces, SPHERE, max_entry=0)
+        self.is_none("seed must be a whole number", trinorm.make, -1, 2)
+        self.is_none("moves must be a whole number from 0 to 5", trinorm.bulk, 1, 6)
+        self.is_none("pass columns=", trinorm.rays, [])
 
     def test_are_errors_of_both_kinds(self):
         self.assertTrue(issubclass(BadArgument, ValueError) and issubclass(BadArgument, trinorm.Error))
@@ -118,8 +151,8 @@ class Hints(unittest.TestCase):
     def test_signatures(self):
         self.assertIn("_BaCB is SnapPy's decoration", self.hint("cPcbbbiht_BaCB"))
         self.assertIn("_BaCB is SnapPy's decoration", self.hint("# one\nsig cPcbbbiht_BaCB"))
-        self.assertEqual(self.hint("# a comment\ncPcbbbiht"), "put `sig` before cPcbbbiht")
-        self.assertEqual(self.hint("# a comment\ncPcbbbiht_BaCB"), "put `sig` before cPcbbbiht, and leave SnapPy's decoration _BaCB out")
+        self.assertEqual(self.hint("# a comment\ncPcbbbiht"), "write `sig` before cPcbbbiht")
+        self.assertEqual(self.hint("# a comment\ncPcbbbiht_BaCB"), "write `sig` before cPcbbbiht, and leave out SnapPy's decoration _BaCB")
         self.assertEqual(self.hint("bkaagjx"), "the signature is complete before this")
         for name in ("m004", "s776", "4_1", "K8n1"):
             self.assertIn(f"{name} is the name of a manifold", self.hint(name))
@@ -127,36 +160,37 @@ class Hints(unittest.TestCase):
     def test_files(self):
         self.assertIn("the input is empty", self.hint("\n"))
         self.assertIn("byte order mark", self.hint("\ufefftri 0\n"))
-        self.assertIn("a file of Regina's", self.hint('<?xml version="1.0"?>\n<regina engine="7.3">\n'))
+        self.assertIn("a file of Regina", self.hint('<?xml version="1.0"?>\n<regina engine="7.3">\n'))
         self.assertIn("compressed", self.hint("\x1f\udc8b\n1\n"))
         self.assertIn("SnapPea", self.hint("% Triangulation\nm004\n"))
 
     def test_entries(self):
-        self.assertIn("as 1:0213", self.hint("tri 1\n(0,1023) - - -\n"))
-        self.assertIn("as 1:0213", self.hint("tri 1\n0:102 - - -\n"))
-        self.assertIn("none negative", self.hint(SPHERE, trinorm.verify, [(-1,)]))
-        self.assertIn("as 1:0213", self.hint("tri 1\n- - -\n"))
+        self.assertIn("such as 1:0213", self.hint("tri 1\n(0,1023) - - -\n"))
+        self.assertIn("such as 1:0213", self.hint("tri 1\n0:102 - - -\n"))
+        self.assertIn("whole numbers of at least 0", self.hint(SPHERE, trinorm.verify, [(-1,)]))
+        self.assertIn("such as 1:0213", self.hint("tri 1\n- - -\n"))
 
     def test_checks_and_limits(self):
         for text, call, words in (
-            ("6 entries: standard coordinates have 7", trinorm.describe, (SPHERE, [TORUS[1:]])), ("`lift` makes", trinorm.crush, (SPHERE, (0, 0, 1))),
-            ("quad coordinates, 3 for each", trinorm.lift, (SPHERE, [TORUS])), ("10 for each tetrahedron", trinorm.describe, (SPHERE, [TORUS], "octagon")),
-            ("doesn't solve equation 0", trinorm.describe, (SPHERE, [(1, 0, 0, 0, 0, 0, 0)])), ("columns 5 and 6 intersect", trinorm.crush, (SPHERE, (0, 0, 1, 1, 0, 1, 1))),
-            ("spun-normal at vertex 0", trinorm.lift, ("cPcbbbiht", [(2, 0, 0, 0, 0, 1)])), ("`csig` takes several components", trinorm.sig, (["- - - -"] * 2,)),
-            ("`csame` takes several", trinorm.same, (["- - - -"] * 2, SPHERE)), ("lead to bkaagb", trinorm.check, ("bkaagb", [])),
-            ("move 3 isn't legal", trinorm.check, (SPHERE, ["14 0", "41 0 3", "23 0 0"])), ("`--max-entry`", trinorm.rays, ([[1, -2, 0], [0, 1, -2]], None, "given", 2)),
+            ("6 entries; standard coordinates have 7", trinorm.describe, (SPHERE, [TORUS[1:]])), ("`lift` converts", trinorm.crush, (SPHERE, (0, 0, 1))),
+            ("quad coordinates, with 3 for each", trinorm.lift, (SPHERE, [TORUS])), ("10 for each tetrahedron", trinorm.describe, (SPHERE, [TORUS], "octagon")),
+            ("does not solve equation 0", trinorm.describe, (SPHERE, [(1, 0, 0, 0, 0, 0, 0)])), ("at most one of columns 5 and 6 may be positive", trinorm.crush, (SPHERE, (0, 0, 1, 1, 0, 1, 1))),
+            ("spun-normal at vertex 0", trinorm.lift, ("cPcbbbiht", [(2, 0, 0, 0, 0, 1)])), ("cannot be reached from tetrahedron 0. Use `csig`", trinorm.sig, (["- - - -"] * 2,)),
+            ("Use `csame`", trinorm.same, (["- - - -"] * 2, SPHERE)), ("`--max-entry`", trinorm.rays, ([[1, -2, 0], [0, 1, -2]], None, "given", 2)),
             ("is glued to itself in reverse", trinorm.describe, ("tri 1\n0:1032 0:1032 - -\n", [])),
         ):
             with self.assertRaises(trinorm.Refused) as caught:
                 call(*words)
             self.assertIn(text, caught.exception.hint)
+        self.assertIn("end at bkaagb", trinorm.check("bkaagb", []).hint)
+        self.assertIn("move 3 is illegal", trinorm.check(SPHERE, ["14 0", "41 0 3", "23 0 0"]).hint)
 
     def test_words(self):
-        for asked, text in (([], "the first word is a command"), (["surface"], "is it `surfaces`?"), (["surfaces", "--cords", "quad"], "is it `--coords`?"),
-                            (["surfaces", "--coords", "quads"], "one of standard, quad, octagon, and not `quads`: is it `quad`?"), (["make"], "`make` needs `--seed`"),
-                            (["make", "--seed", "1", "--moves", "1001"], "a whole number from 0 to 1000, and not `1001`"), (["sig", "--", "x"], "no option `--`"),
-                            (["make", "--seed=1", "--seed=1"], "given twice"), (["surfaces", "--order"], "needs a value: one of given"), (["sig", "bkaagj"], "takes no word `bkaagj`"),
-                            (["make", "--seed", "1", "--moves", "1", "x"], "options alone")):
+        for asked, text in (([], "a command is missing"), (["surface"], "; did you mean `surfaces`?"), (["surfaces", "--cords", "quad"], "; did you mean `--coords`?"),
+                            (["surfaces", "--coords", "quads"], "one of standard, quad, octagon, not `quads`; did you mean `quad`?"), (["make"], "`make` needs the option `--seed`"),
+                            (["make", "--seed", "1", "--moves", "1001"], "a whole number from 0 to 1000, not `1001`"), (["sig", "--", "x"], "no option `--`"),
+                            (["make", "--seed=1", "--seed=1"], "given twice"), (["surfaces", "--order"], "needs a value: one of given"), (["sig", "bkaagj"], "leave `bkaagj` out"),
+                            (["make", "--seed", "1", "--moves", "1", "x"], "options only")):
             with self.assertRaises(trinorm.Refused) as caught:
                 trinorm.program.run(asked)
             self.assertEqual(caught.exception.line, "refused: usage")

@@ -45,10 +45,10 @@ class Reading(unittest.TestCase):
         self.same(arrays.read_vectors(self.text([(1, 127)]), "int8"), [(1, 127)], "int8")
         self.same(arrays.read_vectors(self.text([(1, 2)]), numpy.uint16), [(1, 2)], "uint16")
         for rows, kind in (([(1, 128)], "int8"), ([(LARGE,)], "int32"), ([(LARGE,)], "uint64")):
-            with self.assertRaisesRegex(trinorm.BadArgument, "an entry exceeds"):
+            with self.assertRaisesRegex(trinorm.BadArgument, "does not fit into"):
                 arrays.read_vectors(self.text(rows), kind)
         for kind in ("float64", "no type", object, 7, None, "", [1], "S4"):
-            with self.assertRaisesRegex(trinorm.BadArgument, "arrays is True, False or the name", msg=repr(kind)):
+            with self.assertRaisesRegex(trinorm.BadArgument, "arrays must be True, False or the name", msg=repr(kind)):
                 trinorm.surfaces(SPHERE, arrays=kind)
 
     def test_widths(self):

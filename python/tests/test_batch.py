@@ -6,8 +6,10 @@ import signal
 import threading
 import time
 import unittest
+import unittest.mock
 
 import trinorm
+from trinorm import batch, machine
 
 SIGNATURES = ["bkaagj", "cPcbbbiht", "bkaajj", "cMcabbgaj", "gLLPQccdfeefqffaqnw", "eLMkabcddbrrag"] * 20
 
@@ -55,6 +57,16 @@ class Many(unittest.TestCase):
         for given, command in ((SIGNATURES, "surface"), ("bkaagj", "sig"), (7, "sig"), (None, "sig")):
             with self.assertRaises(trinorm.BadArgument):
                 trinorm.many(given, command)
+
+    def test_without_a_mask_of_processors(self):
+        """macOS and Windows have no `os.sched_getaffinity`."""
+        mask = os.__dict__.pop("sched_getaffinity", None)
+        try:
+            self.assertEqual(machine.processors(), os.cpu_count() or 1)
+            self.assertEqual([it.value for it in trinorm.many(SIGNATURES[:6], "sig")], SIGNATURES[:6])
+        finally:
+            if mask is not None:
+                setattr(os, "sched_getaffinity", mask)
 
     def test_nothing(self):
         self.assertEqual(list(trinorm.many([], "sig")), [])
@@ -110,11 +122,70 @@ class Many(unittest.TestCase):
         timer = threading.Timer(0.5, os.kill, (os.getpid(), signal.SIGINT))
         timer.start()
         begun = time.monotonic()
-        with self.assertRaises(KeyboardInterrupt):
-            for _ in trinorm.many(itertools.repeat(long), "described"):
-                pass
-        timer.cancel()
+        # a shell ignores the signal for what it starts in the background, and so would this process
+        before = signal.signal(signal.SIGINT, signal.default_int_handler)
+        try:
+            with self.assertRaises(KeyboardInterrupt):
+                for _ in trinorm.many(itertools.repeat(long), "described"):
+                    self.assertLess(time.monotonic() - begun, 60)
+        finally:
+            timer.cancel()
+            signal.signal(signal.SIGINT, before)
         self.assertLess(time.monotonic() - begun, 30)
+
+    def test_interrupted_early(self):
+        """No lock is left held: it ends at once, with the handler's own exception."""
+        class Stop(Exception):
+            pass
+
+        def stop(*_):
+            raise Stop
+        before = signal.signal(signal.SIGALRM, stop)
+        try:
+            for number in range(100):
+                until = time.monotonic() + 60  # Python drops what is raised in a `__del__` or a callback, and then this would not end
+                with self.assertRaises(Stop):
+                    signal.setitimer(signal.ITIMER_REAL, 0.002 + number % 20 / 500)
+                    for _ in trinorm.many(itertools.repeat("eLMkabcddbrrag"), "surfaces"):
+                        if time.monotonic() > until:
+                            break
+        finally:
+            signal.setitimer(signal.ITIMER_REAL, 0)
+            signal.signal(signal.SIGALRM, before)
+
+    def test_threads_that_do_not_start(self):
+        """As where memory is short: then this thread answers, also if the system says that they were started."""
+        def fails(*_):
+            raise RuntimeError("can't start new thread")
+
+        for starts in (fails, lambda *_: 1):
+            with self.subTest(starts), unittest.mock.patch.object(batch, "start_new_thread", starts), unittest.mock.patch.object(batch, "LOOK", 0.02):
+                found = list(trinorm.many(SIGNATURES, length))
+                self.assertEqual([it.value for it in found], list(map(length, map(trinorm.tables.document, SIGNATURES))))
+
+    def test_an_executor_that_loses_its_calls(self):
+        """There is a warning."""
+        class Loses(concurrent.futures.ThreadPoolExecutor):
+            def submit(self, *given, **named):
+                future = concurrent.futures.Future()
+                threading.Timer(0.3, future.set_exception, (RuntimeError("it was lost"),)).start()
+                return future
+
+        with Loses(1) as executor, unittest.mock.patch.multiple(batch, LOOK=0.02, SILENCE=0.05):
+            with self.assertWarnsRegex(RuntimeWarning, "Loses has answered nothing for"):
+                found = list(trinorm.many(["bkaagj"], length, executor))
+        self.assertIn("it was lost", str(found[0].failure))
+
+    def test_wrong_arguments_at_once(self):
+        for named in ({"executor": concurrent.futures.ThreadPoolExecutor}, {"timeout": 0}, {"timeout": 10 ** 400}, {"program": 5},
+                      {"no_such_option": 1}, {"command": 5}, {"command": None}):
+            with self.subTest(named), self.assertRaises(trinorm.BadArgument):
+                trinorm.many(SIGNATURES, **named)
+
+    def test_what_no_other_process_can_take(self):
+        with concurrent.futures.ProcessPoolExecutor(1) as executor:
+            failure = next(trinorm.many(["bkaagj"], lambda text: text, executor)).failure
+        self.assertRegex(str(failure), "it cannot be sent to another process: .*pickle")
 
     def test_an_end_in_the_middle(self):
         answers = trinorm.many(itertools.repeat("cPcbbbiht"), "sig")

@@ -14,7 +14,7 @@ import unittest.mock
 import trinorm
 from tests.programs import script
 from trinorm.__main__ import main
-from trinorm.census import Ran, Source, blocks_of, by_processes, entry_of, run_census
+from trinorm.census import Ran, Source, blocks_of, by_processes, entry_of, key_of, run_census
 from trinorm.program import REPOSITORY, Failed
 from trinorm.tasks import Task
 
@@ -64,6 +64,13 @@ class Lines(unittest.TestCase):
         listed = self.entries(*SIGNATURES.encode().splitlines(keepends=True))
         self.assertEqual(listed, [("bkaagj", "sphere"), ("bkaagb", "bkaagb"), ("bkaajj", "a name with spaces"),
                                   ("cPcbbbiht", "figure-eight"), ("bkaagjx", "not one"), ("bkaagj", "sphere")])
+
+    def test_keys_are_no_lines(self):
+        """A line with the text of a key that is written as JSON is another triangulation."""
+        for signature, name in (("sig", "x"), ("a", ""), ("a", " b")):
+            key = key_of(signature, name)
+            self.assertFalse(any(key == found[0] for line in (key, key.strip()) for block in blocks_of(Source("f", None, [[line]]))
+                                 for found in block if found is not None))
 
     def test_lines_within_a_line(self):
         """A text that was given as one line stays one."""
@@ -131,7 +138,7 @@ class Census(Folder):
     def test_a_run_past_its_limit_loses_no_other(self):
         self.put(self.given, "bkaagj one\nuLMzMzMzMzMzMPcbcdefghijklmnopqrsttthhhhhhhhhhhhhhhhhhhah slow\nbkaajj two\n")
         listed = self.run_it(task=Task("surfaces", "standard", timeout=0.02))
-        self.assertIn("no answer in 0.02 s", listed["slow"]["failed"])
+        self.assertIn("no result within 0.02 s", listed["slow"]["failed"])
         self.assertEqual(len(listed), 3)
         listed = self.run_it(task=Task("surfaces", "standard", timeout=60), retry=True)
         self.assertEqual({name: len(it["answer"]) for name, it in listed.items()}, {"one": 2, "slow": 15129, "two": 2})
@@ -146,7 +153,7 @@ class Census(Folder):
 
     def test_an_output_that_is_none(self):
         self.run_it()
-        self.fails_with("has answers of `surfaces --coords standard`, and `info` is asked for", Task("info"))
+        self.fails_with("has results of `surfaces --coords standard`, not of `info`", Task("info"))
         whole = self.lines()
         for line in ("{broken\n", "[]\n", '{"name": 1}\n'):
             self.put(self.out, "".join(whole[:2]) + line + whole[2])
@@ -159,6 +166,9 @@ class Census(Folder):
             with open(self.given, "wb") as file:
                 file.write(content)
             self.fails_with(text)
+        with open(self.given, "wb") as file:
+            file.write(b"# one\r\nbkaagj\rcPcbbbiht\r")
+        self.fails_with("signatures.txt, line 2: a carriage return without a line feed")
         with open(self.given, "wb") as file:
             file.write("\ufeffbkaagj\n".encode())
         self.assertIn("bkaagj", self.run_it())
@@ -233,14 +243,14 @@ class Ends(Folder):
         with self.start(self.waiting()) as run:
             self.until(lambda: len(self.processes()) == 2)
             with self.start(trinorm.find()) as other:
-                self.assertIn(b"another run writes to", other.communicate(timeout=60)[1])
+                self.assertIn(b"another run is writing to", other.communicate(timeout=60)[1])
                 self.assertEqual(other.returncode, 3)
             run.terminate()
 
     def test_a_worker_that_can_not_start(self):
         self.put(self.given, "bkaagj\n")
         with unittest.mock.patch("sys.executable", "/bin/false"), contextlib.redirect_stderr(io.StringIO()) as said, \
-                self.assertRaisesRegex(Failed, "could not start: status 1"), by_processes(1) as engine:
+                self.assertRaisesRegex(Failed, "could not be started: status 1"), by_processes(1) as engine:
             run_census(self.given, self.out, Task("sig", program="/bin/true"), engine)
         self.assertIn("stopped: 0 answered", said.getvalue())
 

@@ -86,20 +86,20 @@ class ByExecutors(Programs):
         self.assertEqual(found, {f"n{k}": f"s{k}" for k in range(100)})
 
     def test_a_pool_of_python_s_own_that_breaks_is_named(self):
-        with ProcessPoolExecutor(2) as executor, self.assertRaisesRegex(Failed, "the engine has ended: .*terminated"):
+        with ProcessPoolExecutor(2) as executor, self.assertRaisesRegex(Failed, "the executor has stopped: .*terminated"):
             self.answered(entries(20, "killer"), executor, task=self.task(KILLER))
 
     def test_an_executor_that_was_shut_down(self):
         executor = ThreadPoolExecutor(1)
         executor.shutdown()
-        with self.assertRaisesRegex(Failed, "the engine has ended"):
+        with self.assertRaisesRegex(Failed, "the executor has stopped"):
             self.answered(entries(1), executor)
 
     def test_a_module_that_a_worker_has_not(self):
         class Poor(Made):
             def outcome(self, task, handful):
                 raise ModuleNotFoundError("No module named 'trinorm'")
-        with self.assertRaisesRegex(Failed, "can't import the package: No module named 'trinorm'"):
+        with self.assertRaisesRegex(Failed, "cannot import the package: No module named 'trinorm'"):
             self.answered(entries(5), Poor())
 
     def test_an_exception_in_a_worker_is_a_failed_run(self):
@@ -146,6 +146,31 @@ class Made(Executor):
         del self.waiting[:count]
 
 
+class Loses(Made):
+    """Loses the first two handfuls that it is asked."""
+
+    def submit(self, function, task, handful):  # pylint: disable=arguments-differ
+        if len(self.futures) < 2:
+            self.futures.append(Future())
+            return self.futures[-1]
+        return super().submit(function, task, handful)
+
+
+class Watched:
+    """What is known of an engine."""
+
+    loses = True
+
+    def __init__(self, idle, workers=1):
+        self.idle, self.count = idle, workers
+
+    def workers(self):
+        return self.count
+
+    def is_idle(self):
+        return self.idle
+
+
 class GivesUp(Made):
     """Gives up each handful with the killer, and each that is submitted next to one, as an engine may."""
 
@@ -188,7 +213,7 @@ class Handing(Programs):
             found = answers(entries(50), self.task(), executor, hands)
             reader = threading.Thread(target=lambda: list(found), daemon=True)
             reader.start()
-            end = time.monotonic() + 10
+            end = time.monotonic() + 120
             while reader.is_alive() and time.monotonic() < end:
                 with contextlib.suppress(IndexError):
                     executor.release(len(executor.waiting) + 1)
@@ -225,6 +250,39 @@ class Handing(Programs):
         self.assertEqual(executors.on_this_machine(Task("sig", program="/no/such/program")), Task("sig"))
         task = self.task()
         self.assertEqual(executors.on_this_machine(task), task)
+
+    def test_what_an_engine_has_lost_is_asked_anew(self):
+        """Each is answered once, also where the first answer comes after all."""
+        for is_idle in (True, False):
+            executor = Loses()
+            with self.subTest(is_idle), unittest.mock.patch.multiple(executors, LOOK=0.02, SILENCE=0.2):
+                found = list(answers(entries(5), self.task(), executor, 2, Watched(is_idle)))
+            self.assertEqual(sorted("".join(done.lines for done in found).split('"')[3::8]), [f"n{k}" for k in range(5)])
+            self.assertEqual(len(executor.futures), 2 + len(found))
+
+    def test_an_engine_without_workers_is_named(self):
+        said, watch = io.StringIO(), Watched(False, 0)
+        with unittest.mock.patch.multiple(executors, LOOK=0.01), contextlib.redirect_stderr(said):
+            silence = executors.Silence(watch)
+            time.sleep(0.1)
+            self.assertEqual([silence.is_too_long() for _ in range(3)], [False] * 3)
+        self.assertEqual(said.getvalue().count("has no worker"), 1)
+
+    def test_an_executor_of_which_nothing_is_known_is_waited_for(self):
+        """With a line; what it has in hand is not asked anew."""
+        said, executor = io.StringIO(), Made(delay=True)
+        with unittest.mock.patch.multiple(executors, LOOK=0.01, SILENCE=0.05), contextlib.redirect_stderr(said):
+            found = []
+            reader = threading.Thread(target=lambda: found.extend(answers(entries(3), self.task(), executor, 2, executors.Unknown())), daemon=True)
+            reader.start()
+            time.sleep(0.3)
+            end = time.monotonic() + 120
+            while reader.is_alive() and time.monotonic() < end:
+                with contextlib.suppress(IndexError):
+                    executor.release(len(executor.waiting))
+                time.sleep(0.005)
+        self.assertEqual((len(found), executor.most), (3, 2))
+        self.assertIn("no result for a minute: the executor has not stopped", said.getvalue())
 
     def test_hands(self):
         with ThreadPoolExecutor(3) as executor:
@@ -291,7 +349,7 @@ class FromPython(Programs):
 
     def census(self, signatures=None, out=None, command="sig", **named):
         with contextlib.redirect_stderr(io.StringIO()):
-            return trinorm.census(signatures or self.given, out or self.out, command, program=self.task().program, **named)
+            return trinorm.census(self.given if signatures is None else signatures, out or self.out, command, program=self.task().program, **named)
 
     def names(self):
         with open(self.out, encoding="utf8") as file:
@@ -320,6 +378,22 @@ class FromPython(Programs):
             self.census("/no/such/file")
         self.assertFalse(os.path.exists(self.out))
 
+    def test_columns_and_arrays(self):
+        """As pandas and NumPy have them; standard input is not read."""
+        try:
+            import numpy
+            import pandas
+        except ImportError:
+            self.skipTest("this Python has no pandas")
+        for kind in (pandas.Series, pandas.array, numpy.array):
+            for count in (1, 2, 3):
+                with self.subTest((kind, count)), unittest.mock.patch.object(sys, "stdin", None):
+                    out = f"{self.out}.{kind.__module__}.{kind.__name__}.{count}"
+                    self.assertEqual(self.census(kind([f"s{k}" for k in range(count)]), out, jobs=1).now, count)
+        for wrong in (numpy.array(7), numpy.array([1, 2]), pandas.DataFrame({"a": ["s1"]})):
+            with self.assertRaises(BadArgument):
+                trinorm.census(wrong, self.out, "sig", jobs=1)
+
     def test_nonsense(self):
         for wrong in (7, b"a", object(), 0.5, [7], [None], [b"bkaagj"], int):
             with self.subTest(wrong), self.assertRaises(BadArgument):
@@ -330,19 +404,19 @@ class FromPython(Programs):
                     self.census(**{"jobs": 1, name: wrong})
                     if name == "timeout" and wrong == 7.5 or name == "out" and not wrong:
                         raise Failed("a limit as any other")
-        with self.assertRaises(Failed):
+        with self.assertRaisesRegex(BadArgument, "a lone surrogate at index 2"):
             self.census(["a \ud800"], jobs=1)
 
     def test_lines_that_are_not_utf8(self):
         with open(self.given, "wb") as file:
             file.write(b"s1 one\ns2 b\xe4d\n# a comm\xe4nt\ns3 three\ns4 l\xe4st")
-        with self.assertRaisesRegex(Failed, "signatures, line 2: byte 5 isn't UTF-8"):
+        with self.assertRaisesRegex(Failed, "signatures, line 2: byte 5 is not UTF-8"):
             self.census(jobs=1)
         ran = self.census(jobs=1, skip_bad=True)
         self.assertEqual((ran.before, ran.now, ran.failed), (0, 4, 2))
         with open(self.out, encoding="utf8") as file:
             found = {line["name"]: line for line in map(json.loads, file)}
-        self.assertEqual(found["b\\xe4d"]["failed"], f"{self.given}, line 2: byte 5 isn't UTF-8")
+        self.assertEqual(found["b\\xe4d"]["failed"], f"{self.given}, line 2: byte 5 is not UTF-8")
         self.assertEqual(found["b\\xe4d"]["signature"], "s2")
         self.assertEqual(sorted(found), ["b\\xe4d", "l\\xe4st", "one", "three"])
         ran = self.census(jobs=1, skip_bad=True)
@@ -380,10 +454,10 @@ class Interrupted(Programs):
                     time.sleep(0.02)
             time.sleep(0.5)
             run.send_signal(number)
-            _, said = run.communicate(timeout=30)
+            _, said = run.communicate(timeout=120)
             self.assertEqual(run.returncode, status)
             self.assertIn("stopped: 1 answered, 0 refused, 0 failed", said)
-            self.assertIn("started again with the same words it goes on" if words[1] == out else "only if --out names a file", said)
+            self.assertIn("if it is started again with the same arguments, it resumes" if words[1] == out else "only if --out names a file", said)
 
     def test_standard_input(self):
         around = dict(os.environ, TRINORM=script(self.folder, ECHO),

@@ -66,7 +66,7 @@ class Library(unittest.TestCase):
         self.assertEqual(self.answer(["\udcff"]), (9, b""))
         with self.assertRaisesRegex(trinorm.Failed, "not UTF-8"):
             self.library.run(["sig", "\udcff"])
-        with self.assertRaisesRegex(ValueError, "null byte"):
+        with self.assertRaisesRegex(ValueError, "null character"):
             self.library.run(["sig\0"])
 
     def test_long_inputs(self):
@@ -134,7 +134,7 @@ class Library(unittest.TestCase):
         self.assertEqual(self.library.run(["sig"], "sig bkaagj\n", timeout=60), "bkaagj\n")
 
     def test_a_limit_of_memory(self):
-        with self.assertRaisesRegex(trinorm.Failed, "more memory"):
+        with self.assertRaisesRegex(trinorm.Failed, "needs more than 1048576 bytes of memory"):
             self.library.run(["surfaces"], LONG, memory=1 << 20)
         self.assertEqual(self.library.answer(["surfaces"], LONG, memory=1 << 20), (8, b"", library.MOST_MEMORY))
         self.assertEqual(self.library.run(["sig"], "sig bkaagj\n", memory=1 << 20), "bkaagj\n")
@@ -219,10 +219,10 @@ class Library(unittest.TestCase):
 
     def test_limits_that_are_none(self):
         for timeout in (0, -1, float("nan"), float("inf"), "1", True):
-            with self.assertRaisesRegex(trinorm.BadArgument, "timeout is a positive number"):
+            with self.assertRaisesRegex(trinorm.BadArgument, "timeout must be a positive number"):
                 self.library.answer(["sig"], "sig bkaagj\n", timeout=timeout)
         for memory in (0, -1, 1.5, "1", True, 1 << 64):
-            with self.assertRaisesRegex(trinorm.BadArgument, "memory is a positive number"):
+            with self.assertRaisesRegex(trinorm.BadArgument, "memory must be a positive number"):
                 self.library.answer(["sig"], "sig bkaagj\n", memory=memory)
         for words, text in (("sig", ""), ([7], ""), (["sig"], b"sig bkaagj"), (["sig"], "\ud800"), (["sig"], None)):
             with self.assertRaises(trinorm.BadArgument):

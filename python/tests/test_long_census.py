@@ -7,6 +7,8 @@ import unittest
 
 from trinorm.program import REPOSITORY
 
+from .cases import timed
+
 SCRIPT = str(REPOSITORY / "bench" / "long_census.py")
 LINES = 20000
 
@@ -31,12 +33,15 @@ class LongCensus(unittest.TestCase):
         self.assertEqual((none, before, earlier, third, last), (0, first, second, LINES, (LINES, LINES)))
         self.assertTrue(0 < first < second < LINES, starts)
 
+    @timed
     def test_interrupted(self):
         self.check(self.run_it("INT", "130"))
 
+    @timed
     def test_terminated(self):
         self.check(self.run_it("TERM", "143"))
 
+    @timed
     def test_killed(self):
         self.check(self.run_it("KILL", "-9"))
 

@@ -32,11 +32,18 @@ class Words(unittest.TestCase):
             one = Meter(1000, KINDS, at=Log(io.StringIO()))
         one.before = 50
         with unittest.mock.patch.object(meter.time, "monotonic", return_value=110.0):
-            self.assertEqual(one.text(), "50 done before; 0 answered, 0 failed; 1,000 left, 0.0 an hour, begun 10 s ago")
+            self.assertEqual(one.text(), "50 done before; 0 answered, 0 failed; 1,000 left, 0.0 an hour, started 10 s ago")
             one.add({"answer": 90, "failed": 10})
-            self.assertEqual(one.text(), "50 done before; 90 answered, 10 failed; 900 left, 10 a second, about 90 s to go")
+            self.assertEqual(one.text(), "50 done before; 90 answered, 10 failed; 900 left, 10 a second, about 90 s left")
             one.total = None
             self.assertEqual(one.text(), "50 done before; 90 answered, 10 failed in 10 s, 10 a second")
+
+
+def until(is_so, seconds=60.0):
+    """Waits until something is so, or the time is over."""
+    end = time.monotonic() + seconds
+    while not is_so() and time.monotonic() < end:
+        time.sleep(0.02)
 
 
 class Shown(unittest.TestCase):
@@ -46,7 +53,7 @@ class Shown(unittest.TestCase):
         with unittest.mock.patch.object(meter, "SELDOM", 0.05), unittest.mock.patch.object(Log, "interval", 0.05), \
                 Meter(3, KINDS, to=log) as one:
             one.add({"answer": 1})
-            time.sleep(0.5)
+            until(lambda: log.getvalue().count("\n") > 2)
             one.end("the end")
         lines = log.getvalue().splitlines()
         self.assertGreater(len(lines), 2)
@@ -79,7 +86,7 @@ class Shown(unittest.TestCase):
             to = io.StringIO()
             with unittest.mock.patch.object(Bar, "interval", 0.02), Meter(7, KINDS, to=to) as one:
                 one.add({"answer": 5})
-                time.sleep(0.3)
+                until(lambda: MadeUpBar.last is not None and MadeUpBar.last.n == 5)
                 one.end("the end")
             self.assertEqual((MadeUpBar.last.total, MadeUpBar.last.n, MadeUpBar.last.is_closed), (7, 5, True))
             self.assertEqual(to.getvalue(), "the end\n")
@@ -123,6 +130,8 @@ class Shown(unittest.TestCase):
 
 class MadeUpBar:
     """What tqdm's bar has."""
+
+    last = None
 
     def __init__(self, total, unit, file):
         self.total, self.n, self.is_closed = total, 0, False

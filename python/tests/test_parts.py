@@ -12,6 +12,7 @@ import unittest
 import trinorm
 from trinorm import commands, parts, questions
 
+from .cases import timed
 from .programs import script
 
 SPHERE = "bkaagj"
@@ -90,12 +91,26 @@ class Documents(unittest.TestCase):
 
     def test_clock(self):
         self.assertIsNone(parts.Clock(None).left())
+        clock = parts.Clock(600)
+        self.assertEqual(clock.left(), 600)
+        self.assertLess(clock.left(), 600)
         clock = parts.Clock(0.05)
-        self.assertEqual(clock.left(), 0.05)
-        self.assertLess(clock.left(), 0.05)
+        clock.left()
         time.sleep(0.06)
-        with self.assertRaisesRegex(trinorm.TimedOut, "no answer in 0.05 s"):
+        with self.assertRaisesRegex(trinorm.TimedOut, "no result within 0.05 s"):
             clock.left()
+
+
+class Changed:
+    """Answers as the program does, but with other lines."""
+
+    def __init__(self, change):
+        self.change = change
+
+    def run(self, words, text="", timeout=None):
+        lines = trinorm.program.run(words, text, timeout).splitlines(True)
+        changed = self.change(lines)
+        return "".join(changed if changed else lines)
 
 
 class CutAnswers(unittest.TestCase):
@@ -106,20 +121,41 @@ class CutAnswers(unittest.TestCase):
             call(*words, program=script(folder, f"printf '{answer}'\n"), **named)
 
     def test_lists(self):
-        self.fails("2 vectors came: the answer was cut off", "# surfaces 3\\nvec 1 0\\nvec 0 1\\n", trinorm.surfaces, SPHERE)
-        self.fails("1 vectors came: the answer was cut off", "# rays 2\\nvec 1\\n", trinorm.rays, [[0]])
-        self.fails("the answer was cut off", "# surfaces 2\\nvec 1 0\\nvec 0 1", trinorm.surfaces, SPHERE)
-        self.fails("isn't understood", "", trinorm.surfaces, SPHERE)
-        self.fails("isn't understood", "vec 1 0\\n", trinorm.surfaces, SPHERE)
-        self.fails("isn't understood", "# surfaces many\\nvec 1 0\\n", trinorm.surfaces, SPHERE)
+        self.fails("the answer is incomplete: 2 vectors after `# surfaces 3`", "# surfaces 3\\nvec 1 0\\nvec 0 1\\n", trinorm.surfaces, SPHERE)
+        self.fails("the answer is incomplete: 1 vectors after `# rays 2`", "# rays 2\\nvec 1\\n", trinorm.rays, [[0]])
+        self.fails("the answer is incomplete", "# surfaces 2\\nvec 1 0\\nvec 0 1", trinorm.surfaces, SPHERE)
+        self.fails("cannot be read", "", trinorm.surfaces, SPHERE)
+        self.fails("cannot be read", "vec 1 0\\n", trinorm.surfaces, SPHERE)
+        self.fails("cannot be read", "# surfaces many\\nvec 1 0\\n", trinorm.surfaces, SPHERE)
         for call in (trinorm.count, trinorm.spheres, trinorm.tori, trinorm.described):
-            self.fails("1 vectors came", "# surfaces 3\\nvec 1 0\\n", call, SPHERE)
+            self.fails("1 vectors after", "# surfaces 3\\nvec 1 0\\n", call, SPHERE)
 
     def test_answers_to_vectors(self):
-        self.fails("2 vectors were asked, and 1 were answered", "solution\\n", trinorm.verify, SPHERE, [TORUS, TORUS])
-        self.fails("1 vectors were asked, and 0 were answered", "", trinorm.describe, SPHERE, [TORUS])
-        self.fails("1 vectors were asked, and 0 were answered", "", trinorm.lift, SPHERE, [(1, 0, 0)])
-        self.fails("the answer was cut off", "solution", trinorm.verify, SPHERE, [TORUS])
+        self.fails("the answer is incomplete: 1 results for 2 vectors", "solution\\n", trinorm.verify, SPHERE, [TORUS, TORUS])
+        self.fails("the answer is incomplete: 0 results for 1 vectors", "", trinorm.describe, SPHERE, [TORUS])
+        self.fails("the answer is incomplete: 0 results for 1 vectors", "", trinorm.lift, SPHERE, [(1, 0, 0)])
+        self.fails("the answer is incomplete", "solution", trinorm.verify, SPHERE, [TORUS])
+
+    def test_each_reader_counts(self):
+        """An answer without its last lines, or without one of them, is no shorter answer."""
+        t, sphere = "eLMkabcddbrrag", trinorm.make(7, 30)
+        vectors = trinorm.surfaces(t)
+        calls = {
+            "same": lambda it: trinorm.same(t, t, program=it), "csame": lambda it: trinorm.csame(t, t, program=it),
+            "group": lambda it: trinorm.group([t, SPHERE, t], program=it), "cover": lambda it: trinorm.cover("bkaagb", program=it),
+            "pi1": lambda it: trinorm.pi1(t, program=it), "decompose": lambda it: trinorm.decompose(t, vectors[:2], program=it),
+            "describe": lambda it: trinorm.describe(t, vectors[:3], program=it), "make": lambda it: trinorm.make(7, 30, program=it),
+            "descend": lambda it: trinorm.descend(sphere.table, program=it), "certify": lambda it: trinorm.certify(sphere.table, program=it),
+            "play": lambda it: trinorm.play(SPHERE, ["14 0", "undo", "14 0"], program=it)}
+        for name, call in calls.items():
+            right = call(None)
+            for cut in range(1, 8):
+                for change in (lambda lines, cut=cut: lines[:-cut], lambda lines, cut=cut: lines[:cut] + lines[cut + 1:]):
+                    with self.subTest((name, cut)):
+                        try:
+                            self.assertEqual(call(Changed(change)), right)
+                        except trinorm.Failed:
+                            pass
 
     def test_no_program_is_no_list(self):
         with self.assertRaises(trinorm.Failed):
@@ -147,8 +183,7 @@ class LongLists(unittest.TestCase):
         self.assertTrue(all(it.is_solution for it in trinorm.verify(self.t, self.vectors)))
 
     def test_zero_efficiency(self):
-        shown = trinorm.zero_efficient(self.t)
-        self.assertFalse(shown)
+        shown = trinorm.zero_efficient(self.t).witness
         self.assertIn(shown.vector, self.vectors)
         self.assertGreater(shown.euler, 0)
 
@@ -164,17 +199,20 @@ class LongLists(unittest.TestCase):
         self.assertEqual(caught.exception.places, (1 + len(self.t) + 11027 + 1, 5))
 
     def test_a_text_with_vectors(self):
-        text = f"sig {SPHERE}\n" + "vec 1 1 0 0 1 0 0\n" * 70000
-        self.assertEqual(len(trinorm.verify(text, [CLASH])), 70001)
-        self.assertEqual(trinorm.verify(text, [CLASH])[-1].kind, "clash")
+        """It has no other question than the vectors that were given."""
+        with self.assertRaisesRegex(trinorm.BadArgument, "more text after it: 'vec 1 1 0 0 1 0 0'"):
+            trinorm.verify(f"sig {SPHERE}\n" + "vec 1 1 0 0 1 0 0\n" * 70000, [CLASH])
+        self.assertEqual(len(trinorm.verify(SPHERE, [TORUS] * 70000 + [CLASH])), 70001)
+        self.assertEqual(trinorm.verify(SPHERE, [TORUS] * 70000 + [CLASH])[-1].kind, "clash")
 
     def test_lifts(self):
         quads = [(1, 0, 0)] * 150000
         self.assertEqual(trinorm.lift(SPHERE, quads), [TORUS] * 150000)
 
+    @timed
     def test_a_limit_of_time_is_one_for_all_parts(self):
         begun = time.monotonic()
-        with self.assertRaisesRegex(trinorm.TimedOut, "no answer in 0.2 s"):
+        with self.assertRaisesRegex(trinorm.TimedOut, "no result within 0.2 s"):
             trinorm.count(self.t, timeout=0.2)
         self.assertLess(time.monotonic() - begun, 60)
 
@@ -216,10 +254,10 @@ class BothWays(unittest.TestCase):
             text = commands.document(t)
             by_list = questions._by_list(text, parts.Clock(None), None)
             by_quads = questions._by_quads(text, parts.Clock(None), None)
-            self.assertEqual(bool(by_list), bool(by_quads))
-            if not by_quads:
+            self.assertEqual(by_list is None, by_quads is None)
+            if by_quads is not None:
                 self.assertIn(by_quads.vector, trinorm.surfaces(t))
-                self.assertEqual(by_quads.surface, trinorm.describe(t, [by_quads.vector])[0])
+                self.assertEqual(by_quads, trinorm.describe(t, [by_quads.vector])[0])
 
 
 if __name__ == "__main__":

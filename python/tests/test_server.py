@@ -26,6 +26,7 @@ from trinorm import server
 from trinorm.program import REPOSITORY
 from trinorm.server import Server
 
+from .cases import timed
 from .programs import script
 from .test_library import ASKED, INPUTS, LONG, NO_WORDS, by_process, named
 
@@ -112,7 +113,7 @@ class Answers(Folder):
 
     def test_a_server_of_another_version(self):
         write(os.path.join(self.folder, server.NAME), OLDER)
-        with self.assertRaisesRegex(trinorm.Failed, "of this version"):
+        with self.assertRaisesRegex(trinorm.Failed, "has the version of this package"):
             self.echo("one", timeout=None)
 
     def test_a_process_that_ends(self):
@@ -133,7 +134,7 @@ class Answers(Folder):
 
     def test_one_that_cannot_be_started(self):
         os.unlink(self.server.path)
-        with self.assertRaisesRegex(trinorm.Failed, "can't be started: No such file"):
+        with self.assertRaisesRegex(trinorm.Failed, "cannot be started: No such file"):
             self.echo("one")
         with self.assertRaisesRegex(trinorm.Failed, "there is no trinorm-server next to the program"):
             Server(self.program)
@@ -159,7 +160,7 @@ class Answers(Folder):
 
     def test_limits_that_are_none(self):
         for timeout in (0, -1, float("nan"), float("inf"), "1", b"", {}, True):
-            with self.assertRaisesRegex(trinorm.BadArgument, "timeout is a positive number"):
+            with self.assertRaisesRegex(trinorm.BadArgument, "timeout must be a positive number"):
                 self.echo("one", timeout=timeout)
         for words in ("echo", [7], ["a\0b"], None):
             with self.assertRaises((trinorm.BadArgument, TypeError)):
@@ -226,15 +227,82 @@ class Answers(Folder):
                 signal.signal(signal.SIGALRM, before)
             self.assertEqual(self.echo("two"), "two")
 
+    def test_interrupted_calls_leave_no_process(self):
+        class Stop(Exception):
+            pass
+
+        def stop(*_):
+            raise Stop
+        others = self.children()
+        before = signal.signal(signal.SIGALRM, stop)
+        try:
+            for number in range(200):
+                until = time.monotonic() + 60  # Python drops what is raised in a `__del__`, and then this would not end
+                with contextlib.suppress(Stop):
+                    signal.setitimer(signal.ITIMER_REAL, 0.0002 + number % 40 / 10_000)
+                    while time.monotonic() < until:
+                        self.echo("one")
+        finally:
+            signal.setitimer(signal.ITIMER_REAL, 0)
+            signal.signal(signal.SIGALRM, before)
+        self.assertEqual(self.echo("two"), "two")
+        self.assertLessEqual(len(self.children() - others), 2)
+        self.server.close()
+        self.assertEqual(self.children() - others, set())
+
+    def children(self):
+        """The processes that this one has started, the ended ones among them: the number and the name of each."""
+        found = set()
+        for path in Path("/proc").glob("[0-9]*/stat"):
+            with contextlib.suppress(OSError):
+                words = path.read_text("utf8").rpartition(")")
+                if int(words[2].split()[1]) == os.getpid():
+                    found.add(words[0])
+        return found
+
+    def test_no_call_takes_a_process_that_is_ended(self):
+        """Its descriptors may be those of another file by then."""
+        self.echo("one")
+        [process] = self.server._all
+        end, others = process.end, []
+
+        def taken_meanwhile():
+            others.append(self.server._take(server._Call()))
+            return end()
+        process.end = taken_meanwhile
+        server._end_all({process}, self.server._calls, os.getpid())
+        self.assertEqual(len(others), 1)
+        self.assertIsNot(others[0], process)
+        self.server._give_back(others[0])
+        self.assertEqual(self.echo("two"), "two")
+
+    def test_a_handler_that_forks(self):
+        """The child goes back into the call, and has its own answer."""
+        children = []
+
+        def fork(*_):
+            children.append(os.fork())
+            if children[-1] == 0:
+                self.echo("inside")
+        before = signal.signal(signal.SIGALRM, fork)
+        try:
+            signal.setitimer(signal.ITIMER_REAL, 0.3)
+            with self.assertRaises(trinorm.TimedOut):
+                self.echo("outside", "sleep", timeout=1)
+        finally:
+            signal.signal(signal.SIGALRM, before)
+            if children[-1:] == [0]:
+                os._exit(0 if sys.exc_info()[0] is None else 3)
+        self.assertEqual(os.waitstatus_to_exitcode(os.waitpid(children[0], 0)[1]), 0)
+
     def test_ctrl_c_at_a_prompt(self):
         """SIGINT to the group of a process, as a terminal sends it, leaves the server alone."""
-        text = ("import time\nfrom trinorm.server import Server\nit = Server(%r)\nprint(it.run(['echo'], 'one'), flush=True)\nbefore = {one.run.pid for one in it._all}\n"
-                "try:\n    time.sleep(100)\nexcept KeyboardInterrupt:\n    time.sleep(0.1)\n"
+        text = ("import time\nfrom trinorm.server import Server\nit = Server(%r)\nanswer = it.run(['echo'], 'one')\nbefore = {one.run.pid for one in it._all}\n"
+                "try:\n    print(answer, flush=True)\n    time.sleep(100)\nexcept KeyboardInterrupt:\n    time.sleep(0.1)\n"
                 "print(it.run(['echo'], 'two'), before == {one.run.pid for one in it._all}, flush=True)\n")
         run = subprocess.Popen([sys.executable, "-c", text % self.program], env=dict(os.environ, PYTHONPATH=str(REPOSITORY / "python")),
                                stdout=subprocess.PIPE, start_new_session=True, text=True)
         self.assertEqual(run.stdout.readline(), "one\n")
-        time.sleep(0.2)
         os.killpg(run.pid, signal.SIGINT)
         self.assertEqual(run.communicate(timeout=120)[0], "two True\n")
 
@@ -365,6 +433,7 @@ class Shared(Folder):
         self.assertEqual([it for it, text in zip(answers, self.TEXTS * 2) if it not in (text, "Failed")], [])
         self.assertEqual(self.by_threads(8), self.TEXTS)
 
+    @timed
     def test_limits_of_time_that_expire(self):
         """Each answer is right, or `TimedOut`; and no call takes much longer than its limit."""
         draw = random.Random(7)
@@ -378,9 +447,10 @@ class Shared(Folder):
             answers = list(threads.map(ask, self.TEXTS, limits))
         self.assertEqual([it for (it, _), text in zip(answers, self.TEXTS) if it not in (text, "TimedOut")], [])
         self.assertEqual([it for (it, _), limit in zip(answers, limits) if limit == 60 and it == "TimedOut"], [])
-        self.assertEqual([seconds for (it, seconds) in answers if it == "TimedOut" and seconds > 5], [])
+        self.assertEqual([seconds for (it, seconds) in answers if it == "TimedOut" and seconds > 30], [])
         self.assertEqual(self.by_threads(8), self.TEXTS)
 
+    @timed
     def test_a_limit_holds_beside_a_long_request(self):
         with concurrent.futures.ThreadPoolExecutor(2) as threads:
             long = threads.submit(self.echo, "long", "sleep", 10)
@@ -456,13 +526,14 @@ class InC(Shared):
     def test_it_stops_where_nobody_waits_for_its_answer(self):
         """The process that asked is killed in the middle."""
         text = ("from trinorm.server import Server\nimport threading\nit = Server(%r)\n"
-                "threading.Timer(0.3, lambda: print(*(one.run.pid for one in it._all), flush=True)).start()\nit.run(['wait', '600'])")
+                "def say():\n    while not it._calls:\n        pass\n    print(*(one.run.pid for one in it._all), flush=True)\n"
+                "threading.Thread(target=say, daemon=True).start()\nit.run(['wait', '600'])")
         run = subprocess.Popen([sys.executable, "-c", text % self.program], env=dict(os.environ, PYTHONPATH=str(REPOSITORY / "python")),
                                stdout=subprocess.PIPE, text=True)
         process = int(run.stdout.readline())
         run.kill()
         run.communicate()
-        last = time.monotonic() + 10
+        last = time.monotonic() + 60
         while is_running(process) and time.monotonic() < last:
             time.sleep(0.05)
         self.assertFalse(is_running(process))
@@ -551,11 +622,12 @@ class Lists(unittest.TestCase):
         with self.assertRaises(trinorm.Refused):
             trinorm.sig("bkaagjx", program=self.server)
 
+    @timed
     def test_a_limit_of_time_ends_a_long_list(self):
         begun = time.monotonic()
         with self.assertRaises(trinorm.TimedOut):
             self.server.run(["surfaces"], LONG, timeout=0.01)
-        self.assertLess(time.monotonic() - begun, 2)
+        self.assertLess(time.monotonic() - begun, 20)
         self.assertEqual(self.server.run(["sig"], "sig bkaagj\n", timeout=60), "bkaagj\n")
 
     def test_memory_is_given_back(self):

@@ -24,7 +24,7 @@ class BadLine(ValueError):
     """A line that isn't UTF-8: its number, its text with these bytes as `\\xff`, and the sentence that names it."""
 
     def __init__(self, name: str, number: int, line: bytes, at: int) -> None:
-        super().__init__(f"{name}, line {number}: byte {at + 1} isn't UTF-8")
+        super().__init__(f"{name}, line {number}: byte {at + 1} is not UTF-8")
         self.number = number
         self.text = line.decode("utf-8", "backslashreplace").rstrip("\r\n")
 
@@ -39,18 +39,29 @@ def decoded(line: bytes, name: str, number: int) -> str:
 
 def read_blocks(file: BinaryIO, name: str, are_alone: bool = False) -> Iterator[List[bytes]]:
     """The lines of a file, with their ends, without a byte order mark, some at a time. Lines are alone if the next one may be
-    long in coming, as through a pipe. UTF-16 is a ValueError."""
+    long in coming, as through a pipe. UTF-16, or a carriage return within a line, is a ValueError."""
     blocks = ([line] for line in file) if are_alone else iter(lambda: file.readlines(BLOCK), [])
-    for number, lines in enumerate(blocks):
-        if number == 0:
+    count = 0
+    for lines in blocks:
+        if count == 0:
             lines[0] = _first_line(lines[0], name)
+        if b"\r" in b"".join(lines).replace(b"\r\n", b""):
+            _refuse_lone_returns(lines, name, count + 1)
+        count += len(lines)
         yield lines
+
+
+def _refuse_lone_returns(lines: List[bytes], name: str, number: int) -> None:
+    """A ValueError if one of the lines has several in it, whose ends are carriage returns alone; the first has the number."""
+    for at, line in enumerate(lines, number):
+        if b"\r" in line.rstrip(b"\r\n"):
+            raise ValueError(f"{name}, line {at}: a carriage return without a line feed; end each line with a line feed")
 
 
 def _first_line(line: bytes, name: str) -> bytes:
     """The first line of a file, without a byte order mark."""
     if line.startswith(UTF16):
-        raise ValueError(f"{name} is in UTF-16, and UTF-8 is wanted")
+        raise ValueError(f"{name} is in UTF-16; save it as UTF-8")
     return line[len(MARK):] if line.startswith(MARK) else line
 
 
@@ -180,7 +191,7 @@ def _held(path: str) -> TextIO:
         file = open(target, "a", encoding="utf8")
         if not _try_to_lock(file):
             file.close()
-            raise ValueError(f"another run writes to {path}")
+            raise ValueError(f"another run is writing to {path}")
         with contextlib.suppress(FileNotFoundError):
             if os.path.samestat(os.fstat(file.fileno()), os.stat(target)):
                 return file
@@ -192,7 +203,7 @@ def _try_to_lock(file: TextIO) -> bool:
     try:
         import fcntl
     except ImportError:
-        raise ValueError("a census locks the file that it writes, and this system has no such locks") from None
+        raise ValueError("a census needs a lock on its output, and this system cannot lock files") from None
     try:
         fcntl.flock(file, fcntl.LOCK_EX | fcntl.LOCK_NB)
     except BlockingIOError:

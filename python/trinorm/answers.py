@@ -9,7 +9,7 @@ from __future__ import annotations
 from dataclasses import dataclass
 from typing import Any, Dict, List, Optional, Sequence, Tuple
 
-from .errors import Failed
+from .errors import PLACES_OF_VECTORS, BadArgument, Failed, Place, named_places
 from .tables import Table, import_regina
 
 Vector = Tuple[int, ...]
@@ -23,7 +23,46 @@ class Verdict:
 
     @property
     def is_solution(self) -> bool:
+        """Whether it is the vector of a normal surface."""
         return self.kind == "solution"
+
+    def __bool__(self) -> bool:
+        return self.is_solution
+
+    @property
+    def named(self) -> Dict[str, int]:
+        """The numbers by their names: `entries` of `length`, `row` of `large` and `fails`, `first_column` and `second_column`
+        of `clash`."""
+        return dict(zip(PLACES_OF_VECTORS.get(self.kind, ()), self.places))
+
+
+@dataclass(frozen=True)
+class Accepted:
+    """The verdict of `check` or `addup`, which is true if the program accepted.
+
+    kind: empty if it did; else that of the refusal, as `check illegal`, `check not-standard` or `vector not-equal`
+    places: the numbers of the refusal
+    hint: what is wrong, in a sentence; empty if it was accepted
+    line: what the program printed
+    """
+    kind: str = ""
+    places: Tuple[Place, ...] = ()
+    hint: str = ""
+    line: str = "accepted"
+
+    def __bool__(self) -> bool:
+        return not self.kind
+
+    @property
+    def named(self) -> Dict[str, Place]:
+        """The numbers by their names, as `{"move": 3}`."""
+        return named_places(self.kind, self.places)
+
+    def required(self) -> Accepted:
+        """This verdict, if it is true; else `Failed` says what is wrong."""
+        if not self:
+            raise Failed(f"{self.line} ({self.hint})" if self.hint else self.line)
+        return self
 
 
 @dataclass(frozen=True)
@@ -253,9 +292,24 @@ def check_number(lines: List[str], came: int) -> None:
     """Failed if an answer that begins with `# surfaces N` or `# rays N` has other than N vectors."""
     mark, _, number = lines[0].split()
     if mark != "#":
-        raise ValueError("the number of vectors is missing")
+        raise ValueError("the answer is incomplete: the number of vectors is missing")
     if int(number) != came:
-        raise Failed(f"`{lines[0]}` was answered, and {came} vectors came: the answer was cut off")
+        raise Failed(f"the answer is incomplete: {came} vectors after `{lines[0]}`")
+
+
+def check_count(what: str, came: int, expected: int, lines: Optional[int] = None) -> None:
+    """Failed if other than the expected number came, or other lines than these.
+
+    what: what was counted, as `components`
+    """
+    if came != expected or lines not in (None, expected):
+        raise Failed(f"the answer is incomplete: {came} {what} instead of {expected}")
+
+
+def check_in_turn(numbers_of_lines: Sequence[str]) -> None:
+    """ValueError if numbers aren't those from 0 on, one after another."""
+    if list(map(int, numbers_of_lines)) != list(range(len(numbers_of_lines))):
+        raise ValueError("the answer is incomplete: a line is missing")
 
 
 def read_list(lines: List[str]) -> List[Vector]:
@@ -270,7 +324,10 @@ def read_verdicts(lines: List[str]) -> List[Verdict]:
 
 
 def read_table(lines: List[str]) -> Table:
-    return Table.parse("\n".join(lines))
+    try:
+        return Table.parse("\n".join(lines))
+    except BadArgument as fault:  # of the program, and not of the user
+        raise Failed(f"the answer is incomplete: the table cannot be read: {fault}") from None
 
 
 def read_word(lines: List[str]) -> str:
@@ -278,10 +335,10 @@ def read_word(lines: List[str]) -> str:
     return word
 
 
-def read_accepted(lines: List[str]) -> bool:
+def read_accepted(lines: List[str]) -> Accepted:
     if lines != ["accepted"]:
-        raise ValueError("not accepted")
-    return True
+        raise ValueError("the answer is not `accepted`")
+    return Accepted()
 
 
 def read_info(lines: List[str]) -> Info:
@@ -290,7 +347,7 @@ def read_info(lines: List[str]) -> Info:
     vertices = [Vertex(int(it[3]), int(it[5]), is_yes(it[7]), it[9]) for it in rows if it[0] == "vertex"]
     edges = [Edge(int(it[3]), it[5], is_yes(it[7])) for it in rows if it[0] == "edge"]
     if (len(vertices), len(edges)) != (int(head["vertices"]), int(head["edges"])):
-        raise ValueError("a class is missing")
+        raise ValueError("the answer is incomplete: a class is missing")
     return Info(int(head["tetrahedra"]), is_yes(head["connected"]), is_yes(head["orientable"]), is_yes(head["closed"]),
                 int(head["faces"]), int(head["euler"]), tuple(vertices), tuple(edges))
 
@@ -307,29 +364,41 @@ def read_surfaces(lines: List[str]) -> List[Surface]:
         words = lines[at + 1].split()
         last = at + 2 + int(words[7])
         components = tuple(read_component(line) for line in lines[at + 2:last])
+        check_count("components", len(components), int(words[7]))
         found.append(Surface(read_vector(lines[at]), int(words[1]), is_yes(words[3]), is_yes(words[5]), components))
         at = last
     return found
 
 
-def read_isomorphism(lines: List[str]) -> Optional[Isomorphism]:
+def read_isomorphism(lines: List[str], size: int) -> Optional[Isomorphism]:
+    """An isomorphism of triangulations with so many tetrahedra."""
     if lines == ["different"]:
         return None
     if lines[0] != "same":
         raise ValueError(lines[0])
     rows = [line.split() for line in lines[1:]]
+    check_count("images", len({it[1] for it in rows}), size, len(rows))
+    check_in_turn([it[0] for it in rows])
     return Isomorphism(tuple((int(there), tuple(map(int, images))) for _, there, images in rows))
 
 
-def read_grouping(lines: List[str]) -> Grouping:
+def read_grouping(lines: List[str], count: int) -> Grouping:
+    """The classes of so many triangulations."""
     rows = [line.split() for line in lines]
     classes = tuple(int(it[3]) for it in rows if it[0] == "table")
-    return Grouping(classes, tuple(it[2] for it in rows if it[0] == "class"))
+    signatures = tuple(it[2] for it in rows if it[0] == "class")
+    check_count("triangulations", len(classes), count)
+    check_count("classes", len(signatures), 1 + max(classes, default=-1))
+    for kind in ("table", "class"):
+        check_in_turn([it[1] for it in rows if it[0] == kind])
+    return Grouping(classes, signatures)
 
 
 def read_cover(lines: List[str]) -> Cover:
     table = read_table([line for line in lines if not line.startswith("#")])
     rows = [line.split() for line in lines if line.startswith("# tet ")]
+    check_count("tetrahedra", len(rows), len(table))
+    check_in_turn([it[2] for it in rows])
     return Cover(table, tuple((int(it[4]), int(it[6])) for it in rows), is_yes(lines[-1].split()[2]))
 
 
@@ -337,6 +406,12 @@ def read_presentation(lines: List[str]) -> Presentation:
     rows = [line.split() for line in lines]
     generators = [Generator(int(it[3]), is_yes(it[5])) for it in rows if it[0] == "generator"]
     relators = [Relator(int(it[1]), tuple(map(int, it[2:]))) for it in rows if it[0] == "relator"]
+    [number_of_generators] = [int(it[1]) for it in rows if it[0] == "generators"]
+    [number_of_relators] = [int(it[1]) for it in rows if it[0] == "relators"]
+    check_count("generators", len(generators), number_of_generators)
+    check_count("relators", len(relators), number_of_relators)
+    if any(not 1 <= abs(letter) <= len(generators) for relator in relators for letter in relator.letters):
+        raise ValueError("the answer is incomplete: a generator is missing")
     return Presentation(tuple(generators), tuple(relators))
 
 
@@ -345,16 +420,24 @@ def read_term(line: str) -> Term:
     return Term(count, tuple(vector))
 
 
-def read_sums(lines: List[str]) -> List[Sum]:
-    """The blocks behind the table."""
+def read_sums(lines: List[str], count: int) -> List[Sum]:
+    """The blocks behind the table, of so many vectors."""
     at = 1 + int(lines[0].split()[1])
     found = []
     while at < len(lines):
         times, terms = numbers(lines[at + 1])
         last = at + 2 + terms
         found.append(Sum(read_vector(lines[at]), times, tuple(read_term(line) for line in lines[at + 2:last])))
+        check_count("terms", len(found[-1].terms), terms)
         at = last
+    check_count("sums", len(found), count)
     return found
+
+
+# how many tetrahedra more a move makes
+_MORE = {"14": 3, "23": 1, "32": -1, "41": -3}
+# the most tetrahedra of a triangulation that has a legal move for `make` whatever it is
+_MOST_BEFORE_NO_MOVE = 997
 
 
 def _at_table(lines: List[str]) -> int:
@@ -362,19 +445,28 @@ def _at_table(lines: List[str]) -> int:
     return next(at for at, line in enumerate(lines) if line.startswith("tri "))
 
 
-def read_played(lines: List[str]) -> Played:
+def read_played(lines: List[str], count: int) -> Played:
+    """What is answered to so many steps."""
     at = _at_table(lines)
+    check_count("steps", at, count)
     return Played(tuple(lines[:at]), read_table(lines[at:]))
 
 
 def read_descent(lines: List[str]) -> Descent:
     at = _at_table(lines)
+    check_count("moves", at - 1, int(lines[0].split()[1]))
     return Descent({"reached": True, "stuck": False}[lines[0].split()[0]], tuple(lines[1:at]), read_table(lines[at:]))
 
 
-def read_made(lines: List[str]) -> Made:
+def read_made(lines: List[str], count: int) -> Made:
+    """What is made by so many moves."""
     last = 1 + int(lines[0].split()[1])
-    return Made(read_table(lines[:last]), tuple(lines[last:]))
+    made = Made(read_table(lines[:last]), tuple(lines[last:]))
+    # the standard sphere, to which the moves lead, has one tetrahedron
+    check_count("tetrahedra at the end of the moves", len(made.table) + sum(_MORE[it.split()[0]] for it in made.moves), 1)
+    if len(made.table) <= _MOST_BEFORE_NO_MOVE:
+        check_count("moves", len(made.moves), count)
+    return made
 
 
 def read_bulk(lines: List[str]) -> Bulk:

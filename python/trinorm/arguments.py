@@ -3,6 +3,7 @@ from __future__ import annotations
 
 import math
 import numbers
+import os
 from collections.abc import Mapping, Set
 from typing import Iterable, List, Optional, Sequence, Tuple
 
@@ -10,11 +11,16 @@ from .errors import BadArgument
 
 # in seconds: what is longer than the system waits at a time is no limit
 LONGEST = 2_000_000
+# of a whole number: 4,000 digits; Python writes no more than 4,300
+MOST_BITS = 13_287
 
 
 def shown(value: object) -> str:
     """A value as a message shows it, cut where it is long."""
-    text = repr(value)
+    try:
+        text = repr(value)
+    except Exception:  # as of a whole number of more digits than Python spells
+        return f"a value of type {type(value).__name__}"
     return text if len(text) <= 60 else f"{text[:50]} .. (of type {type(value).__name__})"
 
 
@@ -32,9 +38,26 @@ def checked_timeout(timeout: Optional[float]) -> Optional[float]:
     if type(timeout) in (int, float) and 0 < timeout < LONGEST:
         return timeout
     is_number = isinstance(timeout, numbers.Real) and not isinstance(timeout, bool)
-    if not is_number or not math.isfinite(timeout) or timeout <= 0:
-        raise BadArgument(f"timeout is a positive number of seconds or None, and not {shown(timeout)}")
+    if not is_number or not _is_finite(timeout) or timeout <= 0:
+        raise BadArgument(f"timeout must be a positive number of seconds or None, not {shown(timeout)}")
     return float(timeout) if timeout < LONGEST else None
+
+
+def _is_finite(number: float) -> bool:
+    """Whether a number is one that a float can be."""
+    try:
+        return math.isfinite(number)
+    except OverflowError:
+        return False
+
+
+def path_text(path: object) -> Optional[str]:
+    """The text of a path; None for any other value, an empty text, or one with a zero character."""
+    try:
+        text = os.fspath(path) if isinstance(path, (str, os.PathLike)) else None
+    except TypeError:  # of an `__fspath__` that returns no text
+        return None
+    return text if isinstance(text, str) and text and "\0" not in text else None
 
 
 def checked_memory(memory: Optional[int]) -> int:
@@ -43,7 +66,7 @@ def checked_memory(memory: Optional[int]) -> int:
         return 0
     number = whole_number(memory)
     if number is None or not 0 < number < 1 << 64:
-        raise BadArgument(f"memory is a positive number of bytes or None, and not {shown(memory)}")
+        raise BadArgument(f"memory must be a positive number of bytes or None, not {shown(memory)}")
     return number
 
 
@@ -51,13 +74,13 @@ def checked_words(words: Sequence[str]) -> List[str]:
     """The words of a command line, which are texts without a zero character."""
     if type(words) is list and set(map(type, words)) == {str} and "\0" not in "".join(words):
         return words  # as those of the commands, at once
-    expected = "words are a list of texts, as ['surfaces', '--coords', 'quad']"
+    expected = "the command line must be a list of strings, such as ['surfaces', '--coords', 'quad']"
     given = listed(words, expected)
     checked = [word for word in given if isinstance(word, str)]
     if len(checked) < len(given):
-        raise BadArgument(f"{expected}, and not {shown(words)}")
+        raise BadArgument(f"{expected}, not {shown(words)}")
     if any("\0" in word for word in checked):
-        raise BadArgument("a word has an embedded null byte")
+        raise BadArgument("an argument contains a null character")
     return checked
 
 
@@ -69,11 +92,11 @@ def joined(words: List[str]) -> bytes:
 def as_bytes(text: str) -> bytes:
     """The bytes of a text; those that Python took for no characters are what they were."""
     if not isinstance(text, str):
-        raise BadArgument(f"an input is a text, and not {shown(text)}")
+        raise BadArgument(f"the input must be a string, not {shown(text)}")
     try:
         return text.encode("utf8", "surrogateescape")
     except UnicodeEncodeError as fault:
-        raise BadArgument(f"the text has half a character at place {fault.start}, {text[fault.start]!r}") from None
+        raise BadArgument(f"the text contains a lone surrogate at index {fault.start}: {text[fault.start]!r}") from None
 
 
 def plain(value: object) -> object:
@@ -92,7 +115,7 @@ def listed(values: object, expected: str) -> List[object]:
     """
     values = plain(values)
     if isinstance(values, (str, bytes, bytearray, Mapping, Set)) or not isinstance(values, Iterable):
-        raise BadArgument(f"{expected}, and not {shown(values)}")
+        raise BadArgument(f"{expected}, not {shown(values)}")
     return list(values)
 
 
@@ -103,18 +126,25 @@ def whole_numbers(values: object, expected: str) -> Tuple[int, ...]:
     """
     entries = tuple(listed(values, expected))
     if set(map(type, entries)) <= {int}:  # nearly always, and far quicker than to look at each
-        return entries  # type: ignore[return-value]
+        return _short(entries)  # type: ignore[arg-type]
     checked = tuple(map(whole_number, entries))
     for entry, number in zip(entries, checked):
         if number is None:
-            raise BadArgument(f"{expected}: {shown(entry)} is no whole number{_integral(entry)}")
-    return checked  # type: ignore[return-value]
+            raise BadArgument(f"{expected}: {shown(entry)} is not a whole number{_integral(entry)}")
+    return _short(checked)  # type: ignore[arg-type]
+
+
+def _short(numbers_given: Tuple[int, ...]) -> Tuple[int, ...]:
+    """Whole numbers, none of more digits than Python writes."""
+    if max(map(int.bit_length, numbers_given), default=0) > MOST_BITS:
+        raise BadArgument("a number is too long: it has more than 4,000 digits")
+    return numbers_given
 
 
 def _integral(entry: object) -> str:
     """What is added about a number that is whole by its value alone."""
     is_whole = isinstance(entry, float) and entry.is_integer()
-    return "; astype(int) makes whole numbers of an array's" if is_whole else ""
+    return "; convert an array with astype(int)" if is_whole else ""
 
 
 def lines(values: object, name: str, example: str) -> str:
@@ -122,9 +152,9 @@ def lines(values: object, name: str, example: str) -> str:
 
     name: what they are called, as `moves`
     """
-    expected = f"a list of {name} is expected, as [{example!r}]"
+    expected = f"expected a list of {name}, such as [{example!r}]"
     texts = listed(values, expected)
     for text in texts:
         if not isinstance(text, str) or "\n" in text:
-            raise BadArgument(f"{expected}: {shown(text)} is none")
+            raise BadArgument(f"{expected}; {shown(text)} is not one of them")
     return "".join(f"{text}\n" for text in texts)

@@ -8,6 +8,7 @@ from __future__ import annotations
 from dataclasses import dataclass
 from typing import Any, Dict, Iterator, List, Union, cast
 
+from .arguments import shown
 from .errors import BadArgument, Failed
 
 # how many characters of an answer are read at a time
@@ -57,13 +58,13 @@ def integer_type(arrays: Union[bool, str]) -> Any:
     try:
         import numpy
     except ImportError:
-        raise BadArgument("arrays take NumPy, which this Python doesn't have") from None
+        raise BadArgument("arrays needs NumPy, which this Python does not have") from None
     try:
         made = numpy.dtype("int64" if arrays is True else cast(Any, arrays))
-    except (TypeError, ValueError):
+    except (TypeError, ValueError, SyntaxError):
         made = numpy.dtype(object)
-    if made.kind not in "iu":
-        raise BadArgument(f"arrays is True, False or the name of an integer type of NumPy's, as 'int8', and not {arrays!r}")
+    if made.kind not in "iu" or isinstance(arrays, str) and not arrays.strip():
+        raise BadArgument(f"arrays must be True, False or the name of an integer type of NumPy, such as 'int8', not {shown(arrays)}")
     return made
 
 
@@ -110,7 +111,7 @@ def _put(made: Any, rows: Any, at: int) -> Any:
     import numpy
     if len(rows) and made.dtype != object and (rows.dtype == object or rows.max(initial=0) > numpy.iinfo(made.dtype).max):
         if made.dtype != numpy.int64:
-            raise BadArgument(f"an entry exceeds {made.dtype}: {rows.max()}")
+            raise BadArgument(f"the entry {rows.max()} does not fit into {made.dtype}; use arrays=True")
         made = made.astype(object)
     # entries of an array of objects are whole numbers of Python's
     made[at:at + len(rows)] = rows.tolist() if made.dtype == object else rows
@@ -128,7 +129,7 @@ def read_vectors(text: str, kind: Any = "int64") -> Any:
         try:
             rows = _rows(chunk, width)
         except ValueError:
-            raise Failed(f"these are no vectors of one width: {chunk[:60]!r}") from None
+            raise Failed(f"the answer is damaged: its vectors differ in length, near {chunk[:60]!r}") from None
         made = _put(made, rows, at)
         at += len(rows)
     return made

@@ -3,18 +3,23 @@ as `ProcessPoolExecutor`, Dask's `Client.get_executor()` or `mpi4py.futures.MPIP
 """
 from __future__ import annotations
 
+import contextlib
+import inspect
 import itertools
 import os
-import threading
+import queue
 import time
-from concurrent.futures import FIRST_COMPLETED, Executor, Future, ThreadPoolExecutor, wait
+import warnings
+from _thread import start_new_thread
+from concurrent.futures import CancelledError, Executor, Future
 from dataclasses import dataclass
-from typing import Any, Callable, Dict, Iterable, Iterator, List, NamedTuple, Optional, Tuple, Union
+from typing import Any, Callable, Dict, Iterable, Iterator, List, Literal, NamedTuple, Optional, Tuple, Union
 
 from . import certificates, commands, questions
-from .arguments import plain, shown
-from .errors import BadArgument, Failed
-from .program import Program
+from .arguments import checked_timeout, plain, shown
+from .errors import BadArgument, Error, Failed
+from .machine import processors
+from .program import Program, checked_program
 from .progress import Reported
 from .server import Server
 from .tables import Triangulation, document
@@ -27,10 +32,19 @@ FUNCTIONS: Tuple[Callable[..., Any], ...] = (
 COMMANDS = {it.__name__: it for it in FUNCTIONS}
 # how many seconds a handful of triangulations is to take, how many it may have, and how many handfuls are asked at a time
 SECONDS, MOST, IN_HAND = 0.1, 256, 64
+# seconds between two looks at what is waited for, and after which there is a warning
+LOOK, SILENCE = 5.0, 60.0
+
+# what is raised of a value that is no triangulation, Regina's own among them. An exception of a handler of signals is none of
+# these, and ends the call
+NO_TRIANGULATION = (Error, TypeError, ValueError, AttributeError, RuntimeError)
 
 # called with the numbers of triangulations that are answered and that failed
 Counts = Callable[[int, int], object]
-Command = Union[str, Callable[..., Any]]
+# for those who check types; a test compares it with FUNCTIONS
+CommandName = Literal["surfaces", "info", "sig", "csig", "cover", "pi1", "descend", "table", "described", "count", "spheres", "tori",
+                      "zero_efficient", "certify"]
+Command = Union[CommandName, Callable[..., Any]]
 
 
 @dataclass(frozen=True)
@@ -81,17 +95,67 @@ class Task(NamedTuple):
         return said, time.monotonic() - begun
 
 
-class _Threads(ThreadPoolExecutor):
-    """Threads whose calls end soon after `stop` is set."""
+class _Threads(Executor):
+    """Threads whose calls end soon after `stop`. The queues are the one thing that they share with who asks: no lock is kept if
+    a handler of a signal raises an exception between two steps."""
 
     def __init__(self) -> None:
-        super().__init__(len(os.sched_getaffinity(0)))
-        self.stop = threading.Event()
+        self.stopped = False
+        self._most = self._left = processors()
+        # one for each thread that has begun; if memory is short, one may end before its first step
+        self._begun: List[None] = []
+        self._calls: "queue.SimpleQueue[Optional[Tuple[Future[Any], Callable[..., Any], Tuple[Any, ...]]]]" = queue.SimpleQueue()
+        self._ended: "queue.SimpleQueue[None]" = queue.SimpleQueue()
+
+    def submit(self, function: Callable[..., Any], /, *given: Any, **_named: Any) -> "Future[Any]":
+        """As of any executor. A thread is started with each call until there are as many as processors."""
+        future: Future[Any] = Future()
+        if self._left > 0:
+            with contextlib.suppress(RuntimeError):  # where no more threads can be started; `help` answers if there is none
+                start_new_thread(self._work, ())
+                self._left -= 1
+        self._calls.put((future, function, given))
+        return future
+
+    def _work(self) -> None:
+        """Answers calls until there is None."""
+        self._begun.append(None)
+        for call in iter(self._calls.get, None):
+            _answer(*call)
+        self._calls.put(None)  # for the next one
+        self._ended.put(None)
+
+    def help(self) -> None:
+        """Answers a call in this thread, if no other one has begun."""
+        with contextlib.suppress(queue.Empty):
+            call = None if self._begun else self._calls.get_nowait()
+            if call is not None:
+                _answer(*call)
 
     def look(self, _seconds: float, _held: int) -> None:
         """Raises once the calls are to end."""
-        if self.stop.is_set():
-            raise Failed("the call was ended")
+        if self.stopped:
+            raise Failed("the call was stopped")
+
+    def stop(self, seconds: float = 1.0) -> None:
+        """Ends the calls, and waits for the threads for a while: they end by themselves."""
+        self.stopped = True
+        with contextlib.suppress(queue.Empty):
+            while True:
+                self._calls.get_nowait()
+        self._calls.put(None)
+        until = time.monotonic() + seconds
+        with contextlib.suppress(queue.Empty):
+            for _ in self._begun:
+                self._ended.get(timeout=max(0.0, until - time.monotonic()))
+
+
+def _answer(future: "Future[Any]", function: Callable[..., Any], given: Tuple[Any, ...]) -> None:
+    """Answers a call of a future."""
+    try:
+        future.set_result(function(*given))
+    except BaseException as fault:  # pylint: disable=broad-except
+        future.set_exception(fault)
 
 
 class _Handful(NamedTuple):
@@ -106,6 +170,8 @@ class _Run:
         self.given, self.task, self.executor = given, task, executor
         self.running: Dict[Future[Any], _Handful] = {}
         self.size = 1
+        # not `concurrent.futures.wait`, which would keep the lock of a future where a handler of a signal raises in it
+        self._done: "queue.SimpleQueue[Future[Any]]" = queue.SimpleQueue()
 
     def _take(self) -> Tuple[_Handful, List[Answered]]:
         """The next handful, and the failures of what is no triangulation."""
@@ -113,7 +179,7 @@ class _Run:
         for index, t in itertools.islice(self.given, self.size):
             try:
                 entries.append((index, t, document(t)))
-            except Exception as failure:  # pylint: disable=broad-except
+            except NO_TRIANGULATION as failure:
                 failed.append(Answered(index, t, None, failure))
         return _Handful(entries), failed
 
@@ -125,14 +191,17 @@ class _Run:
                 program is None or isinstance(program, (str, os.PathLike))):
             program = Reported(program, self.executor.look)
         try:
-            self.running[self.executor.submit(self.task.run, texts, program)] = handful
-            return []
+            future = self.executor.submit(self.task.run, texts, program)
         except RuntimeError as fault:
             return self._failed(handful, fault)
+        self.running[future] = handful
+        future.add_done_callback(self._done.put)
+        return []
 
     @staticmethod
     def _failed(handful: _Handful, fault: BaseException) -> List[Answered]:
-        failure = Failed(f"a worker ended: {type(fault).__name__}: {fault}")
+        is_sent = "pickle" not in str(fault)
+        failure = Failed(f"a worker failed: {type(fault).__name__}: {fault}" if is_sent else f"it cannot be sent to another process: {fault}")
         return [Answered(index, t, None, failure) for index, t, _ in handful.entries]
 
     def fill(self) -> Iterator[Answered]:
@@ -146,20 +215,33 @@ class _Run:
             yield from failed
 
     def collect(self) -> Iterator[Answered]:
-        """Waits for one handful or more."""
-        for future in wait(self.running, return_when=FIRST_COMPLETED).done:
-            handful = self.running.pop(future)
-            try:
-                said, seconds = future.result()
-            except Exception as fault:  # pylint: disable=broad-except
-                yield from self._again(handful, fault)
-                continue
-            rate = len(said) / max(seconds, 1e-6)
-            self.size = max(1, min(MOST, 2 * self.size, int(SECONDS * rate)))
-            for (index, t, _), (answer, failure) in zip(handful.entries, said):
-                yield Answered(index, t, answer, failure)
+        """Waits for one handful."""
+        future = self._next_done()
+        handful = self.running.pop(future)
+        fault = CancelledError() if future.cancelled() else future.exception()
+        if isinstance(fault, Exception):
+            yield from self._again(handful, fault)
+            return
+        said, seconds = future.result()
+        rate = len(said) / max(seconds, 1e-6)
+        self.size = max(1, min(MOST, 2 * self.size, int(SECONDS * rate)))
+        for (index, t, _), (answer, failure) in zip(handful.entries, said):
+            yield Answered(index, t, answer, failure)
 
-    def _again(self, handful: _Handful, fault: Exception) -> Iterator[Answered]:
+    def _next_done(self) -> "Future[Any]":
+        """The next handful that is done. After a minute without one there is a warning: an executor that has lost what it was asked
+        is waited for without end."""
+        begun, has_warned = time.monotonic(), False
+        while True:
+            with contextlib.suppress(queue.Empty):
+                return self._done.get(timeout=LOOK)
+            if isinstance(self.executor, _Threads):
+                self.executor.help()
+            elif not has_warned and time.monotonic() - begun > SILENCE:
+                warnings.warn(f"{type(self.executor).__name__} has answered nothing for {SILENCE:.0f} seconds", RuntimeWarning, stacklevel=4)
+                has_warned = True
+
+    def _again(self, handful: _Handful, fault: BaseException) -> Iterator[Answered]:
         """A handful that the executor gave up: each of its triangulations alone, and the one that is alone is failed."""
         if len(handful.entries) == 1:
             yield from self._failed(handful, fault)
@@ -202,19 +284,31 @@ def many(triangulations: Iterable[Triangulation], command: Command = "surfaces",
     in_order: False to yield them as they are done
     options: further arguments of the command, as `coords="quad"`
     """
-    if isinstance(command, str) and command not in COMMANDS:
-        raise BadArgument(f"command is a function or one of {', '.join(COMMANDS)}, and not {command!r}")
+    _check_command(command, options)
     given = plain(triangulations)
     if isinstance(given, (str, bytes)) or not isinstance(given, Iterable):
-        raise BadArgument("a list of triangulations is expected; for one alone call the command itself")
+        raise BadArgument("expected a list of triangulations; for a single one, call the command itself")
     if progress is not None and not callable(progress):
-        raise BadArgument(f"progress is a function or None, and not {shown(progress)}")
+        raise BadArgument(f"progress must be a function or None, not {shown(progress)}")
     if not isinstance(in_order, bool):
-        raise BadArgument(f"in_order is True or False, and not {shown(in_order)}")
-    if executor is not None and not callable(getattr(executor, "submit", None)):
-        raise BadArgument(f"executor is a concurrent.futures.Executor or None, and not {shown(executor)}")
-    task = Task(command, timeout, program, options)
+        raise BadArgument(f"in_order must be True or False, not {shown(in_order)}")
+    if executor is not None and (isinstance(executor, type) or not callable(getattr(executor, "submit", None))):
+        raise BadArgument(f"executor must be a concurrent.futures.Executor or None, not {shown(executor)}")
+    checked_timeout(timeout)
+    task = Task(command, timeout, checked_program(program), options)
     return _many(enumerate(given), task, executor, progress, in_order)
+
+
+def _check_command(command: object, options: Dict[str, Any]) -> None:
+    """BadArgument if a command is neither a function nor the name of one, or has no such options."""
+    function = COMMANDS.get(command) if isinstance(command, str) else command
+    if not callable(function):
+        raise BadArgument(f"command must be a function or one of {', '.join(COMMANDS)}, not {shown(command)}")
+    if isinstance(command, str):
+        try:
+            inspect.signature(function).bind("", timeout=None, program=None, **options)
+        except TypeError as fault:
+            raise BadArgument(f"{command}: {fault}") from None
 
 
 def _many(given: Iterator[Tuple[int, Triangulation]], task: Task, executor: Optional[Executor], progress: Optional[Counts],
@@ -232,8 +326,8 @@ def _many(given: Iterator[Tuple[int, Triangulation]], task: Task, executor: Opti
                 progress(count, failed)
             yield answer
     finally:
-        for future in run.running:
-            future.cancel()
         if threads is not None:
-            threads.stop.set()
-            threads.shutdown(wait=True)
+            threads.stop()
+        else:
+            for future in list(run.running):
+                future.cancel()

@@ -14,17 +14,18 @@ import sys
 from concurrent.futures import Executor
 from dataclasses import dataclass
 from json import dumps as quoted
-from typing import TYPE_CHECKING, Any, BinaryIO, Callable, Dict, Iterable, Iterator, List, NamedTuple, Optional, Sized, Tuple, Union
+from typing import TYPE_CHECKING, Any, BinaryIO, Callable, Dict, Iterable, Iterator, List, NamedTuple, Optional, Sized, Tuple, Union, cast
 
 from . import executors
 from .answer_files import BadLine, Output, count_lines, decoded, digests, read_blocks
-from .arguments import checked_timeout, shown, whole_number
+from .arguments import as_bytes, checked_timeout, path_text, plain, shown, whole_number
 from .executors import Done, Engine
-from .options import add_run_arguments, coordinates
+from .machine import processors
+from .options import Coords, add_run_arguments, coordinates
 from .program import Error, Failed, find
 from .meter import Meter
 from .tables import BadArgument
-from .tasks import COMMANDS, Entry, Task, head_of
+from .tasks import COMMANDS, CommandName, Entry, Task, head_of
 from .workers import Workers
 
 if TYPE_CHECKING:
@@ -39,11 +40,6 @@ KINDS = {"answer": "answered", "refused": "refused", "failed": "failed"}
 Signatures = Union[str, "os.PathLike[str]", Iterable[str]]
 
 
-def processors() -> int:
-    """The number of processors that this process may use."""
-    return len(os.sched_getaffinity(0))
-
-
 # a line of plain characters, with blanks alone between its words: its signature, which isn't `sig`, and its name
 PLAIN = re.compile(rb"(?m)^(?:sig +)?(?!sig[ \n])([!$-\[\]-~][!#-\[\]-~]*)(?: +([!#-\[\]-~](?:[ !#-\[\]-~]*[!#-\[\]-~])?))? *\n")
 
@@ -56,9 +52,10 @@ Known = Dict[complex, None]
 
 
 def key_of(signature: str, name: str) -> bytes:
-    """What a triangulation is known by: the shortest line that has it, or its names as JSON if no line has it so."""
+    """What a triangulation is known by: the shortest line that has it, or, if no line has it so, a line's end and its names as
+    JSON, which no line begins with."""
     if signature == "sig" or signature.split() != [signature] or not name or name.strip() != name:
-        return json.dumps([signature, name]).encode()
+        return b"\n" + json.dumps([signature, name]).encode()
     return (signature if name == signature else f"{signature} {name}").encode("utf8", "surrogatepass")
 
 
@@ -90,7 +87,7 @@ def opened(signatures: Signatures, accept_bad: bool = False) -> Iterator[Source]
     """An input. The first line of a regular file that isn't UTF-8 is a `BadLine` at once, unless such lines are accepted."""
     if isinstance(signatures, os.PathLike):
         signatures = os.fspath(signatures)
-    if signatures == "-":
+    if isinstance(signatures, str) and signatures == "-":
         yield Source("standard input", None, read_blocks(sys.stdin.buffer, "standard input", are_alone=True))
     elif isinstance(signatures, str):
         with open(signatures, "rb") as file:
@@ -101,11 +98,33 @@ def opened(signatures: Signatures, accept_bad: bool = False) -> Iterator[Source]
         yield Source("the signatures", total, map(_encoded, signatures))
 
 
+def listed_lines(signatures: object) -> Signatures:
+    """A path or lines as they were given, a column or an array as the list of its lines."""
+    given = signatures if isinstance(signatures, str) else plain(signatures)
+    if isinstance(given, (bytes, type)) or given is not signatures and not isinstance(given, list) or not (
+            isinstance(given, os.PathLike) or hasattr(given, "__iter__")):
+        raise BadArgument(f"signatures must be the path of a file or a list of lines, not {shown(signatures)}")
+    if isinstance(given, (str, os.PathLike)):
+        checked_path(given, "signatures")
+    return given
+
+
+def checked_path(path: object, name: str) -> str:
+    """A path as a text.
+
+    name: what the argument is called
+    """
+    text = path_text(path)
+    if text is None:
+        raise BadArgument(f"{name} must be the path of a file, not {shown(path)}")
+    return text
+
+
 def _encoded(line: str) -> List[bytes]:
     """A line that was given as text."""
     if not isinstance(line, str):
-        raise BadArgument(f"a line is a text, as 'cPcbbbiht figure-eight', and not {shown(line)}")
-    return [line.encode()]
+        raise BadArgument(f"a line must be a string, such as 'cPcbbbiht figure-eight', not {shown(line)}")
+    return [as_bytes(line)]
 
 
 def _counted(file: BinaryIO, name: str, accept_bad: bool) -> Optional[int]:
@@ -184,7 +203,7 @@ def read_answer(line: bytes, path: str, number: int) -> Dict[str, Any]:
     except ValueError as fault:
         raise fault if isinstance(fault, BadLine) else ValueError(f"{path}, line {number}: {fault}") from None
     if not (isinstance(answer, dict) and all(isinstance(answer.get(part), str) for part in ("name", "signature", "command"))):
-        raise ValueError(f"{path}, line {number}: this is no line of a census")
+        raise ValueError(f"{path}, line {number}: this is not a line of a census")
     return answer
 
 
@@ -213,7 +232,7 @@ class Earlier:
         """Whether a line stays; if it does, its triangulation is done."""
         answer = read_answer(line, self.path, number)
         if answer["command"] != self.task.words:
-            raise ValueError(f"{self.path} has answers of `{answer['command']}`, and `{self.task.words}` is asked for")
+            raise ValueError(f"{self.path} has results of `{answer['command']}`, not of `{self.task.words}`; choose another --out")
         has_failed = "failed" in answer
         if self.retry and has_failed:
             return False
@@ -286,8 +305,8 @@ class Run:
     def how_to_go_on(self) -> str:
         """What a user does after it was stopped."""
         if self.output.is_regular:
-            return f"started again with the same words it goes on; {self.output.path}"
-        return f"it can go on only if --out names a file; {self.output.path}"
+            return f"if it is started again with the same arguments, it resumes; {self.output.path}"
+        return f"it can resume only if --out names a file; {self.output.path}"
 
 
 def run_census(signatures: Signatures, out: str, task: Task, engine: Engine, *, retry: bool = False, skip_bad: bool = False,
@@ -311,14 +330,14 @@ def run_census(signatures: Signatures, out: str, task: Task, engine: Engine, *, 
 def task_of(command: str, coords: Optional[str], timeout: Optional[float], program: Optional[str]) -> Task:
     """What is asked of each triangulation, or `BadArgument`."""
     if not isinstance(command, str) or command not in NAMES:
-        raise BadArgument(f"command is one of {', '.join(NAMES)}, and not {shown(command)}")
+        raise BadArgument(f"command must be one of {', '.join(NAMES)}, not {shown(command)}")
     may_be = COORDS.get(command, ())
     if coords is not None and (not isinstance(coords, str) or coords not in may_be):
-        raise BadArgument(f"{command} takes {' or '.join(may_be) or 'no'} coordinates")
-    return Task(command, (coords or "standard") if may_be else None, checked_timeout(timeout), find(program))
+        raise BadArgument(f"coords of {command} must be {' or '.join(may_be) or 'None'}, not {shown(coords)}")
+    return Task(command, cast(Coords, coords or "standard") if may_be else None, checked_timeout(timeout), find(program))
 
 
-def census(signatures: Signatures, out: str, command: str = "surfaces", coords: Optional[str] = None, *,
+def census(signatures: Signatures, out: str, command: CommandName = "surfaces", coords: Optional[Coords] = None, *,
            timeout: Optional[float] = None, jobs: Optional[int] = None, retry_failed: bool = False, skip_bad: bool = False,
            executor: Optional[Executor] = None, program: Optional[str] = None) -> Ran:
     """Runs a command on each of many signatures, and writes a JSON line for each to a file. Called again with the same
@@ -332,34 +351,34 @@ def census(signatures: Signatures, out: str, command: str = "surfaces", coords: 
     executor: any executor of `concurrent.futures`, as Dask's or MPI's, in the place of processes of this machine
     """
     task = task_of(command, coords, timeout, program)
-    if isinstance(signatures, (bytes, type)) or not (isinstance(signatures, os.PathLike) or hasattr(signatures, "__iter__")):
-        raise BadArgument(f"signatures are the path of a file or a list of lines, and not {shown(signatures)}")
-    if not isinstance(out, (str, os.PathLike)):
-        raise BadArgument(f"out is the path of a file, and not {shown(out)}")
+    signatures, path = listed_lines(signatures), checked_path(out, "out")
     if executor is not None and (isinstance(executor, type) or not callable(getattr(executor, "submit", None))):
-        raise BadArgument(f"executor is one of concurrent.futures, and not {shown(executor)}")
+        raise BadArgument(f"executor must be a concurrent.futures.Executor, not {shown(executor)}")
     if jobs is not None and (whole_number(jobs) or 0) < 1:
-        raise BadArgument(f"jobs is a whole number from 1 on, and not {shown(jobs)}")
+        raise BadArgument(f"jobs must be a whole number of at least 1, not {shown(jobs)}")
+    for name, value in (("retry_failed", retry_failed), ("skip_bad", skip_bad)):
+        if not isinstance(value, bool):
+            raise BadArgument(f"{name} must be True or False, not {shown(value)}")
     if executor is not None:
-        engine = Engine(executor, jobs or executors.hands_of(executor))
-        return run_census(signatures, os.fspath(out), task, engine, retry=retry_failed, skip_bad=skip_bad)
+        engine = Engine(executor, jobs or executors.hands_of(executor), executors.Unknown())
+        return run_census(signatures, path, task, engine, retry=retry_failed, skip_bad=skip_bad)
     with by_processes(jobs or processors()) as engine:
-        return run_census(signatures, os.fspath(out), task, engine, retry=retry_failed, skip_bad=skip_bad)
+        return run_census(signatures, path, task, engine, retry=retry_failed, skip_bad=skip_bad)
 
 
 def add_arguments(reader: argparse.ArgumentParser) -> None:
     """The arguments of a census."""
     reader.add_argument("signatures", help="a file of lines SIGNATURE or SIGNATURE NAME, or - for standard input")
     reader.add_argument("--command", choices=NAMES, default="surfaces")
-    reader.add_argument("--coords", choices=COORDS["surfaces"], help="for surfaces; describe and count take no quad")
-    reader.add_argument("--out", help="the file of answers, or - (default: SIGNATURES.COMMAND.jsonl, and - for -)")
-    reader.add_argument("--retry-failed", action="store_true", help="run those again whose run failed")
-    reader.add_argument("--skip-bad", action="store_true", help="pass over lines that aren't UTF-8, as failed ones")
+    reader.add_argument("--coords", choices=COORDS["surfaces"], help="coordinates (surfaces: all three; describe, count: standard or octagon)")
+    reader.add_argument("--out", help="the output file, or - (default: SIGNATURES.COMMAND.jsonl; if SIGNATURES is -, also -)")
+    reader.add_argument("--retry-failed", action="store_true", help="repeat the runs that failed")
+    reader.add_argument("--skip-bad", action="store_true", help="report lines that are not UTF-8 as failed, and continue")
     engines = reader.add_mutually_exclusive_group()
-    engines.add_argument("--dask", metavar="ADDRESS", help="run it by the workers of the Dask scheduler at this address, "
-                         "or with this scheduler file")
+    engines.add_argument("--dask", metavar="ADDRESS", help="use the workers of the Dask scheduler at this address, "
+                         "or of this scheduler file")
     engines.add_argument("--mpi", action="store_true",
-                         help="run it by MPI: mpiexec -n N python3 -m mpi4py.futures -m trinorm census .. --mpi")
+                         help="use MPI: mpiexec -n N python3 -m mpi4py.futures -m trinorm census .. --mpi")
     add_run_arguments(reader)
 
 
@@ -378,6 +397,6 @@ def main(given: argparse.Namespace) -> int:
     out = given.out or ("-" if given.signatures == "-" else f"{given.signatures}.{given.command}.jsonl")
     with engine_of(given) as engine:
         if given.jobs and (given.dask or given.mpi):
-            engine = Engine(engine.executor, given.jobs)
+            engine = engine._replace(hands=given.jobs)
         ran = run_census(given.signatures, out, task, engine, retry=given.retry_failed, skip_bad=given.skip_bad)
     return 1 if ran.failed else 0

@@ -1,29 +1,59 @@
 """The exceptions of this package."""
 from __future__ import annotations
 
-from typing import Any, Tuple, Union
+from typing import Any, Dict, Sequence, Tuple, Union
 
 # statuses of a refusal: command line, input, checks, a number that exceeds the limit
 REFUSED = (2, 3, 4, 5)
-USAGE = 2
-FAILURES = {6: "reading failed", 7: "writing failed", 8: "no memory", 9: "the words are not UTF-8"}
+USAGE, CHECKED, LARGE = 2, 4, 5
+FAILURES = {6: "standard input could not be read", 7: "the output could not be written", 8: "out of memory",
+            9: "the command line is not UTF-8"}
+
+# what is said if memory runs out outside of the program
+NO_MEMORY_HERE = "Python has no memory left"
 
 Place = Union[int, str, Tuple[int, ...]]
 
 
+# what the places of a refusal are, by the words that it begins with; of a vector's, after the vector itself
+PLACES = {
+    "input": ("line", "column"), "table": ("tetrahedron", "face"), "signature": ("character",), "not-connected": ("triangulation", "tetrahedron"),
+    "invalid-edge": ("edge",), "large value": ("step", "row", "ray"), "large pair": ("step", "row", "ray", "other_ray"),
+    "check illegal": ("move",), "check not-standard": ("signature",),
+}
+PLACES_OF_VECTORS = {
+    "length": ("entries",), "large": ("row",), "fails": ("row",), "clash": ("first_column", "second_column"), "too-many-pieces": ("discs",),
+    "no-lift": ("vertex",), "large-times": ("step", "column"), "large-equation": ("column",), "not-equal": ("column",),
+}
+
+
+def named_places(kind: str, places: Sequence[Place]) -> Dict[str, Place]:
+    """The places of a refusal, or of a verdict on a vector, by their names; those without a name are left out."""
+    words = kind.split()
+    if words[:1] == ["vector"]:
+        names: Tuple[str, ...] = ("vector",)
+        words = words[1:]
+        if words[:1] == ["term"]:
+            names, words = ("sum", "term"), words[1:]
+        names += PLACES_OF_VECTORS.get(words[0], ()) if words else ()
+    else:
+        names = PLACES.get(" ".join(words[:2]), PLACES.get(words[0], ()) if words else ())
+    return dict(zip(names, places))
+
+
 class Error(Exception):
-    """What this package raises: `Refused`, `BadArgument` or `Failed`."""
+    """The exceptions of this package: `Refused`, `BadArgument` and `Failed`."""
 
 
 class Refused(Error):
-    """The program's own refusal.
+    """The program refused the command line or the input.
 
     status: 2 command line, 3 input, 4 checks, 5 a number that exceeds the limit
     line: the line that the program printed
-    kind: its words without the places, as `input bad-word`, `vector clash`, `large pair`
-    places: its numbers in their order; after `large` the step, the row and the rays; after `check not-standard` the
+    kind: the line without `refused:` and the places, as `input bad-word`, `vector clash`, `large pair`
+    places: the numbers of the line in their order; after `large` the step, the row and the rays; after `check not-standard` the
         signature
-    hint: what it most likely means, in a sentence; empty if nothing is known
+    hint: what is wrong and what to do, in a sentence; empty if nothing is known
     """
 
     def __init__(self, status: int, line: str, hint: str = "") -> None:
@@ -39,21 +69,26 @@ class Refused(Error):
     def __reduce__(self) -> Tuple[Any, ...]:  # an exception with two arguments is not pickled by itself
         return Refused, (self.status, self.line, self.hint)
 
+    @property
+    def named(self) -> Dict[str, Place]:
+        """The places by their names, as `{"vector": 0, "first_column": 5, "second_column": 6}`."""
+        return named_places(self.kind, self.places)
+
 
 class BadArgument(Error, ValueError):
-    """An argument of a function that is none of those that it takes; the program wasn't asked."""
+    """An invalid argument of a function. The program was not called."""
 
 
 class Failed(Error):
-    """The program isn't there, didn't end by itself, or printed what it never prints."""
+    """The program was not found, was killed, ran out of memory, or printed an incomplete answer."""
 
 
 class TimedOut(Failed):
-    """The run was ended, since it took longer than it may."""
+    """The call exceeded its time limit."""
 
 
 def kind_and_places(line: str) -> Tuple[str, Tuple[Place, ...]]:
-    """A refusal's words and its numbers."""
+    """The kind of a refusal, and its numbers."""
     text = line.partition("refused: ")[2]
     words = text.split()
     if words[:2] == ["large", "step"]:
@@ -67,7 +102,7 @@ def kind_and_places(line: str) -> Tuple[str, Tuple[Place, ...]]:
 
 
 def how_it_ended(status: int) -> str:
-    """What is said of a process that ended with a status that is no answer."""
+    """How a process ended that returned no result."""
     if status < 0:
         return f"killed by signal {-status}"
     return FAILURES.get(status, f"status {status}")

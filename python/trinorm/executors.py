@@ -10,11 +10,12 @@ import contextlib
 import dataclasses
 import itertools
 import os
+import queue
 import shutil
 import sys
 import time
-from concurrent.futures import FIRST_COMPLETED, BrokenExecutor, CancelledError, Executor, Future, wait
-from typing import Deque, Dict, Iterable, Iterator, List, NamedTuple, Optional, Tuple
+from concurrent.futures import BrokenExecutor, CancelledError, Executor, Future
+from typing import Any, Deque, Dict, Iterable, Iterator, List, NamedTuple, Optional, Protocol, Tuple
 
 from .program import Failed
 from .server import Server
@@ -26,6 +27,21 @@ KINDS = ("answer", "refused", "failed")
 SECONDS, MOST = 1.0, 2048
 # the number of parts in which a handful is tried again with which a worker died
 PARTS = 64
+# seconds between two looks at an engine that answers nothing; how many looks without work there are before all that it has in
+# hand is asked anew; and the seconds of silence after which it is asked anew even so, twice as many each time
+LOOK, IDLE_LOOKS, SILENCE = 10.0, 3, 600.0
+
+
+class Watch(Protocol):
+    """What is known of an engine that may lose what it was asked."""
+
+    loses: bool  # whether what it has in hand may be asked anew
+
+    def workers(self) -> int:
+        """How many workers it has."""
+
+    def is_idle(self) -> bool:
+        """Whether no worker has anything to do."""
 
 
 class Done(NamedTuple):
@@ -93,11 +109,55 @@ class Asked(NamedTuple):
     begun: float
 
 
+class Silence:
+    """How long an engine has answered nothing, and whether it has lost what it was asked."""
+
+    def __init__(self, watch: Optional[Watch]) -> None:
+        self._watch, self._longest = watch, SILENCE
+        self.ends()
+
+    def ends(self) -> None:
+        """Begins anew, with an answer."""
+        self._begun, self._idle_looks, self._has_said = time.monotonic(), 0, False
+
+    def seconds(self) -> Optional[float]:
+        """How long to wait until the next look; None for an engine of this package, which loses nothing."""
+        return None if self._watch is None else LOOK
+
+    def is_too_long(self) -> bool:
+        """Looks at the engine. True if all that it has in hand is to be asked anew."""
+        if self._watch is None:
+            return False
+        if self._watch.workers() == 0:
+            self._say("the executor has no worker. The run resumes when a worker connects")
+            return False
+        if not self._watch.loses:
+            self._say("the executor has not stopped. The run waits for it")
+            return False
+        self._idle_looks = self._idle_looks + 1 if self._watch.is_idle() else 0
+        is_late = time.monotonic() - self._begun > self._longest
+        if not is_late and self._idle_looks < IDLE_LOOKS:
+            return False
+        self._longest *= 1 + is_late
+        self.ends()
+        return True
+
+    def _say(self, what: str) -> None:
+        """A line on standard error, once in a silence of a minute or more."""
+        if not self._has_said and time.monotonic() - self._begun >= 6 * LOOK:
+            print(f"trinorm: no result for a minute: {what}", file=sys.stderr, flush=True)
+            self._has_said = True
+
+
 class Handfuls:
     """What is left to do, what an executor has in hand, and how many triangulations a handful has: as many as take half
     of its time, but at most twice as many as the last."""
 
-    def __init__(self, entries: Iterable[Entry], task: Task, executor: Executor, hands: int) -> None:
+    def __init__(self, entries: Iterable[Entry], task: Task, executor: Executor, hands: int, watch: Optional[Watch] = None) -> None:
+        self._silence = Silence(watch)
+        # filled by the futures; one that nobody waits for any more, since another one of the same handful was earlier, is in no
+        # list
+        self._done: "queue.SimpleQueue[Future[Ran]]" = queue.SimpleQueue()
         self.task, self.executor, self.hands = task, executor, hands
         self.size = 1
         self.running: Dict[Future[Ran], Asked] = {}
@@ -112,8 +172,7 @@ class Handfuls:
         try:
             self._fill()
             while self.running:
-                for future in wait(self.running, return_when=FIRST_COMPLETED).done:
-                    yield from self._settled(future, self.running.pop(future))
+                yield from self._settled(*self._next_done())
                 self._fill()
             for entry in self._suspects:
                 yield self._tried_alone(entry)
@@ -123,20 +182,43 @@ class Handfuls:
 
     def _fill(self) -> None:
         """Submits handfuls until all hands are full. Reading may be slow, so an answer that has come goes first."""
-        while len(self.running) < self.hands and not any(future.done() for future in self.running):
+        while self._in_hand() < self.hands and not any(future.done() for future in self.running):
             handful = self._next()
             if not handful:
                 break
-            self._submit(handful)
+            self._submit(Asked(handful, time.monotonic()))
 
-    def _submit(self, handful: List[Entry]) -> Future[Ran]:
+    def _in_hand(self) -> int:
+        """How many handfuls the executor has."""
+        return len(set(map(id, self.running.values())))
+
+    def _submit(self, asked: Asked) -> None:
         try:
             # plain pairs are pickled far quicker than entries
-            future = self.executor.submit(run, self.task, [(entry.signature, entry.name) for entry in handful])
+            future = self.executor.submit(run, self.task, [(entry.signature, entry.name) for entry in asked.entries])
         except (RuntimeError, OSError) as fault:
-            raise Failed(f"the engine has ended: {fault}") from None
-        self.running[future] = Asked(handful, time.monotonic())
-        return future
+            raise Failed(f"the executor has stopped: {fault}") from None
+        self.running[future] = asked
+        future.add_done_callback(self._done.put)
+
+    def _next_done(self) -> Tuple[Future[Ran], Asked]:
+        """Waits for a handful. What an engine has lost is asked anew; the first answer counts, and later ones are dropped."""
+        while True:
+            try:
+                future = self._done.get(timeout=self._silence.seconds())
+            except queue.Empty:
+                if self._silence.is_too_long():
+                    for lost in {id(it): it for it in self.running.values()}.values():
+                        self._submit(lost)
+                continue
+            if future in self.running:
+                asked = self.running[future]
+                self._silence.ends()
+                for one in [it for it, same in self.running.items() if same is asked]:
+                    del self.running[one]
+                    if one is not future:
+                        one.cancel()
+                return future, asked
 
     def _next(self) -> List[Entry]:
         """The next handful; an empty one at the end."""
@@ -180,9 +262,8 @@ class Handfuls:
     def _tried_alone(self, entry: Entry) -> Done:
         """What comes of a triangulation that was given up, while the engine has nothing else in hand: others may have been
         given up with the one that killed a worker."""
-        future = self._submit([entry])
-        wait([future])
-        asked = self.running.pop(future)
+        self._submit(Asked([entry], time.monotonic()))
+        future, asked = self._next_done()
         fault = _fault_of(future)
         return self._failed(asked, f"{type(fault).__name__}: {fault}") if fault is not None else future.result().done
 
@@ -195,26 +276,66 @@ def _fault_of(future: Future[Ran]) -> Optional[BaseException]:
     try:
         fault = future.exception()
     except CancelledError as cancelled:
-        raise Failed(f"the engine has ended: {type(cancelled).__name__} {cancelled}".rstrip()) from None
+        raise Failed(f"the executor has stopped: {type(cancelled).__name__} {cancelled}".rstrip()) from None
     if isinstance(fault, (BrokenExecutor, CancelledError)):
-        raise Failed(f"the engine has ended: {fault}") from None
+        raise Failed(f"the executor has stopped: {fault}") from None
     if isinstance(fault, ImportError):
-        raise Failed(f"a worker of the engine can't import the package: {fault}; install it there, or name it by PYTHONPATH")
+        raise Failed(f"a worker of the executor cannot import the package: {fault}; install it there, or set PYTHONPATH there")
     return fault
 
 
-def answers(entries: Iterable[Entry], task: Task, executor: Executor, hands: int) -> Iterator[Done]:
+def answers(entries: Iterable[Entry], task: Task, executor: Executor, hands: int, watch: Optional[Watch] = None) -> Iterator[Done]:
     """The lines of the output as they are done.
 
     hands: the number of handfuls that are submitted at a time
+    watch: what is known of an engine that may lose what it was asked
     """
-    return Handfuls(entries, task, executor, hands).answers()
+    return Handfuls(entries, task, executor, hands, watch).answers()
 
 
 class Engine(NamedTuple):
-    """An executor, and the number of handfuls that it takes at a time: two for each of its workers."""
+    """An executor, the number of handfuls that it takes at a time, two for each of its workers, and what is known of it if it may
+    lose some."""
     executor: Executor
     hands: int
+    watch: Optional[Watch] = None
+
+
+class Unknown:
+    """What is known of an executor of which nothing else is known: it is waited for, and after a minute there is a line."""
+
+    loses = False
+
+    def workers(self) -> int:
+        """How many workers it has, which it doesn't say."""
+        return 1
+
+    def is_idle(self) -> bool:
+        """Whether no worker has anything to do, which it doesn't say."""
+        return False
+
+
+class DaskWatch:
+    """What the scheduler of a Dask client says."""
+
+    loses = True
+
+    def __init__(self, client: Any) -> None:
+        self._client = client
+
+    def workers(self) -> int:
+        """How many workers it has; 1 if the scheduler doesn't answer, of which the client tells by itself."""
+        try:
+            return len(self._client.nthreads())
+        except Exception:  # pylint: disable=broad-except
+            return 1
+
+    def is_idle(self) -> bool:
+        """Whether no worker has anything to do. That is so where the scheduler forgot all after a worker died."""
+        try:
+            return self.workers() > 0 and not any(self._client.processing().values())
+        except Exception:  # pylint: disable=broad-except
+            return False
 
 
 @contextlib.contextmanager
@@ -226,15 +347,15 @@ def by_dask(address: str) -> Iterator[Engine]:
     try:
         from distributed import Client
     except ImportError:
-        raise Failed("Dask isn't installed in this Python: `pip install distributed`, Debian's python3-distributed") from None
+        raise Failed("Dask is not installed in this Python; install `distributed` with pip, or Debian's python3-distributed") from None
     try:
         client = Client(scheduler_file=address) if os.path.isfile(address) else Client(address)
     except (OSError, ValueError, TypeError) as fault:
-        raise Failed(f"no Dask scheduler at {address}: {fault}") from None
+        raise Failed(f"there is no Dask scheduler at {address}: {fault}") from None
     with client:
         threads = sum(client.nthreads().values())
         # which workers come and go isn't known, so there is something in hand for more of them
-        yield Engine(client.get_executor(pure=False), max(2 * threads, 16))
+        yield Engine(client.get_executor(pure=False), max(2 * threads, 16), DaskWatch(client))
 
 
 @contextlib.contextmanager
@@ -244,12 +365,12 @@ def by_mpi() -> Iterator[Engine]:
         from mpi4py import MPI
         from mpi4py.futures import MPIPoolExecutor
     except ImportError:
-        raise Failed("mpi4py isn't installed in this Python: `pip install mpi4py`, Debian's python3-mpi4py") from None
+        raise Failed("mpi4py is not installed in this Python; install `mpi4py` with pip, or Debian's python3-mpi4py") from None
     workers = MPI.COMM_WORLD.Get_size() - 1
     if workers < 1 or not _is_shared():
-        raise Failed("--mpi is for the first of two or more processes: mpiexec -n 3 python3 -m mpi4py.futures -m trinorm ..")
+        raise Failed("--mpi needs at least two processes; start it by: mpiexec -n 3 python3 -m mpi4py.futures -m trinorm ..")
     with MPIPoolExecutor() as executor:
-        yield Engine(executor, 2 * workers)
+        yield Engine(executor, 2 * workers, Unknown())
 
 
 def _is_shared() -> bool:

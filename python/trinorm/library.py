@@ -13,8 +13,8 @@ import threading
 from pathlib import Path
 from typing import Any, Callable, Dict, Generator, List, Optional, Sequence, Tuple
 
-from .arguments import as_bytes, checked_memory, checked_timeout, checked_words, joined
-from .errors import Failed, TimedOut
+from .arguments import as_bytes, checked_memory, checked_timeout, checked_words, joined, shown
+from .errors import BadArgument, Failed, TimedOut
 from .program import read_outcome
 
 NAME = {"win32": "trinorm.dll", "darwin": "libtrinorm.dylib"}.get(sys.platform, "libtrinorm.so.1")
@@ -134,22 +134,35 @@ class Library:
         """
         said, given, rooms = joined(checked_words(words)), as_bytes(text), self._rooms.unused
         seconds, most_bytes = checked_timeout(timeout), checked_memory(memory)
+        if progress is not None and not callable(progress):
+            raise BadArgument(f"progress must be a function of bytes or None, not {shown(progress)}")
         if progress is not None:
-            faults: List[BaseException] = []
-            reports = _reports(progress, self.held, faults)
-            next(reports)
-            room = _Room(_Stop(reports.send))
-            room.limit(seconds, most_bytes)
-            answered = self._answer_in(room, said, given)
-            if faults:
-                raise faults[0]
-            return answered
-        room = rooms.pop() if rooms else _Room(self._stop)
+            return self._answer_with_reports(progress, said, given, seconds, most_bytes)
+        try:
+            room = rooms.pop() if rooms else _Room(self._stop)
+        except (OSError, MemoryError):
+            return NO_MEMORY, b"", 0
         try:
             room.limit(seconds, most_bytes)
             return self._answer_in(room, said, given)
         finally:
             rooms.append(room)
+
+    def _answer_with_reports(self, progress: Progress, said: bytes, given: bytes, seconds: Optional[float],
+                             most_bytes: int) -> Tuple[int, bytes, int]:
+        """As `answer`; a call that is reported on has a room of its own."""
+        faults: List[BaseException] = []
+        reports = _reports(progress, self.held, faults)
+        next(reports)
+        try:
+            room = _Room(_Stop(reports.send))
+        except (OSError, MemoryError):
+            return NO_MEMORY, b"", 0
+        room.limit(seconds, most_bytes)
+        answered = self._answer_in(room, said, given)
+        if faults:
+            raise faults[0]
+        return answered
 
     def held(self) -> int:
         """The bytes that the call of this thread holds, for a function that it calls; 0 if the library doesn't say."""
@@ -165,7 +178,7 @@ class Library:
                 return status, room.answer(), room.limits.reached
             try:
                 room.grow(room.needed.value)
-            except OSError:
+            except (OSError, MemoryError):
                 return NO_MEMORY, b"", 0
 
     def run(self, words: Sequence[str], text: str = "", timeout: Optional[float] = None,
@@ -174,9 +187,9 @@ class Library:
         words = checked_words(words)
         status, said, reached = self.answer(words, text, timeout, memory, progress)
         if reached == MOST_TIME:
-            raise TimedOut(f"{' '.join(words)}: no answer in {timeout} s")
+            raise TimedOut(f"{' '.join(words)}: no result within {timeout} s")
         if reached == MOST_MEMORY:
-            raise Failed(f"{' '.join(words)}: more memory than {memory} bytes")
+            raise Failed(f"{' '.join(words)}: it needs more than {memory} bytes of memory")
         return read_outcome(words, status, said)
 
 
@@ -186,6 +199,8 @@ _lock = threading.Lock()
 
 def at(path: str) -> Library:
     """The library at this path, which is loaded once."""
+    if not isinstance(path, str) or not path or "\0" in path:
+        raise BadArgument(f"path must be that of a library, not {shown(path)}")
     with _lock:
         if path not in _known:
             _known[path] = Library(path)

@@ -187,5 +187,5 @@ class Meter:
         if self.total is None:
             return f"{self.counts()} in {in_words(seconds)}, {rate_in_words(done, seconds)}"
         left = max(0, self.total - done)
-        to_go = f"about {in_words(seconds / done * left)} to go" if done else f"begun {in_words(seconds)} ago"
+        to_go = f"about {in_words(seconds / done * left)} left" if done else f"started {in_words(seconds)} ago"
         return f"{self.counts()}; {left:,} left, {rate_in_words(done, seconds)}, {to_go}"

@@ -6,10 +6,16 @@ import contextlib
 import difflib
 import math
 from pathlib import Path
-from typing import Dict, Iterable, List, NamedTuple, Optional, Tuple, Union
+from typing import Dict, Iterable, List, Literal, NamedTuple, Optional, Tuple, Union
 
 from .arguments import shown, whole_number
 from .errors import BadArgument
+
+
+# the values of options, for those who check types; a test compares them with the table of commands
+Coords = Literal["standard", "quad", "octagon"]
+WithTriangles = Literal["standard", "octagon"]
+Order = Literal["given", "short", "zeros"]
 
 
 class Range(NamedTuple):
@@ -92,11 +98,11 @@ def _word(name: str, value: object, values: Values) -> str:
         number = whole_number(value)
         if number is not None and values.least <= number <= values.most:
             return str(number)
-        raise BadArgument(f"{name} is {values}, and not {shown(value)}")
+        raise BadArgument(f"{name} must be {values}, not {shown(value)}")
     if isinstance(value, str) and value in values:
         return str(value)
     near = nearest(value, values) if isinstance(value, str) else None
-    raise BadArgument(f"{name} is {values}, and not {shown(value)}{f': is it {near!r}?' if near else ''}")
+    raise BadArgument(f"{name} must be {values}, not {shown(value)}{f'; did you mean {near!r}?' if near else ''}")
 
 
 def is_value(word: str, values: Values) -> bool:
@@ -119,7 +125,7 @@ def at_least_one(text: str) -> int:
     with contextlib.suppress(ValueError):
         if int(text) >= 1:
             return int(text)
-    raise argparse.ArgumentTypeError(f"a whole number from 1 on is expected, and not {text}")
+    raise argparse.ArgumentTypeError(f"expected a whole number of at least 1, not {text}")
 
 
 def seconds(text: str) -> float:
@@ -127,10 +133,10 @@ def seconds(text: str) -> float:
     with contextlib.suppress(ValueError):
         if math.isfinite(float(text)) and float(text) > 0:
             return float(text)
-    raise argparse.ArgumentTypeError(f"a positive number of seconds is expected, and not {text}")
+    raise argparse.ArgumentTypeError(f"expected a positive number of seconds, not {text}")
 
 
 def add_run_arguments(reader: argparse.ArgumentParser) -> None:
     """The options of whatever runs many triangulations."""
-    reader.add_argument("--jobs", type=at_least_one, help="runs at a time (default: as many as processors)")
-    reader.add_argument("--timeout", type=seconds, help="seconds after which a run is ended")
+    reader.add_argument("--jobs", type=at_least_one, help="number of parallel runs (default: one for each processor)")
+    reader.add_argument("--timeout", type=seconds, help="time limit of each run in seconds")

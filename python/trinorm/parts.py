@@ -48,7 +48,7 @@ class Clock:
             return self.timeout
         left = self.timeout - (time.monotonic() - self._begun)
         if left <= 0:
-            raise TimedOut(f"no answer in {self.timeout} s")
+            raise TimedOut(f"no result within {self.timeout} s")
         return left
 
 
@@ -117,7 +117,7 @@ def answers(text: str, ask: Callable[[str, Optional[float]], Answers], clock: Cl
         except Refused as refused:
             raise _of_the_whole(refused, part) from None
         except TimedOut as fault:
-            raise TimedOut(re.sub(r"no answer in .*", f"no answer in {clock.timeout} s", str(fault))) from None
+            raise TimedOut(re.sub(r"no result within .*", f"no result within {clock.timeout} s", str(fault))) from None
         if len(found) != part.vectors:
-            raise Failed(f"{part.vectors} vectors were asked, and {len(found)} were answered")
+            raise Failed(f"the answer is incomplete: {len(found)} results for {part.vectors} vectors")
         yield found

@@ -5,18 +5,19 @@ from __future__ import annotations
 import contextlib
 import math
 import os
+import queue
 import select
 import struct
 import subprocess
 import sys
 import time
 import weakref
-from collections import deque
+from _thread import start_new_thread
 from pathlib import Path
-from typing import Any, Deque, Dict, Optional, Sequence, Set, Tuple
+from typing import Any, Dict, Optional, Sequence, Set, Tuple, Union
 
 from .arguments import as_bytes, checked_timeout, checked_words, joined
-from .errors import Failed, TimedOut, how_it_ended
+from .errors import NO_MEMORY_HERE, Failed, TimedOut, how_it_ended
 from .program import find, read_outcome
 
 NAME = "trinorm-server"
@@ -27,6 +28,8 @@ _LONGEST = (1 << 32) - 1
 _PART, _LONGEST_WAIT = 1 << 16, (1 << 31) - 1
 # in seconds: a process that answered before, and is gone so soon after a request, most likely was gone before it
 _SOON = 1.0
+# in seconds: how long a thread may take to begin
+_LONGEST_START = 60.0
 _MOST_IDLE = os.cpu_count() or 1
 _LAST_NUMBER = (1 << 64) - 1
 
@@ -43,11 +46,19 @@ class _OtherAnswer(Exception):
     """What came is no answer to this request."""
 
 
+class _Call:
+    """A call that asks a process; `over` once it has ended in any way."""
+
+    def __init__(self) -> None:
+        self.over = False
+
+
 class _Process:
     """A server process with its pipes, which are never waited for past a deadline. One thread asks it at a time."""
 
-    def __init__(self, path: str, own_group: bool, all_of_server: Set[_Process]) -> None:
+    def __init__(self, path: str, own_group: bool, call: _Call, all_of_server: Set[_Process], calls: Dict[_Process, _Call]) -> None:
         self._all = all_of_server
+        self.owner = os.getpid()
         self.run = _started(path, own_group)
         assert self.run.stdin is not None and self.run.stdout is not None
         self.pipes = self.run.stdin, self.run.stdout
@@ -57,6 +68,7 @@ class _Process:
         self._to_send, self._to_receive = select.poll(), select.poll()
         self._to_send.register(self._requests, select.POLLOUT)
         self._to_receive.register(self._answers, select.POLLIN)
+        calls[self] = call
         all_of_server.add(self)
         # the number of the first request is 0, which a server without numbers takes for two lengths and refuses at once; the
         # next ones count from a number that no other process draws
@@ -83,12 +95,13 @@ class _Process:
 
     def end(self) -> int:
         """Ends the process, and returns the status with which it ended."""
-        self._all.discard(self)
         self.run.kill()
         for pipe in self.pipes:
             with contextlib.suppress(OSError):
                 pipe.close()
-        return self.run.wait()
+        status = self.run.wait()
+        self._all.discard(self)  # last, so that it is ended again if this was interrupted
+        return status
 
     def status(self) -> int:
         """The status with which it ended by itself; where it goes on without its pipes it is killed."""
@@ -96,12 +109,21 @@ class _Process:
             self.run.wait(0.1)
         return self.end()
 
-    def forget(self) -> None:
-        """Leaves the process to the parent of this one, which was forked from it."""
+    def forget(self, is_asked: bool) -> None:
+        """Leaves the process to the parent of this one, which was forked from it.
+
+        is_asked: whether a call waits for it, perhaps in this thread, where a handler of a signal forked: then its descriptors stay
+            at an end of file, so that no other file gets their numbers
+        """
         self.run.returncode = 0
         for pipe in self.pipes:
             with contextlib.suppress(OSError):
-                pipe.close()
+                if is_asked:
+                    null = os.open(os.devnull, os.O_RDWR | os.O_CLOEXEC)
+                    os.dup2(null, pipe.fileno(), inheritable=False)
+                    os.close(null)
+                else:
+                    pipe.close()
 
     def _send(self, request: bytes, deadline: Optional[float]) -> None:
         rest = memoryview(request)
@@ -171,9 +193,10 @@ class Server:
     def _begin(self) -> None:
         """Begins without processes, as in a child that was forked: those of its parent are not its own."""
         self._owner = os.getpid()
-        self._idle: Deque[_Process] = deque()
         self._all: Set[_Process] = set()
-        weakref.finalize(self, _end_all, self._idle, self._all, self._owner)
+        # which call has a process; one that none has is idle
+        self._calls: Dict[_Process, _Call] = {}
+        weakref.finalize(self, _end_all, self._all, self._calls, self._owner)
         _servers.add(self)
 
     def __getstate__(self) -> Dict[str, Any]:
@@ -200,32 +223,54 @@ class Server:
         words = checked_words(words)
         request, given, seconds = joined(words), as_bytes(text), checked_timeout(timeout)
         if len(given) > _LONGEST:
-            raise Failed(f"{' '.join(words)}: an input of {len(given)} bytes is too long for the server")
+            raise Failed(f"{' '.join(words)}: the input has {len(given)} bytes, too many for the server")
         deadline = None if seconds is None else time.monotonic() + seconds
         while True:
-            process, begun = self._take(), time.monotonic()
+            call = _Call()
             try:
-                answer = process.ask(request, given, deadline)
-            except _Ended:
-                was_idle = process.has_answered and time.monotonic() < begun + _SOON
-                status = process.status()
-                self._check_open()
-                if not was_idle:
-                    raise Failed(f"{' '.join(words)}: {how_it_ended(status)}") from None
+                answer = self._ask_one(call, request, given, deadline)
             except BaseException as fault:  # as KeyboardInterrupt: the answer may still come, to no other request
-                process.end()
+                self._end_call(call)
                 raise self._failure(fault, words, timeout) from None
-            else:
-                self._give_back(process)
+            if isinstance(answer, tuple):
                 return answer
+            if answer is not None:
+                raise Failed(f"{' '.join(words)}: {how_it_ended(answer)}")
+
+    def _ask_one(self, call: _Call, request: bytes, given: bytes, deadline: Optional[float]) -> Union[Tuple[int, bytes], int, None]:
+        """The answer of a process; the status with which it ended in place of one; None if it was gone before, or is that of the
+        parent of this process, so that another one is to be asked."""
+        process, begun = self._take(call), time.monotonic()
+        try:
+            answer = process.ask(request, given, deadline)
+        except _Ended:
+            if process.owner != os.getpid():
+                return None
+            was_idle = process.has_answered and time.monotonic() < begun + _SOON
+            status = process.status()
+            self._calls.pop(process, None)
+            self._check_open()
+            return None if was_idle else status
+        self._give_back(process)
+        return answer
+
+    def _end_call(self, call: _Call) -> None:
+        """Ends the process of a call that was interrupted, also one that is only now starting."""
+        call.over = True
+        for process, other in list(self._calls.items()):
+            if other is call:
+                process.end()
+                self._calls.pop(process, None)
 
     def _failure(self, fault: BaseException, words: Sequence[str], timeout: Optional[float]) -> BaseException:
         """What is raised of a request that went wrong; exceptions of handlers of signals stay what they are."""
         asked = " ".join(words)
         if isinstance(fault, _Late):
-            return TimedOut(f"{asked}: no answer in {timeout} s")
+            return TimedOut(f"{asked}: no result within {timeout} s")
         if isinstance(fault, _OtherAnswer):
-            return Failed(f"{asked}: {self.path} answered another request; is it of this version?")
+            return Failed(f"{asked}: {self.path} answered another request; check that it has the version of this package")
+        if isinstance(fault, MemoryError):
+            return Failed(f"{asked}: {NO_MEMORY_HERE}")
         if isinstance(fault, OSError) and fault.errno is not None:  # as where all files of this process were closed
             return Failed(f"{asked}: {self.path}: {fault.strerror}")
         return fault
@@ -233,7 +278,7 @@ class Server:
     def close(self) -> None:
         """Ends the processes. Calls that are running fail, and so do later ones."""
         self._closed = True
-        _end_all(self._idle, self._all, self._owner)
+        _end_all(self._all, self._calls, self._owner)
 
     def __enter__(self) -> Server:
         self._check_open()
@@ -246,47 +291,74 @@ class Server:
         if self._closed:
             raise Failed("this server is closed")
 
-    def _take(self) -> _Process:
-        """A process that answers nobody: one that is idle, else a new one."""
+    def _take(self, call: _Call) -> _Process:
+        """A process that answers nobody: one that is idle, else a new one. It is the call's from one step on, at which no handler
+        of a signal can come between."""
         self._check_open()
         if self._owner != os.getpid():
             self._forget()
-        try:
-            return self._idle.pop()  # if it has died, `ask` takes notice
-        except IndexError:
-            return self._start()
+        for process in list(self._all):
+            if self._calls.setdefault(process, call) is call:
+                if process in self._all:  # else another thread has ended it
+                    return process  # if it has died, `ask` takes notice
+                self._calls.pop(process, None)
+        return self._start(call)
 
-    def _start(self) -> _Process:
+    def _start(self, call: _Call) -> _Process:
+        """A new process. A thread starts it, since a handler of a signal that raises in `Popen` would leave it unknown."""
+        came: "queue.SimpleQueue[Union[_Process, BaseException, None]]" = queue.SimpleQueue()
         try:
-            return _Process(self.path, self._own_group, self._all)
-        except OSError as fault:
-            if fault.errno is None:  # of a handler of signals
-                raise
-            raise Failed(f"{self.path} can't be started: {fault.strerror}") from None
+            start_new_thread(self._start_in_thread, (call, came))
+            came.get(timeout=_LONGEST_START)  # if memory is short, a thread may end before its first step
+        except (RuntimeError, queue.Empty):
+            raise Failed(f"{self.path} cannot be started: this process cannot start a thread") from None
+        process = came.get()
+        if isinstance(process, _Process):
+            return process
+        if isinstance(process, OSError):
+            raise Failed(f"{self.path} cannot be started: {process.strerror}")
+        assert process is not None
+        raise process
+
+    def _start_in_thread(self, call: _Call, came: "queue.SimpleQueue[Union[_Process, BaseException, None]]") -> None:
+        """Starts a process for a call, and ends it if the call is over."""
+        came.put(None)
+        try:
+            process = _Process(self.path, self._own_group, call, self._all, self._calls)
+        except BaseException as fault:  # pylint: disable=broad-except
+            came.put(fault)
+            return
+        if call.over:
+            process.end()
+            self._calls.pop(process, None)
+        came.put(process)
 
     def _give_back(self, process: _Process) -> None:
         """Keeps a process for the next call, if there are not more than processors."""
-        self._idle.append(process)
-        if self._closed or len(self._idle) > _MOST_IDLE:
-            with contextlib.suppress(IndexError):
-                self._idle.popleft().end()
+        if self._closed or len(self._all) - len(self._calls) >= _MOST_IDLE:
+            process.end()
+        self._calls.pop(process, None)
 
     def _forget(self) -> None:
         """Leaves all processes to the parent of this one."""
         for process in list(self._all):
-            process.forget()
+            process.forget(process in self._calls)
         self._begin()
 
 
-def _end_all(idle: Deque[_Process], processes: Set[_Process], owner: int) -> None:
+def _end_all(processes: Set[_Process], calls: Dict[_Process, _Call], owner: int) -> None:
     """Ends the processes of a server that is closed or gone, if this process started them."""
     if owner != os.getpid():
         return
-    with contextlib.suppress(IndexError):
-        while True:
-            idle.pop().end()
-    for process in list(processes):  # the others have a call, which takes notice and closes their pipes
-        process.run.kill()
+    last = _Call()
+    last.over = True
+    for process in list(processes):
+        # one that is idle is taken, so that no call of another thread takes it while its pipes are closed
+        if calls.setdefault(process, last).over:
+            process.end()
+            calls.pop(process, None)
+        else:  # the call takes notice and closes its pipes
+            process.run.kill()
 
 
 _servers: "weakref.WeakSet[Server]" = weakref.WeakSet()

@@ -4,9 +4,10 @@ from __future__ import annotations
 import dataclasses
 import json
 import time
-from typing import Callable, Dict, NamedTuple, Optional
+from typing import Callable, Dict, Literal, NamedTuple, Optional
 
 from . import certificates, commands, comparisons, questions
+from .options import Coords, WithTriangles
 from .program import Error, Refused
 from .tables import Table
 
@@ -25,7 +26,7 @@ class Task:
     program: the program, or a server that answers in its place
     """
     command: str
-    coords: Optional[str] = None
+    coords: Optional[Coords] = None
     timeout: Optional[float] = None
     program: commands.Program = None
 
@@ -39,12 +40,18 @@ def _surfaces(text: str, task: Task) -> object:
     return commands.surfaces(text, task.coords or "standard", timeout=task.timeout, program=task.program)
 
 
+def _with_triangles(task: Task) -> WithTriangles:
+    """The coordinates of a task that takes no quad ones."""
+    assert task.coords != "quad"
+    return task.coords or "standard"
+
+
 def _described(text: str, task: Task) -> object:
-    return questions.described(text, task.coords or "standard", timeout=task.timeout, program=task.program)
+    return questions.described(text, _with_triangles(task), timeout=task.timeout, program=task.program)
 
 
 def _counted(text: str, task: Task) -> object:
-    return questions.count(text, task.coords or "standard", timeout=task.timeout, program=task.program)
+    return questions.count(text, _with_triangles(task), timeout=task.timeout, program=task.program)
 
 
 def _compared(text: str, task: Task) -> object:
@@ -55,6 +62,8 @@ def _plainly(command: Callable[..., object]) -> Callable[[str, Task], object]:
     return lambda text, task: command(text, timeout=task.timeout, program=task.program)
 
 
+# for those who check types; a test compares it with COMMANDS
+CommandName = Literal["surfaces", "describe", "count", "info", "sig", "csig", "cover", "pi1", "descend", "certify"]
 # the commands of one triangulation; `describe` and `count` take its vertex surfaces, and `crosscheck` is not the program's
 COMMANDS: Dict[str, Callable[[str, Task], object]] = {
     "surfaces": _surfaces,
@@ -77,7 +86,7 @@ def fields_of(value: object) -> object:
         return str(value)
     if dataclasses.is_dataclass(value) and not isinstance(value, type):
         return {field.name: getattr(value, field.name) for field in dataclasses.fields(value)}
-    raise TypeError(f"{type(value).__name__} is no answer")
+    raise TypeError(f"{type(value).__name__} is not a result of a census")
 
 
 # one encoder for all lines, since making one takes as long as a short line

@@ -15,6 +15,7 @@ import signal
 import subprocess
 import sys
 import threading
+import time
 from concurrent.futures import BrokenExecutor, Executor, Future
 from pathlib import Path
 from types import FrameType
@@ -94,7 +95,10 @@ class Worker:
         for stream in (self._to, self._from):
             with contextlib.suppress(BrokenPipeError):
                 stream.close()
-        os.waitid(os.P_PID, self._process.pid, os.WEXITED | os.WNOWAIT)
+        if hasattr(os, "waitid"):
+            os.waitid(os.P_PID, self._process.pid, os.WEXITED | os.WNOWAIT)
+        else:  # as on macOS: its number stays its own until `wait`, so it has a moment to end by itself
+            time.sleep(0.2)
         self.kill()
         with self._lock:
             return self._process.wait()
@@ -112,7 +116,7 @@ class Workers(Executor):
 
     def __init__(self, jobs: int) -> None:
         if jobs < 1:
-            raise ValueError(f"at least 1 process is wanted, and not {jobs}")
+            raise ValueError(f"jobs must be at least 1, not {jobs}")
         self._max_workers = jobs
         self._asked: "queue.SimpleQueue[Optional[_Asked]]" = queue.SimpleQueue()
         self._threads: List[threading.Thread] = []
@@ -190,7 +194,7 @@ class Workers(Executor):
         try:
             worker = Worker()
         except OSError as fault:
-            raise BrokenExecutor(f"a worker process could not start: {fault.strerror}") from None
+            raise BrokenExecutor(f"a worker process could not be started: {fault.strerror}") from None
         with self._lock:
             self._live.add(worker)
             if self._is_closed:
@@ -198,7 +202,7 @@ class Workers(Executor):
         try:
             worker.wait_until_ready()
         except EOFError:
-            raise BrokenExecutor(f"a worker process could not start: {how_it_ended(self._ended(worker))}") from None
+            raise BrokenExecutor(f"a worker process could not be started: {how_it_ended(self._ended(worker))}") from None
         return worker
 
     def _ended(self, worker: Worker) -> int:
@@ -232,7 +236,8 @@ def serve(calls: BinaryIO, to: BinaryIO) -> None:
 def main() -> None:
     # if the parent is killed, so are this process and what it runs
     signal.signal(signal.SIGTERM, lambda *_: os.killpg(0, signal.SIGKILL))
-    ctypes.CDLL(None).prctl(PR_SET_PDEATHSIG, signal.SIGTERM)
+    if sys.platform == "linux":
+        ctypes.CDLL(None).prctl(PR_SET_PDEATHSIG, signal.SIGTERM)
     with os.fdopen(os.dup(1), "wb") as to:
         # what a function prints is no answer
         os.dup2(2, 1)
