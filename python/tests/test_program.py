@@ -26,8 +26,9 @@ class Refusals(unittest.TestCase):
 
     def test_checks(self):
         self.assertEqual(self.refused(trinorm.lift, "cPcbbbiht", [(2, 0, 0, 0, 0, 1)]), (4, "vector no-lift", (0, 0)))
-        self.assertEqual(self.refused(trinorm.check, "bkaagb", []), (4, "check not-standard", ("bkaagb",)))
-        self.assertEqual(self.refused(trinorm.check, "bkaagj", ["14 0", "41 0 3", "23 0 0"]), (4, "check illegal repeated", (3, 3)))
+        self.assertEqual(trinorm.check("bkaagb", []).places, ("bkaagb",))
+        wrong = trinorm.check("bkaagj", ["14 0", "41 0 3", "23 0 0"])
+        self.assertEqual((wrong.kind, wrong.places), ("check illegal repeated", (3, 3)))
         self.assertEqual(self.refused(trinorm.sig, ["- - - -"] * 2), (4, "not-connected", (0, 1)))
 
     def test_limit(self):
@@ -50,12 +51,12 @@ class Failures(unittest.TestCase):
         return caught.exception
 
     def test_statuses(self):
-        self.assertIn("no memory", str(self.failed("exit 8\n")))
-        self.assertIn("reading failed", str(self.failed("echo 'refused: read'; exit 6\n")))
+        self.assertIn("out of memory", str(self.failed("exit 8\n")))
+        self.assertIn("standard input could not be read", str(self.failed("echo 'refused: read'; exit 6\n")))
         self.assertIn("signal 9", str(self.failed("kill -9 $$\n")))
 
     def test_answers_that_are_none(self):
-        self.assertIn("isn't understood", str(self.failed("echo tetrahedra 1\n")))
+        self.assertIn("cannot be read", str(self.failed("echo tetrahedra 1\n")))
         self.assertIn("status 3", str(self.failed("exit 3\n")))
 
     def test_timeout(self):

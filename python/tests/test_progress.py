@@ -11,6 +11,7 @@ import trinorm
 from trinorm import library, program, progress
 from trinorm.server import Server
 
+from .cases import timed
 from .programs import script
 from .test_library import LONG, named
 
@@ -145,10 +146,11 @@ class ByProcess(Both, unittest.TestCase):
             text = "sig bkaagj\n" + "vec 1 1 0 0 1 0 0\n" * 50000
             self.assertEqual(runner.run(["verify"], text).count("solution"), 50000)
 
+    @timed
     def test_limits_of_time(self):
         with tempfile.TemporaryDirectory() as folder:
             reports, begun = Reports(), time.monotonic()
-            with self.assertRaisesRegex(trinorm.TimedOut, "no answer in 0.5 s"):
+            with self.assertRaisesRegex(trinorm.TimedOut, "no result within 0.5 s"):
                 trinorm.surfaces("bkaagj", progress=reports, timeout=0.5, program=script(folder, "exec sleep 60\n"))
             self.assertLess(time.monotonic() - begun, 50)
             self.assertGreaterEqual(len(reports.seen), 2)

@@ -10,9 +10,10 @@ import threading
 from pathlib import Path
 from typing import TYPE_CHECKING, Dict, Optional, Protocol, Sequence, Tuple, Union
 
-from .arguments import as_bytes, checked_timeout, checked_words, shown
+from .arguments import as_bytes, checked_timeout, checked_words, path_text, shown
 from .errors import BadArgument as BadArgument, Error as Error, Failed as Failed, Place as Place, Refused as Refused  # noqa: F401
 from .errors import REFUSED, USAGE, TimedOut as TimedOut, how_it_ended as how_it_ended, kind_and_places as kind_and_places  # noqa: F401
+from .processes import Child
 
 if TYPE_CHECKING:
     from .library import Library
@@ -39,9 +40,9 @@ def _built_in_repository() -> str:
 
 def _path_of(program: Union[str, "os.PathLike[str]"]) -> str:
     """A path as a text."""
-    path = os.fspath(program) if isinstance(program, (str, os.PathLike)) else None
-    if not isinstance(path, str) or not path or "\0" in path:
-        raise BadArgument(f"program is the path of a program, a trinorm.server.Server or None, and not {shown(program)}")
+    path = path_text(program)
+    if path is None:
+        raise BadArgument(f"program must be the path of a program, a trinorm.server.Server or None, not {shown(program)}")
     return path
 
 
@@ -53,7 +54,7 @@ def find(program: Union[str, "os.PathLike[str]", None] = None) -> str:
     if named:
         path = shutil.which(os.path.expanduser(named))
         if path is None:
-            raise Failed(f"no program at {named}")
+            raise Failed(f"there is no program at {named}")
         return path
     if (REPOSITORY / "trinorm").is_file() and (REPOSITORY / "crates" / "trinorm").is_dir():
         return _built_in_repository()
@@ -63,7 +64,7 @@ def find(program: Union[str, "os.PathLike[str]", None] = None) -> str:
             return str(installed)
     path = shutil.which("trinorm")
     if path is None:
-        raise Failed("the program trinorm is neither named by TRINORM, nor installed with this package, nor on the path")
+        raise Failed("the program trinorm was not found; install it, or name it by the environment variable TRINORM")
     return path
 
 
@@ -76,6 +77,21 @@ class Runner(Protocol):
 
 # what runs the commands: a path, what runs in its place, or None for the library or the program that are found
 Program = Union[str, "os.PathLike[str]", Runner, None]
+
+
+def checked_program(program: Program) -> Program:
+    """A program as it was given, or BadArgument for a value of another kind."""
+    if program is None:
+        return None
+    return _path_of(program) if isinstance(program, (str, os.PathLike)) else _checked_runner(program)
+
+
+def _checked_runner(program: Runner) -> Runner:
+    """What runs in the place of a program, or BadArgument for another value."""
+    if isinstance(program, type) or not callable(getattr(program, "run", None)):
+        raise BadArgument(f"program must be the path of a program, a trinorm.server.Server or None, not {shown(program)}")
+    return program
+
 
 _libraries: Dict[Tuple[Optional[str], Optional[str], Path], Optional[Library]] = {}
 
@@ -109,11 +125,9 @@ def run(words: Sequence[str], text: str = "", timeout: Optional[float] = None, p
             return library.run(words, text)
     if program is None or isinstance(program, (str, os.PathLike)):
         return run_process(words, text, timeout, program)
-    if isinstance(program, type) or not callable(getattr(program, "run", None)):
-        raise BadArgument(f"program is the path of a program, a trinorm.server.Server or None, and not {shown(program)}")
-    answer = program.run(words, text, timeout)
+    answer = _checked_runner(program).run(words, text, timeout)
     if not isinstance(answer, str):
-        raise Failed(f"{' '.join(words)}: {shown(program)} answered {shown(answer)}, which is no text")
+        raise Failed(f"{' '.join(words)}: {shown(program)} returned {shown(answer)}, which is not a string")
     return answer
 
 
@@ -124,15 +138,15 @@ def run_process(words: Sequence[str], text: str = "", timeout: Optional[float] =
     as_bytes(" ".join(words))
     path = find(program)
     try:
-        done = subprocess.run([path, *words], input=given, stdout=subprocess.PIPE, stderr=subprocess.PIPE, timeout=seconds,
-                              check=False)
+        with Child([path, *words]) as started:
+            said, _ = started.communicate(given, seconds)
     except subprocess.TimeoutExpired:
-        raise TimedOut(f"{' '.join(words)}: no answer in {timeout} s") from None
+        raise TimedOut(f"{' '.join(words)}: no result within {timeout} s") from None
     except OSError as fault:
         if fault.errno is None:  # of a handler of signals
             raise
         raise Failed(f"{path}: {fault.strerror}") from None
-    return read_outcome(words, done.returncode, done.stdout)
+    return read_outcome(words, started.returncode, said)
 
 
 def read_outcome(words: Sequence[str], status: int, said: bytes) -> str:

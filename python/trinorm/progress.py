@@ -3,13 +3,13 @@ from __future__ import annotations
 
 import os
 import subprocess
-import tempfile
 import time
 from typing import Callable, Optional, Sequence, Union
 
 from . import program
 from .arguments import as_bytes, checked_timeout, checked_words, shown
-from .errors import BadArgument, Failed, TimedOut
+from .errors import BadArgument, TimedOut
+from .processes import Child
 from .program import Program
 
 # called with the seconds since the call began, and the bytes that it holds
@@ -43,22 +43,8 @@ class Reported:
 
     def _run_process(self, words: Sequence[str], text: str, timeout: Optional[float]) -> str:
         line, limit, path = checked_words(words), checked_timeout(timeout), program.find(self.named)
-        try:
-            # a file, since `communicate` goes on writing to a pipe only from Python 3.12 on once its time was over
-            with tempfile.TemporaryFile() as given:
-                given.write(as_bytes(text))
-                given.seek(0)
-                run = subprocess.Popen([path, *line], stdin=given, stdout=subprocess.PIPE, stderr=subprocess.PIPE)
-        except OSError as fault:
-            if fault.errno is None:  # of a handler of signals
-                raise
-            raise Failed(f"{fault.filename or path}: {fault.strerror}") from None
-        with run:
-            try:
-                return self._wait(line, run, limit)
-            except BaseException:
-                run.kill()
-                raise
+        with Child([path, *line], as_bytes(text)) as run:
+            return self._wait(line, run, limit)
 
     def _wait(self, words: Sequence[str], run: subprocess.Popen[bytes], limit: Optional[float]) -> str:
         """What a process writes; it is reported on until it ends, or its time is over."""
@@ -71,7 +57,7 @@ class Reported:
             except subprocess.TimeoutExpired:
                 pass
             if limit is not None and time.monotonic() - begun >= limit:
-                raise TimedOut(f"{' '.join(words)}: no answer in {limit} s")
+                raise TimedOut(f"{' '.join(words)}: no result within {limit} s")
             self.report(held_by(run.pid))
 
 
@@ -89,7 +75,7 @@ def reported(named: Program, progress: Optional[Progress]) -> Program:
     if progress is None:
         return named
     if not callable(progress):
-        raise BadArgument(f"progress is a function of seconds and bytes, and not {shown(progress)}")
+        raise BadArgument(f"progress must be a function of seconds and bytes, not {shown(progress)}")
     if named is not None and not isinstance(named, (str, os.PathLike)):
-        raise BadArgument("progress is reported by the library or by a program, and not by a server")
+        raise BadArgument("a server does not report progress; use the library or a program")
     return Reported(named, progress)

@@ -1,0 +1,137 @@
+"""Processes that are interrupted while they are started, are used by many threads, and are asked for nonsense."""
+import os
+import signal
+import tempfile
+import threading
+import unittest
+from pathlib import Path
+from unittest import mock
+
+import trinorm
+from trinorm import processes
+from trinorm.processes import Child
+
+from .programs import script
+
+
+def children():
+    """The numbers of the children of this process that run or were not waited for."""
+    found = []
+    for path in Path("/proc/self/task").glob("*/children"):
+        try:
+            found += path.read_text("ascii").split()
+        except OSError:  # the thread has ended
+            pass
+    return found
+
+
+class Asked(Exception):
+    """Raised by a handler of a signal."""
+
+
+@unittest.skipUnless(os.path.exists(f"/proc/self/task/{os.getpid()}/children"), "the system does not list children")
+class Interrupts(unittest.TestCase):
+    """Nothing is left running, whenever the signal comes."""
+
+    def setUp(self):
+        self.folder = tempfile.TemporaryDirectory()
+        self.addCleanup(self.folder.cleanup)
+        self.endless = script(self.folder.name, "exec sleep 300\n")
+
+        def raises(_number, _frame):
+            raise Asked
+
+        before = signal.signal(signal.SIGALRM, raises)
+        self.addCleanup(signal.signal, signal.SIGALRM, before)
+        self.addCleanup(signal.setitimer, signal.ITIMER_REAL, 0)
+
+    def interrupted(self, call):
+        """Calls it many times, each time with a signal a little later, from before the process is there until after it runs."""
+        before = children()
+        for step in range(150):
+            with self.assertRaises(Asked):
+                signal.setitimer(signal.ITIMER_REAL, 1e-5 + step * 4e-5)
+                call()
+        signal.setitimer(signal.ITIMER_REAL, 0)
+        for thread in threading.enumerate():
+            if thread is not threading.current_thread() and not thread.daemon:
+                thread.join(10)
+        for _ in range(100):
+            if children() == before:
+                return
+            threading.Event().wait(0.05)
+        self.assertEqual(children(), before)
+
+    def test_of_a_call(self):
+        self.interrupted(lambda: trinorm.surfaces("bkaagj", program=self.endless))
+
+    def test_of_a_call_that_reports(self):
+        self.interrupted(lambda: trinorm.surfaces("bkaagj", progress=lambda *_: None, program=self.endless))
+
+    def test_while_the_process_is_started(self):
+        """The signal comes while `Popen` runs, which no time is short enough to miss."""
+        begun, go = threading.Event(), threading.Event()
+        popen = processes.subprocess.Popen
+
+        def slow(*words, **how):
+            begun.set()
+            go.wait(10)
+            return popen(*words, **how)
+
+        def signals():
+            begun.wait(10)
+            os.kill(os.getpid(), signal.SIGALRM)
+
+        before = children()
+        thread = threading.Thread(target=signals)
+        with mock.patch.object(processes.subprocess, "Popen", slow):
+            thread.start()
+            with self.assertRaises(Asked), Child([self.endless]):
+                pass
+            go.set()
+            for _ in range(100):
+                if go.is_set() and children() == before:
+                    break
+                threading.Event().wait(0.05)
+        thread.join()
+        self.assertEqual(children(), before)
+
+
+class Started(unittest.TestCase):
+    def test_threads(self):
+        listed = trinorm.surfaces("cPcbbbiht")
+        program, found = trinorm.find(), []
+        threads = [threading.Thread(target=lambda: found.append(trinorm.surfaces("cPcbbbiht", program=program))) for _ in range(20)]
+        for thread in threads:
+            thread.start()
+        for thread in threads:
+            thread.join()
+        self.assertEqual(found, [listed] * 20)
+
+    def test_without_threads(self):
+        """Where no thread can be started, the process is started here."""
+        with mock.patch.object(processes, "start_new_thread", side_effect=RuntimeError("can't start new thread")):
+            self.assertEqual(len(trinorm.surfaces("bkaagj", program=trinorm.find())), 2)
+
+    def test_forked_children(self):
+        child = os.fork()
+        if child == 0:
+            os._exit(0 if len(trinorm.surfaces("bkaagj", program=trinorm.find())) == 2 else 1)
+        self.assertEqual(os.waitpid(child, 0)[1], 0)
+
+    def test_what_cannot_be_started(self):
+        for path, why in (("/no/such/program", "No such file"), (os.path.dirname(__file__), "Permission denied")):
+            with self.assertRaisesRegex(trinorm.Failed, f"^{path}: {why}"), Child([path]):
+                pass
+        with self.assertRaises(ValueError), Child(["a\0b"]):
+            pass
+
+    def test_what_ends_by_an_exception_is_killed(self):
+        with tempfile.TemporaryDirectory() as folder:
+            with self.assertRaises(Asked), Child([script(folder, "exec sleep 300\n")]) as run:
+                raise Asked
+        self.assertEqual(run.returncode, -signal.SIGKILL)
+
+
+if __name__ == "__main__":
+    unittest.main()
