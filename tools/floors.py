@@ -1,12 +1,14 @@
 #!/usr/bin/env python3
 """Puts crates.txt into the order of the floors, writes the map of the crates by subject into docs/ARCHITECTURE.md, the
-definitions of code crates into docs/DEFINITIONS.md, and the longest chain into docs/PROVING.md.
+definitions of code crates into docs/DEFINITIONS.md, the longest chain into docs/PROVING.md, and numbers of crates, laws and edits
+into all pages.
 
     tools/floors.py [--check]
 
 A crate stands one floor above the highest crate that it names. With --check nothing is written, and the status is 1 where
 something would be. It is 1, too, where tools/refusals.py refuses something: laws or definitions that stand on code, a crate
-whose line lists one that none of its files names, or lacks one that they do, and a crate without a subject here.
+whose line lists one that none of its files names, or lacks one that they do, and a crate without a subject here. So it is where
+tools/page_facts.py refuses something: a definition of a contract that DEFINITIONS does not name, or a wrong star of CLAIMS.
 """
 from __future__ import annotations
 
@@ -16,6 +18,7 @@ import sys
 from typing import Dict, List
 
 from build_times import Plan, read_times
+from page_facts import imported, numbers, pages_of, unlisted, with_numbers, wrong_stars
 from refusals import kind, refusals
 from repository import TOP, crates_of_build, lines_of_crates
 
@@ -39,9 +42,9 @@ SUBJECTS = {
     " row_reduction vertex_enumeration vector_text enumeration_commands",
     "surface": "surface_definitions surface_vector_definitions surface_laws surface_equation_laws"
     " surface_quad_laws surface_quad_lift_laws surface_octagon_laws surface_link_laws"
-    " surface_agreement_laws surface_efficiency_laws surface_euler_laws"
-    " surface_crushing_laws normal_discs matching_equations quad_condition quad_lift surface_pieces"
-    " surface_properties crushing surface_list surface_refusals vector_commands",
+    " surface_agreement_laws surface_efficiency_laws surface_euler_laws surface_double_laws"
+    " surface_relabelling_laws surface_sum_laws surface_crushing_laws normal_discs matching_equations"
+    " quad_condition quad_lift surface_pieces surface_properties crushing surface_list surface_refusals vector_commands",
     "sum": "sum_definitions sum_laws ray_decompose sum_commands",
     "command": "command_definitions command_laws command_words command_answers",
     "outcome": "outcome_definitions outcome_laws outcome_existence_laws outcome_answer_laws outcome_written_laws"
@@ -99,15 +102,6 @@ def floors(known: Crates) -> Dict[str, int]:
     return {name: level(name) for name in known}
 
 
-def what(name: str) -> str:
-    """The first sentence of the crate's own words, up to a colon where that says enough."""
-    root = read(f"crates/{name}/src/lib.rt") or read(f"crates/{name}/src/main.rt")
-    said = " ".join(line[3:].strip() for line in root.split("\n") if line.startswith("//!"))
-    sentence = re.split(r"(?<=\.)\s", said)[0].rstrip(".")
-    head = re.split(r"[:;] ", sentence)[0]
-    return (head if len(head.split()) > 4 else sentence) + "."
-
-
 def by_floor(levels: Dict[str, int]) -> Storeys:
     return [
         sorted((name for name in levels if levels[name] == floor), key=lambda name: (KINDS.index(kind(name)), name))
@@ -122,14 +116,6 @@ def list_text(known: Crates, storeys: Storeys) -> str:
     return text
 
 
-def own_files(name: str) -> List[str]:
-    """The files of its own specs/ that the sources of a code crate name, in alphabetical order."""
-    folder = TOP / "crates" / name
-    texts = [path.read_text("utf8") for path in sorted((folder / "src").rglob("*.rt"))]
-    cited = {file for text in texts for file in re.findall(rf"Rattle\.{name}\.specs\.(\w+)", text)}
-    return sorted(file for file in cited if (folder / "specs" / f"{file}.antt").exists())
-
-
 def first_sentence(text: str) -> str:
     """The first sentence of the comment at the head of a file of specs/, without its full stop."""
     lines = itertools.takewhile(lambda line: line.startswith("--"), text.split("\n"))
@@ -137,13 +123,11 @@ def first_sentence(text: str) -> str:
     return re.split(r"(?<=\.)\s", said)[0].rstrip(".").replace("|", "\\|")
 
 
-def own_text(known: Crates) -> str:
-    """The definitions of code crates: a row for each file of specs/ that the crate's sources name."""
-    rows = ["| Crate: file | Definition |", "|---|---|"]
-    for name in sorted(known):
-        if kind(name) in ("code", "program"):
-            rows += [f"| `{name}`: {file} | {first_sentence(read(f'crates/{name}/specs/{file}.antt'))} |" for file in own_files(name)]
-    return "\n".join(rows)
+def own_text() -> str:
+    """The definitions of code crates that the contracts of the program and the library import: a row for each file of specs/."""
+    rows = [f"| `{name}`: {file} | {first_sentence(read(f'crates/{name}/specs/{file}.antt'))} |"
+            for name, file in sorted(set(imported(TOP))) if kind(name) in ("code", "program")]
+    return "\n".join(["| Crate: file | Definition |", "|---|---|", *rows])
 
 
 def quoted(names: List[str]) -> str:
@@ -159,17 +143,6 @@ def map_text(known: Crates) -> str:
         cells = [quoted([name for name in crates_there if kind(name) in kinds]) for kinds in (("definitions",), ("laws",), ("code", "program"))]
         rows.append(f"| {subject} | {' | '.join(cells)} | {quoted(COMMANDS.get(subject, '').split())} |")
     return "\n".join(rows)
-
-
-def code_text(known: Crates) -> str:
-    """Each crate of code with the first sentence of its head, in the order of the map."""
-    names = " ".join(SUBJECTS.values()).split()
-    return "\n".join(f"- `{name}`: {what(name)}" for name in names if name in known and kind(name) in ("code", "program"))
-
-
-def subjects_text(known: Crates) -> str:
-    """The map and the crates of code."""
-    return f"{map_text(known)}\n\nWhat each crate of code is for:\n\n{code_text(known)}"
 
 
 def chain_text() -> str:
@@ -193,18 +166,21 @@ def with_part(page: str, part: str, text: str, gap: str = "\n") -> str:
 
 def wanted_files(known: Crates) -> Dict[str, str]:
     """Each file that this tool writes, as it should be."""
-    storeys = by_floor(floors(known))
-    return {
-        "crates.txt": list_text(known, storeys),
-        "docs/ARCHITECTURE.md": with_part(read("docs/ARCHITECTURE.md"), "subjects", subjects_text(known)),
-        "docs/DEFINITIONS.md": with_part(read("docs/DEFINITIONS.md"), "own", own_text(known)),
-        "docs/PROVING.md": with_part(read("docs/PROVING.md"), "chain", chain_text(), " "),
-    }
+    storeys, counted = by_floor(floors(known)), numbers(TOP)
+    pages = {path: with_numbers(read(path), counted) for path in pages_of(TOP)}
+    for path, part, text, gap in (
+        ("docs/ARCHITECTURE.md", "subjects", map_text(known), "\n"),
+        ("docs/DEFINITIONS.md", "own", own_text(), "\n"),
+        ("docs/PROVING.md", "chain", chain_text(), " "),
+    ):
+        pages[path] = with_part(pages[path], part, text, gap)
+    return {"crates.txt": list_text(known, storeys), **pages}
 
 
 def main(checking: bool) -> int:
     known = crates()
     refused = refusals(TOP, known, " ".join(SUBJECTS.values()).split())
+    refused += [*unlisted(TOP, read("docs/DEFINITIONS.md")), *wrong_stars(TOP, read("docs/CLAIMS.md"))]
     for line in refused:
         print(line)
     stale = {path: text for path, text in wanted_files(known).items() if read(path) != text}

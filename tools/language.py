@@ -159,7 +159,7 @@ def report(crates: Sequence[str], listing: bool) -> None:
 def main() -> int:
     """Prints the counts, or with --check what a crate that is done breaks, and returns the exit status."""
     parser = argparse.ArgumentParser(description="Measures the comments of the crates.")
-    parser.add_argument("crates", nargs="*", metavar="CRATE", help="these alone")
+    parser.add_argument("crates", nargs="*", metavar="CRATE", help="only these crates")
     parser.add_argument("--check", action="store_true", help="end with 1 if a public item of a crate that is done breaks a rule")
     parser.add_argument("--list", action="store_true", help="print each place")
     given = parser.parse_args()

@@ -1,5 +1,5 @@
 #!/usr/bin/env python3
-"""Checks that each link of a page to a file, and to a heading of a page, has its target.
+"""Checks that each link of a page to a file, and to a heading or an anchor of a page, has its target.
 
     tools/links.py [PAGE ..]
 
@@ -7,6 +7,7 @@ Without pages it checks all of the repository. It prints each link that fails, w
 """
 from __future__ import annotations
 
+import functools
 import re
 import sys
 from pathlib import Path
@@ -28,19 +29,21 @@ def anchor(heading: str) -> str:
     return re.sub(r"[^\w\- ]", "", heading.strip().lower()).replace(" ", "-")
 
 
+@functools.lru_cache(maxsize=None)
 def anchors(page: Path) -> Set[str]:
-    """The anchors of the headings of a page."""
-    return {anchor(heading) for heading in re.findall(r"(?m)^#+ (.*)$", prose(page.read_text("utf8")))}
+    """The anchors of a page: those of its headings, and those that it names itself, as `LAWS.md` does for each law."""
+    text = prose(page.read_text("utf8"))
+    return {anchor(heading) for heading in re.findall(r"(?m)^#+ (.*)$", text)} | set(re.findall(r'<a id="([^"]+)">', text))
 
 
 def broken_links(page: Path) -> Iterator[str]:
-    """The links of a page whose file, or whose heading in that file, does not exist."""
+    """The links of a page whose file, or whose heading or anchor in that file, does not exist."""
     for link in LINK.findall(prose(page.read_text("utf8"))):
         if ELSEWHERE.match(link):
             continue
         path, _, heading = link.partition("#")
         target = page.parent / path if path else page
-        if not target.exists() or (heading and target.suffix == ".md" and heading not in anchors(target)):
+        if not target.exists() or (heading and target.suffix == ".md" and heading not in anchors(target.resolve())):
             yield link
 
 

@@ -6,18 +6,19 @@ from typing import Dict, List, Sequence
 from commands import Command, Option
 
 STATUSES = (
-    ("0", "done"), ("2", "the words are no command with its options"), ("3", "the input is no document of the command"),
-    ("4", "the command's own checks refused it"), ("5", "a number passed the limit"), ("6, 7", "reading, writing failed"),
-    ("8", "out of memory"), ("9", "the program could not be built, or the system doesn't give its words"),
+    ("0", "done"), ("2", "invalid command line"), ("3", "invalid input"),
+    ("4", "the input is valid, but the command cannot answer it"), ("5", "a number exceeds the limit"),
+    ("6, 7", "reading the input, or writing the output, failed"),
+    ("8", "out of memory"), ("9", "the program could not be built, or the command line could not be read"),
 )
 DOCUMENTS = {
     "table": "a triangulation", "two-tables": "two triangulations", "tables": "any number of triangulations",
-    "vectors": "a triangulation and any number of vectors", "vector": "a triangulation and one vector",
-    "blocks": "a triangulation and any number of sums, as decompose writes them",
-    "steps": "a triangulation and any number of moves, undo and redo", "moves": "a triangulation and any number of moves",
+    "vectors": "a triangulation, then any number of vectors", "vector": "a triangulation, then one vector",
+    "blocks": "a triangulation, then any number of sums, as decompose prints them",
+    "steps": "a triangulation, then any number of moves, undo and redo", "moves": "a triangulation, then any number of moves",
     "cone": "a cone", "none": "nothing",
 }
-PURPOSE = "triangulated 3-manifolds and their normal surfaces, with proved answers"
+PURPOSE = "vertex normal surfaces of triangulated 3-manifolds, with a proof that none is missing"
 
 
 def roff(text: str) -> str:
@@ -50,25 +51,25 @@ def manual(commands: Sequence[Command], version: str, day: str) -> str:
     lines = [
         f'.TH TRINORM 1 {day} "trinorm {version}" "User Commands"', ".SH NAME", rf"trinorm \- {roff(PURPOSE)}", ".SH SYNOPSIS",
         r"\fBtrinorm\fR \fICOMMAND\fR [\fB\-\-\fIoption value\fR ...] < \fIINPUT\fR", ".SH DESCRIPTION",
-        "Reads standard input to its end, writes the whole answer to standard output, and ends with a status. A refusal is one",
-        r"line that begins with \fBrefused:\fR. Where standard error is a terminal, a few words there say what is wanted.",
-        ".PP", "A triangulation is a gluing table (a line \\fBtri\\fR \\fIN\\fR and \\fIN\\fR rows) or a signature (a line \\fBsig\\fR",
-        "\\fISIGNATURE\\fR). Blank lines, and lines that begin with #, are passed over.", ".SH COMMANDS",
+        "Reads standard input to its end, and prints the result to standard output. An error is printed as one line on standard output,",
+        r"which begins with \fBrefused:\fR. If standard error is a terminal, the error is explained there.",
+        ".PP", "A triangulation is a signature (a line \\fBsig\\fR \\fISIGNATURE\\fR) or a gluing table (a line \\fBtri\\fR \\fIN\\fR and",
+        "\\fIN\\fR rows). Blank lines and lines that begin with # are ignored.", ".SH COMMANDS",
     ]
     for command in commands:
         lines += entry(command)
     lines += [
-        ".SH OPTIONS", r"Each at most once, in any order, as \fB\-\-\fIname value\fR or \fB\-\-\fIname\fR=\fIvalue\fR.",
-        "The default is the first of several values, and the greatest number. Options without brackets are required.", ".SH EXIT STATUS",
+        ".SH OPTIONS", r"Options are written \fB\-\-\fIname value\fR or \fB\-\-\fIname\fR=\fIvalue\fR, in any order, each at most once.",
+        "The default is the first value listed, or the greatest number. Options without brackets are required.", ".SH EXIT STATUS",
     ]
     for status, meaning in STATUSES:
         lines += [".TP", rf"\fB{status}\fR", roff(meaning)]
     lines += [
-        ".SH EXAMPLES", ".TP", "All vertex normal surfaces of the figure eight knot's complement:", r"echo sig cPcbbbiht | trinorm surfaces",
-        ".TP", "Is this triangulation isomorphic to another one?", r"printf \(aqsig bkaagn\ensig bkaagj\en\(aq | trinorm same",
+        ".SH EXAMPLES", ".TP", "All vertex normal surfaces of the figure-eight knot complement:", r"echo sig cPcbbbiht | trinorm surfaces",
+        ".TP", "Are two triangulations isomorphic?", r"printf \(aqsig bkaagn\ensig bkaagj\en\(aq | trinorm same",
     ]
     lines += [
-        ".SH FILES", r"Pages, examples and licences are in \fIshare/doc/trinorm\fR of the folder in which trinorm is installed, the program and its",
+        ".SH FILES", r"The folder of the installation has documentation, examples and licences in \fIshare/doc/trinorm\fR, and the program with its",
         r"MANIFEST in \fIlibexec/trinorm\fR.", ".SH AUTHORS", "The trinorm authors.",
     ]
     return "\n".join(lines) + "\n"
@@ -84,7 +85,7 @@ def bash(commands: Sequence[Command]) -> str:
     options = "\n".join(f"      {command.name}) words='{' '.join(f'--{option.name}' for option in command.options)}' ;;"
                         for command in commands if command.options)
     branches = "\n".join(f"      '{key.replace(' ', ' --')}') words='{' '.join(words)}' ;;" for key, words in option_values(commands).items())
-    return f"""# Completion of trinorm's words for bash.
+    return f"""# Bash completion for trinorm.
 _trinorm() {{
   local words='' word=${{COMP_WORDS[COMP_CWORD]}} before=${{COMP_WORDS[COMP_CWORD-1]}}
   if [ "$word" = = ]; then
@@ -117,7 +118,7 @@ def zsh(commands: Sequence[Command]) -> str:
     cases = "\n".join(f"    {command.name}) _arguments {' '.join(argument(option) for option in command.options)} ;;"
                       for command in commands if command.options)
     return f"""#compdef trinorm
-# Completion of trinorm's words for zsh.
+# Zsh completion for trinorm.
 _trinorm() {{
   local -a commands
   commands=(

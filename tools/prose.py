@@ -17,10 +17,10 @@ from typing import Iterator, Sequence, Tuple
 from repository import TOP
 
 LONGEST = 30
-PAGES = ("README.md", "CONTRIBUTING.md", "docs/*.md")
+PAGES = ("README.md", "CONTRIBUTING.md", "CHANGELOG.md", "SECURITY.md", "paper.md", "python/README.md", "docs/*.md")
 WRITTEN = ("LAWS.md", "READING.md")
-# where a sentence ends: a full stop, a question or exclamation mark or a colon, before a space
-END = re.compile(r"(?<=[.!?:])[*_)\"”]*\s+")
+# where a sentence ends: a full stop, a question mark or an exclamation mark, before a space
+END = re.compile(r"(?<=[.!?])[*_)\"”]*\s+")
 
 
 def pages(top: Path) -> Iterator[Path]:

@@ -20,7 +20,7 @@ from pathlib import Path
 from typing import Dict, FrozenSet, Iterator, List, NamedTuple, Sequence, Set, Tuple
 
 from refusals import code_of, end_of_block, functions_of
-from repository import TOP, git
+from repository import TOP, git, tracked
 
 KEPT = TOP / "tools" / "twice_kept.txt"
 WORD = re.compile(r"[A-Za-z_][A-Za-z_0-9'\-]*(?<!-)|\d+|\S")
@@ -99,24 +99,23 @@ def items_of_theory(text: str, path: str) -> Iterator[Item]:
             statement += f" ; {clause}"
         groups = re.findall(r"[({]([^(){}:]+?)\s*:|λ ([^.]+)\.", statement)
         bound = {word for group in groups for word in " ".join(group).split()}
-        for clause in re.findall(rf"; {re.escape(name)} ([^=]*)=", statement):
+        for clause in re.findall(rf"; {re.escape(name)} ([^=]*)=", statement) if f"; {name} " in statement else []:
             bound.update(re.findall(r"\b[a-z]\w*'?", clause))
-        yield Item(path, name, block[:head.start(1)] + path.split("/")[2], numbered(statement, bound, name), origins)
+        yield Item(path, name, block[:head.start(1)].replace("pub ", "") + path.split("/")[2], numbered(statement, bound, name), origins)
 
 
 def functions(text: str, path: str) -> Iterator[Item]:
     """The functions of a file of src/."""
-    origins = origins_of(text, path)
+    origins, ends = origins_of(text, path), {head[1]: head.end() for head in reversed([*re.finditer(r"\bfn (\w+)", text)])}
     for function in functions_of(text):
         if not function.body:
             continue
-        begin = re.search(rf"\bfn {function.name}\b", text)
-        assert begin is not None
-        opened = text.index("(", begin.end())
+        opened = text.index("(", ends[function.name])
         signature = text[opened:end_of_block(text, opened)]
         binders = r"[(,]\s*(?:mut )?(\w+)\s*:|\blet (?:mut )?(\w+)|\bfor (\w+) in|\|(\w+)\||\b(?:Some|Ok|Err)\((\w+)\)"
         bound = {word for found in re.findall(binders, signature + function.body) for word in found if word}
-        calls_itself = re.search(rf"(?<![.:\w]){function.name}\(", function.body)
+        is_named = f"{function.name}(" in function.body  # which a pattern of its own would take far longer to say
+        calls_itself = is_named and re.search(rf"(?<![.:\w]){function.name}\(", function.body)
         yield Item(path, function.name, "src", numbered(f"{signature} {function.body}", bound, function.name if calls_itself else ""), origins)
 
 
@@ -134,13 +133,13 @@ def items_of(top: Path, paths: Sequence[str]) -> List[Item]:
 def groups_of(items: Sequence[Item]) -> List[List[Item]]:
     """The items in groups of those that are the same. A word that names an item of a group counts by its group, so copies that
     name copies are in one group too."""
+    known = [(item, [item.kind, *(item.origins.get(word, word) for word in item.words)]) for item in items]
     copies: Dict[str, str] = {}
     count = -1
     while True:
         groups: Dict[Tuple[str, ...], List[Item]] = defaultdict(list)
-        for item in items:
-            known = [item.origins.get(word, word) for word in item.words]
-            groups[(item.kind, *(copies.get(word, word) for word in known))].append(item)
+        for item, words in known:
+            groups[tuple([copies.get(word, word) for word in words])].append(item)
         if len(groups) == count:
             return sorted((group for group in groups.values() if len(group) > 1), key=lambda group: (-len(group), group[0].place()))
         count = len(groups)
@@ -178,7 +177,7 @@ def main() -> int:
     parser.add_argument("--changed", metavar="BASE", help="only groups with a file that differs from this commit")
     parser.add_argument("--check", action="store_true", help="only groups without a reason in tools/twice_kept.txt; 1 if there are any")
     given = parser.parse_args()
-    paths = (git(TOP, "ls-files", "crates") or "").split("\n")
+    paths = [path.relative_to(TOP).as_posix() for path in tracked(TOP, "crates")]
     groups = groups_of(items_of(TOP, paths))
     if given.check:
         wrong = unexplained(groups, kept_groups(KEPT.read_text("utf8")))

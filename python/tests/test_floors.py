@@ -10,7 +10,8 @@ from trinorm.program import REPOSITORY
 sys.path.insert(0, str(REPOSITORY / "tools"))
 
 from build_times import Plan, Times, Took  # noqa: E402
-from floors import first_sentence, own_files  # noqa: E402
+from floors import first_sentence  # noqa: E402
+from page_facts import imported, listed, numbers, unlisted, with_numbers, wrong_stars  # noqa: E402
 from refusals import functions_of, kind, refusals  # noqa: E402
 
 
@@ -118,8 +119,31 @@ class Order(unittest.TestCase):
     def test_definitions_of_code(self):
         self.assertEqual(first_sentence("-- Rows | rays,\n-- of a step. And more.\nuse Rattle.std\n-- a ray"), "Rows \\| rays, of a step")
         self.assertEqual(first_sentence("use Rattle.std\n"), "")
-        self.assertEqual(own_files("trinorm_c"), ["Calls"])
-        self.assertEqual(own_files("no_crate"), [])
+
+    def test_numbers_of_pages(self):
+        counted = numbers(REPOSITORY)
+        self.assertGreater(counted["crates"], counted["built-crates"])
+        self.assertGreater(counted["edits"], 400)
+        self.assertEqual(with_numbers("all <!--crates-->7<!--/--> of <!--x-->8<!--/-->, <!-- a note -->", {"crates": 113}),
+                         "all <!--crates-->113<!--/--> of <!--x-->?<!--/-->, <!-- a note -->")
+        for path in ("README.md", *(f"docs/{it.name}" for it in (REPOSITORY / "docs").glob("*.md"))):
+            self.assertNotIn("-->?<!--", (REPOSITORY / path).read_text("utf8"), path)
+
+    def test_definitions_of_contracts(self):
+        """What the contracts of the program and the library import is named by DEFINITIONS."""
+        page = (REPOSITORY / "docs" / "DEFINITIONS.md").read_text("utf8")
+        self.assertIn(("workbench", "Prints"), set(imported(REPOSITORY)))
+        self.assertIn(("surface_definitions", "`Coords`"), set(imported(REPOSITORY)))
+        self.assertEqual(unlisted(REPOSITORY, page), [])
+        self.assertEqual(unlisted(REPOSITORY, page.replace("`surface_equation_laws`: Entries, Weights, Caps, Bounds, Few", "`surface_equation_laws`: Entries")), [
+            "refused: docs/DEFINITIONS.md does not name Few of surface_equation_laws, which a contract of the program or the library imports"])
+        self.assertEqual(listed("| rows | `one`: A, the enum `B`, C; `two`: D | E |\n`three`: F"), {("one", "A"), ("one", "the"), ("one", "enum"), ("one", "`B`"), ("one", "C"), ("two", "D")})
+
+    def test_stars(self):
+        page = (REPOSITORY / "docs" / "CLAIMS.md").read_text("utf8")
+        self.assertEqual(wrong_stars(REPOSITORY, page), [])
+        self.assertEqual(wrong_stars(REPOSITORY, "(`surface_laws`\\*: `lifts_join`; `surface_euler_laws`: `polygons`; `no_laws`: `x`)"), [
+            "refused: docs/CLAIMS.md names surface_euler_laws without a star", "refused: docs/CLAIMS.md names surface_laws with a star"])
 
     def test_nothing_is_stale(self):
         done = subprocess.run([sys.executable, str(REPOSITORY / "tools" / "floors.py"), "--check"], capture_output=True, text=True, check=False)

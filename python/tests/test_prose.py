@@ -22,7 +22,8 @@ class Prose(unittest.TestCase):
         self.assertEqual(words(""), 0)
 
     def test_sentences(self):
-        self.assertEqual(self.found(f"{SHORT}. {SHORT}! **{SHORT}.** {SHORT}: (it said \"no.\") {SHORT}"), [])
+        self.assertEqual(self.found(f"{SHORT}. {SHORT}! **{SHORT}.** {SHORT}? (it said \"no.\") {SHORT}"), [])
+        self.assertEqual(self.found(f"Short: {SHORT}. {SHORT}; word"), [f"Short: {SHORT}.", f"{SHORT}; word"])
         self.assertEqual(self.found(f"Short. {LONG}."), [f"{LONG}."])
         self.assertEqual(self.found(f"word\n{SHORT}."), [f"word {SHORT}."])
 

@@ -38,6 +38,15 @@ class Groups(unittest.TestCase):
         self.write("e/proofs/Call/Answers.antt", one)
         self.assertEqual(self.groups(), [["one", "same"]])
 
+    def test_public_and_private(self):
+        """A private copy of a public lemma or definition is one."""
+        self.write("a/proofs/One.antt", "pub " + LEMMA % ("one", "one"))
+        self.write("b/proofs/Same.antt", LEMMA % ("same", "same"))
+        short = "%s : (List ℕ) → ℕ → ℕ\n%s xs n = length xs + n + 1 + 1 + 1\n"
+        self.write("a/specs/Size.antt", "abbrev pub " + short % ("size", "size"))
+        self.write("b/specs/Again.antt", "abbrev " + short % ("again", "again"))
+        self.assertEqual(sorted(self.groups()), [["one", "same"], ["size", "again"]])
+
     def test_definitions_count_with_their_clauses(self):
         text = "pub size : (List ℕ) → ℕ → ℕ\nsize [] n = n + 1 + 1 + 1\nsize (x ∷ xs) n = size xs (n + 1)\n"
         self.write("a/specs/Sizes.antt", text)
