@@ -5,17 +5,19 @@ Processor seconds of one call, the least of several rounds, and in brackets how 
 share an instance, as the page's do. As many calls go before those that are measured, since engines compile a module better
 while it runs. Browsers are measured with all of their processes.
 """
+from __future__ import annotations
+
 import functools
 import http.server
 import json
 import os
-import shutil
 import subprocess
 import sys
 import tempfile
 import threading
 import time
 from pathlib import Path
+from typing import Any, Callable, Dict, Iterator, Tuple
 
 TOP = Path(__file__).resolve().parents[1]
 sys.path[:0] = [str(TOP / "python"), str(TOP / "tools")]
@@ -60,31 +62,33 @@ return 0;
 """
 
 
-def questions():
+def questions() -> Iterator[Tuple[str, int, str, int]]:
     for size, signature in SIGNATURES.items():
         for command in ("sig", "info", "surfaces"):
             yield command, size, f"sig {signature}\n", TIMES.get(command) or TIMES_OF_LISTS[size]
 
 
-def native(command, text, times):
+def native(command: str, text: str, times: int) -> float:
     library = find_library()
+    assert library is not None
     begun = time.process_time()
     for _ in range(times):
         library.answer([command], text)
     return (time.process_time() - begun) / times
 
 
-def by_node(module, command, text, times):
+def by_node(module: str, command: str, text: str, times: int) -> float:
     with tempfile.TemporaryDirectory() as folder:
         script = Path(folder, "speed.mjs")
         script.write_text(NODE % (TOP / "web" / "engine.js").as_uri(), "utf8")
         question = json.dumps({"words": [command], "text": text, "times": times})
-        return float(subprocess.run([shutil.which("node"), script, module, question], capture_output=True, text=True, check=True).stdout)
+        return float(subprocess.run(["node", str(script), module, question], capture_output=True, text=True, check=True).stdout)
 
 
-def children():
+def children() -> Tuple[Dict[int, int], Dict[int, float]]:
     """The parents of all processes, and the processor seconds of each."""
-    parents, spent = {}, {}
+    parents: Dict[int, int] = {}
+    spent: Dict[int, float] = {}
     for path in Path("/proc").glob("[0-9]*/stat"):
         try:
             fields = path.read_text("utf8", "replace").rpartition(")")[2].split()
@@ -95,18 +99,18 @@ def children():
     return parents, spent
 
 
-def spent_below(process):
+def spent_below(process: int) -> float:
     """Processor seconds of a process and all below it."""
     parents, spent = children()
 
-    def is_below(one):
+    def is_below(one: int) -> bool:
         while one and one != process:
-            one = parents.get(one)
+            one = parents.get(one, 0)
         return one == process
     return sum(seconds for one, seconds in spent.items() if is_below(one))
 
 
-def by_browser(window, process, address, command, text, times):
+def by_browser(window: Any, process: int, address: str, command: str, text: str, times: int) -> float:
     window.open(address)
     window.run(BROWSER.replace("TEXT", json.dumps(text)).replace("WORDS", json.dumps([command])).replace("TIMES", str(times)))
     begun = spent_below(process)
@@ -114,11 +118,11 @@ def by_browser(window, process, address, command, text, times):
     return (spent_below(process) - begun) / times
 
 
-def least(measure, *words):
+def least(measure: Callable[..., float], *words: Any) -> float:
     return min(measure(*words) for _ in range(ROUNDS))
 
 
-def main():
+def main() -> None:
     module = os.path.realpath(sys.argv[1])
     with tempfile.TemporaryDirectory() as folder:
         web_page.write(Path(module).read_bytes(), Path(folder))
@@ -126,7 +130,8 @@ def main():
         server = http.server.ThreadingHTTPServer(("127.0.0.1", 0), handler)
         threading.Thread(target=server.serve_forever, daemon=True).start()
         address = f"http://127.0.0.1:{server.server_port}/index.html"
-        windows = {"Chromium": browsers.Chromium(), "Firefox": browsers.Firefox()}
+        makers: Any = browsers
+        windows: Dict[str, Any] = {"Chromium": makers.Chromium(), "Firefox": makers.Firefox()}
         pids = {"Chromium": windows["Chromium"].driver.service.process.pid, "Firefox": windows["Firefox"].process.pid}
         try:
             print("| Question | native, ms | Node | Chromium | Firefox |\n|---|---|---|---|---|")
@@ -145,7 +150,7 @@ def main():
 class Quiet(http.server.SimpleHTTPRequestHandler):
     """Serves a folder and says nothing."""
 
-    def log_message(self, *_):
+    def log_message(self, *_: object) -> None:
         pass
 
 

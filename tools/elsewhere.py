@@ -10,25 +10,33 @@ import tempfile
 from pathlib import Path
 from typing import Dict, List, Tuple
 
+import docs_site
 import native
 import packages
 import wasm
 import web_page
 from modules import NotCompiled
-from repository import PROGRAM, sum_of
+from repository import PROGRAM, TOP, sum_of
 
 Named = Tuple[str, bytes]
 
 
 def page(made: packages.Made) -> List[Named]:
-    """The page as one file, its folder packed, and the module."""
+    """The page as one file, its folder packed, and the module with a notice: the other two hold theirs."""
     if "wasm" not in made.files:
         print(f"{PROGRAM}: the release lacks {web_page.PAGE}, since the build made no {wasm.NAME}", file=sys.stderr)
         return []
     module, name = made.files["wasm"], f"{PROGRAM}-{made.version}-web"
     files: packages.Files = {path: (data, 0o644) for path, data in web_page.folder(module).items()}
     return [(web_page.PAGE, web_page.one_file(module).encode("utf8")), (f"{name}.tar.gz", packages.tar(files, f"{name}/")),
-            (wasm.NAME, module)]
+            (wasm.NAME, module), (f"{wasm.NAME}.NOTICES", notice().encode("utf8"))]
+
+
+def notice() -> str:
+    """What has to be handed on with the module, which holds no text of its own."""
+    head = f"{wasm.NAME} is licensed as LICENSE-MIT or LICENSE-APACHE says; NOTICES has the licences of the libraries that it holds.\n"
+    parts = [f"\n---- {name}\n\n{(TOP / name).read_text('utf8')}" for name in web_page.LICENCES]
+    return head + "".join(parts)
 
 
 def version_lines(made: packages.Made, name: str, files: Dict[str, bytes]) -> str:
@@ -48,6 +56,9 @@ def wheel(made: packages.Made, name: str, files: Dict[str, bytes]) -> Named:
             packed[f"{place}/scripts/{PROGRAM}" if is_launcher else f"{place}/data/{path}"] = content
     for file, data in files.items():
         packed[f"{place}/data/libexec/{PROGRAM}/{file}"] = (data, 0o755)
+        if name.startswith("windows"):
+            # no shell runs the launcher there, so the command is the program, beside its library
+            packed[f"{place}/scripts/{file}"] = (data, 0o755)
     glibc = packages.Made(made.version, files, "").glibc()
     return packages.wheel_of(packed, f"py3-none-{system.tag.format(glibc)}")
 
@@ -69,6 +80,19 @@ def wheels(made: packages.Made, kit: Path) -> List[Named]:
     return wheels_made
 
 
+def documentation(made: packages.Made) -> List[Named]:
+    """The site of the pages, with the page for a browser in it, packed."""
+    if "wasm" not in made.files:
+        return []
+    name = f"{PROGRAM}-{made.version}-docs"
+    try:
+        site = docs_site.files(made.files["wasm"])
+    except docs_site.NotMade as fault:
+        print(f"{PROGRAM}: the release lacks {name}.tar.gz: {fault}", file=sys.stderr)
+        return []
+    return [(f"{name}.tar.gz", packages.tar({path: (data, 0o644) for path, data in site.items()}, f"{name}/"))]
+
+
 def files(made: packages.Made, kit: Path) -> List[Named]:
     """All of these files, by name."""
-    return [*page(made), *wheels(made, kit)]
+    return [*page(made), *documentation(made), *wheels(made, kit)]

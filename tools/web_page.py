@@ -21,9 +21,11 @@ from repository import PROGRAM, TOP, version
 PAGE = f"{PROGRAM}.html"
 SOURCES = TOP / "web"
 # in this order in the one file: each stands after those that it imports
-SCRIPTS = ["elements.js", "engine.js", "files.js", "asking.js", "texts.js", "hints.js", "pictures.js", "questions.js", "form.js",
-           "views.js", "page.js"]
+SCRIPTS = ["elements.js", "engine.js", "files.js", "asking.js", "texts.js", "kinds.js", "reading.js", "foreign.js", "understood.js",
+           "links.js", "hints.js", "words.js", "long_table.js", "pictures.js", "turning.js", "exports.js", "questions.js", "next.js",
+           "surface_list.js", "several.js", "menu.js", "visit.js", "input_field.js", "form.js", "views.js", "page.js"]
 WORKER = ["engine.js", "worker.js"]
+LICENCES = ["NOTICES", "LICENSE-MIT", "LICENSE-APACHE"]
 POLICY = ("default-src 'none'; script-src '{script}' 'wasm-unsafe-eval'; worker-src blob:; style-src '{style}'; img-src data:; "
           "base-uri 'none'; form-action 'none'")
 
@@ -37,14 +39,19 @@ def examples(table: str) -> Dict[str, Dict[str, str]]:
 
 
 def data_files() -> Dict[str, str]:
-    """What the page reads besides the module: the table of commands, hints, how discs are drawn, examples, and the version."""
+    """What the page reads besides the module: the table of commands, hints, how discs are drawn, explained words, names of
+    manifolds, examples with and without a story, the version, and the licences."""
     table = (TOP / "python" / PROGRAM / "commands.txt").read_text("utf8")
     return {
         "commands.txt": table,
         "hints.txt": (TOP / "python" / PROGRAM / "hints.txt").read_text("utf8"),
         "discs.json": (TOP / "python" / PROGRAM / "discs.json").read_text("utf8"),
+        "words.json": (TOP / "python" / PROGRAM / "words.json").read_text("utf8"),
+        "names.json": (SOURCES / "names.json").read_text("utf8"),
+        "stories.json": (SOURCES / "stories.json").read_text("utf8"),
         "examples.json": json.dumps(examples(table), indent=1) + "\n",
         "about.json": json.dumps({"version": version(TOP)}) + "\n",
+        **{name: (TOP / name).read_text("utf8") for name in LICENCES},
     }
 
 

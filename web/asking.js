@@ -1,4 +1,5 @@
 // Questions to the engine, one at a time, in a worker that can be stopped at once.
+import {MOST_KEPT} from './engine.js';
 import {new_worker} from './files.js';
 
 /** The question was ended by `stop`. */
@@ -21,8 +22,11 @@ export class Engine {
         return new Promise((answered, failed) => {
             this.fail = failed;
             this.worker.onmessage = ({data}) => {
-                if (data.fault) failed(new Broken(data.fault));
-                else answered({...data, text: new TextDecoder().decode(data.answer)});
+                const {answer, fault, ...outcome} = data;
+                // an instance that holds much is given back at once
+                if (outcome.held > MOST_KEPT) this.drop();
+                if (fault) failed(new Broken(fault));
+                else answered({...outcome, text: new TextDecoder().decode(answer)});
             };
             this.worker.onerror = (event) => {
                 this.drop();

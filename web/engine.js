@@ -14,7 +14,9 @@ const LITTLE_ROOM = 1 << 20;
 const MUCH_ROOM = 1 << 26;
 const LISTS = ['surfaces', 'rays'];
 const SHORT_INPUT = 48; // bytes: a signature of up to 15 tetrahedra
-const MOST_KEPT = 1 << 27; // bytes of memory of an instance that waits for the next call
+
+/** The most bytes of memory of an instance that waits for the next call. */
+export const MOST_KEPT = 1 << 27;
 const NOTHING = new Uint8Array(0);
 
 let kept = null; // {module, exports} of the instance that waits
@@ -76,7 +78,7 @@ function call_of(exports, words, input, limit, room) {
     if (areas.includes(0)) return {status: NO_MEMORY, answer: NOTHING, held: held()};
     const [words_at, input_at, answer_at, needed_at] = areas.map(BigInt);
     const status = exports.trinorm_run(words_at, BigInt(spelled.length), input_at, BigInt(input.length), answer_at, BigInt(room), needed_at);
-    if (status === AREAS) throw new Error('the engine was called wrongly');
+    if (status === AREAS) throw new Error('internal error: invalid call of the module');
     const needed = Number(new DataView(exports.memory.buffer).getBigUint64(areas[3], true));
     if (status === TOO_LITTLE_ROOM) return {status, needed};
     return {status, answer: new Uint8Array(exports.memory.buffer).slice(areas[2], areas[2] + needed), held: held()};

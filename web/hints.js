@@ -59,12 +59,20 @@ function signature_in(text) {
     return words.find((word) => /[^A-Za-z0-9+-]/.test(word)) ?? words[0] ?? '';
 }
 
+const begins = (bytes, starts) => {
+    const spelled = [...bytes.slice(0, 8)].map((byte) => byte.toString(16).padStart(2, '0')).join('');
+    return starts.split('|').some((start) => spelled.startsWith(start));
+};
+
+/** A sentence on a file by its first bytes; empty if no row is for them. */
+export function hint_on_file(rows, bytes) {
+    const row = rows.find(({condition}) => condition.startsWith('begins ') && begins(bytes, condition.slice(7)));
+    return row?.sentence ?? '';
+}
+
 function fits(condition, text, place) {
     const [name, value, number] = condition.split(' ');
-    if (name === 'begins') {
-        const bytes = [...new TextEncoder().encode(text.slice(0, 8))].map((byte) => byte.toString(16).padStart(2, '0')).join('');
-        return value.split('|').some((start) => bytes.startsWith(start));
-    }
+    if (name === 'begins') return begins(new TextEncoder().encode(text.slice(0, 8)), value);
     if (name === 'empty') return !text.split('\n').some((line) => line.trim() && !line.trim().startsWith('#'));
     if (name === 'at') return place.state === value && (number === undefined || place.number === Number(number));
     return name === 'word' && new RegExp(condition.slice(5)).test(place.word);

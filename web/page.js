@@ -1,17 +1,26 @@
 // The page: asks the engine what the form says, and shows the answer, or what is wrong with the question.
 import {Broken, Engine, Stopped} from './asking.js';
 import {by_id, make} from './elements.js';
-import {MOST_INPUT, NO_MEMORY} from './engine.js';
+import {NO_MEMORY} from './engine.js';
+import {pictures_as_svg, python_script, rows_as_csv, surfaces_as_csv, surfaces_as_json} from './exports.js';
 import {bytes_of, text_of} from './files.js';
 import {EFFICIENCY, Form} from './form.js';
 import {hint, read_hints} from './hints.js';
-import {Discs} from './pictures.js';
+import {listen_to_input} from './input_field.js';
+import {offer_actions} from './menu.js';
 import {zero_efficiency} from './questions.js';
-import {first_table} from './texts.js';
-import {efficiency_view, shortened, triangulation_view, view_of} from './views.js';
+import {SeveralList} from './several.js';
+import {coordinates_of, first_table, plural} from './texts.js';
+import {Discs} from './turning.js';
+import {Names, understood} from './understood.js';
+import {efficiency_view, large_graph, shortened, triangulation_view, view_of} from './views.js';
+import {Visit, name_of_question} from './visit.js';
+import {Words} from './words.js';
 
-const FIRST_INPUT = 'sig cPcbbbiht\n';
 const NO_TABLE = ['none', 'cone'];
+const LICENCES = ['NOTICES', 'LICENSE-MIT', 'LICENSE-APACHE'];
+const MOST_SHOWN_LINES = 1100; // of a question: a triangulation of 1,000 tetrahedra, and some vectors
+const MOST_IN_A_TITLE = 80;
 
 /** Says something below the form; `is_bad` for refusals and failures. */
 function say(parts, is_bad = false) {
@@ -25,8 +34,19 @@ let engine = null;
 let form = null;
 let hints = [];
 let discs = null;
+let names = null;
+let words_explained = null;
+let version = '';
+let identity = ''; // the version and the module that answer
 let newest = 0; // the number of the newest question
+let newest_asked = null; // {reads, options, fragment} of the newest question; the form may have been changed since
 let is_busy = false;
+let is_graph_asked = null; // the printed triangulation whose graph is shown
+
+const visit = new Visit((question) => {
+    form.fill(question.command, question.options, question.input);
+    return answer('new');
+});
 
 const spent = (milliseconds) => (milliseconds < 1000 ? `${milliseconds.toFixed(0)} ms` : `${(milliseconds / 1000).toFixed(1)} s`);
 
@@ -39,8 +59,8 @@ function show_busy(busy, begun) {
 
 function say_failure(fault) {
     if (fault instanceof Stopped) say('Stopped.');
-    else if (fault instanceof Broken) say(`The engine broke down (${fault.message}). Its instance was dropped, and the next question gets a new one.`, true);
-    else say(`The page failed: ${fault.message}`, true);
+    else if (fault instanceof Broken) say(`The computation failed (${fault.message}). The next question starts afresh; please report this one.`, true);
+    else say(`The page failed: ${fault.message}. Please report this.`, true);
 }
 
 /** Runs what asks the engine, with the clock and the Stop button. A newer one ends it. */
@@ -63,14 +83,14 @@ const ask = (words, input) => engine.ask(words, input);
 
 // ---- refusals
 
-/** A button that selects the place of a fault in the field, if the refusal names one. */
+/** A button that selects the place of a fault in the field, if the refusal names one and its line was asked as it is there. */
 function place_button(refusal, input) {
-    const [, line, column] = refusal.match(/^refused: input (\d+) (\d+) /) ?? [];
-    if (line === undefined) return [];
-    const lines = input.split('\n'), before = lines.slice(0, Number(line) - 1).join('\n').length + (Number(line) > 1 ? 1 : 0);
+    const [, line, column] = refusal.match(/^refused: input (\d+) (\d+) /) ?? [], lines = form.input.split('\n');
+    if (line === undefined || lines[Number(line) - 1] !== input.split('\n')[Number(line) - 1]) return [];
+    const before = lines.slice(0, Number(line) - 1).join('\n').length + (Number(line) > 1 ? 1 : 0);
     // columns count bytes
     const bytes = new TextEncoder().encode(lines[Number(line) - 1] ?? '').slice(0, Number(column) - 1);
-    const from = Math.min(input.length, before + new TextDecoder().decode(bytes).length), word = input.slice(from).match(/^\S*/)[0].length;
+    const from = Math.min(form.input.length, before + new TextDecoder().decode(bytes).length), word = form.input.slice(from).match(/^\S*/)[0].length;
     const show = () => {
         by_id('input').focus();
         by_id('input').setSelectionRange(from, from + Math.max(1, word));
@@ -81,142 +101,292 @@ function place_button(refusal, input) {
 /** Says why a question has no answer. */
 function say_refusal({status, text}, words, input) {
     if (status === NO_MEMORY) {
-        say('Out of memory: a page has at most 4 GiB for an answer. The program itself may have more.', true);
+        say('Out of memory: an answer in a browser may use at most 4 GiB. The program can use more.', true);
         return;
     }
-    const coordinates = words[words.indexOf('--coords') + 1 || words.length] ?? 'standard';
     const command = words[0] === EFFICIENCY ? 'describe' : words[0], refusal = text.trim();
-    const sentence = hint(hints, {status, refusal, command, reads: form.commands.get(words[0]).reads, coordinates, input});
-    const usage = status === 2 ? 'an option has a value that the command does not take' : '';
+    const sentence = hint(hints, {status, refusal, command, reads: form.commands.get(words[0]).reads, coordinates: coordinates_of(words), input});
+    const usage = status === 2 ? 'an option has an invalid value' : '';
     const parts = [make('strong', {}, refusal), sentence || usage ? ` – ${sentence || usage}.` : ''];
     say([...parts, ...place_button(refusal, input)], true);
 }
 
-// ---- answers
+// ---- the question above its answer
 
-function offer_text(text) {
-    by_id('raw').textContent = shortened(text);
-    URL.revokeObjectURL(by_id('download').href);
-    by_id('download').href = URL.createObjectURL(new Blob([text], {type: 'text/plain'}));
-    by_id('copy').onclick = () => copy(text);
+const now = () => new Date().toLocaleString('en-GB', {dateStyle: 'long', timeStyle: 'short'});
+
+/** Shows the question as it was asked, with what of the input was changed, and by what it is answered. */
+function show_asked(words, {input, notes, tables}) {
+    const lines = input.trimEnd().split('\n'), short = !tables && lines.length === 1 && lines[0];
+    const text = lines.length > MOST_SHOWN_LINES ? [...lines.slice(0, MOST_SHOWN_LINES), `… (${lines.length} lines)`].join('\n') : lines.join('\n');
+    const of = tables ? [` of each of ${tables.length} triangulations`] : short ? [' of ', make('code', {}, short)] : [];
+    const more = [...notes, identity].filter(Boolean).map((note) => `; ${note}`).join('');
+    const question = make('div', {}, make('strong', {}, 'Question: '), make('code', {}, words.join(' ')), ...of, more, '.', make('span', {className: 'paper'}, ` ${now()}`));
+    by_id('asked').replaceChildren(question, ...(short || !text ? [] : [make('pre', {tabIndex: 0, ariaLabel: 'Input'}, text)]));
+    by_id('asked').hidden = false;
+    document.title = `${name_of_question({words, input}).slice(0, MOST_IN_A_TITLE)} – trinorm`;
 }
 
-const show_text_actions = (shown) => ['copy', 'download', 'text'].forEach((id) => { by_id(id).hidden = !shown; });
+// ---- answers
+
+/** A name for files with an answer, of the question and the first triangulation. */
+function name_of_files(words, input) {
+    const [first, second] = newest_asked.reads === 'none' ? [] : first_table(input).trim().split(/\s+/);
+    const about = first === 'sig' ? [second] : first === 'tri' ? [first, second] : [];
+    const parts = [...words, ...about].map((word) => String(word).replace(/[^A-Za-z0-9+-]/g, '').replace(/^--/, '')).filter(Boolean);
+    return parts.join('-').slice(0, 80);
+}
+
+/** Hands out a text as a file. */
+function download(text, name, type = 'text/plain') {
+    const link = make('a', {href: URL.createObjectURL(new Blob([text], {type})), download: name});
+    document.body.append(link);
+    link.click();
+    link.remove();
+    setTimeout(() => URL.revokeObjectURL(link.href), 60000);
+}
+
+/** Offers what an answer can be saved as. `text` is its text; `tables` may make {csv, json} of it. */
+function offer_files(words, input, text, tables) {
+    const name = name_of_files(words, input), script = python_script(words[0], newest_asked.options, newest_asked.reads, input, version);
+    const file = (make_text, ending, type) => make_text && (() => download(make_text(), `${name}.${ending}`, type));
+    const offered = {
+        copy: text && (() => copy(text)), download: text && file(() => text, 'txt'), csv: file(tables.csv, 'csv', 'text/csv'),
+        json: file(tables.json, 'json', 'application/json'), script: tables.is_several ? null : file(() => script, 'py'),
+    };
+    for (const [id, act] of Object.entries(offered)) Object.assign(by_id(id), {hidden: !act, onclick: act || null});
+    by_id('text').hidden = !text;
+    by_id('raw').textContent = text ? shortened(text) : '';
+}
+
+function save_picture(pictures, title) {
+    download(pictures_as_svg(pictures, title), `${title.replace(/[^A-Za-z0-9]+/g, '-').slice(0, 60)}.svg`, 'image/svg+xml');
+}
 
 async function show_triangulation(input) {
-    if (NO_TABLE.includes(form.reads)) return;
+    if (NO_TABLE.includes(newest_asked.reads)) return;
     const printed = await ask(['play'], first_table(input));
     by_id('triangulation').hidden = printed.status !== 0;
-    if (printed.status === 0) by_id('graph').replaceChildren(...triangulation_view(printed.text));
+    is_graph_asked = printed.text;
+    if (printed.status === 0) by_id('graph').replaceChildren(...triangulation_view(printed.text, show_large_graph));
+}
+
+/** Shows the face-pairing graph with all face numbers, in its own size. */
+function show_large_graph() {
+    const picture = large_graph(is_graph_asked);
+    by_id('large_graph').replaceChildren(picture);
+    by_id('save_graph').onclick = () => save_picture([picture], 'Face-pairing graph');
+    by_id('large').showModal();
 }
 
 function show(parts) {
     by_id('view').replaceChildren(...parts);
+    words_explained.describe(by_id('view'));
     by_id('result').hidden = false;
 }
 
-async function answer_command(words, input) {
-    const outcome = await ask(words, input);
-    if (outcome.status !== 0) return say_refusal(outcome, words, input);
-    offer_text(outcome.text);
-    show_text_actions(true);
-    show(await view_of(outcome.text, words, {input, ask, busy, discs}));
-    say(`Answered in ${spent(outcome.milliseconds)}, with ${(outcome.held / 2 ** 20).toFixed(0)} MiB of memory.`);
-    return show_triangulation(input);
+/** Asks the next question, about a text that an answer has. */
+function follow(command, options, input) {
+    form.fill(command, Object.entries(options), input);
+    return answer('new');
 }
 
-async function answer_efficiency(words, input) {
+function use(text) {
+    form.fill(form.command, form.options(), text);
+    by_id('input').focus();
+}
+
+const context_of = (input) => ({input, options: Object.fromEntries(newest_asked.options), ask, busy, discs, follow, use, copy, offer: offer_actions, save_picture});
+
+/** What a list can be saved as. */
+function tables_of(list, words, input) {
+    if (!list) return {};
+    const question = {command: words[0], options: Object.fromEntries(newest_asked.options), input};
+    return {csv: () => surfaces_as_csv(list.records), json: () => surfaces_as_json(question, list.records)};
+}
+
+async function answer_command(words, {input}) {
+    const outcome = await ask(words, input);
+    if (outcome.status !== 0) return say_refusal(outcome, words, input);
+    const {parts, list} = await view_of(outcome.text, words, context_of(input));
+    offer_files(words, input, outcome.text, tables_of(list, words, input));
+    show(parts);
+    say(`Answered in ${spent(outcome.milliseconds)}.`);
+    await show_triangulation(input);
+    return list?.describe_rest();
+}
+
+async function answer_efficiency(words, {input}) {
     const begun = performance.now();
-    const verdict = await zero_efficiency(ask, input, (done, all) => say(`${done} of ${all} surfaces described.`));
+    const verdict = await zero_efficiency(ask, input, (done, all) => say(`Described ${done} of ${plural(all, 'surface')}.`));
     if (verdict.outcome) return say_refusal(verdict.outcome, words, input);
-    show_text_actions(false);
-    show(efficiency_view(verdict, discs));
+    offer_files(words, input, '', {});
+    show(efficiency_view(verdict, context_of(input)));
     say(`Answered in ${spent(performance.now() - begun)}.`);
     return show_triangulation(input);
 }
 
-/** Answers what the form says. */
-function answer() {
-    const words = form.words(), {input} = form;
-    set_address();
-    say('');
-    by_id('result').hidden = by_id('triangulation').hidden = true;
-    return busy(() => (words[0] === EFFICIENCY ? answer_efficiency : answer_command)(words, input));
+/** Asks the question about each of several triangulations. */
+async function answer_several(words, {input, tables}) {
+    const begun = performance.now(), list = new SeveralList({tables, words, context: context_of(input)});
+    offer_files(words, input, '', {csv: () => rows_as_csv(list.rows()), is_several: true});
+    show(list.elements());
+    await list.describe_rest();
+    say(`Answered in ${spent(performance.now() - begun)}.`);
 }
 
-// ---- links, copies, files
+function clear() {
+    say('');
+    ['result', 'triangulation', 'asked'].forEach((id) => { by_id(id).hidden = true; });
+}
 
-/** Puts the question into the address, so that it can be kept; a page from the disk may not be allowed to. */
-function set_address() {
+/**
+ * Answers what the form says.
+ *
+ * step: what becomes of the address, which gets the question: it is `new` in the history, takes the place of the `same` one,
+ * or there is `none`
+ */
+function answer(step) {
+    const words = form.words(), text = form.input, options = form.options(), asked = understood(text, form.reads, names);
+    const number = visit.add({command: form.command, options, words, input: text});
+    newest_asked = {reads: form.reads, options, fragment: form.fragment()};
+    if (step !== 'none') set_address(step === 'new', number);
+    clear();
+    show_asked(words, asked);
+    return busy(() => (asked.tables ? answer_several : words[0] === EFFICIENCY ? answer_efficiency : answer_command)(words, asked));
+}
+
+// ---- links, copies
+
+/**
+ * Puts the question into the address, so that it can be kept; a page from the disk may not be allowed to. A question that is
+ * too long for that is found again by its number, as long as the page is open.
+ */
+function set_address(is_new, number) {
+    const fragment = form.fragment(), address = fragment || location.pathname, is_same = fragment ? fragment === location.hash : history.state?.number === number;
     try {
-        history.replaceState(null, '', form.fragment() || location.pathname);
+        if (is_new && !is_same) history.pushState({number}, '', address);
+        else history.replaceState({number}, '', address);
     } catch {
         // the link has it still
     }
 }
 
-async function copy(text) {
+/** Ends the question that is being answered, if there is one, without a word. */
+function drop_question() {
+    newest++;
+    if (is_busy) engine.stop();
+    show_busy(false, performance.now());
+}
+
+/** Answers the question of the address. One that is not understood is shown as far as it is, and is not answered. */
+function answer_address() {
+    const kept = location.hash ? undefined : visit.find(history.state?.number);
+    if (kept) {
+        form.fill(kept.command, kept.options, kept.input);
+        return answer('same');
+    }
+    const faults = form.take_fragment(location.hash);
+    if (faults?.length === 0) return answer('same');
+    drop_question();
+    clear();
+    if (faults) return say(`This link was not answered. It has ${faults.join('; ')}.`, true);
+    form.take_first();
+    return answer('none');
+}
+
+/** Copies a text. Returns whether the browser allows it. */
+async function is_copied(text) {
     try {
         await navigator.clipboard.writeText(text);
         say('Copied.');
+        return true;
     } catch {
-        say('The browser did not allow it: open “The answer as text”, and copy from there.', true);
+        return false;
     }
 }
 
-async function copy_link() {
-    const fragment = form.fragment();
-    if (!fragment) return say('The input is too long for a link.', true);
-    return copy(location.href.split('#')[0] + fragment);
+/** Shows a text to be copied, where the browser does not allow the page to do it. */
+function show_to_copy(about, text) {
+    const field = make('textarea', {id: 'address', value: text, readOnly: true, rows: 2, ariaLabel: about});
+    say([`The browser did not allow copying. This is the ${about}: `, field], true);
+    field.focus();
+    field.select();
 }
 
-async function open_file() {
-    const [file] = by_id('file').files;
-    if (!file) return;
-    by_id('input').value = await file.slice(0, MOST_INPUT + 1).text();
-    by_id('file').value = '';
-    say(`Opened ${file.name}.`);
+async function copy(text) {
+    if (!await is_copied(text)) show_to_copy('text', shortened(text));
 }
+
+/** Copies the link to the question that was answered, or shows it to be copied. */
+async function copy_link() {
+    const {fragment} = newest_asked;
+    if (!fragment) return say('The input is too long for a link.', true);
+    const address = location.href.split('#')[0] + fragment;
+    if (!await is_copied(address)) show_to_copy('link', address);
+}
+
+/** Fills in the licences when they are opened. */
+async function show_licences() {
+    by_id('licences').ontoggle = null;
+    for (const name of LICENCES) by_id('licences').append(make('h2', {}, name), make('pre', {tabIndex: 0, ariaLabel: name}, await text_of(name)));
+}
+
+/** Tells the long tables that the page is printed, or is seen again. */
+const tell_tables = (event) => document.querySelectorAll('.long').forEach((table) => table.dispatchEvent(new Event(event)));
 
 function listen() {
-    by_id('question').onsubmit = (event) => { event.preventDefault(); answer(); };
-    by_id('example').onchange = () => { if (form.take_example(by_id('example').value)) answer(); };
-    by_id('file').onchange = open_file;
+    by_id('question').onsubmit = (event) => { event.preventDefault(); answer('new'); };
+    by_id('example').onchange = () => { if (form.take_example(by_id('example').value)) answer('new'); };
     by_id('stop').onclick = () => engine.stop();
     by_id('link').onclick = copy_link;
+    by_id('close').onclick = () => by_id('large').close();
+    by_id('input').oninput = () => { by_id('example').value = ''; form.tell(''); };
     by_id('input').onkeydown = (event) => {
         if (event.key !== 'Enter' || !(event.ctrlKey || event.metaKey)) return;
         event.preventDefault();
-        answer();
+        answer('new');
     };
-    document.addEventListener('keydown', (event) => { if (event.key === 'Escape' && is_busy) engine.stop(); });
-    window.addEventListener('hashchange', () => { if (form.take_fragment(location.hash)) answer(); });
+    document.addEventListener('keydown', (event) => { if (event.key === 'Escape' && is_busy && !document.querySelector('dialog[open], #menu:popover-open')) engine.stop(); });
+    by_id('licences').ontoggle = show_licences;
+    if (by_id('licences').open) show_licences();
+    listen_to_input(() => hints, say);
+    words_explained.listen();
+    window.addEventListener('popstate', ({state}) => { if (!location.hash && visit.find(state?.number)) answer_address(); });
+    window.addEventListener('hashchange', () => { if (location.hash || !visit.find(history.state?.number)) answer_address(); });
+    window.addEventListener('beforeprint', () => tell_tables('whole'));
+    window.addEventListener('afterprint', () => tell_tables('seen'));
 }
 
 // ---- the beginning
 
 /** Shows the module's checksum. Browsers compute it for pages from the disk, from this machine, or by https alone. */
 async function show_checksum(bytes, about) {
-    by_id('version').textContent = about.version ? `This is version ${about.version}.` : '';
+    version = about.version ?? '';
+    by_id('version').textContent = version ? `Version ${version}.` : '';
     const digest = await crypto.subtle?.digest('SHA-256', bytes);
     const sum = digest && [...new Uint8Array(digest)].map((byte) => byte.toString(16).padStart(2, '0')).join('');
-    by_id('checksum').textContent = sum ? `trinorm.wasm has the SHA-256 checksum ${sum}.` : '';
+    by_id('checksum').textContent = sum ? `SHA-256 of trinorm.wasm: ${sum} (compare with the line wasm of the release’s MANIFEST).` : '';
+    identity = [version && `trinorm ${version}`, sum && `trinorm.wasm ${sum.slice(0, 12)}…`].filter(Boolean).join(', ');
 }
 
+const data_of = async (name) => JSON.parse(await text_of(name));
+
 async function begin() {
-    form = new Form(await text_of('commands.txt'), JSON.parse(await text_of('examples.json')));
+    words_explained = new Words((await data_of('words.json')).words);
+    form = new Form(await text_of('commands.txt'), await data_of('examples.json'), await data_of('stories.json'));
     hints = read_hints(await text_of('hints.txt'));
-    discs = new Discs(JSON.parse(await text_of('discs.json')));
-    form.choose('surfaces');
-    by_id('input').value = FIRST_INPUT;
+    discs = new Discs(await data_of('discs.json'));
+    names = new Names(await data_of('names.json'));
+    form.take_first();
     listen();
     const bytes = await bytes_of('trinorm.wasm');
+    await show_checksum(bytes, await data_of('about.json'));
     engine = new Engine(await WebAssembly.compile(bytes));
     by_id('answer').disabled = false;
     document.documentElement.dataset.ready = 'yes';
-    if (form.take_fragment(location.hash)) answer();
-    await show_checksum(bytes, JSON.parse(await text_of('about.json')));
+    answer_address();
 }
 
 by_id('answer').disabled = true;
-begin().catch((fault) => say(`This browser cannot run the engine: ${fault.message}`, true));
+begin().catch((fault) => say(`This browser cannot run trinorm: ${fault.message}`, true));

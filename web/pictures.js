@@ -1,23 +1,26 @@
-// Pictures as SVG elements: the face-pairing graph of a triangulation, and a surface as discs in its tetrahedra. They are
-// made of numbers alone, and no text of an input becomes markup.
-import {by_tetrahedron} from './texts.js';
+// Pictures as SVG elements, and the face-pairing graph of a triangulation. They are made of numbers alone, and no text of an
+// input becomes markup.
+import {plural} from './texts.js';
 
 const SVG = 'http://www.w3.org/2000/svg';
 const MOST_NODES = 60;
-const MOST_TETRAHEDRA = 60;
-const MOST_PARALLEL = 8; // discs of one type that are drawn; the caption has their number
+const MOST_NUMBERED = 10; // tetrahedra whose face numbers can be read in a small picture
+const FLAT = 140; // the height of a picture whose tetrahedra are in a row
+const BESIDE = 10; // from a loop to its label
+const NUMBER_AT = 25; // from a node to the numbers of its faces
+const APART = Math.PI / 4; // between two of these, as seen from the node
 
 /** An SVG element with attributes and parts. */
-function element(name, attributes = {}, ...parts) {
+export function element(name, attributes = {}, ...parts) {
     const made = document.createElementNS(SVG, name);
     for (const [key, value] of Object.entries(attributes)) made.setAttribute(key, value);
     made.append(...parts);
     return made;
 }
 
-const text = (x, y, name, words) => element('text', {x, y, class: name}, words);
-const rounded = (number) => Math.round(number * 10) / 10;
-const plural = (count, one, more) => `${count} ${count === 1 ? one : more}`;
+/** A text of a picture. */
+export const text = (x, y, name, words) => element('text', {x, y, class: name}, words);
+export const rounded = (number) => Math.round(number * 10) / 10;
 
 /** What a face-pairing graph shows, in words. */
 export function about_table({size, pairs, boundary}) {
@@ -26,32 +29,60 @@ export function about_table({size, pairs, boundary}) {
 }
 
 /** The places of tetrahedra on a circle, and the middle of the picture. */
-function circle_of(count) {
-    const radius = count < 3 ? 60 * (count - 1) : Math.max(70, 11 * count), middle = radius + 62;
+function circle_of(count, is_large) {
+    const radius = (is_large ? 2 : 1) * (count < 3 ? 60 * (count - 1) : Math.max(70, 11 * count)), middle = radius + 66;
     const angle = (number) => 2 * Math.PI * number / count;
     return {middle, places: Array.from({length: count}, (_, number) => [middle - radius * Math.cos(angle(number)), middle - radius * Math.sin(angle(number))])};
 }
 
-/** The point of a quadratic curve at `t` of its way. */
-const on_curve = ([p, q, r], t) => [0, 1].map((axis) => (1 - t) ** 2 * p[axis] + 2 * t * (1 - t) * q[axis] + t ** 2 * r[axis]);
-
-/** The curve of a pair of faces between two tetrahedra: the `nth` of `count`. */
-function arc(pair, nth, count, places) {
+/** The curve of a pair of faces between two tetrahedra, the `nth` of `count`: both ends, and the point that bends it. */
+function curve_of(pair, nth, count, places) {
     const from = places[pair.tetrahedron], to = places[pair.other];
     const across = [to[0] - from[0], to[1] - from[1]], length = Math.hypot(...across), bend = 40 * (nth - (count - 1) / 2);
-    const over = [(from[0] + to[0]) / 2 - bend * across[1] / length, (from[1] + to[1]) / 2 + bend * across[0] / length];
-    const curve = [from, over, to], near = Math.min(0.4, 24 / length), label = (t, face) => text(...on_curve(curve, t).map(rounded), 'face', String(face));
-    const path = element('path', {class: 'edge', d: `M${from.map(rounded)} Q${over.map(rounded)} ${to.map(rounded)}`});
-    return [path, label(near, pair.face), label(1 - near, pair.other_face)];
+    return [from, [(from[0] + to[0]) / 2 - bend * across[1] / length, (from[1] + to[1]) / 2 + bend * across[0] / length], to];
+}
+
+/** Angles in their order round a circle, from the one after the widest gap on. */
+function in_order(angles) {
+    const order = angles.map((angle, place) => ({angle, place})).sort((one, other) => one.angle - other.angle);
+    const gap = (at) => order[at].angle - (at ? order[at - 1].angle : order.at(-1).angle - 2 * Math.PI);
+    const first = order.reduce((best, _, at) => (gap(at) > gap(best) ? at : best), 0);
+    return order.map((_, at) => ({...order[(first + at) % order.length], turns: first + at < order.length ? 0 : 1})).map(({angle, place, turns}) => ({angle: angle + 2 * Math.PI * turns, place}));
+}
+
+/** Angles that are at least APART from each other, as near to the given ones as some rounds bring them. */
+function spread(angles) {
+    if (!angles.length) return [];
+    const order = in_order(angles);
+    for (let round = 0; round < 10; round++) {
+        for (let at = 1; at < order.length; at++) {
+            const lack = APART - (order[at].angle - order[at - 1].angle);
+            if (lack <= 0) continue;
+            order[at].angle += lack / 2;
+            order[at - 1].angle -= lack / 2;
+        }
+    }
+    const moved = [...angles];
+    for (const {angle, place} of order) moved[place] = angle;
+    return moved;
+}
+
+/** The numbers of the faces of a tetrahedron whose curves leave it: {face, towards}, with the point to which each bends. */
+function face_numbers(place, ends) {
+    const angles = spread(ends.map(({towards}) => Math.atan2(towards[1] - place[1], towards[0] - place[0])));
+    return ends.map(({face}, number) => {
+        const [x, y] = [Math.cos(angles[number]), Math.sin(angles[number])].map((part, axis) => rounded(place[axis] + NUMBER_AT * part));
+        return text(x, y + 3.5, 'face', String(face));
+    });
 }
 
 /** The circle of a pair of faces of one tetrahedron, on the side away from the middle. */
-function loop(pair, nth, place, middle) {
+function loop(pair, nth, place, middle, is_numbered) {
     const away = [place[0] - middle, place[1] - middle], length = Math.hypot(...away), radius = 14 + 8 * nth;
     const [x, y] = length ? away.map((part) => part / length) : [nth % 2 ? -1 : 1, 0];
-    const top = [place[0] + 2 * radius * x, place[1] + 2 * radius * y].map(rounded);
+    const top = [place[0] + (2 * radius + BESIDE) * x, place[1] + (2 * radius + BESIDE) * y].map(rounded);
     const circle = element('circle', {class: 'edge', cx: rounded(place[0] + radius * x), cy: rounded(place[1] + radius * y), r: radius});
-    return [circle, text(top[0], top[1] + 3, 'face', `${pair.face}–${pair.other_face}`)];
+    return is_numbered ? [circle, text(top[0], top[1] + 3, 'face', `${pair.face}–${pair.other_face}`)] : [circle];
 }
 
 function node(tetrahedron, [x, y], has_boundary) {
@@ -59,100 +90,36 @@ function node(tetrahedron, [x, y], has_boundary) {
     return [element('circle', {class: 'node', cx: rounded(x), cy: rounded(y), r: 13, ...dashes}), text(rounded(x), rounded(y + 4.5), 'name', String(tetrahedron))];
 }
 
-/** The face-pairing graph with its face numbers, or null if it is too large to be read. */
-export function face_pairing_graph(table) {
-    if (!table.size || table.size > MOST_NODES) return null;
-    const {middle, places} = circle_of(table.size), counts = new Map(), drawn = new Map(), lines = [];
+/** The lines of the pairs of faces, and what ends at each tetrahedron. */
+function lines_of_pairs(table, middle, places, is_numbered) {
+    const counts = new Map(), drawn = new Map(), ends = places.map(() => []), lines = [];
     const key = (pair) => `${pair.tetrahedron} ${pair.other}`;
     for (const pair of table.pairs) counts.set(key(pair), (counts.get(key(pair)) ?? 0) + 1);
     for (const pair of table.pairs) {
-        const nth = drawn.get(key(pair)) ?? 0;
+        const nth = drawn.get(key(pair)) ?? 0, {tetrahedron, face, other, other_face} = pair;
         drawn.set(key(pair), nth + 1);
-        const title = element('title', {}, `face ${pair.face} of tetrahedron ${pair.tetrahedron}, face ${pair.other_face} of tetrahedron ${pair.other}`);
-        const parts = pair.tetrahedron === pair.other ? loop(pair, nth, places[pair.other], middle) : arc(pair, nth, counts.get(key(pair)), places);
-        lines.push(element('g', {}, title, ...parts));
+        const title = element('title', {}, `face ${face} of tetrahedron ${tetrahedron} is glued to face ${other_face} of tetrahedron ${other}`);
+        if (tetrahedron === other) {
+            lines.push(element('g', {}, title, ...loop(pair, nth, places[other], middle, is_numbered)));
+            continue;
+        }
+        const [from, over, to] = curve_of(pair, nth, counts.get(key(pair)), places);
+        ends[tetrahedron].push({face, towards: over});
+        ends[other].push({face: other_face, towards: over});
+        lines.push(element('g', {}, title, element('path', {class: 'edge', d: `M${from.map(rounded)} Q${over.map(rounded)} ${to.map(rounded)}`})));
     }
+    return {lines, ends};
+}
+
+/** Whether a small picture of this table has face numbers. */
+export const is_numbered_small = ({size}) => size <= MOST_NUMBERED;
+
+/** The face-pairing graph, or null if it has too many tetrahedra to be read. A large one has all face numbers. */
+export function face_pairing_graph(table, is_large = false) {
+    if (!table.size || table.size > MOST_NODES) return null;
+    const is_numbered = is_large || is_numbered_small(table), {middle, places} = circle_of(table.size, is_large), {lines, ends} = lines_of_pairs(table, middle, places, is_numbered);
     const nodes = places.flatMap((place, tetrahedron) => node(tetrahedron, place, table.boundary[tetrahedron] > 0));
-    const side = rounded(2 * middle), label = `Face-pairing graph: ${about_table(table)}`;
-    return element('svg', {role: 'img', 'aria-label': label, width: side, height: side, viewBox: `0 0 ${side} ${side}`}, ...lines, ...nodes);
-}
-
-// ---- discs
-//
-// discs.json says how a tetrahedron and the discs of each column are drawn; pictures of the package go by it too.
-
-const SIDE = 130;
-const COLUMNS = {standard: [0, 7], quad: [4, 7], octagon: [0, 10]};
-
-/** How many parallel discs are drawn of each column of octagon coordinates, for the entries of one tetrahedron. */
-function drawn_counts(entries, coordinates) {
-    const [first] = COLUMNS[coordinates], counts = new Array(10).fill(0);
-    entries.forEach((entry, number) => { counts[first + number] = entry.length > 3 ? MOST_PARALLEL : Math.min(MOST_PARALLEL, Number(entry)); });
-    return counts;
-}
-
-/** How tetrahedra are drawn, by the data of discs.json. */
-export class Discs {
-    constructor({plane, edges, hidden, discs}) {
-        Object.assign(this, {edges, discs});
-        this.plane = plane.map((point) => point.map((part) => SIDE * part));
-        this.hidden = new Set(hidden.map(String));
-    }
-
-    /** How many points of the drawn discs lie on an edge. */
-    points_on(counts, a, b) {
-        const on_edge = ({corners}) => corners.filter(([from, to]) => (from === a && to === b) || (from === b && to === a)).length;
-        return this.discs.reduce((sum, disc, column) => sum + counts[column] * on_edge(disc), 0);
-    }
-
-    /** How many points come before those of a column on the edge from `a` to `b`, counted from `a`. */
-    points_before(counts, column, a, b) {
-        const is_before = ({corners}, other) => other < column && corners.some(([from, to]) => from === a && to === b);
-        return this.discs.reduce((sum, disc, other) => sum + (is_before(disc, other) ? counts[other] : 0), 0);
-    }
-
-    /** A corner of the disc number `nth` of a column. */
-    corner(counts, column, nth, [a, b, way]) {
-        const place = this.points_before(counts, column, a, b) + (way === 1 ? nth : counts[column] - 1 - nth);
-        const part = (place + 1) / (this.points_on(counts, a, b) + 1);
-        return [0, 1].map((axis) => rounded(this.plane[a][axis] + part * (this.plane[b][axis] - this.plane[a][axis])));
-    }
-
-    polygons(counts) {
-        return this.discs.flatMap(({name, corners}, column) => Array.from({length: counts[column]}, (_, nth) => {
-            const points = corners.map((corner) => this.corner(counts, column, nth, corner).join(','));
-            return element('polygon', {class: `disc ${name.split(' ')[0]}`, points: points.join(' ')});
-        }));
-    }
-
-    frame() {
-        return this.edges.map(([a, b]) => {
-            const [[x1, y1], [x2, y2]] = [this.plane[a], this.plane[b]], dashes = this.hidden.has(`${a},${b}`) ? {'stroke-dasharray': '4 3'} : {};
-            return element('line', {class: 'frame', x1, y1, x2, y2, ...dashes});
-        });
-    }
-
-    vertex_names() {
-        return this.plane.map(([x, y], vertex) => text(rounded(x + (x < SIDE / 2 ? -7 : 7)), rounded(y + (y < SIDE / 2 ? -3 : 11)), 'face', String(vertex)));
-    }
-
-    /** The discs of a tetrahedron in words. */
-    about(entries, coordinates) {
-        const [first] = COLUMNS[coordinates];
-        return entries.flatMap((entry, number) => (entry === '0' ? [] : [`${entry} × ${this.discs[first + number].name}`])).join(', ');
-    }
-
-    tetrahedron(entries, coordinates, number) {
-        const about = `Tetrahedron ${number}: ${this.about(entries, coordinates)}`, counts = drawn_counts(entries, coordinates);
-        const parts = [...this.frame(), ...this.polygons(counts), ...this.vertex_names()];
-        return {about, picture: element('svg', {role: 'img', 'aria-label': about, width: 150, height: 150, viewBox: `-12 -12 ${SIDE + 24} ${SIDE + 24}`}, ...parts)};
-    }
-
-    /** A surface as the discs in the tetrahedra that it meets: {met, pictures, most}, with {about, picture} for each of the
-     *  first MOST_TETRAHEDRA of them. */
-    surface(entries, coordinates) {
-        const all = by_tetrahedron(entries, coordinates).map((parts, number) => ({entries: parts.flat(), number}));
-        const met = all.filter((one) => one.entries.some((entry) => entry !== '0'));
-        return {met: met.length, most: MOST_PARALLEL, pictures: met.slice(0, MOST_TETRAHEDRA).map((one) => this.tetrahedron(one.entries, coordinates, one.number))};
-    }
+    const numbers = is_numbered ? places.flatMap((place, tetrahedron) => face_numbers(place, ends[tetrahedron])) : [];
+    const side = rounded(2 * middle), height = table.size < 3 ? FLAT : side, label = `Face-pairing graph: ${about_table(table)}`;
+    return element('svg', {role: 'img', 'aria-label': label, width: side, height, viewBox: `0 ${(side - height) / 2} ${side} ${height}`}, ...lines, ...nodes, ...numbers);
 }

@@ -2,17 +2,20 @@
 
 /** What a command reads, in words, by the third field of its row in the table of commands. */
 export const INPUTS = {
-    table: 'one tri or sig',
-    tables: 'any number of tri or sig',
-    'two-tables': 'two of tri or sig',
-    vector: 'a tri or sig, then one vec line',
-    vectors: 'a tri or sig, then vec lines',
-    blocks: 'a tri or sig, then sums',
-    steps: 'a tri or sig, then moves, undo, redo',
-    moves: 'a tri or sig, then moves',
-    cone: 'a cone',
-    none: 'it reads no input',
+    table: 'a triangulation: sig SIGNATURE, or tri N and N rows',
+    tables: 'any number of triangulations',
+    'two-tables': 'two triangulations',
+    vector: 'a triangulation, then one line vec ..',
+    vectors: 'a triangulation, then lines vec ..',
+    blocks: 'a triangulation, then the sums that decompose prints',
+    steps: 'a triangulation, then moves, undo or redo',
+    moves: 'a triangulation, then moves',
+    cone: 'cone COLUMNS ROWS, then the rows',
+    none: 'no input',
 };
+
+/** A number with its noun. */
+export const plural = (count, one, more = `${one}s`) => `${count} ${count === 1 ? one : more}`;
 
 const lines_of = (text) => text.replace(/\n$/, '').split('\n');
 const is_yes = (word) => word === 'yes';
@@ -39,6 +42,9 @@ export function first_table(text) {
     const [form, count] = (lines[0] ?? '').trim().split(/[ \t]+/);
     return `${lines.slice(0, form === 'tri' ? 1 + Number(count) : 1).join('\n')}\n`;
 }
+
+/** The rows of the table of an input `tri N`, each as its entries. */
+export const read_rows = (text) => text.split('\n').filter((line) => !is_skipped(line)).slice(1).map((line) => line.trim().split(/[ \t]+/));
 
 /** The glued pairs of faces of a printed table, each once and the lesser first; its size, and which tetrahedra have
  *  boundary faces. */
@@ -90,10 +96,10 @@ function name_of_component({euler, orientable}, has_boundary) {
     if (has_boundary) {
         if (euler === 1) return 'disc';
         if (euler === 0) return orientable ? 'annulus' : 'Möbius band';
-        return `with boundary, χ ${euler}`;
+        return `surface with boundary, χ = ${euler}`;
     }
-    if (orientable) return ['sphere', 'torus'][(2 - euler) / 2] ?? `orientable, genus ${(2 - euler) / 2}`;
-    return [undefined, 'projective plane', 'Klein bottle'][2 - euler] ?? `non-orientable, genus ${2 - euler}`;
+    if (orientable) return ['sphere', 'torus'][(2 - euler) / 2] ?? `orientable surface of genus ${(2 - euler) / 2}`;
+    return [undefined, 'projective plane', 'Klein bottle'][2 - euler] ?? `non-orientable surface of genus ${2 - euler}`;
 }
 
 /** The name of a surface that `describe` has described. */
@@ -114,3 +120,6 @@ export function by_tetrahedron(entries, coordinates) {
     }
     return tetrahedra;
 }
+
+/** The coordinates of a question, by its words. */
+export const coordinates_of = (words) => words[words.indexOf('--coords') + 1 || words.length] ?? 'standard';

@@ -58,6 +58,7 @@ class Downloads:
 class Chromium(Downloads):
     """Chromium with a new profile. `size` is that of its window, `dark` its colour scheme, `still` a wish for less motion."""
     name = "chromium"
+    NAMES = {"ArrowLeft": "ARROW_LEFT", "ArrowUp": "ARROW_UP"}
 
     def __init__(self, size=WIDE, dark=False, still=False):
         require(["chromium", "chromedriver"], ["selenium"])
@@ -101,7 +102,7 @@ class Chromium(Downloads):
         from selenium.webdriver.common.keys import Keys
         chain = ActionChains(self.driver)
         for key in keys:
-            *held, last = [getattr(Keys, part.upper(), part) for part in key.split("+")]
+            *held, last = [getattr(Keys, self.NAMES.get(part, part.upper()), part) for part in key.split("+")]
             for part in held:
                 chain.key_down(part)
             chain.send_keys(last)
@@ -125,7 +126,8 @@ class Chromium(Downloads):
 class Firefox(Downloads):
     """Firefox with a new profile. `size` is that of its window, `dark` its colour scheme, `still` a wish for less motion."""
     name = "firefox"
-    KEYS = {"Tab": "\ue004", "Enter": "\ue006", "Escape": "\ue00c", "Control": "\ue009"}
+    KEYS = {"Tab": "\ue004", "Enter": "\ue006", "Escape": "\ue00c", "Control": "\ue009", "Space": " ", "Home": "\ue011", "ArrowLeft": "\ue012",
+            "ArrowUp": "\ue013"}
 
     def __init__(self, size=WIDE, dark=False, still=False):
         require(["firefox-esr"], ["websocket"])
@@ -134,7 +136,9 @@ class Firefox(Downloads):
         self.profile = tempfile.mkdtemp(prefix="firefox-")
         settings = {"ui.systemUsesDarkTheme": int(dark), "layout.css.prefers-color-scheme.content-override": 0 if dark else 1,
                     "ui.prefersReducedMotion": int(still), "dom.max_script_run_time": 0, "browser.shell.checkDefaultBrowser": False,
-                    "browser.download.folderList": 2, "browser.download.dir": self.folder, "browser.download.useDownloadDir": True}
+                    "browser.download.folderList": 2, "browser.download.dir": self.folder, "browser.download.useDownloadDir": True,
+                    # else the list of downloads opens, and takes the focus from the page
+                    "browser.download.alwaysOpenPanel": False}
         lines = [f"user_pref({json.dumps(name)}, {json.dumps(value)});\n" for name, value in settings.items()]
         Path(self.profile, "user.js").write_text("".join(lines), "utf8")
         self.process = self._start()
@@ -153,7 +157,8 @@ class Firefox(Downloads):
         for line in self.process.stderr:
             if "WebDriver BiDi listening on" in line:
                 # nobody reads the rest, and it must not fill the pipe
-                threading.Thread(target=lambda: [None for _ in self.process.stderr], daemon=True).start()
+                self.reader = threading.Thread(target=lambda: [None for _ in self.process.stderr], daemon=True)
+                self.reader.start()
                 return line.split()[-1]
         raise RuntimeError("Firefox ended before it listened")
 
@@ -205,5 +210,11 @@ class Firefox(Downloads):
             self.process.wait(20)
         except subprocess.TimeoutExpired:
             self.process.kill()
+            self.process.wait()
+        self.socket.close()
+        # another process of Firefox may have the pipe for a moment longer
+        self.reader.join(20)
+        if not self.reader.is_alive():
+            self.process.stderr.close()
         shutil.rmtree(self.profile, ignore_errors=True)
         super().close()

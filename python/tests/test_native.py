@@ -161,7 +161,7 @@ class OnArm(unittest.TestCase):
                               stderr=subprocess.STDOUT, text=True, check=False)
         self.assertEqual(done.returncode, 0, done.stdout)
         self.assertIn("aarch64", done.stdout)
-        self.assertIn(f"worked rows by the library {library}", done.stdout)
+        self.assertIn(f"stored examples, by the library {library}", done.stdout)
 
 
 class Mac(unittest.TestCase):
@@ -257,6 +257,9 @@ class Release(unittest.TestCase):
             self.assertEqual(packed.read(names["data/libexec/trinorm/trinorm.exe"]), b"exe")
             self.assertEqual(packed.read(names["data/libexec/trinorm/trinorm.dll"]), b"dll")
             self.assertNotIn("scripts/trinorm", names)
+            # the command of Windows is the program itself, which looks for its library beside it
+            self.assertEqual(packed.read(names["scripts/trinorm.exe"]), b"exe")
+            self.assertEqual(packed.read(names["scripts/trinorm.dll"]), b"dll")
             self.assertNotIn("data/libexec/trinorm/trinorm", names)
             version = packed.read(names["data/libexec/trinorm/version"]).decode()
         self.assertIn("system windows-x86_64\n", version)
@@ -279,7 +282,7 @@ class Release(unittest.TestCase):
 
     def test_the_page_is_in_a_release(self):
         names = [name for name, _ in elsewhere.page(self.made(wasm=b"\0asm"))]
-        self.assertEqual(names, ["trinorm.html", "trinorm-1.2.3-web.tar.gz", "trinorm.wasm"])
+        self.assertEqual(names, ["trinorm.html", "trinorm-1.2.3-web.tar.gz", "trinorm.wasm", "trinorm.wasm.NOTICES"])
 
 
 if __name__ == "__main__":

@@ -3,33 +3,40 @@
 TRINORM_WASM names the module; else it is the one that the build made. Pictures of the page go to the folder `pictures`
 next to the built program.
 """
+import base64
 import contextlib
+import csv
 import functools
 import hashlib
 import http.server
+import io
 import json
 import os
 import re
 import shutil
 import subprocess
 import sys
+import tarfile
 import tempfile
 import threading
 import unittest
 import urllib.parse
 import zlib
 from pathlib import Path
+from xml.etree import ElementTree
 
-from trinorm import selfcheck
+from trinorm import regina_surfaces, selfcheck
 from trinorm.program import REPOSITORY, find_library
 
 sys.path.insert(0, str(REPOSITORY / "tools"))
 
+import elsewhere  # noqa: E402
+import packages  # noqa: E402
 import web_page  # noqa: E402
 import wasm  # noqa: E402
 
 from . import browsers  # noqa: E402
-from .cases import Cases  # noqa: E402
+from .cases import Cases, timed  # noqa: E402
 
 OUT = REPOSITORY / "crates" / "trinorm" / "out"
 COUNT = 2000
@@ -52,6 +59,23 @@ def node():
     if path is None:
         raise unittest.SkipTest("node is not installed")
     return path
+
+
+def import_regina():
+    """The module of Regina, or a skip."""
+    try:
+        import regina
+    except ImportError:
+        raise unittest.SkipTest("Regina is not installed for this Python") from None
+    return regina
+
+
+def rows_in_regina(triangulation):
+    """The rows of the gluing table of a Regina triangulation."""
+    def entry(tetrahedron, face):
+        other = tetrahedron.adjacentTetrahedron(face)
+        return "-" if other is None else f"{other.index()}:{tetrahedron.adjacentGluing(face)}"
+    return [" ".join(entry(tetrahedron, face) for face in range(4)) for tetrahedron in triangulation.tetrahedra()]
 
 
 def generated(count):
@@ -137,6 +161,11 @@ class Program(unittest.TestCase):
             done = subprocess.run([*self.words, "sig"], input=b"sig bkaagn\n", stdout=full, env=self.environment, check=False)
         self.assertEqual(done.returncode, 7)
 
+    def test_a_limit_that_is_no_number_is_refused(self):
+        for value in ("abc", "-1", "1e9", "9" * 30):
+            done = subprocess.run([*self.words, "info"], input=b"sig bkaagn\n", capture_output=True, env={**self.environment, "TRINORM_MOST_BYTES": value}, check=False)
+            self.assertEqual((done.returncode, done.stdout, done.stderr.decode()), (70, b"", f"trinorm.js: TRINORM_MOST_BYTES must be a number of bytes, not {value}\n"))
+
     def test_a_missing_module_is_no_answer(self):
         missing = {**self.environment, "TRINORM_WASM": "/nonexistent"}
         self.assertEqual(self.run_program("sig", data=b"sig bkaagn\n", env=missing), (70, b""))
@@ -161,6 +190,23 @@ class Files(unittest.TestCase):
         self.assertIn(web_page.hash_of(script), policy)
         self.assertIsNone(re.search(r'\b(src|href)="(?!data:|#)', page), "a file is loaded")
 
+    def test_the_licences_are_in_the_folder_and_in_the_one_file(self):
+        page, files = web_page.one_file(b"\0asm"), web_page.folder(b"\0asm")
+        for name in ("NOTICES", "LICENSE-MIT", "LICENSE-APACHE"):
+            text = (REPOSITORY / name).read_text("utf8")
+            self.assertIn(text, page)
+            self.assertEqual(files[name], text.encode("utf8"))
+
+    def test_each_file_of_a_release_has_or_names_the_notices(self):
+        made = packages.Made("1.0.0", {"wasm": b"\0asm"}, "")
+        files = dict(elsewhere.page(made))
+        notices = (REPOSITORY / "NOTICES").read_text("utf8")
+        self.assertIn(notices, files["trinorm.wasm.NOTICES"].decode())
+        self.assertIn(notices, files["trinorm.html"].decode())
+        with tarfile.open(fileobj=io.BytesIO(files["trinorm-1.0.0-web.tar.gz"])) as tar:
+            self.assertIn("trinorm-1.0.0-web/NOTICES", tar.getnames())
+        self.assertEqual(len(files), 4)
+
     def test_scripts_of_the_one_file_can_be_joined(self):
         for names in (web_page.SCRIPTS, web_page.WORKER):
             with self.subTest(names=names), tempfile.TemporaryDirectory() as folder:
@@ -176,6 +222,154 @@ class Files(unittest.TestCase):
     def test_texts_that_would_end_an_element_are_refused(self):
         with self.assertRaises(ValueError):
             web_page.element("evil.txt", "</ScRiPt>")
+
+
+class Reading(unittest.TestCase):
+    """What the page makes of texts before it asks, by Node."""
+
+    def ask(self, *questions):
+        lines = "".join(f"{json.dumps(question)}\n" for question in questions)
+        done = subprocess.run([node(), str(REPOSITORY / "web" / "tests" / "reading.js")], input=lines, capture_output=True, text=True, check=False)
+        self.assertEqual(done.returncode, 0, done.stderr)
+        return [json.loads(line) for line in done.stdout.splitlines()]
+
+    def understood(self, text, reads="table"):
+        [outcome] = self.ask({"text": text, "reads": reads})
+        self.assertLess(outcome["milliseconds"], 5000)
+        return outcome
+
+    def test_signatures(self):
+        for text, line, notes in (
+                ("cPcbbbiht", "sig cPcbbbiht", ["read as `sig cPcbbbiht`"]), ("a", "sig a", ["read as `sig a`"]), ("baa", "sig baa", ["read as `sig baa`"]),
+                ("sig cPcbbbiht", "sig cPcbbbiht", []), ("  sig\tbaa \r", "sig baa", ["read as `sig baa`"]),
+                ("cPcbbbiht_BaCB", "sig cPcbbbiht", ["read as `sig cPcbbbiht`", "the decoration was left out"]),
+                ("sig cPcbbbiht_BaCB", "sig cPcbbbiht", ["read as `sig cPcbbbiht`", "the decoration was left out"]),
+                ("cPcbbbiht_BaCB(1,2)", "sig cPcbbbiht", ["read as `sig cPcbbbiht`", "the decoration was left out", "the Dehn fillings were left out"]),
+                ("m9999", "m9999", []), ("K11n34", "K11n34", []), ("L(999,998)", "L(999,998)", []), ("m004(5,1)", "m004(5,1)", []), ("5_2(1,2)", "5_2(1,2)", []), ("a triangulation", "a triangulation", []), ("tri", "tri", []), ("sig", "sig", []), ("", "", []),
+                ("<b>", "<b>", []), ("cPcbbbiht_", "sig cPcbbbiht", ["read as `sig cPcbbbiht`", "the decoration was left out"])):
+            with self.subTest(text=text):
+                outcome = self.understood(text)
+                self.assertEqual((outcome["input"], outcome["notes"], outcome["tables"]), (line, notes, None))
+
+    def test_what_is_no_triangulation_stays(self):
+        for text, reads in (("bkaagj\n14 0\nundo\nredo\n", "steps"), ("bkaagj\nvec 1 1 0 0 1 0 0\n", "vectors"), ("bkaagj\nabc\n", "vector"),
+                            ("tri 1\n0:1023 0:1023 0:1230 0:3012\nabc\n", "moves")):
+            lines, expected = self.understood(text, reads)["input"].split("\n"), text.replace("bkaagj", "sig bkaagj").split("\n")
+            self.assertEqual(lines, expected)
+        self.assertEqual(self.understood("abc\ndef\n", "cone")["input"], "abc\ndef\n")
+        self.assertEqual(self.understood("abc", "none")["input"], "abc")
+
+    def test_a_list_of_triangulations(self):
+        text = "# the first\ncPcbbbiht\n\nm003\ntri 1\n0:1023 0:1023 0:1230 0:3012\nL(3,1)\nsig bkaagj_abc\n"
+        tables = self.understood(text)["tables"]
+        self.assertEqual([one["label"] for one in tables], ["the first", "m003", "", "L(3,1)", ""])
+        self.assertEqual([one["text"] for one in tables], ["sig cPcbbbiht\n", "sig cPcbbbdxm\n", "tri 1\n0:1023 0:1023 0:1230 0:3012\n", "sig cPcbbbaai\n", "sig bkaagj\n"])
+        # commands that read several of them get the text, and one with something else is no list
+        self.assertIsNone(self.understood(text, "tables")["tables"])
+        self.assertIsNone(self.understood("bkaagj\nbkaagn\n", "two-tables")["tables"])
+        self.assertIsNone(self.understood("bkaagj\nbkaagn\n14 0\n")["tables"])
+
+    def test_names(self):
+        [by_case, lens, other, figure, none, alias] = self.ask(
+            {"find": "M004"}, {"find": "L(3,1)"}, {"find": " l ( 8 , 5 ) "}, {"find": "SFS [S2: (2,1) (3,1) (5,-4)]"},
+            {"find": "nonsense"}, {"find": "L(3,2)"})
+        self.assertEqual(by_case["found"]["signature"], "cPcbbbiht")
+        self.assertEqual([lens["found"]["name"], other["found"]["name"], alias["found"]["name"]], ["L(3,1)", "L(8,3)", "L(3,1)"])
+        self.assertEqual(figure["found"]["signature"], "fvPQcdecedekrsnrs")
+        self.assertIsNone(none["found"])
+        same, negative, far, not_prime = self.ask(*({"find": name} for name in ("L(7,3)", "L(7,-4)", "L(7,10)", "L(6,2)")))
+        self.assertEqual([one["found"]["name"] for one in (same, negative, far)], ["L(7,2)"] * 3)
+        self.assertIsNone(not_prime["found"])
+        # a list of lens spaces that are not known takes no longer than others
+        self.assertIsNone(self.understood("L(997,5)\n" * 100000)["tables"])
+        notes = self.understood("m004")["notes"]
+        self.assertEqual(notes, ["read as `sig cPcbbbiht`", "`m004` is a cusped hyperbolic manifold of the SnapPea census"])
+        self.assertEqual(self.understood("L(3,2)")["notes"], ["read as `sig cPcbbbaai`", "`L(3,2)` is `L(3,1)`, a lens space"])
+
+    def test_files_of_other_programs(self):
+        """What Regina writes of triangulations is read as their gluings, with and without boundary."""
+        regina = import_regina()
+        triangulations = [regina.Triangulation3.fromIsoSig(signature) for signature in ("cPcbbbiht", "bkaagj", "gLLPQcefefefbhggbha", "bGab")]
+        ball = regina.Triangulation3()
+        ball.newTetrahedron()
+        triangulations.append(ball)
+        with tempfile.TemporaryDirectory() as folder:
+            for number, triangulation in enumerate(triangulations):
+                rows = "".join(f"{row}\n" for row in rows_in_regina(triangulation))
+                packet = regina.PacketOfTriangulation3(triangulation)
+                packet.setLabel("Poincaré & \"<tri>\"\n")
+                for form in (regina.REGINA_XML_GEN_2, regina.REGINA_XML_GEN_3):
+                    path = str(Path(folder, "file.rga"))
+                    packet.save(path, False, form)
+                    outcome = self.understood(Path(path).read_text("utf8"))
+                    self.assertEqual(outcome["input"], f'# Poincare & "<tri>"\ntri {triangulation.size()}\n{rows}', (number, form))
+                    self.assertEqual(outcome["notes"], ["read as 1 triangulation of a Regina file"])
+                if not triangulation.hasBoundaryFacets():
+                    outcome = self.understood(triangulation.snapPea())
+                    self.assertEqual(outcome["input"], f"# Regina_Triangulation\ntri {triangulation.size()}\n{rows}")
+
+    def test_every_triangulation_of_a_regina_file(self):
+        regina = import_regina()
+        path = Path("/usr/share/regina-normal/examples/sample.rga")
+        if not path.is_file():
+            self.skipTest("Regina's sample file is not installed")
+        found = self.understood(path.read_text("utf8"))["tables"]
+        self.assertEqual([one["label"] for one in found], ["Layered Solid Torus", "Poincare Homology Sphere", "RP2 x S1", "Whitehead Link Complement", "Figure 8 Knot Complement"])
+        tree = packet = regina.open(str(path))
+        known = []
+        while packet:
+            if isinstance(packet, (regina.PacketOfTriangulation3, regina.PacketOfSnapPeaTriangulation)):
+                known.append(rows_in_regina(packet))
+            packet = packet.nextTreePacket()
+        del tree
+        self.assertEqual([one["text"].split("\n")[1:-1] for one in found], known)
+
+    def test_snappea_triangulations_in_a_regina_file(self):
+        """They are read in both forms of the file, with the names of their packets; an empty one is left out."""
+        regina = import_regina()
+        root, rows = regina.Container(), []
+        for label, signature in (("ideal", "cPcbbbiht"), ("other", "cPcbbbdxm")):
+            triangulation = regina.Triangulation3.fromIsoSig(signature)
+            for number, packet in enumerate((regina.PacketOfSnapPeaTriangulation(regina.SnapPeaTriangulation(triangulation)), regina.PacketOfTriangulation3(triangulation))):
+                packet.setLabel(f"{label} {number}")
+                root.append(packet)
+                rows.append(rows_in_regina(packet))
+        with tempfile.TemporaryDirectory() as folder:
+            for form in (regina.REGINA_XML_GEN_2, regina.REGINA_XML_GEN_3):
+                path = str(Path(folder, "file.rga"))
+                root.save(path, False, form)
+                text = Path(path).read_text("utf8").replace("</regina", "<snappeadata> \n</snappeadata></regina")
+                tables = self.understood(text)["tables"]
+                self.assertEqual([one["label"] for one in tables], ["ideal 0", "ideal 1", "other 0", "other 1"], form)
+                self.assertEqual([one["text"].split("\n")[1:-1] for one in tables], rows, form)
+
+    def test_the_name_in_a_snappea_file_is_no_number_of_cusps(self):
+        text = import_regina().Triangulation3.fromIsoSig("cPcbbbiht").snapPea()
+        named = text.replace("Regina_Triangulation", "5 2")
+        self.assertNotEqual(text, named)
+        self.assertEqual(self.understood(named)["input"], self.understood(text)["input"].replace("Regina_Triangulation", "5 2"))
+
+    def test_dehn_fillings_are_told(self):
+        text = (import_regina().Triangulation3.fromIsoSig("cPcbbbiht").snapPea()).replace("\n0 0\n", "\n1 0\n    torus   1.0   2.0\n")
+        self.assertEqual(self.understood(text)["notes"], ["read as 1 triangulation of a SnapPea file", "the Dehn fillings of 1 cusp are ignored"])
+
+    def test_hostile_files(self):
+        """None takes long, and none is read as what it isn't."""
+        for text in ("<regina>" + "<!--" * 250000, "<regina>" + '<tri x="' * 120000, '<regina><tri dim="3">' + "<simplex> " * 100000, "<regina>" + "<" * 1000000,
+                     '<regina><tri dim="3"><simplex> 0 99 0 0 0 0 0 0 </simplex></tri></regina>', '<regina><tri dim="3" perm="index"><simplex> 1 2 </simplex></tri></regina>',
+                     "<regina>" + "&amp;" * 200000, "% Triangulation", "% Triangulation\nx\n0 0\n1000000000\n", "% Triangulation\nx\n0 0\n-1\n", "% Triangulation\n1 1\n" * 50000,
+                     "<regina><tri " + "a" * 1000000, '<regina><tri dim="4"><simplex> 1 </simplex></tri></regina>'):
+            with self.subTest(text=text[:60]):
+                outcome = self.understood(text)
+                self.assertEqual(outcome["input"], text)
+                self.assertRegex(outcome["notes"][0], "^it was not read as a file of another program: ")
+
+    def test_the_names_are_those_of_the_censuses(self):
+        import_regina()
+        import names
+        if not names.EXAMPLES.is_dir():
+            self.skipTest("Regina's censuses are not installed")
+        self.assertEqual(names.NAMES.read_text("utf8"), names.text())
 
 
 class Quiet(http.server.SimpleHTTPRequestHandler):
@@ -212,7 +406,7 @@ const ask = async (command, input) => {
     by('message').textContent = '';
     by('answer').click();
 };
-const rows = () => document.querySelectorAll('#view tbody tr').length;
+const rows = () => document.querySelectorAll('#view tbody:not(.gap) tr').length;
 const count_values = (values) => values.reduce((sum, value) => sum + value, 0);
 """
 
@@ -254,6 +448,10 @@ class Page:
         window = self.browser(**settings)
         self.addCleanup(window.close)
         return window
+
+    def window_of_a_test(self):
+        """Lets a test use a browser of its own in place of that of the class."""
+        self.window = self.new_window()
 
     def open(self, window=None, **question):
         (window or self.window).open(self.address + (f"#{urllib.parse.urlencode(question)}" if question else ""))
@@ -310,14 +508,20 @@ return globalThis.unseen.size;""")
             self.window.press(key)
             self.assertEqual(self.run_script("await until(idle); return message();"), "Stopped.")
 
-    def test_the_button_for_more_goes_with_the_last_part(self):
+    def test_the_whole_list_is_described_and_can_be_stopped(self):
+        """Stop keeps what is described; the button goes on with the rest, and goes with the last part."""
         self.open()
-        about = "return [rows(), by('view').textContent.includes('Describe')];"
-        self.assertEqual(self.ask("surfaces", OF_9, about), [122, False])
-        self.assertEqual(self.ask("surfaces", OF_14, "by('more').focus(); return by('more').textContent;"), "Describe 287 more")
+        whole = "return [by('tally').textContent.split(';')[0], by('more').hidden, document.querySelector('progress').hidden, by('part').textContent];"
+        self.assertEqual(self.ask("surfaces", OF_14, whole), ["787 vertex normal surfaces", True, True, ""])
+        self.run_script(f"await ask('surfaces', {json.dumps(OF_18)}); await until(() => by('part')?.textContent.startsWith('The table has') && rows()); by('stop').click(); await until(idle);")
+        done, text, hidden = self.run_script("return [document.querySelector('progress').value, by('part').textContent, by('more').hidden];")
+        self.assertLess(done, 8115)
+        self.assertEqual([text, hidden], [f"The table has the first {done} of 8115; only these are counted, filtered and sorted.", False])
+        self.run_script("by('message').textContent = 'x'; by('more').focus();")
         self.window.press("Enter")
-        self.assertEqual(self.run_script(f"await until(() => rows() === 787); {about}"), [787, False])
-        self.assertEqual(self.run_script("return document.activeElement.ariaLabel;"), "Surfaces")
+        self.assertEqual(self.run_script("await until(() => by('more').hidden && by('part').textContent === ''); return document.activeElement.ariaLabel;"), "Surfaces")
+        kinds = self.run_script("return by('tally').textContent;")
+        self.assertEqual(sum(int(count) for count in re.findall(r"(\d+) × ", kinds)), 8115)
 
     def test_every_command_and_question_is_in_the_list(self):
         self.open()
@@ -339,32 +543,223 @@ return globalThis.unseen.size;""")
         kinds = "return [...document.querySelectorAll('#view tbody td:nth-child(2)')].map((cell) => cell.textContent);"
         self.assertEqual(self.run_script(f"await until(idle); {kinds}"), [f"spun-normal at vertex {0}"] * 4)
         self.assertEqual(self.run_script("return [by('command').value, by('input').value, location.hash.includes('coords=quad')];"), ["surfaces", "sig cPcbbbiht\n", True])
-        self.open(command="surfaces", coords="nonsense", input="sig bkaagj")
-        self.assertEqual(self.run_script("await until(idle); return rows();"), 2)
+
+    def test_a_link_that_is_not_understood_is_not_answered(self):
+        said = "await until(idle); return [message(), by('result').hidden, rows(), by('command').value, by('input').value];"
+        for question, why, command, text in (
+                ({"command": "surfaces", "coords": "quads", "input": "sig bkaagj"}, "“coords=quads”, but coords must be one of standard, quad, octagon", "surfaces", "sig bkaagj"),
+                ({"command": "homology", "input": "sig bkaagj"}, "the command “homology”, which is unknown", "surfaces", "sig bkaagj"),
+                ({"input": "sig bkaagj"}, "no command", "surfaces", "sig bkaagj"),
+                ({"command": "sig", "coords": "quad", "input": "sig bkaagj"}, "“coords”, which sig does not take", "sig", "sig bkaagj"),
+                ({"command": "surfaces", "max-entry": "0", "input": "sig bkaagj"}, "“max-entry=0”, but max-entry must be a whole number from 1 to 170", "surfaces", "sig bkaagj"),
+                ({"command": "make", "seed": "7"}, "no moves, which make needs", "make", ""),
+                ({"command": "sig", "input": "\ufffd" * 500}, "an input that is not text", "sig", ""),
+                ({"command": "sig", "input": "a" * 60000}, "more than 60,000 characters", "surfaces", "")):
+            with self.subTest(why=why):
+                self.open(**question)
+                message, *rest = self.run_script(said)
+                self.assertTrue(message.startswith(f"This link was not answered. It has {why}"), message)
+                self.assertEqual(rest, [True, 0, command, text])
+
+    def test_back_and_forward(self):
+        # a window of its own: Chromium keeps 50 steps, and drops those that no person made first
+        self.window_of_a_test()
+        self.open()
+        shown = "return [by('command').value, by('input').value, by('raw').textContent];"
+        self.assertEqual(self.ask("sig", "sig bkaagn", shown), ["sig", "sig bkaagn", "bkaagj\n"])
+        self.assertEqual(self.ask("csig", "sig cPcbbbiht", shown), ["csig", "sig cPcbbbiht", "cPcbbbiht\n"])
+        move = "by('message').textContent = ''; history.%s(); await until(() => by('command').value === '%s'); await until(idle); "
+        self.assertEqual(self.run_script(move % ("back", "sig") + shown), ["sig", "sig bkaagn", "bkaagj\n"])
+        self.assertEqual(self.run_script(move % ("forward", "csig") + shown), ["csig", "sig cPcbbbiht", "cPcbbbiht\n"])
+        self.run_script("history.go(-2); await until(() => by('command').value === 'surfaces');")
+        self.assertEqual(self.run_script("await until(idle); return [location.hash, by('input').value, by('result').hidden, by('asked').hidden];"), ["", "sig cPcbbbiht\n", False, False])
+
+    def test_a_question_too_long_for_a_link_is_found_again(self):
+        self.window_of_a_test()
+        self.open()
+        long = ["sig bkaagj\n# " + "x" * 61000, "sig cPcbbbiht\n# " + "y" * 61000]
+        for text in (*long, "sig bkaagn"):
+            self.assertRegex(self.ask("sig", text), "^Answered")
+        back = "by('message').textContent = ''; history.%s(); await until(() => message() && by('input').value[4] === '%s'); await until(idle); return [by('input').value.length, by('raw').textContent, location.hash];"
+        self.assertEqual(self.run_script(back % ("back", "c")), [len(long[1]), "cPcbbbiht\n", ""])
+        self.assertEqual(self.run_script(back % ("back", "b")), [len(long[0]), "bkaagj\n", ""])
+        self.assertEqual(self.run_script(back % ("forward", "c")), [len(long[1]), "cPcbbbiht\n", ""])
+        self.assertRegex(self.run_script("by('link').click(); await until(() => message() !== ''); return message();"), "too long for a link|Answered")
+
+    def test_bare_and_decorated_signatures(self):
+        self.open()
+        asked = "return [message().split(' ')[0], by('asked').textContent.split('; trinorm ')[0], by('input').value];"
+        said = "Question: sig of sig cPcbbbiht"
+        for text, read in (("sig cPcbbbiht", ""), ("cPcbbbiht", "; read as `sig cPcbbbiht`"), ("# eight\n cPcbbbiht\r\n", None),
+                           ("cPcbbbiht_BaCB", "; read as `sig cPcbbbiht`; the decoration was left out"),
+                           ("sig cPcbbbiht_BaCB\n", "; read as `sig cPcbbbiht`; the decoration was left out")):
+            with self.subTest(text=text):
+                first, shown, field = self.ask("sig", text, asked)
+                self.assertEqual((first, field), ("Answered", text.replace("\r", "")))
+                if read is not None:
+                    self.assertEqual(shown, said + read)
+        answer = "return [by('raw').textContent, by('asked').textContent];"
+        several, shown = self.ask("group", "bkaagj\ntri 1\n0:1023 0:1023 0:1230 0:3012\ncPcbbbiht_BaCB\n", answer)
+        self.assertEqual(several.count("class"), self.ask("group", "sig bkaagj\nsig bkaagj\nsig cPcbbbiht", "return by('raw').textContent;").count("class"))
+        self.assertIn("2 lines were read as signatures, the first as `sig bkaagj`; the decoration was left out", shown)
+        # moves are no signatures
+        self.assertRegex(self.ask("play", "bkaagj\n14 0\nundo\nredo\n"), "^Answered")
+        self.assertRegex(self.ask("sig", "v3551"), "v3551 is the name of a manifold")
+        self.assertEqual(self.ask("sig", "m003", "return [by('raw').textContent, by('asked').textContent.split('; trinorm')[0]];"),
+                         ["cPcbbbdxm\n", "Question: sig of sig cPcbbbdxm; read as `sig cPcbbbdxm`; `m003` is a cusped hyperbolic manifold of the SnapPea census"])
+
+    def test_the_question_stands_above_its_answer_and_on_paper(self):
+        hidden = """
+const rules = [...document.styleSheets].flatMap((sheet) => [...sheet.cssRules]).filter((rule) => rule.media?.mediaText === 'print').flatMap((rule) => [...rule.cssRules]);
+const is_printed = (one) => one === document.body || (!rules.some((rule) => rule.style.display === 'none' && one.matches(rule.selectorText)) && is_printed(one.parentElement));
+"""
+        about = json.loads(web_page.data_files()["about.json"])["version"]
+        self.open(command="surfaces", coords="quad", input="sig cPcbbbiht\n")
+        text, asked, result, form = self.run_script(f"await until(idle); {hidden} return [by('asked').textContent, is_printed(by('asked')), is_printed(by('view')), is_printed(by('question'))];")
+        digest = hashlib.sha256(module().read_bytes()).hexdigest()
+        self.assertRegex(text, f"^Question: surfaces --coords quad of sig cPcbbbiht; trinorm {about}, trinorm.wasm {digest[:12]}…. [0-9]+ [A-Z][a-z]+ 20[0-9][0-9] at [0-9:]+$")
+        self.assertEqual(self.run_script("return [document.title, getComputedStyle(document.querySelector('.paper')).display];"), ["surfaces --coords quad of sig cPcbbbiht – trinorm", "none"])
+        self.assertEqual([asked, result, form], [True, True, False])
+        # a table stands there whole, and a refusal is printed
+        table = "tri 1\n0:1023 0:1023 0:1230 0:3012\nvec x"
+        self.assertRegex(self.ask("verify", table), "^refused")
+        self.assertEqual(self.run_script(f"{hidden} return [by('asked').querySelector('pre').textContent, is_printed(by('asked')), is_printed(by('message'))];"), [table, True, True])
+
+    def open_file(self, data, name="file.bin"):
+        """What the page says of a file with bytes, given as a script; with what is in the field, and after how many seconds."""
+        return self.run_script(f"""
+await until(idle);
+const files = new DataTransfer(), begun = performance.now();
+files.items.add(new File([{data}], {json.dumps(name)}));
+by('message').textContent = '';
+by('file').files = files.files;
+by('file').dispatchEvent(new Event('change'));
+await until(() => message());
+await new Promise((done) => requestAnimationFrame(() => setTimeout(done)));
+return [message(), by('input').value.slice(0, 100), (performance.now() - begun) / 1000];""")
+
+    @timed
+    def test_a_file_that_is_no_text_leaves_the_page_alive(self):
+        self.open()
+        first = "sig cPcbbbiht\n"
+        for data, why in (("new Uint8Array(300000).fill(255)", "is not a text file"), ("new Uint8Array(3 << 20).fill(255)", "is longer than 1 MiB"),
+                          ("new Uint8Array(1000)", "is not a text file"), ("'\ufffd'.repeat(100000)", "is not a text file"), ("'é'.repeat(100000)", "is not a text file"),
+                          ("new Uint8Array([31, 139, 8, 0])", "is not a text file: this is a compressed file, as Regina saves them"),
+                          ("new Uint8Array([255, 254, 115, 0])", "is not a text file: the file is in UTF-16")):
+            with self.subTest(data=data):
+                said, field, seconds = self.open_file(data)
+                self.assertIn(f"file.bin {why}", said)
+                self.assertEqual(field, first)
+                self.assertLess(seconds, 10)
+        self.assertEqual(self.open_file("'# é\\nsig bkaagj\\n'", "one.txt")[:2], ["Opened one.txt.", "# é\nsig bkaagj\n"])
+
+    def test_one_answer_leads_to_the_next(self):
+        self.open()
+        said = "await until(idle); return [message().split(' ')[0], by('asked').querySelector('code').textContent, by('asked').querySelector('pre').textContent];"
+        press = "by('message').textContent = ''; [...document.querySelectorAll('#view button')].find((one) => one.textContent === '%s').click(); "
+        self.ask("surfaces", "bkaagj", "document.querySelector('#view td button').click();")
+        crushed = self.run_script(press % "Crush along it" + said)
+        self.assertEqual(crushed, ["Answered", "crush", "sig bkaagj\nvec 1 1 0 0 1 0 0"])
+        self.open()
+        self.ask("0-efficient", "sig eLMkabcddbrrag")
+        self.assertRegex(self.run_script(press % "Crush along it" + said)[2], "^sig eLMkabcddbrrag\nvec ")
+        table = self.run_script("return by('raw').textContent;")
+        self.assertRegex(table, "^tri ")
+        self.run_script(press % "Use it as input")
+        self.assertEqual(self.run_script("return by('input').value;"), table)
+        self.open(command="surfaces", coords="quad", input="sig bkaagj")
+        self.run_script("await until(idle); document.querySelector('#view td button').click();")
+        self.assertEqual(self.run_script("return [...document.querySelectorAll('#drawing button')].map((one) => one.textContent);"),
+                         ["Lift it", "Decompose it", "Copy the vector", "Copy for Regina", "Copy for Python", "Save the picture (SVG)"])
+        self.assertEqual(self.run_script(press % "Decompose it" + "await until(idle); return [by('command').value, document.querySelector('[data-option=coords]').value, message().split(' ')[0]];"), ["decompose", "quad", "Answered"])
+
+    def test_licences(self):
+        self.open()
+        self.assertEqual(self.run_script("by('licences').querySelector('summary').click(); await until(() => document.querySelectorAll('#licences pre').length === 3); return [...document.querySelectorAll('#licences pre')].map((one) => one.textContent);"),
+                         [(REPOSITORY / name).read_text("utf8") for name in web_page.LICENCES])
+
+    def test_a_link_that_cannot_be_copied_is_shown(self):
+        self.open()
+        self.ask("sig", "sig bkaagn")
+        shown = self.run_script("Object.defineProperty(navigator, 'clipboard', {value: undefined, configurable: true}); by('link').click(); await until(() => by('address')); return [message(), by('address').value, document.activeElement.id, location.href];")
+        self.assertEqual(shown[0], "The browser did not allow copying. This is the link: ")
+        self.assertEqual(shown[1:3], [shown[3], "address"])
+        self.assertIn("#command=sig&input=sig+bkaagn", shown[1])
 
     def test_a_table_of_surfaces(self):
         self.open(command="surfaces", input="sig bkaagj\n")
-        cells = self.run_script("await until(idle); return [...document.querySelectorAll('#view tbody tr')].map((row) => [...row.children].map((cell) => cell.textContent));")
-        self.assertEqual(cells, [["0", "torus", "0", "two", "yes", "no", "no", "1", "Draw", "1100·100"],
-                                 ["1", "sphere", "2", "two", "yes", "yes", "no", "1", "Draw", "1111·000"]])
+        cells = self.run_script("await until(idle); return [...document.querySelectorAll('#view tbody:not(.gap) tr')].map((row) => [...row.children].map((cell) => cell.textContent));")
+        self.assertEqual(cells, [["0", "torus", "Draw ⋯", "0", "two", "yes", "no", "no", "1", "1100·100"],
+                                 ["1", "sphere", "Draw ⋯", "2", "two", "yes", "yes", "no", "1", "1111·000"]])
 
     def test_surfaces_with_boundary_are_named(self):
         self.open(command="surfaces", input="tri 1\n- - - -\n")
         names = self.run_script("await until(idle); return [...document.querySelectorAll('#view tbody td:nth-child(2)')].map((cell) => cell.textContent);")
         self.assertEqual(names, ["disc"] * 7)
 
-    def test_a_long_list_in_parts_and_sorted(self):
+    def test_tables_name_their_rows_and_themselves(self):
         self.open()
-        shown = self.ask("surfaces", OF_18, "return [rows(), by('view').querySelector('p').textContent];")
-        self.assertEqual(shown[0], 500)
-        self.assertRegex(shown[1], "^8115 vertex normal surfaces; of the first 500: ")
-        self.assertEqual(self.run_script("by('more').click(); await until(() => rows() === 1000); return by('more').textContent;"), "Describe 500 more")
-        order = "return [head().getAttribute('aria-sort'), [...document.querySelectorAll('#view tbody td:nth-child(3)')].map((cell) => Number(cell.textContent))];"
-        head = "const head = () => document.querySelectorAll('#view th')[2]; head().querySelector('button').click();"
-        direction, values = self.run_script(head + order)
-        self.assertEqual((direction, values), ("ascending", sorted(values)))
-        direction, values = self.run_script(head + order)
-        self.assertEqual((direction, values), ("descending", sorted(values, reverse=True)))
+        for command, caption in (("surfaces", "Surfaces"), ("info", "Vertices")):
+            named = self.ask(command, "sig bkaagj", "const table = document.querySelector('#view table'); return [table.caption.textContent, table.querySelector('tbody:not(.gap) th').scope, [...table.tHead.rows[0].cells].every((head) => head.textContent && head.scope === 'col')];")
+            self.assertEqual(named, [caption, "row", True])
+
+    def test_a_long_list_is_sorted_and_filtered(self):
+        """All of it, though rows are elements only where they can be seen."""
+        self.open()
+        shown = self.ask("surfaces", OF_18, "return [rows(), by('tally').textContent, document.querySelector('#view table').getAttribute('aria-rowcount')];")
+        self.assertLess(shown[0], 200)
+        self.assertRegex(shown[1], "^8115 vertex normal surfaces; [0-9]+ × ")
+        self.assertEqual(shown[2], "8116")
+        column = "[...document.querySelectorAll('#view tbody:not(.gap) td:nth-child(4)')].map((cell) => Number(cell.textContent))"
+        scroll = "const table = document.querySelector('.long'); table.scrollTop = %s; await new Promise((done) => requestAnimationFrame(() => requestAnimationFrame(done)));"
+        head = "document.querySelectorAll('#view th[scope=col]')[3]"
+        ends = self.run_script(f"const ends = []; for (const way of ['ascending', 'descending']) {{ {head}.querySelector('button').click(); ends.push({head}.getAttribute('aria-sort') === way); for (const place of ['0', 'table.scrollHeight']) {{ {scroll.replace('const table', 'var table') % 'eval(place)'} const values = {column}; ends.push(way === 'ascending' ? values[0] : values.at(-1), values.every((value, at) => !at || (way === 'ascending' ? values[at - 1] <= value : values[at - 1] >= value))); }} }} return ends;".replace("eval(place)", "(place === '0' ? 0 : table.scrollHeight)"))
+        self.assertEqual([value for value in ends if isinstance(value, bool)], [True] * 6)
+        last = self.run_script(scroll % "table.scrollHeight" + "return [...document.querySelectorAll('#view tbody:not(.gap) tr')].at(-1).getAttribute('aria-rowindex');")
+        self.assertEqual(last, "8116")
+        counts = dict((name, int(count)) for count, name in re.findall(r"(\d+) × ([^,]+)", shown[1]))
+        set_filter = """
+const [kind, one, link, euler] = document.querySelectorAll('.filter select, .filter input');
+kind.value = %s; one.checked = %s; link.checked = %s; euler.value = %s; euler.dispatchEvent(new Event('input'));
+return [document.querySelector('.filter output').value, rows()];"""
+        self.assertEqual(self.run_script(set_filter % ("'sphere'", "false", "false", "''"))[0], f"{counts['sphere']} of 8115")
+        self.assertEqual(self.run_script(set_filter % ("'sphere'", "false", "false", "'0'")), ["0 of 8115", 0])
+        links = self.run_script(set_filter % ("''", "false", "true", "''"))[0]
+        self.assertRegex(links, "^8[01][0-9][0-9] of 8115$")
+        self.assertEqual(self.run_script(set_filter % ("''", "false", "false", "'x'"))[0], "")
+
+    def test_a_table_of_100_000_rows_has_few_elements(self):
+        if self.from_disk:
+            self.skipTest("over HTTP alone")
+        self.open()
+        self.assertEqual(self.run_script("""
+await until(idle);
+const {LongTable} = await import('./long_table.js');
+const table = new LongTable('Numbers', [{name: 'number', is_number: true, key: (record) => record.number}], (record) => [String(record.number)]);
+by('view').replaceChildren(table.element);
+table.add(Array.from({length: 100000}, (_, number) => ({number})));
+await new Promise((done) => requestAnimationFrame(() => requestAnimationFrame(done)));
+const first = rows();
+table.element.scrollTop = table.element.scrollHeight / 2;
+await new Promise((done) => requestAnimationFrame(() => requestAnimationFrame(done)));
+const middle = Number(document.querySelector('#view tbody:not(.gap) th').textContent);
+document.querySelector('#view tbody:not(.gap) tr').tabIndex = 0;
+document.querySelector('#view tbody:not(.gap) tr').focus();
+table.element.scrollTop = 0;
+await new Promise((done) => requestAnimationFrame(() => requestAnimationFrame(done)));
+return [first < 100, rows() < 100, Math.abs(middle - 50000) < 1000, document.activeElement === table.element, table.element.querySelector('tbody:not(.gap) th').textContent];"""),
+                         [True, True, True, True, "0"])
+
+    def test_surfaces_are_sorted_by_genus(self):
+        """Genus 10 comes after genus 2, and a sphere before both."""
+        library = find_library()
+        if library is None:
+            self.skipTest("there is no library of the built program")
+        vectors = [line for line in library.answer(["surfaces"], OF_18)[1].decode().splitlines() if line.startswith("vec")]
+        chosen = OF_18 + "".join(f"{vectors[index]}\n" for index in (0, 1517, 14, 1))
+        self.open()
+        names = self.ask("describe", chosen, "document.querySelectorAll('#view th')[1].querySelector('button').click(); return [...document.querySelectorAll('#view tbody td:nth-child(2)')].map((cell) => cell.textContent);")
+        self.assertEqual(names, ["sphere", "torus", "orientable surface of genus 2", "orientable surface of genus 10"])
 
     def test_a_surface_is_drawn(self):
         self.open()
@@ -372,7 +767,7 @@ return globalThis.unseen.size;""")
             drawn = "document.querySelector('#view td button').click(); return [document.querySelectorAll('#drawing polygon').length, document.activeElement.ariaLabel.slice(0, 9)];"
             self.assertEqual(self.ask(command, text, drawn), [discs, "Surface 0"])
         octagons = "by('command').value = 'describe'; by('command').dispatchEvent(new Event('change')); document.querySelector('[data-option=coords]').value = 'octagon'; by('input').value = 'sig bkaagj\\nvec 0 0 1 1 0 0 0 1 0 0'; by('message').textContent = ''; by('answer').click(); await until(idle); document.querySelector('#view td button').click(); return [...document.querySelectorAll('#drawing polygon')].map((polygon) => polygon.getAttribute('points').split(' ').length);"
-        self.assertEqual(self.run_script(octagons), [3, 3, 8])
+        self.assertEqual(sorted(self.run_script(octagons)), [3, 3, 8])
 
     def test_info_is_tables(self):
         self.open()
@@ -384,28 +779,69 @@ return globalThis.unseen.size;""")
         numbers = self.ask("info", "sig cPcbbbiht", "return [document.querySelectorAll('#graph .edge').length, [...document.querySelectorAll('#graph text.face')].map((text) => text.textContent).sort().join('')];")
         self.assertEqual(numbers, [4, "00112233"])
 
+    def test_labels_of_loops_stand_off_their_lines(self):
+        self.open()
+        distances = self.ask("info", "sig bkaagj", """return [...document.querySelectorAll('#graph g')].map((group) => {
+    const [circle, label] = ['circle', 'text'].map((name) => group.querySelector(name)), at = (one, name) => Number(one.getAttribute(name));
+    return Math.hypot(at(label, 'x') - at(circle, 'cx'), at(label, 'y') - 3 - at(circle, 'cy')) - at(circle, 'r');
+});""")
+        self.assertEqual(len(distances), 2)
+        self.assertGreater(min(distances), 8)
+        # and in the picture: three figures are about twenty wide
+        side, places = self.run_script("return [Number(document.querySelector('#graph svg').getAttribute('width')), [...document.querySelectorAll('#graph text')].map((one) => Number(one.getAttribute('x')))];")
+        self.assertGreater(min(min(places), side - max(places)), 10)
+
+    def test_controls_have_one_font(self):
+        self.open()
+        fonts = self.run_script("return [...document.querySelectorAll('button, select, .button')].filter((one) => !one.closest('td, #visited')).map((one) => getComputedStyle(one)).map((style) => `${style.fontFamily} ${style.fontSize}`);")
+        self.assertEqual(len(set(fonts)), 1, fonts)
+
+    LAW = ("Proved (list_decides_efficiency): each connected normal surface of positive Euler characteristic is a vertex link if and only if each listed "
+           "vertex surface of positive Euler characteristic is.")
+    JACO_AND_RUBINSTEIN = "0-efficient in the sense of Jaco and Rubinstein"
+
     def test_zero_efficiency(self):
+        """The law as it is proved, and topology for the kind of triangulation that it is of."""
         self.open()
         verdict = "return [by('view').querySelector('.verdict').textContent, by('view').textContent];"
-        short, whole = self.ask("0-efficient", "sig bkaagj", verdict)
-        self.assertEqual(short, "0-efficient by its numbers.")
-        self.assertIn("list_decides_efficiency", whole)
-        self.assertIn("closed and orientable", whole)
-        short, whole = self.ask("0-efficient", "sig eLMkabcddbrrag", verdict)
-        self.assertRegex(short, "^Not 0-efficient by its numbers: surface [0-9]+ is a projective plane")
-        short, whole = self.ask("0-efficient", "tri 1\n- - - -\n", verdict)
-        self.assertIn("boundary", whole)
+        holds = "Each connected normal surface of positive Euler characteristic is a vertex link."
+        closed, ideal = "It is closed (each vertex link is a sphere) and orientable, so it is ", "It is an ideal triangulation: its only vertex link is not a sphere "
+        for text, short, there, absent in (
+                ("sig bkaagj", holds, [closed + self.JACO_AND_RUBINSTEIN], ["ideal", "boundary faces"]),
+                ("sig cPcbbbiht", holds, [ideal + "(torus)", "it contains no normal sphere and no normal projective plane"], [self.JACO_AND_RUBINSTEIN, "closed (each"]),
+                ("tri 1\n0:1203 0:2013 0:0231 0:0312\n", holds, [ideal + "(Klein bottle)", "It is not orientable."], [self.JACO_AND_RUBINSTEIN]),
+                ("sig eLMkabcddbrrag", "Not 0-efficient: surface [0-9]+ is a projective plane and not a vertex link.", [closed + "not " + self.JACO_AND_RUBINSTEIN, "the double of this projective plane"], []),
+                ("sig dLQbcccajqs", "Surface [0-9]+ is a projective plane and not a vertex link.", ["It is closed (each vertex link is a sphere) and not orientable.", "A two-sided projective plane counts here"], [self.JACO_AND_RUBINSTEIN]),
+                ("tri 1\n- - - -\n", "", ["It has boundary faces, so discs count"], [self.JACO_AND_RUBINSTEIN, "closed (each"])):
+            with self.subTest(text=text):
+                said, whole = self.ask("0-efficient", text, verdict)
+                self.assertRegex(said, f"^{short}")
+                self.assertIn(self.LAW, whole)
+                for part in there:
+                    self.assertIn(part, whole)
+                for part in absent:
+                    self.assertNotIn(part, whole)
         self.assertRegex(self.ask("0-efficient", "sig xyz"), "^refused: signature ")
+        self.assertRegex(self.ask("0-efficient", (REPOSITORY / "examples" / "with-boundary.txt").read_text()), "^refused: invalid-edge .* not a triangulation of a 3-manifold")
+
+    def test_info_says_the_kind(self):
+        self.open()
+        for text, kind in (("bkaagj", "Closed: each vertex link is a sphere."), ("cPcbbbiht", "Ideal: there is no boundary face, and its only vertex link is not a sphere (torus)."),
+                           ("tri 1\n- - - -", "With boundary faces.")):
+            self.assertEqual(self.ask("info", text, "return by('kind').textContent;"), kind)
+        invalid = self.ask("info", (REPOSITORY / "examples" / "with-boundary.txt").read_text(), "return by('view').textContent;")
+        self.assertIn("Invalid: edge 3 is identified with its own reverse", invalid)
 
     def test_refusals_have_a_hint_and_a_button_to_the_place(self):
         self.open()
         said = self.ask("sig", "foobarbaz")
-        self.assertEqual(said, "refused: input 1 1 bad-word – put `sig` before foobarbaz. Line 1, column 1")
-        self.assertEqual(self.run_script("by('place').click(); return [document.activeElement.id, by('input').selectionStart, by('input').selectionEnd];"), ["input", 0, 9])
+        self.assertEqual(said, "refused: signature bad-type 1 – the signature is wrong here; copy it again.")
+        self.assertEqual(self.ask("info", "a triangulation"), "refused: input 1 1 bad-word – a triangulation begins with `tri N` or `sig SIGNATURE`. Line 1, column 1")
+        self.assertEqual(self.run_script("by('place').click(); return [document.activeElement.id, by('input').selectionStart, by('input').selectionEnd];"), ["input", 0, 1])
         self.assertRegex(self.ask("sig", "sig m004"), "m004 is the name of a manifold")
-        self.assertRegex(self.ask("info", "tri 1\n- - - x"), "an entry is `-`, or `t:p`")
+        self.assertRegex(self.ask("info", "tri 1\n- - - x"), "an entry is `-`, or a tetrahedron and the images")
         self.assertRegex(self.ask("info", ""), "the input is empty")
-        self.assertRegex(self.ask("check", "sig bkaagj\n14 0"), "the moves are legal, but lead to")
+        self.assertRegex(self.ask("check", "sig bkaagj\n14 0"), "the moves are legal, but end at")
 
     def test_stop_ends_a_long_question_at_once(self):
         self.open()
@@ -438,10 +874,237 @@ return globalThis.unseen.size;""")
         self.open()
         self.assertRegex(self.ask("sig", "sig bkaagn"), "^Answered")
         self.run_script("by('download').click();")
-        self.assertEqual(self.window.downloaded("answer.txt"), b"bkaagj\n")
+        self.assertEqual(self.window.downloaded("sig-bkaagn.txt"), b"bkaagj\n")
         self.run_script("by('copy').click();")
-        self.assertIn(self.run_script("await until(() => !message().startsWith('Answered')); return message();").split(":")[0],
-                      ("Copied.", "The browser did not allow it"))
+        self.assertIn(self.run_script("await until(() => !message().startsWith('Answered')); return message();").split(" This")[0],
+                      ("Copied.", "The browser did not allow copying."))
+
+    COPY = "const copied = []; Object.defineProperty(navigator, 'clipboard', {value: {writeText: async (text) => { copied.push(text); }}, configurable: true}); "
+    MENU = "document.querySelectorAll('#view td.draw button')[2 * %d + 1].click(); [...document.querySelectorAll('#menu button')].find((one) => one.textContent === '%s').click(); "
+
+    def test_a_surface_is_copied_for_other_programs(self):
+        self.open()
+        for text, coordinates in (("sig cPcbbbiht", "standard"), ("tri 1\n- - - -\n", "standard"), ("sig bkaagj", "quad"), ("sig bkaagj", "octagon")):
+            self.open(command="surfaces", coords=coordinates, input=text)
+            vector, in_regina, in_python = self.run_script(f"await until(idle); {self.COPY}" + "".join(self.MENU % (0, name) for name in ("Copy the vector", "Copy for Regina", "Copy for Python")) + "await until(() => copied.length === 3); return copied;")
+            self.assertRegex(vector, "^vec [0-9 ]+\n$")
+            entries = [int(word) for word in vector.split()[1:]]
+            self.assertIn(f"{entries}", in_python)
+            self.assertRegex(in_python, "^trinorm.(describe|lift)\\(")
+            compile(in_python, "line", "eval")
+            regina = import_regina()
+            surface = eval(in_regina, {"regina": regina})  # what a user would paste
+            self.assertEqual(regina_surfaces.vector_of(surface, coordinates), tuple(entries))
+
+    def test_an_answer_is_saved_in_other_forms(self):
+        self.open(command="surfaces", input="sig bkaagj")
+        self.run_script("await until(idle); by('csv').click(); by('json').click(); by('script').click();")
+        table = list(csv.reader(io.StringIO(self.window.downloaded("surfaces-bkaagj.csv").decode())))
+        self.assertEqual(table[1:], [["0", "torus", "0", "two", "yes", "no", "no", "1", "1 1 0 0 1 0 0"], ["1", "sphere", "2", "two", "yes", "yes", "no", "1", "1 1 1 1 0 0 0"]])
+        saved = json.loads(self.window.downloaded("surfaces-bkaagj.json"))
+        self.assertEqual(saved["question"], {"command": "surfaces", "options": {}, "input": "sig bkaagj"})
+        self.assertEqual([(one["surface"], one["vector"]) for one in saved["surfaces"]], [("torus", [1, 1, 0, 0, 1, 0, 0]), ("sphere", [1, 1, 1, 1, 0, 0, 0])])
+        script = self.window.downloaded("surfaces-bkaagj.py").decode()
+        self.assertIn('print(trinorm.surfaces("sig bkaagj"))', script)
+        compile(script, "script", "exec")
+        self.assertEqual(self.ask("sig", "sig bkaagj", "return ['csv', 'json', 'script'].map((id) => by(id).hidden);"), [True, True, False])
+
+    def test_a_form_that_is_changed_meanwhile_changes_no_answer(self):
+        """What is saved of an answer has the question that was asked, not what the form says by then."""
+        self.open()
+        change = "by('command').value = 'make'; by('command').dispatchEvent(new Event('change')); by('input').value = 'bkaagj';"
+        self.run_script(f"await until(idle); await ask('surfaces', 'sig bkaagn'); {change} await until(idle); by('json').click(); by('script').click();")
+        self.assertEqual(json.loads(self.window.downloaded("surfaces-bkaagn.json"))["question"], {"command": "surfaces", "options": {}, "input": "sig bkaagn"})
+        self.assertIn('print(trinorm.surfaces("sig bkaagn"))', self.window.downloaded("surfaces-bkaagn.py").decode())
+        self.assertTrue(self.run_script("return !by('triangulation').hidden;"))
+        [link] = self.run_script(f"await until(idle); {self.COPY} by('link').click(); await until(() => copied.length); return copied;")
+        self.assertTrue(link.endswith("#command=surfaces&input=sig+bkaagn"), link)
+
+    def test_a_picture_is_saved_for_light_paper(self):
+        saved = []
+        for dark in (False, True):
+            with contextlib.closing(self.browser(dark=dark)) as window:
+                window.open(f"{self.address}#command=surfaces&input=sig+bkaagj")
+                window.run(f"{HELPERS} await until(idle); document.querySelector('#view td button').click(); [...document.querySelectorAll('#drawing button')].at(-1).click();")
+                saved.append(window.downloaded("Surface-0-torus.svg"))
+                self.assertFalse(window.run("return document.documentElement.classList.contains('light');"))
+        self.assertEqual(saved[0], saved[1])
+
+    def test_a_picture_is_saved(self):
+        self.open(command="surfaces", input="sig bkaagj")
+        self.run_script("await until(idle); document.querySelector('#view td button').click(); [...document.querySelectorAll('#drawing button')].at(-1).click();")
+        root = ElementTree.fromstring(self.window.downloaded("Surface-0-torus.svg"))
+        self.assertEqual(len(root.findall(".//{http://www.w3.org/2000/svg}polygon")), 3)
+        self.assertEqual([one for one in root.iter() if "class" in one.attrib or "style" in one.attrib], [])
+        self.assertTrue(all(one.attrib["stroke"].startswith("rgb") for one in root.iter("{http://www.w3.org/2000/svg}polygon")))
+
+    def test_pictures_turn_by_keys_and_by_dragging(self):
+        self.open(command="surfaces", input="sig bkaagj")
+        points = "[...document.querySelectorAll('#drawing polygon')].map((one) => one.getAttribute('points')).join(';')"
+        first = self.run_script(f"await until(idle); document.querySelector('#view td button').click(); document.querySelector('svg.turned').focus(); return {points};")
+        seen = [first]
+        for key in ("ArrowLeft", "ArrowUp"):
+            self.window.press(key)
+            seen.append(self.run_script(f"return {points};"))
+        self.run_script("document.querySelector('svg.turned').dispatchEvent(new PointerEvent('pointermove', {isPrimary: true, buttons: 1, movementX: 30, movementY: 10}));")
+        seen.append(self.run_script(f"return {points};"))
+        self.assertEqual(len(set(seen)), 4)
+        self.window.press("Home")
+        self.assertEqual(self.run_script(f"return {points};"), first)
+
+    def test_a_large_graph_can_be_read(self):
+        """No two numbers of faces overlap; the small picture of 18 tetrahedra has none."""
+        overlaps = """
+const boxes = [...document.querySelectorAll('#large text.face, #large text.name')].map((text) => text.getBoundingClientRect());
+const meet = (a, b) => a.left < b.right && b.left < a.right && a.top + 3 < b.bottom - 3 && b.top + 3 < a.bottom - 3;
+return boxes.reduce((sum, box, at) => sum + boxes.slice(at + 1).filter((other) => meet(box, other)).length, 0);"""
+        for text, count, small in ((OF_9, 9, True), (OF_18, 18, False), (OF_24, 24, False)):
+            self.open()
+            self.ask("info", text)
+            self.assertEqual(self.run_script("return document.querySelectorAll('#graph text.face').length > 0;"), small)
+            self.run_script("by('enlarge').click();")
+            self.assertEqual(self.run_script("return [by('large').open, document.querySelectorAll('#large .node').length];"), [True, count])
+            self.assertLessEqual(self.run_script(overlaps), 1)
+            self.keep(self.window, f"graph-{count}")
+            self.window.press("Escape")
+            self.assertEqual(self.run_script("return by('large').open;"), False)
+
+    def test_words_are_explained(self):
+        self.open(command="surfaces", input="sig bkaagj")
+        known = json.loads(web_page.data_files()["words.json"])["words"]
+        used = self.run_script("await until(idle); return [...document.querySelectorAll('[data-word]')].map((one) => [one.dataset.word, one.getAttribute('aria-description')]);")
+        self.assertGreater(len(used), 8)
+        for word, sentence in used:
+            self.assertEqual(sentence, known[word])
+        shown = "return [by('explanation').matches(':popover-open'), by('explanation').textContent];"
+        self.assertEqual(self.run_script("document.querySelector('dfn[data-word=coords]').focus();" + shown), [True, f"coords: {known['coords']}"])
+        self.window.press("Escape")
+        self.assertEqual(self.run_script(shown)[0], False)
+        point = "document.querySelector('#view [data-word=sides]').dispatchEvent(new PointerEvent('%s', {bubbles: true}));"
+        self.assertEqual(self.run_script(point % "pointerover" + shown), [True, f"sides: {known['sides']}"])
+        self.run_script(point % "pointerout")
+        self.assertTrue(self.run_script("return until(() => !by('explanation').matches(':popover-open'));"))
+        self.ask("info", "sig cPcbbbiht")
+        self.assertLessEqual({word for word, _ in self.run_script("return [...document.querySelectorAll('[data-word]')].map((one) => [one.dataset.word, 0]);")}, set(known))
+
+    def test_examples_with_a_story(self):
+        """What the stories say is what the page shows."""
+        stories = json.loads(web_page.data_files()["stories.json"])
+        self.open()
+        first = self.run_script("await until(idle); return [by('story').textContent, by('input').value, message().split(' ')[0], location.hash];")
+        self.assertEqual(first, [stories[0]["story"], stories[0]["input"], "Answered", ""])
+        shown = []
+        for number, story in enumerate(stories):
+            self.run_script(f"by('message').textContent = ''; by('example').value = 'story {number}'; by('example').dispatchEvent(new Event('change')); await until(idle);")
+            said, text = self.run_script("return [message(), by('view').textContent];")
+            self.assertRegex(said, "^Answered")
+            self.assertEqual(self.run_script("return [by('story').textContent, by('story').hidden];"), [story["story"], False])
+            shown.append(text)
+        eight, gieseking, poincare, klein, contrary, lens = shown
+        self.assertRegex(eight, "^1 vertex normal surface; 1 × torus")
+        self.assertIn("its only vertex link is not a sphere (Klein bottle)", gieseking)
+        self.assertIn("orientableno", gieseking)
+        self.assertIn("Each connected normal surface of positive Euler characteristic is a vertex link.", poincare)
+        self.assertRegex(klein, "Klein bottle")
+        self.assertRegex(contrary, "is a projective plane and not a vertex link")
+        self.assertIn("4 triangulations", lens)
+        self.run_script("by('input').value = 'sig a'; by('input').dispatchEvent(new Event('input'));")
+        self.assertEqual(self.run_script("return [by('example').value, by('story').hidden];"), ["", True])
+
+    def test_several_triangulations_are_one_table(self):
+        self.open()
+        cells = "return [...document.querySelectorAll('#view tbody:not(.gap) tr')].map((row) => [...row.children].map((cell) => cell.textContent));"
+        text = "cPcbbbiht\n# two\nsig bkaagj\nxyz\ntri 1\n0:1023 0:1023 0:1230 0:3012\n"
+        found = self.ask("surfaces", text, cells)
+        self.assertEqual([row[:3] for row in found], [["0", "cPcbbbiht", "Ask"], ["1", "two", "Ask"], ["2", "xyz", "Ask"], ["3", "tri 1", "Ask"]])
+        self.assertEqual(found[0][3:], ["1", "0", "0", "1", "0", "0", "0", "1", "0"])
+        self.assertEqual(found[1][3:], ["2", "1", "0", "1", "0", "0", "0", "1", "0"])
+        self.assertRegex(found[2][3], "^signature ")
+        self.assertEqual(found[3][3:], found[1][3:])
+        self.assertIn("of each of 4 triangulations; 2 lines were read as signatures", self.run_script("return by('asked').textContent;"))
+        self.assertEqual([row[3:] for row in self.ask("sig", "bkaagn\ncPcbbbiht\n", cells)], [["bkaagj"], ["cPcbbbiht"]])
+        kinds = self.ask("0-efficient", "bkaagj\neLMkabcddbrrag\n", cells)
+        self.assertEqual([row[5] for row in kinds], ["yes", "no"])
+        self.assertEqual([row[5] for row in self.ask("info", "bkaagj\ncPcbbbiht\n", cells)], ["closed", "ideal"])
+        self.run_script("by('csv').click();")
+        self.assertIn("1,cPcbbbiht,1,2,ideal", self.window.downloaded("info-bkaagj.csv").decode())
+        self.run_script("by('message').textContent = ''; document.querySelectorAll('#view tbody:not(.gap) button')[1].click(); await until(idle);")
+        self.assertEqual(self.run_script("return [by('command').value, by('input').value];"), ["info", "sig cPcbbbiht\n"])
+
+    def test_files_of_regina_and_snappea_are_opened(self):
+        triangulation = import_regina().Triangulation3.fromIsoSig("cPcbbbiht")
+        rows = "".join(f"{row}\n" for row in rows_in_regina(triangulation))
+        packet = import_regina().PacketOfTriangulation3(triangulation)
+        packet.setLabel("eight")
+        self.open()
+        with tempfile.TemporaryDirectory() as folder:
+            for compressed in (False, True):
+                packet.save(f"{folder}/file.rga", compressed)
+                data = base64.b64encode(Path(folder, "file.rga").read_bytes()).decode()
+                said, text, _ = self.open_file(f"Uint8Array.from(atob('{data}'), (one) => one.charCodeAt(0))", "file.rga")
+                self.assertEqual((said, text), ("Opened file.rga. It was read as 1 triangulation of a Regina file.", f"# eight\ntri 2\n{rows}"))
+        self.assertEqual(self.open_file(json.dumps(triangulation.snapPea()), "m.tri")[1], f"# Regina_Triangulation\ntri 2\n{rows}")
+        # pasted as text it stays, and is read when it is asked
+        self.assertEqual(self.ask("sig", triangulation.snapPea(), "return [by('raw').textContent, by('asked').textContent.includes('read as 1 triangulation of a SnapPea file')];"), ["cPcbbbiht\n", True])
+        bomb = "const made = []; const stream = new Blob([new Uint8Array(80 << 20)]).stream().pipeThrough(new CompressionStream('gzip')); const packed = new Uint8Array(await new Response(stream).arrayBuffer());"
+        said = self.run_script(bomb + "await until(idle); const files = new DataTransfer(); files.items.add(new File([packed], 'bomb.rga')); by('message').textContent = ''; by('file').files = files.files; by('file').dispatchEvent(new Event('change')); await until(() => message()); return message();")
+        self.assertIn("bomb.rga is not a text file", said)
+
+    def test_a_file_is_dropped(self):
+        self.open()
+        drop = """
+await until(idle);
+const files = new DataTransfer();
+files.items.add(new File(['bkaagj'], 'one.txt'));
+by('message').textContent = '';
+const over = new DragEvent('dragover', {bubbles: true, cancelable: true, dataTransfer: files}), drop = new DragEvent('drop', {bubbles: true, cancelable: true, dataTransfer: files});
+document.body.dispatchEvent(over);
+document.body.dispatchEvent(drop);
+await until(() => message());
+return [over.defaultPrevented, drop.defaultPrevented, message(), by('input').value];"""
+        self.assertEqual(self.run_script(drop), [True, True, "Opened one.txt.", "bkaagj"])
+
+    def test_a_paste_that_is_no_text_is_kept_out(self):
+        self.open()
+        self.run_script("return until(idle);")
+        paste = """
+if (message() === '') by('message').textContent = 'nothing';
+await until(idle);
+const begun = performance.now(), data = new DataTransfer();
+data.setData('text/plain', %s);
+const event = new Event('paste', {bubbles: true, cancelable: true});
+Object.defineProperty(event, 'clipboardData', {value: data}); // which the constructor of a ClipboardEvent does not take everywhere
+by('message').textContent = '';
+by('input').dispatchEvent(event);
+return [event.defaultPrevented, message(), by('input').value.slice(0, 30), performance.now() - begun < 3000];"""
+        first = "sig cPcbbbiht\n"
+        refused = "What was pasted is not text of at most 1 MiB. The input was not changed."
+        self.assertEqual(self.run_script(paste % "'\ufffd'.repeat(1 << 20)"), [True, refused, first, True])
+        self.assertEqual(self.run_script(paste % "'a'.repeat(1 << 21)"), [True, refused, first, True])
+        self.assertEqual(self.run_script(paste % "'bkaagj'"), [False, "", first, True])
+        xml = "'<regina><tri dim=\"3\" perm=\"index\"><simplex> -1 0 -1 0 -1 0 -1 0 </simplex></tri>' + ' '.repeat(1 << 20) + '</regina>'"
+        self.assertEqual(self.run_script(paste % xml), [True, "The input was replaced. It was read as 1 triangulation of a Regina file.", "tri 1\n- - - -\n", True])
+
+    def test_the_questions_of_the_visit_are_listed(self):
+        self.open()
+        self.ask("sig", "sig bkaagn")
+        self.ask("info", "cPcbbbiht\n")
+        listed = "return [...document.querySelectorAll('#visited button')].map((one) => one.textContent);"
+        self.assertEqual(self.run_script(listed), ["info of cPcbbbiht", "sig of sig bkaagn", "surfaces of sig cPcbbbiht"])
+        self.run_script("by('message').textContent = ''; document.querySelectorAll('#visited button')[1].click(); await until(idle);")
+        self.assertEqual(self.run_script("return [by('command').value, by('input').value];"), ["sig", "sig bkaagn"])
+        self.assertEqual(self.run_script(listed), ["sig of sig bkaagn", "info of cPcbbbiht", "surfaces of sig cPcbbbiht"])
+        self.assertEqual(self.run_script("return [Object.keys(localStorage), Object.keys(sessionStorage), document.cookie];") if not self.from_disk else [[], [], ""], [[], [], ""])
+
+    def test_what_sig_prints_can_be_used(self):
+        self.open()
+        self.assertEqual(self.ask("sig", "sig bkaagn", "[...document.querySelectorAll('#view button')].find((one) => one.textContent === 'Use it as input').click(); return by('input').value;"), "sig bkaagj\n")
+
+    def test_the_space_key_presses_every_button(self):
+        self.open()
+        self.ask("sig", "sig bkaagn", "globalThis.pressed = 0; by('download').addEventListener('click', () => { globalThis.pressed++; }); by('download').focus();")
+        self.window.press("Space")
+        self.assertEqual(self.run_script("return [globalThis.pressed, document.querySelectorAll('[role=button]').length];"), [1, 0])
 
     def test_all_controls_have_names(self):
         self.open(command="surfaces", input=OF_9)
@@ -483,6 +1146,22 @@ return globalThis.unseen.size;""")
         self.keep(self.window, "print", data)
         self.assertTrue(data.startswith(b"%PDF"))
         self.assertGreater(pages_of(data), 2)
+
+    def test_a_long_table_is_printed_whole(self):
+        """The rows that cannot be seen are elements on paper, and not afterwards."""
+        self.open()
+        few = self.ask("surfaces", OF_14, "return rows();")
+        self.assertLess(few, 200)
+        counts = self.run_script("""
+const counts = [], frames = () => new Promise((done) => requestAnimationFrame(() => requestAnimationFrame(done)));
+for (const name of ['beforeprint', 'afterprint']) {
+    window.dispatchEvent(new Event(name));
+    counts.push(rows());
+    await frames();
+    counts.push(rows());
+}
+return counts;""")
+        self.assertEqual(counts, [787, 787, few, few])
 
     def keep(self, window, name, data=None):
         folder = OUT / "pictures"

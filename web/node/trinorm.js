@@ -7,7 +7,7 @@ import {MOST_INPUT, NO_MEMORY, call} from '../engine.js';
 const COMMANDS_WITHOUT_INPUT = ['make', 'bulk'];
 const FAILED_SOURCE = 6;
 const FAILED_SINK = 7;
-const NO_ENGINE = 70; // no status of the program's: the module is missing, or it trapped
+const NO_ENGINE = 70; // no status of the program's: the module is missing, it trapped, or TRINORM_MOST_BYTES is no number
 
 const pause = () => Atomics.wait(new Int32Array(new SharedArrayBuffer(4)), 0, 0, 5);
 
@@ -48,7 +48,15 @@ function refuse_reading() {
     return FAILED_SOURCE;
 }
 
+/** The most bytes of memory that the environment allows; 0 for what the host gives. */
+function most_bytes() {
+    const given = process.env.TRINORM_MOST_BYTES || '0';
+    if (!/^[0-9]{1,15}$/.test(given)) throw new Error(`TRINORM_MOST_BYTES must be a number of bytes, not ${given}`);
+    return Number(given);
+}
+
 function main(words) {
+    const limit = most_bytes();
     const module = new WebAssembly.Module(readFileSync(process.env.TRINORM_WASM || new URL('../trinorm.wasm', import.meta.url)));
     let input = new Uint8Array(0);
     try {
@@ -56,7 +64,7 @@ function main(words) {
     } catch {
         return refuse_reading();
     }
-    const {status, answer} = call(module, words, input, Number(process.env.TRINORM_MOST_BYTES || 0));
+    const {status, answer} = call(module, words, input, limit);
     if (status === NO_MEMORY) return status;
     try {
         write(answer);
