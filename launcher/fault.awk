@@ -112,5 +112,5 @@ END {
   said = sentence(3, kind)
   if (fitting && row_condition[fitting] ~ /^begins/) say(said)
   else if (is_there) show(line, text, column, said)
-  else say(seen ? "the input ends too early: " said : said)
+  else say(seen ? "the input is incomplete: " said : said)
 }

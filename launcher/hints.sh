@@ -46,12 +46,12 @@ in_words() {
     table) echo 'a triangulation' ;;
     two-tables) echo 'two triangulations' ;;
     tables) echo 'any number of triangulations' ;;
-    vectors) echo 'a triangulation and any number of lines `vec ..`' ;;
-    vector) echo 'a triangulation and one line `vec ..`' ;;
-    blocks) echo 'a triangulation and what `decompose` answers' ;;
-    steps) echo 'a triangulation and lines with moves, `undo` or `redo`' ;;
-    moves) echo 'a triangulation and lines with moves' ;;
-    cone) echo 'a cone: `cone COLUMNS ROWS` and the rows' ;;
+    vectors) echo 'a triangulation, then any number of lines `vec ..`' ;;
+    vector) echo 'a triangulation, then one line `vec ..`' ;;
+    blocks) echo 'a triangulation, then the sums that `decompose` prints' ;;
+    steps) echo 'a triangulation, then lines with moves, `undo` or `redo`' ;;
+    moves) echo 'a triangulation, then lines with moves' ;;
+    cone) echo 'a cone (`cone COLUMNS ROWS`, then its rows)' ;;
   esac
 }
 
@@ -61,7 +61,7 @@ say_options() {
   for option in $options; do
     case $option in
       -) written=none ;;
-      *!*) written="$written${written:+ and }--${option%%!*} ${option#*!}" both=', both needed' ;;
+      *!*) written="$written${written:+ and }--${option%%!*} ${option#*!}" both=', both required' ;;
       *) written="$written${written:+, }--${option%%=*} ${option#*=}" ;;
     esac
   done
@@ -77,9 +77,9 @@ say_example() {
 
 # All commands with a word on each, where the input comes from, and one example.
 say_commands() {
-  say "commands are listed below; $pages"
+  say "commands ($pages):"
   awk -F '\t' '!/^#/ { printf "trinorm:   %-10s %s\n", $1, $5 }' "$commands" >&2
-  say "each reads its input from standard input, and \`$me COMMAND --help\` prints its options"
+  say "each command except make and bulk reads standard input; \`$me COMMAND --help\` describes it"
   look_up surfaces && say_example "$example" surfaces
 }
 
@@ -88,12 +88,12 @@ say_usage() { awk -v hints="${commands%/*}/hints.txt" -v commands="$commands" -f
 
 say_help() {
   look_up "$1"
-  say "$1 answers $answers"
+  say "$1 prints $answers"
   say_options "$1"
   case $document in
     none) ;;
     cone) say "it reads $(in_words cone) from standard input" ;;
-    *) say "it reads $(in_words "$document") from standard input; a triangulation is a gluing table (\`tri N\` and N rows) or \`sig SIGNATURE\`" ;;
+    *) say "it reads $(in_words "$document") from standard input; a triangulation is \`sig SIGNATURE\`, or a gluing table (\`tri N\` and N rows)" ;;
   esac
   say_example "$example" "$1"
 }
@@ -125,11 +125,11 @@ say_input() {
   shift
   for word; do
     case $word in
-      --*=*) is_value= words="$words $(quoted "$word")"; continue ;;
+      --*=*) is_value='' words="$words $(quoted "$word")"; continue ;;
       --*) is_value=yes words="$words $(quoted "$word")"; continue ;;
     esac
     if [ -n "$is_value" ]; then
-      is_value= words="$words $(quoted "$word")"
+      is_value='' words="$words $(quoted "$word")"
     elif [ "$word" = - ]; then
       file=FILE
     elif [ -e "$word" ]; then
@@ -159,7 +159,11 @@ say_words() {
   for word; do
     case $word in --help | -h | help | '-?') say_help "$1"; return ;; esac
   done
-  [ "$document" != none ] && say_input "$@" || { look_up "$1"; say_usage "$@"; say_options "$1"; }
+  if [ "$document" = none ] || ! say_input "$@"; then
+    look_up "$1"
+    say_usage "$@"
+    say_options "$1"
+  fi
 }
 
 # Sets coords and width to the coordinates that the words name, else to the first that the command has.
@@ -217,7 +221,7 @@ run() {
     exec 3<>"$file"
     rm -f "$file"
     input=/dev/fd/3
-    [ ! -t 0 ] || say "$1 reads $(in_words "$document") from the terminal; Ctrl-D on a line of its own ends it"
+    [ ! -t 0 ] || say "$1 reads $(in_words "$document") from the terminal; end it with Ctrl-D on a line of its own"
     tee "$input" | "$program" "$@" 3<&-
   else
     "$program" "$@"

@@ -9,5 +9,5 @@ program=$here/trinorm
 
 # from here on standard error is a terminal
 commands=$here/commands.txt version_file=$here/version
-examples=$(readlink -f "$here/../../share/doc/trinorm/examples") pages='the manual page trinorm(1) has a line on each'
+examples=$(readlink -f "$here/../../share/doc/trinorm/examples") pages='see also the manual page trinorm(1)'
 . "$here/hints.sh"

@@ -52,7 +52,7 @@ function nearest(word, list,    known, count, at, most, near, distance) {
     distance = distance_of(word, known[at])
     if (distance <= most) { most = distance - 1; near = known[at] }
   }
-  return near == "" ? "" : ": is it `" near "`?"
+  return near == "" ? "" : "; did you mean `" near "`?"
 }
 
 # how many letters are put in, left out, changed or exchanged with their neighbour on the way from one word to another

@@ -18,8 +18,8 @@ from repository import TOP
 TABLE = TOP / "python" / "trinorm" / "commands.txt"
 DEFINITIONS = TOP / "crates"
 HEAD = """\
-# The commands; tools/commands.py writes this file. Fields are parted by tabs: name, what is read, options, an example, and
-# what is answered. An option `name=VALUES` takes the first value, or the greatest number, where it isn't given, and one
+# The commands; tools/commands.py writes this file. Fields are separated by tabs: name, what is read, options, an example, and
+# what is printed. An option `name=VALUES` takes the first value, or the greatest number, where it isn't given, and one
 # `name!VALUES` has to be given; `-` is none.
 """
 # what the definitions call a document, in short words
@@ -125,9 +125,12 @@ def documents() -> Dict[str, str]:
 
 
 def rows_of_readme() -> Dict[str, Tuple[str, str]]:
-    """What each command answers, and how to try it."""
-    text = (TOP / "README.md").read_text("utf8")
-    return {name: (answers, example) for name, answers, example in re.findall(r"^\| `([\w-]+)` \| ([^|]+?) \| `([^`]+)` \|$", text, re.M)}
+    """What each command prints, by README's list, and its first example without a pipe, by its section of REFERENCE."""
+    answers = dict(re.findall(r"^- `([\w-]+)`: (.+)$", (TOP / "README.md").read_text("utf8"), re.M))
+    sections = re.split(r"(?m)^## `", (TOP / "docs" / "REFERENCE.md").read_text("utf8"))[1:]
+    examples = {name: found[1] for section in sections for name in [section.split("`")[0]]
+                for found in [re.search(rf"^    \$ (trinorm {name}(?: [^|\n]*)?)$", section, re.M)] if found}
+    return {name: (text, f"./{examples[name]}") for name, text in answers.items() if name in examples}
 
 
 def made() -> List[Command]:

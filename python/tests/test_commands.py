@@ -37,12 +37,22 @@ class Lists(unittest.TestCase):
         terms = (trinorm.Term(2, TORUS), trinorm.Term(1, LINK))
         self.assertEqual(sums, [trinorm.Sum((3, 3, 1, 1, 2, 0, 0), 1, terms), trinorm.Sum((0,) * 7, 1, ())])
         self.assertTrue(trinorm.addup(SPHERE, sums))
+        self.assertEqual(trinorm.addup(SPHERE, []), trinorm.Accepted())
+        for wrong, kind, named in ((trinorm.Sum(TORUS, 2, (trinorm.Term(1, TORUS),)), "vector not-equal", {"vector": 0, "column": 0}),
+                                   (trinorm.Sum(TORUS, 0, ()), "vector zero-times", {"vector": 0}),
+                                   (trinorm.Sum(TORUS, 1, (trinorm.Term(1, (1,) * 6),)), "vector term length", {"sum": 0, "term": 0, "entries": 6})):
+            verdict = trinorm.addup(SPHERE, [wrong])
+            self.assertEqual((bool(verdict), verdict.kind, verdict.named), (False, kind, named))
+        with self.assertRaises(trinorm.Refused):
+            trinorm.addup("bkaagjx", sums)
 
 
 class Surfaces(unittest.TestCase):
     def test_verify(self):
         said = trinorm.verify(SPHERE, [TORUS, (1, 0, 0, 0, 0, 0, 0), (0, 0, 1, 1, 0, 1, 1), TORUS[1:]])
         self.assertEqual([(it.kind, it.places) for it in said], [("solution", ()), ("fails", (0,)), ("clash", (5, 6)), ("length", (6,))])
+        self.assertEqual([it.named for it in said], [{}, {"row": 0}, {"first_column": 5, "second_column": 6}, {"entries": 6}])
+        self.assertEqual(list(map(bool, said)), [True, False, False, False])
         self.assertEqual([it.is_solution for it in said], [True, False, False, False])
 
     def test_describe(self):
@@ -111,6 +121,31 @@ class Moves(unittest.TestCase):
 
     def test_check(self):
         self.assertTrue(trinorm.check(MADE, ["23 1 0", "41 3 2"]))
+        self.assertIs(trinorm.check(MADE, ["23 1 0", "41 3 2"]).required().named.get("move"), None)
+        wrong = trinorm.check(SPHERE, ["14 0", "41 0 3", "23 0 0"])
+        self.assertEqual((bool(wrong), wrong.kind.split()[:2], wrong.named), (False, ["check", "illegal"], {"move": 3}))
+        with self.assertRaisesRegex(trinorm.Failed, r"^refused: check not-standard bkaagb \(.*bkaagb"):
+            trinorm.check("bkaagb", []).required()
+        self.assertEqual(trinorm.check("bkaagb", []).named, {"signature": "bkaagb"})
+        self.assertEqual(trinorm.check(["- - - -"] * 2, []).named, {"triangulation": 0, "tetrahedron": 1})
+        for t, moves in (("bkaagjx", []), (SPHERE, ["no move"])):
+            with self.assertRaises(trinorm.Refused):
+                trinorm.check(t, moves)
+
+    def test_methods_of_tables(self):
+        """Each is the function of its name."""
+        t, quads = trinorm.table("cPcbbbiht"), trinorm.surfaces("cPcbbbiht", "quad")
+        for name in ("info", "sig", "csig", "surfaces", "described", "count", "spheres", "tori", "zero_efficient", "cover", "pi1", "descend"):
+            self.assertEqual(getattr(t, name)(), getattr(trinorm, name)(t), name)
+        self.assertEqual(t.surfaces("quad", order="short"), quads)
+        self.assertEqual(t.surfaces(coords="quad", timeout=60), quads)
+        self.assertEqual(t.verify(quads, "quad"), trinorm.verify(t, quads, "quad"))
+        sphere = trinorm.table(SPHERE)
+        self.assertEqual(sphere.certify(seed=1), trinorm.certify(sphere, seed=1))
+        self.assertEqual((sphere.describe([TORUS]), sphere.crush(TORUS)), (trinorm.describe(sphere, [TORUS]), trinorm.crush(sphere, TORUS)))
+        self.assertEqual((sphere.lift([(1, 0, 0)]), sphere.decompose([TORUS])), (trinorm.lift(sphere, [(1, 0, 0)]), trinorm.decompose(sphere, [TORUS])))
+        self.assertEqual((sphere.play(["14 0"]), sphere.check([])), (trinorm.play(sphere, ["14 0"]), trinorm.check(sphere, [])))
+        self.assertEqual(sphere.same("bkaagn"), trinorm.same(sphere, "bkaagn"))
 
     def test_descend(self):
         descent = trinorm.descend(PARTED)

@@ -57,24 +57,24 @@ class Launcher(unittest.TestCase):
             rows = [line.rstrip("\n").split("\t") for line in file if not line.startswith("#")]
         for words in ([], ["help"], ["--help"], ["-h"]):
             said = self.said(words)
-            self.assertTrue(said.startswith("trinorm: commands are listed below; "), said)
+            self.assertTrue(said.startswith("trinorm: commands ("), said)
             for name, *_, answers in rows:
                 self.assertIn(f"trinorm:   {name:10} {answers}\n", said)
-            self.assertIn("reads its input from standard input", said)
+            self.assertIn("each command except make and bulk reads standard input", said)
             self.assertIn(f"for example: {self.launcher} surfaces < {self.folder.name}/examples/", said)
 
     def test_words(self):
         """What is wrong with the words, and the options that the command has."""
         help_too = f"trinorm: `{self.launcher} --help` lists the commands\n"
-        for word, near in (("surface", ": is it `surfaces`?"), ("desribe", ": is it `describe`?"), ("crsuh", ": is it `crush`?"), ("x", ""), ("a&b\\", "")):
+        for word, near in (("surface", "; did you mean `surfaces`?"), ("desribe", "; did you mean `describe`?"), ("crsuh", "; did you mean `crush`?"), ("x", ""), ("a&b\\", "")):
             self.assertEqual(self.said([word]), f"trinorm: there is no command `{word}`{near}\n{help_too}")
         for words, wrong in (
-            (["describe", "--coords", "quad"], "`--coords` is one of standard, octagon, and not `quad`"), (["surfaces", "--coords=quads"], "one of standard, quad, octagon, and not `quads`: is it `quad`?"),
-            (["info", "--order", "zeros"], "`info` has no option `--order`"), (["surfaces", "--cords", "quad"], "`surfaces` has no option `--cords`: is it `--coords`?"),
-            (["make"], "`make` needs `--seed`: a whole number from 0 to 18446744073709551615"), (["make", "--seed", "1"], "`make` needs `--moves`: a whole number from 0 to 1000"),
-            (["make", "--seed", "1", "--moves", "1001"], "`--moves` is a whole number from 0 to 1000, and not `1001`"), (["surfaces", "--max-entry", "0"], "a whole number from 1 to 170141183460469231731687303715884105727, and not `0`"),
-            (["make", "--seed", "18446744073709551616", "--moves", "1"], "and not `18446744073709551616`"), (["surfaces", "--order"], "`--order` needs a value: one of given, short, zeros"),
-            (["make", "--seed=1", "--seed=1"], "`--seed` is given twice"), (["sig", "x"], "takes no word `x`"), (["make", "--seed=1", "--moves=1", "x"], "takes options alone, and not `x`"), (["sig", "--"], "has no option `--`"),
+            (["describe", "--coords", "quad"], "`--coords` must be one of standard, octagon, not `quad`"), (["surfaces", "--coords=quads"], "one of standard, quad, octagon, not `quads`; did you mean `quad`?"),
+            (["info", "--order", "zeros"], "`info` has no option `--order`"), (["surfaces", "--cords", "quad"], "`surfaces` has no option `--cords`; did you mean `--coords`?"),
+            (["make"], "`make` needs the option `--seed`: a whole number from 0 to 18446744073709551615"), (["make", "--seed", "1"], "`make` needs the option `--moves`: a whole number from 0 to 1000"),
+            (["make", "--seed", "1", "--moves", "1001"], "`--moves` must be a whole number from 0 to 1000, not `1001`"), (["surfaces", "--max-entry", "0"], "a whole number from 1 to 170141183460469231731687303715884105727, not `0`"),
+            (["make", "--seed", "18446744073709551616", "--moves", "1"], ", not `18446744073709551616`"), (["surfaces", "--order"], "`--order` needs a value: one of given, short, zeros"),
+            (["make", "--seed=1", "--seed=1"], "`--seed` is given twice; give it once"), (["sig", "x"], "leave `x` out, and write `< FILE`"), (["make", "--seed=1", "--moves=1", "x"], "takes options only; leave `x` out"), (["sig", "--"], "has no option `--`"),
         ):
             said = self.said(words).splitlines()
             self.assertIn(wrong, said[0])
@@ -82,18 +82,18 @@ class Launcher(unittest.TestCase):
             self.assertEqual(len(said), 2)
         self.assertEqual(self.said(["describe", "--coords", "quad"]).splitlines()[1], "trinorm: options of describe: --coords standard|octagon")
         self.assertEqual(self.said(["info", "--order", "zeros"]).splitlines()[1], "trinorm: options of info: none")
-        self.assertEqual(self.said(["make"]).splitlines()[1], "trinorm: options of make: --seed 0..18446744073709551615 and --moves 0..1000, both needed")
+        self.assertEqual(self.said(["make"]).splitlines()[1], "trinorm: options of make: --seed 0..18446744073709551615 and --moves 0..1000, both required")
 
     def test_checks_and_limits(self):
         """Status 4 and 5."""
         for words, text, said in (
-            (["describe"], b"sig bkaagj\nvec 0 0 1\n", "vector 0 has 3 entries: standard coordinates have 7 for each tetrahedron; `lift` makes standard vectors of quad vectors"),
-            (["describe", "--coords", "octagon"], b"sig bkaagj\nvec 0 0 1\n", "octagon coordinates have 10"), (["lift"], b"sig bkaagj\nvec 0\n", "`lift` reads quad coordinates, 3 for"),
+            (["describe"], b"sig bkaagj\nvec 0 0 1\n", "vector 0 has 3 entries; standard coordinates have 7 for each tetrahedron. `lift` converts quad vectors to standard ones"),
+            (["describe", "--coords", "octagon"], b"sig bkaagj\nvec 0 0 1\n", "octagon coordinates have 10"), (["lift"], b"sig bkaagj\nvec 0\n", "`lift` reads quad coordinates, with 3 for"),
             (["decompose", "--coords=quad"], b"sig bkaagj\nvec 0\n", "quad coordinates have 3"), (["lift"], b"sig cPcbbbiht\nvec 2 0 0 0 0 1\n", "vector 0 is spun-normal at vertex 0"),
-            (["crush"], b"sig bkaagj\nvec 0 0 1 1 0 1 1\n", "its discs in columns 5 and 6 intersect"), (["describe"], b"sig bkaagj\nvec 1 0 0 0 0 0 0\n", "doesn't solve equation 0"),
-            (["sig"], b"tri 2\n- - - -\n- - - -\n", "`csig` takes several components"), (["same"], b"tri 2\n- - - -\n- - - -\nsig bkaagj\n", "`csame` takes several components"),
-            (["check"], b"sig bkaagb\n", "lead to bkaagb and not to the standard sphere bkaagj"), (["check"], b"sig bkaagj\n14 0\n41 0 3\n23 0 0\n", "move 3 isn't legal: the tetrahedron across the face opposite label 3"),
-            (["pi1"], b"tri 1\n0:1032 0:1032 - -\n", "is glued to itself in reverse"), (["rays", "--max-entry", "2"], b"cone 3 2\n1 -2 0\n0 1 -2\n", "a number exceeds the limit, which is `--max-entry`"),
+            (["crush"], b"sig bkaagj\nvec 0 0 1 1 0 1 1\n", "at most one of columns 5 and 6 may be positive"), (["describe"], b"sig bkaagj\nvec 1 0 0 0 0 0 0\n", "does not solve equation 0"),
+            (["sig"], b"tri 2\n- - - -\n- - - -\n", "tetrahedron 1 cannot be reached from tetrahedron 0. Use `csig`"), (["same"], b"tri 2\n- - - -\n- - - -\nsig bkaagj\n", "Use `csame`"),
+            (["check"], b"sig bkaagb\n", "end at bkaagb, not at the standard sphere bkaagj"), (["check"], b"sig bkaagj\n14 0\n41 0 3\n23 0 0\n", "move 3 is illegal: the tetrahedron across the face opposite label 3"),
+            (["pi1"], b"tri 1\n0:1032 0:1032 - -\n", "is glued to itself in reverse"), (["rays", "--max-entry", "2"], b"cone 3 2\n1 -2 0\n0 1 -2\n", "a number exceeds the limit (`--max-entry`, or"),
             (["describe"], b"sig bkaagj\nvec 0 0 100001 100001 0 0 0\n", ""),
         ):
             self.assertIn(said, self.said(words, text))
@@ -133,7 +133,7 @@ class Launcher(unittest.TestCase):
     def test_help_of_a_command(self):
         for words in (["surfaces", "--help"], ["surfaces", "--coords", "quad", "-h"]):
             said = self.said(words)
-            for text in ("surfaces answers all vertex normal surfaces", "--order given|short|zeros", "reads a triangulation", "for example: "):
+            for text in ("surfaces prints all vertex normal surfaces", "--order given|short|zeros", "reads a triangulation", "for example: "):
                 self.assertIn(text, said)
         self.assertNotIn("triangulation is", self.said(["rays", "--help"]))
         self.assertNotIn("reads", self.said(["make", "--help"]))
@@ -179,27 +179,27 @@ class Launcher(unittest.TestCase):
 
     def test_a_signature_without_its_word(self):
         for text in (b"cPcbbbiht", b"cPcbbbiht\n", b"# a comment\n\n  cPcbbbiht\r\nvec 1\n"):
-            self.assertTrue(self.said(["info"], text).endswith("^ put `sig` before cPcbbbiht\n"))
-        self.assertEqual(self.said(["surfaces", "--order", "zeros"], b"bkaagj"), "trinorm: line 1: bkaagj\n                 ^ put `sig` before bkaagj\n")
+            self.assertTrue(self.said(["info"], text).endswith("^ write `sig` before cPcbbbiht\n"))
+        self.assertEqual(self.said(["surfaces", "--order", "zeros"], b"bkaagj"), "trinorm: line 1: bkaagj\n                 ^ write `sig` before bkaagj\n")
 
     def test_a_decorated_signature(self):
-        self.assertIn("^ put `sig` before cPcbbbiht, and leave SnapPy's decoration _BaCB out\n", self.said(["info"], b"cPcbbbiht_BaCB\n"))
+        self.assertIn("^ write `sig` before cPcbbbiht, and leave out SnapPy's decoration _BaCB\n", self.said(["info"], b"cPcbbbiht_BaCB\n"))
         for text in (b"sig cPcbbbiht_BaCB\n", b"#\n  sig   cPcbbbiht_BaCB"):
-            self.assertIn("^ _BaCB is SnapPy's decoration: leave it out, as in `sig cPcbbbiht`\n", self.said(["info"], text))
+            self.assertIn("^ _BaCB is SnapPy's decoration; leave it out: `sig cPcbbbiht`\n", self.said(["info"], text))
 
     def test_the_line_is_shown(self):
         """For each place of a fault what is wanted there, and a caret under the column that the program names."""
         for words, text, wanted in (
             (["info"], b"trj 1\n", "a triangulation begins with"), (["info"], b"tri\n", "the number of tetrahedra"),
-            (["info"], b"tri 1\nbkaagj\n", "an entry is"), (["info"], b"# c\n\ntri 1\n\t- - - - -\r\n", "a row has four entries"),
-            (["info"], b"sig bkaagj x\n", "the line should end here"), (["info"], b"sig bkaagj\nsig bkaagj\n", "nothing more is expected here"),
-            (["info"], b"tri 1\n- - \xff - -\n", "only plain ASCII"), (["info"], b"tri 1\n99999999999:0123 - - -\n", "this number is too large"),
+            (["info"], b"tri 1\nbkaagj\n", "an entry is"), (["info"], b"# c\n\ntri 1\n\t- - - - -\r\n", "this is the fifth entry of the row; a row has four"),
+            (["info"], b"sig bkaagj x\n", "the line should end here"), (["info"], b"sig bkaagj\nsig bkaagj\n", "the input should end here"),
+            (["info"], b"tri 1\n- - \xff - -\n", "use plain ASCII"), (["info"], b"tri 1\n99999999999:0123 - - -\n", "this number is too large"),
             (["verify"], b"sig bkaagj\n1 1\n", "begins with `vec`"), (["verify"], b"tri 0\nvec 1 1.5\n", "are whole numbers"),
-            (["crush"], b"sig bkaagj\nvec 1\nvec 1\n", "nothing more is expected here"), (["play"], b"sig bkaagj\nmove\n", "`undo` or `redo`"),
+            (["crush"], b"sig bkaagj\nvec 1\nvec 1\n", "the input should end here"), (["play"], b"sig bkaagj\nmove\n", "`undo` or `redo`"),
             (["check"], b"sig bkaagj\n23 0 9\n", "a face or vertex"), (["same"], b"tri 0\nvec 1\n", "a triangulation begins with"),
             (["addup"], b"tri 0\nvec\nterm 1\n", "`times S T`"), (["addup"], b"tri 0\nvec 1\ntimes 1 1\nvec 1\n", "`term K`"),
-            (["rays"], b"cone 2 2\n1 1\n1 x\n", "1,000,000 in magnitude"), (["rays"], b"tri 1\n", "a cone begins with"),
-            (["rays"], b"bkaagj\n", "a cone begins with"), (["group"], b"sig bkaagj\nbkaagj\n", "put `sig` before bkaagj"),
+            (["rays"], b"cone 2 2\n1 1\n1 x\n", "from -1,000,000 to 1,000,000"), (["rays"], b"tri 1\n", "a cone begins with"),
+            (["rays"], b"bkaagj\n", "a cone begins with"), (["group"], b"sig bkaagj\nbkaagj\n", "write `sig` before bkaagj"),
             (["info"], b"#" * 200 + b"\n" + b"sig " + b" " * 90 + b"bkaagj x" + b" " * 90 + b"\n", "the line should end here"),
         ):
             refusal = subprocess.run([self.program, *words], input=text, stdout=subprocess.PIPE, check=False).stdout.split()
@@ -214,9 +214,9 @@ class Launcher(unittest.TestCase):
 
     def test_faults_of_tables_and_signatures(self):
         for words, text, column, wanted in (
-            (["info"], b"tri 1\n- - 0:1032  0:0132\n", 5, "isn't glued back by the inverse"), (["info"], b"tri 1\n- - - 4:0123\n", 7, "a tetrahedron that isn't there"),
+            (["info"], b"tri 1\n- - 0:1032  0:0132\n", 5, "is not glued back by the inverse permutation"), (["info"], b"tri 1\n- - - 4:0123\n", 7, "a tetrahedron that does not exist"),
             (["info"], b"tri 1\n0:0123 - - -\n", 1, "glued to itself"), (["info"], b"sig bkaagjx\n", 11, "complete before this"),
-            (["info"], b"sig bka\n", 8, "ends too early"), (["info"], b"sig b!aagj\n", 6, "letters, digits, + and -"), (["info"], b"sig baa.bkaagj\n", 8, "the signatures of several components"), (["info"], b"sig m004\n", 5, "the name of a manifold"),
+            (["info"], b"sig bka\n", 8, "the signature is incomplete"), (["info"], b"sig b!aagj\n", 6, "letters, digits, + and -"), (["info"], b"sig baa.bkaagj\n", 8, "the signatures of several components"), (["info"], b"sig m004\n", 5, "the name of a manifold"),
             (["info"], b'sig "bkaagj"\n', 5, "quotation marks"),
         ):
             said = self.said(words, text).split("\n")
@@ -224,20 +224,20 @@ class Launcher(unittest.TestCase):
             self.assertIn(wanted, said[1])
 
     def test_nothing_came_and_too_little_came(self):
-        self.assertEqual(self.said(["info"], b""), "trinorm: the input is empty: a triangulation begins with `tri N` or `sig SIGNATURE`\n")
-        self.assertTrue(self.said(["info"], b"# c\n").startswith("trinorm: the input is empty: "))
-        self.assertTrue(self.said(["info"], b"tri 1\n").startswith("trinorm: the input ends too early: an entry is"))
-        self.assertTrue(self.said(["same"], b"tri 0\n").startswith("trinorm: the input ends too early: a triangulation begins"))
+        self.assertEqual(self.said(["info"], b""), "trinorm: the input is empty; a triangulation begins with `tri N` or `sig SIGNATURE`\n")
+        self.assertTrue(self.said(["info"], b"# c\n").startswith("trinorm: the input is empty; "))
+        self.assertTrue(self.said(["info"], b"tri 1\n").startswith("trinorm: the input is incomplete: an entry is"))
+        self.assertTrue(self.said(["same"], b"tri 0\n").startswith("trinorm: the input is incomplete: a triangulation begins"))
 
     def test_files_of_others(self):
         for text, wanted in (
             (b"\xef\xbb\xbfsig bkaagj\n", "a byte order mark"), ("sig bkaagj\n".encode("utf-16"), "UTF-16"), (b"\x1f\x8b\x08\x00", "compressed"),
-            (b'<?xml version="1.0"?>\n<regina engine="7.3">\n', "a file of Regina's"), (b"% Triangulation\nm004\n", "SnapPy"),
+            (b'<?xml version="1.0"?>\n<regina engine="7.3">\n', "a file of Regina"), (b"% Triangulation\nm004\n", "SnapPy"),
         ):
             self.assertIn(wanted, self.said(["info"], text))
 
     def test_other_refusals(self):
-        self.assertIn("an input has at most 1,048,576 bytes", self.said(["info"], b"bkaagj\n" + b"#\n" * 600000))
+        self.assertIn("the input is longer than 1 MiB", self.said(["info"], b"bkaagj\n" + b"#\n" * 600000))
         self.assertIn("compare the signatures", self.said(["group"], b"sig bkaagj\n" * 100000))
         self.assertEqual(self.said(["group"], b"sig bkaagj\nsig bkaagjx\n"), "trinorm: the signature is complete before this\n")
 
@@ -246,7 +246,7 @@ class Launcher(unittest.TestCase):
         for given in ("<&-", "</", "<%s/crates.txt" % self.folder.name):
             alone, ours = (self.run_with("sh", ["-c", script % (it, given)], b"") for it in (self.program, self.launcher))
             self.assertEqual(alone[:2], ours[:2])
-        self.assertEqual(self.run_with("sh", ["-c", f"{self.launcher} info >/dev/full"], b"sig bkaagj\n")[2], "trinorm: writing the answer failed, or its reader ended\n")
+        self.assertEqual(self.run_with("sh", ["-c", f"{self.launcher} info >/dev/full"], b"sig bkaagj\n")[2], "trinorm: the output could not be written, or its reader has ended\n")
         script = f"ulimit -v 30000; printf 'tri 1000\\n' >&2; {self.launcher} surfaces"
         program = os.path.join(self.folder.name, "eight")
         with open(program, "w", encoding="utf8") as file:

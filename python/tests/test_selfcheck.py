@@ -6,6 +6,7 @@ import tempfile
 import threading
 import unittest
 from argparse import Namespace
+from pathlib import Path
 from unittest import mock
 
 from trinorm import program, selfcheck
@@ -32,6 +33,12 @@ class Rows(unittest.TestCase):
             by_row[rows[2]] = wrong
             [difference] = selfcheck.check_rows(by_row.__getitem__, rows).differences
             self.assertIn(" ".join(rows[2].words), difference)
+
+    def test_a_program_that_cannot_be_started(self):
+        with tempfile.NamedTemporaryFile() as file:
+            for path in (file.name, f"{file.name}/none"):
+                [difference] = selfcheck.check_rows(selfcheck.by_program(path), selfcheck.read_rows()[:1]).differences
+                self.assertIn("the program cannot be started: ", difference)
 
     def test_the_library_answers_all_rows_in_several_threads(self):
         library = program.find_library()
@@ -64,7 +71,7 @@ class Report(unittest.TestCase):
         status, said = self.report()
         self.assertEqual(status, 0, said)
         self.assertTrue(said.startswith("trinorm "))
-        self.assertTrue(said.endswith("all is as expected\n"))
+        self.assertTrue(said.endswith("everything is as expected\n"))
 
     def test_a_wrong_program_is_reported(self):
         with tempfile.TemporaryDirectory() as folder, mock.patch.object(program, "find_library", return_value=None):
@@ -73,7 +80,25 @@ class Report(unittest.TestCase):
                 status, said = self.report()
         self.assertEqual(status, 1)
         self.assertRegex(said, "differs: surfaces < ")
-        self.assertRegex(said.splitlines()[-1], "^[0-9]+ differences: please report all of the above$")
+        self.assertRegex(said.splitlines()[-1], "^[0-9]+ differences; please report all of the above$")
+
+    def test_a_program_that_can_not_be_started_is_reported(self):
+        """As one for another processor, or in a folder whose files may not be run."""
+        with tempfile.TemporaryDirectory() as folder, mock.patch.object(program, "find_library", return_value=None):
+            other = Path(folder, "trinorm")
+            other.write_bytes(b"\x7fELF of another processor")
+            other.chmod(0o755)
+            with mock.patch.dict("os.environ", {"TRINORM": str(other)}):
+                status, said = self.report()
+        self.assertEqual(status, 1)
+        self.assertIn("the program cannot be started: ", said)
+        self.assertRegex(said.splitlines()[-1], "differences; please report all of the above$")
+
+    def test_where_nothing_is_installed(self):
+        with mock.patch.object(program, "find_library", side_effect=Failed("no program")), mock.patch.object(program, "find", side_effect=Failed("no program")):
+            status, said = self.report()
+        self.assertEqual(status, 1)
+        self.assertIn("differs: no program\n", said)
 
     def test_without_a_program_the_library_is_checked_alone(self):
         if program.find_library() is None:
@@ -87,8 +112,9 @@ class Report(unittest.TestCase):
 
     def test_without_anything_it_fails(self):
         with mock.patch.object(program, "find", side_effect=Failed("nowhere")), mock.patch.object(program, "find_library", return_value=None):
-            with self.assertRaises(Failed):
-                self.report()
+            status, said = self.report()
+        self.assertEqual(status, 1)
+        self.assertIn("differs: nowhere\n", said)
 
     def test_the_data_is_not_changed_by_hand_to_nonsense(self):
         rows = json.loads((selfcheck.HERE / "worked_rows.json").read_text("utf8"))

@@ -20,6 +20,13 @@ verdicts: List[trinorm.Verdict] = trinorm.verify("cPcbbbiht", vectors, "quad")
 table: trinorm.Table = trinorm.table([[(0, "1023"), (0, "1023"), None, "-"]])
 isomorphism: Optional[trinorm.Isomorphism] = trinorm.same("bkaagj", table)
 signature: str = trinorm.csig(table)
+skeleton: trinorm.Info = table.info()
+listed: List[Tuple[int, ...]] = table.surfaces("quad")
+verdict: trinorm.Accepted = table.check(["14 0"])
+shown: trinorm.ZeroEfficiency = trinorm.zero_efficient(table)
+witness: Optional[trinorm.Surface] = shown.witness
+if not verdict:
+    why: str = verdict.required().hint
 with Server() as server:
     grouping: trinorm.Grouping = trinorm.group(["bkaagj", table], program=server)
     answer: str = server.run(["sig"], str(table), 5)
@@ -34,6 +41,9 @@ import trinorm
 trinorm.surfaces(7)
 vectors: str = trinorm.surfaces("bkaagj")
 trinorm.make("one", 2)
+trinorm.surfaces("bkaagj", coords="quads")
+trinorm.described("bkaagj", "quad")
+trinorm.surfaces("bkaagj", order="long")
 """
 
 
@@ -56,7 +66,7 @@ class Types(unittest.TestCase):
     def test_its_users(self):
         self.assertIn("Success: no issues found", self.mypy("-c", USER))
         said = self.mypy("-c", WRONG)
-        self.assertEqual(said.count(": error: "), 3, said)
+        self.assertEqual(said.count(": error: "), 6, said)
 
 
 if __name__ == "__main__":

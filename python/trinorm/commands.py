@@ -15,16 +15,16 @@ import itertools
 from typing import Any, Callable, Iterable, Iterator, List, Literal, Optional, Sequence, TypeVar, Union, overload
 
 from . import answers, arrays as numpy_arrays, hints, parts
-from .answers import (Bulk, Cover, Descent, Grouping, Info, Isomorphism, Made, Played, Presentation, Sum, Surface, Term,
+from .answers import (Accepted, Bulk, Cover, Descent, Grouping, Info, Isomorphism, Made, Played, Presentation, Sum, Surface, Term,
                       Vector, Verdict, vector_line)
 from .arguments import lines, listed, plain, shown, whole_number, whole_numbers
-from .errors import BadArgument, Error
+from .errors import CHECKED, LARGE, NO_MEMORY_HERE, BadArgument, Error
 from .html_tables import Shown
-from .options import words
+from .options import Coords, Order, WithTriangles, words
 from .program import Failed, Program as Program, Refused, run
 from .progress import Progress, reported
 from .regina_surfaces import ReginaSurface, is_surface, vector_of
-from .tables import Table, Triangulation, document
+from .tables import Table, Triangulation, alone, document, is_empty, size_of
 
 Answer = TypeVar("Answer")
 Item = TypeVar("Item")
@@ -41,20 +41,25 @@ def ask_text(asked: Sequence[str], text: str, timeout: Optional[float], program:
     except Refused as refused:
         refused.hint = hints.hint(refused, asked, text)
         raise
+    except MemoryError:
+        raise Failed(f"{' '.join(asked)}: {NO_MEMORY_HERE}") from None
     if answer and not answer.endswith("\n"):
-        raise Failed(f"{' '.join(asked)}: the answer was cut off")
+        raise Failed(f"{' '.join(asked)}: the answer is incomplete")
     return answer
 
 
 def read_text(asked: Sequence[str], answer: str, read: Callable[[List[str]], Answer]) -> Answer:
     """The value that the lines of an answer spell."""
-    lines = answer.splitlines()
+    lines: List[str] = []
     try:
+        lines = answer.splitlines()
         return read(lines)
     except Error:
         raise
+    except MemoryError:
+        raise Failed(f"{' '.join(asked)}: {NO_MEMORY_HERE}") from None
     except (ValueError, IndexError, KeyError, TypeError, StopIteration) as fault:
-        raise Failed(f"{' '.join(asked)}: an answer that isn't understood, {lines[:2]}") from fault
+        raise Failed(f"{' '.join(asked)}: the answer cannot be read: {lines[:2]}") from fault
 
 
 def _ask(asked: Sequence[str], text: str, read: Callable[[List[str]], Answer],
@@ -74,59 +79,68 @@ def _ask_of_each(asked: Sequence[str], text: str, read: Callable[[List[str]], Li
     return list(itertools.chain.from_iterable(ask_in_parts(asked, text, read, parts.Clock(timeout), program)))
 
 
-def _vector(vector: object, coords: str) -> str:
+def _vector(vector: object, coords: Coords) -> str:
     """The line of a vector; a `regina.NormalSurface` is taken for its own."""
     if is_surface(vector):
         return vector_line(vector_of(vector, coords)) + "\n"
-    return vector_line(whole_numbers(vector, "a vector is a list of whole numbers, or a regina.NormalSurface")) + "\n"
+    entries = whole_numbers(vector, "a vector must be a list of whole numbers or a regina.NormalSurface")
+    return vector_line(entries) + "\n"
 
 
-def _with_vectors(t: Triangulation, vectors: object, coords: str) -> str:
+def _spelled(spell: Callable[[], str]) -> str:
+    """What a function spells. A whole number of more digits than Python spells is a `BadArgument`."""
+    try:
+        return spell()
+    except ValueError as fault:
+        raise BadArgument(f"a number is too long: {fault}") from None
+
+
+def _with_vectors(t: Triangulation, vectors: object, coords: Coords) -> str:
     """A document of a triangulation with vectors."""
-    given = [plain(vector) for vector in listed(vectors, "a list of vectors is expected (one alone is a list too, as [v])")]
+    given = [plain(vector) for vector in listed(vectors, "expected a list of vectors (a single vector as [v])")]
     if given and all(whole_number(vector) is not None for vector in given):
-        raise BadArgument("a list of vectors is expected, and not one alone: [v] is a list of one")
-    return document(t) + "".join(_vector(vector, coords) for vector in given)
+        raise BadArgument("expected a list of vectors; pass a single vector as [v]")
+    return alone(t) + "".join(_vector(vector, coords) for vector in given)
 
 
 def _with_sums(t: Triangulation, sums: object) -> str:
     """A document of a triangulation with blocks of sums."""
-    expected = "a list of Sums is expected, as `decompose` returns it"
+    expected = "expected a list of Sum, as `decompose` returns"
     given = listed(sums, expected)
     for one in given:
         if not isinstance(one, Sum):
-            raise BadArgument(f"{expected}: {shown(one)} is none")
-    return document(t) + "".join(_block(one) for one in given if isinstance(one, Sum))
+            raise BadArgument(f"{expected}; {shown(one)} is not a Sum")
+    return alone(t) + "".join(_block(one) for one in given if isinstance(one, Sum))
 
 
 def _block(one: Sum) -> str:
     """The text of a sum, whose fields may be lists or arrays too."""
-    expected = "the fields of a Sum are a vector, `times`, and Terms of a count and a vector"
+    expected = "a Sum needs a vector, a whole number `times`, and a list of Term(count, vector)"
     terms = listed(one.terms, expected)
     if whole_number(one.times) is None or not all(isinstance(term, Term) for term in terms):
-        raise BadArgument(f"{expected}, and not {shown(one)}")
+        raise BadArgument(f"{expected}, not {shown(one)}")
     checked = tuple(Term(whole_numbers([term.count], expected)[0], whole_numbers(term.vector, expected))
                     for term in terms if isinstance(term, Term))
-    return str(Sum(whole_numbers(one.vector, expected), one.times, checked))
+    return _spelled(lambda: str(Sum(whole_numbers(one.vector, expected), one.times, checked)))
 
 
 def _cone(rows: object, columns: Optional[int]) -> str:
     """The text of a cone."""
-    expected = "the rows of a cone are a list of lists of whole numbers"
+    expected = "the rows of a cone must be a list of lists of whole numbers"
     given = [whole_numbers(row, expected) for row in listed(rows, expected)]
     if columns is None and not given:
-        raise BadArgument("if there are no rows, columns must be given")
+        raise BadArgument("rows is empty; pass columns= as well")
     width = len(given[0]) if columns is None else whole_number(columns)
     if width is None or not 0 <= width <= 10_000:
-        raise BadArgument(f"columns is a whole number from 0 to 10000, and not {shown(columns)}")
+        raise BadArgument(f"columns must be a whole number from 0 to 10,000, not {shown(columns)}")
     for at, row in enumerate(given):
         if len(row) != width:
-            raise BadArgument(f"the rows of a cone have one width: row {at} has {len(row)} coefficients, and not {width}")
+            raise BadArgument(f"row {at} of the cone has {len(row)} coefficients; it should have {width}")
     lines_of_rows = (" ".join(map(str, row)) for row in given if width)
     return "".join(f"{line}\n" for line in [f"cone {width} {len(given)}", *lines_of_rows])
 
 
-def listing(t: Triangulation, coords: str = "standard", order: Optional[str] = None, max_entry: Optional[int] = None, *,
+def listing(t: Triangulation, coords: Coords = "standard", order: Optional[Order] = None, max_entry: Optional[int] = None, *,
             timeout: Optional[float] = None, program: Program = None) -> str:
     """What `surfaces` writes: a line with the number of vectors, and a line for each. Failed if these differ."""
     asked = words("surfaces", coords=coords, order=order, max_entry=max_entry)
@@ -137,18 +151,18 @@ def listing(t: Triangulation, coords: str = "standard", order: Optional[str] = N
 
 
 @overload
-def surfaces(t: Triangulation, coords: str = ..., order: Optional[str] = ..., max_entry: Optional[int] = ..., *,
+def surfaces(t: Triangulation, coords: Coords = ..., order: Optional[Order] = ..., max_entry: Optional[int] = ..., *,
              timeout: Optional[float] = ..., program: Program = ..., progress: Optional[Progress] = ...,
              arrays: Literal[False] = ...) -> List[Vector]: ...
 
 
 @overload
-def surfaces(t: Triangulation, coords: str = ..., order: Optional[str] = ..., max_entry: Optional[int] = ..., *,
+def surfaces(t: Triangulation, coords: Coords = ..., order: Optional[Order] = ..., max_entry: Optional[int] = ..., *,
              timeout: Optional[float] = ..., program: Program = ..., progress: Optional[Progress] = ...,
              arrays: Union[Literal[True], str]) -> Any: ...
 
 
-def surfaces(t: Triangulation, coords: str = "standard", order: Optional[str] = None, max_entry: Optional[int] = None, *,
+def surfaces(t: Triangulation, coords: Coords = "standard", order: Optional[Order] = None, max_entry: Optional[int] = None, *,
              timeout: Optional[float] = None, program: Program = None, progress: Optional[Progress] = None,
              arrays: Arrays = False) -> Any:
     """All vertex normal surfaces, each once, in lexicographic order: vectors of the width of the coordinates.
@@ -170,7 +184,7 @@ def surfaces(t: Triangulation, coords: str = "standard", order: Optional[str] = 
     return numpy_arrays.read_vectors(listed, kind)
 
 
-def rays(rows: Sequence[Sequence[int]], columns: Optional[int] = None, order: Optional[str] = None,
+def rays(rows: Sequence[Sequence[int]], columns: Optional[int] = None, order: Optional[Order] = None,
          max_entry: Optional[int] = None, *, timeout: Optional[float] = None, program: Program = None) -> List[Vector]:
     """All primitive extreme rays of the cone of nonnegative vectors at which each row is 0: vectors of the width of the
     rows, in lexicographic order.
@@ -182,7 +196,7 @@ def rays(rows: Sequence[Sequence[int]], columns: Optional[int] = None, order: Op
     return _ask(words("rays", order=order, max_entry=max_entry), _cone(rows, columns), answers.read_list, timeout, program)
 
 
-def verify(t: Triangulation, vectors: Vectors, coords: str = "standard", *,
+def verify(t: Triangulation, vectors: Vectors, coords: Coords = "standard", *,
            timeout: Optional[float] = None, program: Program = None) -> List[Verdict]:
     """For each vector, in order, whether it is an admissible solution, or what fails first. The list may have any length."""
     text = _with_vectors(t, vectors, coords)
@@ -207,21 +221,31 @@ def csig(t: Triangulation, *, timeout: Optional[float] = None, program: Program 
 def same(one: Triangulation, other: Triangulation, *,
          timeout: Optional[float] = None, program: Program = None) -> Optional[Isomorphism]:
     """An isomorphism from one connected triangulation to another, n images long, or None where there is none."""
-    return _ask(["same"], document(one) + document(other), answers.read_isomorphism, timeout, program)
+    return _isomorphism("same", one, other, timeout, program)
+
+
+def _isomorphism(command: str, one: Triangulation, other: Triangulation, timeout: Optional[float],
+                 program: Program) -> Optional[Isomorphism]:
+    """What `same` or `csame` answers."""
+    text = alone(one)
+    return _ask([command], text + alone(other), lambda said: answers.read_isomorphism(said, size_of(text)), timeout, program)
 
 
 def csame(one: Triangulation, other: Triangulation, *,
           timeout: Optional[float] = None, program: Program = None) -> Optional[Isomorphism]:
     """As `same`, of triangulations that needn't be connected."""
-    return _ask(["csame"], document(one) + document(other), answers.read_isomorphism, timeout, program)
+    return _isomorphism("csame", one, other, timeout, program)
 
 
 def group(tables: Iterable[Triangulation], *, timeout: Optional[float] = None, program: Program = None) -> Grouping:
     """The isomorphism classes of connected triangulations, numbered as they first occur: one for each of `tables`."""
     if isinstance(tables, Table):
-        raise BadArgument("a list of triangulations is expected, and not one alone: [t] is a list of one")
-    given = listed(tables, "a list of triangulations is expected (one alone is a list too, as [t])")
-    return _ask(["group"], "".join(map(document, given)), answers.read_grouping, timeout, program)  # type: ignore[arg-type]
+        raise BadArgument("expected a list of triangulations; pass a single one as [t]")
+    given = listed(tables, "expected a list of triangulations (a single one as [t])")
+    if any(map(is_empty, given)):  # type: ignore[arg-type]
+        raise BadArgument("expected a triangulation, not an empty string")
+    text = "".join(map(alone, given))  # type: ignore[arg-type]
+    return _ask(["group"], text, lambda said: answers.read_grouping(said, len(given)), timeout, program)
 
 
 def cover(t: Triangulation, *, timeout: Optional[float] = None, program: Program = None) -> Cover:
@@ -236,16 +260,16 @@ def pi1(t: Triangulation, *, timeout: Optional[float] = None, program: Program =
 
 
 @overload
-def describe(t: Triangulation, vectors: Vectors, coords: str = ..., *, timeout: Optional[float] = ...,
+def describe(t: Triangulation, vectors: Vectors, coords: WithTriangles = ..., *, timeout: Optional[float] = ...,
              program: Program = ..., arrays: Literal[False] = ...) -> List[Surface]: ...
 
 
 @overload
-def describe(t: Triangulation, vectors: Vectors, coords: str = ..., *, timeout: Optional[float] = ...,
+def describe(t: Triangulation, vectors: Vectors, coords: WithTriangles = ..., *, timeout: Optional[float] = ...,
              program: Program = ..., arrays: Union[Literal[True], str]) -> numpy_arrays.Described: ...
 
 
-def describe(t: Triangulation, vectors: Vectors, coords: str = "standard", *, timeout: Optional[float] = None,
+def describe(t: Triangulation, vectors: Vectors, coords: WithTriangles = "standard", *, timeout: Optional[float] = None,
              program: Program = None, arrays: Arrays = False) -> Union[List[Surface], numpy_arrays.Described]:
     """For each vector, in order, its Euler characteristic and its components; in standard or octagon coordinates. The
     list may have any length.
@@ -277,28 +301,73 @@ def crush(t: Triangulation, vector: GivenVector, *, timeout: Optional[float] = N
     return _ask(["crush"], _with_vectors(t, [vector], "standard"), answers.read_table, timeout, program)
 
 
-def decompose(t: Triangulation, vectors: Vectors, coords: str = "standard", max_entry: Optional[int] = None, *,
+def decompose(t: Triangulation, vectors: Vectors, coords: Coords = "standard", max_entry: Optional[int] = None, *,
               timeout: Optional[float] = None, program: Program = None) -> List[Sum]:
     """Each vector, in order, as a sum of vertex surfaces; all of the width of the coordinates."""
     text = _with_vectors(t, vectors, coords)
-    return _ask(words("decompose", coords=coords, max_entry=max_entry), text, answers.read_sums, timeout, program)
+    asked = words("decompose", coords=coords, max_entry=max_entry)
+    return _ask(asked, text, lambda said: answers.read_sums(said, parts.count_vectors(text)), timeout, program)
 
 
-def addup(t: Triangulation, sums: Iterable[Sum], coords: str = "standard", *,
-          timeout: Optional[float] = None, program: Program = None) -> bool:
-    """True where all vectors and terms are admissible solutions and the terms add up; else `Refused` says what fails."""
-    return _ask(words("addup", coords=coords), _with_sums(t, sums), answers.read_accepted, timeout, program)
+def _accepts(asked: Sequence[str], text: str, timeout: Optional[float], program: Program) -> Accepted:
+    """The verdict of `check` or `addup`. An input that can't be read is `Refused`."""
+    try:
+        return _ask(asked, text, answers.read_accepted, timeout, program)
+    except Refused as refused:
+        if refused.status not in (CHECKED, LARGE):
+            raise
+        return Accepted(refused.kind, refused.places, refused.hint, refused.line)
+
+
+def addup(t: Triangulation, sums: Iterable[Sum], coords: Coords = "standard", *,
+          timeout: Optional[float] = None, program: Program = None) -> Accepted:
+    """Whether all vectors and terms are admissible solutions and the terms add up: a verdict that is true or false.
+
+    Args:
+        t: the triangulation
+        sums: as `decompose` returns them
+        coords: those of the vectors
+
+    Returns:
+        An `Accepted`. If it is false it says what fails first; `.required()` raises that.
+
+    Raises:
+        Refused: the triangulation is no gluing table
+
+    >>> import trinorm
+    >>> bool(trinorm.addup("bkaagj", trinorm.decompose("bkaagj", [(3, 3, 1, 1, 2, 0, 0)])))
+    True
+    """
+    return _accepts(words("addup", coords=coords), _with_sums(t, sums), timeout, program)
 
 
 def play(t: Triangulation, steps: Iterable[str] = (), *, timeout: Optional[float] = None, program: Program = None) -> Played:
     """The triangulation after bistellar moves, as `14 0`, `23 1 0`, `32 0 01`, `41 2 3`, `undo` and `redo`, with an answer
     for each of them."""
-    return _ask(["play"], document(t) + lines(steps, "steps", "14 0"), answers.read_played, timeout, program)
+    given = listed(steps, "expected a list of steps, such as ['14 0']")
+    text = alone(t) + lines(given, "steps", "14 0")
+    return _ask(["play"], text, lambda said: answers.read_played(said, len(given)), timeout, program)
 
 
-def check(t: Triangulation, moves: Iterable[str], *, timeout: Optional[float] = None, program: Program = None) -> bool:
-    """True where the moves are legal and lead to the standard 3-sphere; else `Refused` says what fails."""
-    return _ask(["check"], document(t) + lines(moves, "moves", "14 0"), answers.read_accepted, timeout, program)
+def check(t: Triangulation, moves: Iterable[str], *, timeout: Optional[float] = None, program: Program = None) -> Accepted:
+    """Whether the moves are legal and lead to the standard 3-sphere: a verdict that is true or false.
+
+    Args:
+        t: the triangulation
+        moves: as `14 0`, `23 1 0`, `32 0 01` and `41 2 3`
+
+    Returns:
+        An `Accepted`. If it is false it says which move is illegal, or where they lead; `.required()` raises that.
+
+    Raises:
+        Refused: the triangulation is no gluing table, or a line is no move
+
+    >>> import trinorm
+    >>> made = trinorm.make(seed=7, moves=20)
+    >>> bool(trinorm.check(made.table, made.moves)), trinorm.check("bkaagb", []).kind
+    (True, 'check not-standard')
+    """
+    return _accepts(["check"], alone(t) + lines(moves, "moves", "14 0"), timeout, program)
 
 
 def descend(t: Triangulation, *, timeout: Optional[float] = None, program: Program = None) -> Descent:
@@ -308,7 +377,8 @@ def descend(t: Triangulation, *, timeout: Optional[float] = None, program: Progr
 
 def make(seed: int, moves: int, *, timeout: Optional[float] = None, program: Program = None) -> Made:
     """A triangulated 3-sphere drawn from a seed, with moves that certify it."""
-    return _ask(words("make", seed=seed, moves=moves), "", answers.read_made, timeout, program)
+    asked, count = words("make", seed=seed, moves=moves), whole_number(moves) or 0
+    return _ask(asked, "", lambda said: answers.read_made(said, count), timeout, program)
 
 
 def bulk(seed: int, moves: int, *, timeout: Optional[float] = None, program: Program = None) -> Bulk:

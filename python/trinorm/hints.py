@@ -153,4 +153,4 @@ def _wrong_option(command: Command, name: Optional[str], value: Optional[str]) -
 def _is_it(word: str, known: Iterable[object]) -> str:
     """What is said of the nearest of these words."""
     near = nearest(word, [str(it) for it in known])
-    return f": is it `{near}`?" if near else ""
+    return f"; did you mean `{near}`?" if near else ""

@@ -9,18 +9,23 @@ from __future__ import annotations
 
 import _thread
 import argparse
+import contextlib
 import doctest
+import functools
+import io
 import json
 import os
 import platform
 import subprocess
 import sys
+import tempfile
 import threading
 import time
 from pathlib import Path
 from typing import TYPE_CHECKING, Callable, Iterator, List, NamedTuple, Tuple
 
-from . import program, versions
+from . import batch, program, versions
+from .census import census
 
 if TYPE_CHECKING:
     from .library import Library
@@ -99,7 +104,10 @@ def by_library(library: Library) -> Answer:
 def by_program(path: str) -> Answer:
     """Answers by a process of the program for each row."""
     def answer(row: Row) -> Tuple[int, bytes]:
-        done = subprocess.run([path, *row.words], input=row.input, stdout=subprocess.PIPE, stderr=subprocess.DEVNULL, check=False)
+        try:
+            done = subprocess.run([path, *row.words], input=row.input, stdout=subprocess.PIPE, stderr=subprocess.DEVNULL, check=False)
+        except OSError as fault:
+            return -1, f"the program cannot be started: {fault}".encode()
         return done.returncode, done.stdout
     return answer
 
@@ -137,12 +145,12 @@ def check_limits(library: Library) -> Outcome:
         begun = time.monotonic()
         status, _, reached = library.answer(["surfaces"], LONG_QUESTION, timeout=SHORT_TIME)
         if (status, reached) != (8, 2) or time.monotonic() - begun > LATE:
-            yield f"a limit of time: status {status}, limit {reached}, after {time.monotonic() - begun:.1f} s"
+            yield f"time limit: status {status}, limit {reached}, after {time.monotonic() - begun:.1f} s"
         status, _, reached = library.answer(["surfaces"], LONG_QUESTION, memory=FEW_BYTES)
         if (status, reached) != (8, 1):
-            yield f"a limit of memory: status {status}, limit {reached}"
+            yield f"memory limit: status {status}, limit {reached}"
         if not _ends_by_interruption(library):
-            yield "an interruption did not end a call"
+            yield "an interruption did not stop a call"
     return _timed(3, differing())
 
 
@@ -150,22 +158,60 @@ def _system() -> str:
     return f"{platform.platform()}, {platform.machine()}, Python {platform.python_version()}, {os.cpu_count()} processors"
 
 
+def check_many() -> Outcome:
+    """Several triangulations at a time: in threads, and as a census in processes."""
+    def differing() -> Iterator[str]:
+        rows = [row for row in read_rows() if row.words == ("sig",) and row.status == 0]
+        signatures = list(dict.fromkeys(row.output.decode("ascii").strip() for row in rows))[:3]
+        found = [it.answer for it in batch.many(signatures, "sig")]
+        if found != signatures:
+            yield f"many: expected {signatures}, got {found}"
+        if os.name == "posix":
+            yield from _differing_census(signatures)
+    return _timed(2 if os.name == "posix" else 1, differing())
+
+
+def _differing_census(signatures: List[str]) -> Iterator[str]:
+    """What a census of some signatures answers otherwise."""
+    with tempfile.TemporaryDirectory() as folder:
+        said = io.StringIO()
+        with contextlib.redirect_stderr(said):
+            ran = census(signatures, os.path.join(folder, "out"), "sig", jobs=1)
+    if (ran.now, ran.failed) != (len(signatures), 0):
+        yield f"a census of {len(signatures)} signatures: {ran}, {said.getvalue().strip()}"
+
+
+def checked(check: Callable[[], Outcome]) -> Outcome:
+    """The outcome of a check. One that ends by an exception, as where the program can't be started, differs."""
+    begun = time.monotonic()
+    try:
+        return check()
+    except Exception as fault:  # pylint: disable=broad-except
+        return Outcome(1, [f"the check ended: {type(fault).__name__}: {fault}"], time.monotonic() - begun)
+
+
 def checks() -> Iterator[Tuple[str, Outcome]]:
     """Each part that is checked, with its outcome."""
-    rows = read_rows()
-    library = program.find_library()
+    rows, missing = read_rows(), ""
+    try:
+        library = program.find_library()
+    except program.Failed as fault:
+        library, missing = None, str(fault)
     if library is not None:
-        yield f"worked rows by the library {library.path}", check_rows(by_library(library), rows)
-        yield "limits and interruption of a call", check_limits(library)
+        yield f"stored examples, by the library {library.path}", checked(functools.partial(check_rows, by_library(library), rows))
+        yield "limits and interruption of a call", checked(functools.partial(check_limits, library))
     try:
         path = program.find()
-    except program.Failed as missing:
+    except program.Failed as fault:
+        missing = missing or str(fault)
         if library is None:
-            raise
+            yield "no program and no library", Outcome(1, [missing], 0.0)
+            return
         print(f"no program: {missing}")
     else:
-        yield f"worked rows by the program {path}", check_rows(by_program(path), rows)
-    yield "examples of the package", check_examples()
+        yield f"stored examples, by the program {path}", checked(functools.partial(check_rows, by_program(path), rows))
+        yield "several triangulations at a time", checked(check_many)
+    yield "examples of the package", checked(check_examples)
 
 
 def main(_: argparse.Namespace) -> int:
@@ -179,7 +225,7 @@ def main(_: argparse.Namespace) -> int:
         differences += outcome.differences
     for difference in differences[:MOST_SHOWN]:
         print(f"differs: {difference.strip()}")
-    print(f"{len(differences)} differences: please report all of the above" if differences else "all is as expected")
+    print(f"{len(differences)} differences; please report all of the above" if differences else "everything is as expected")
     return 1 if differences else 0
 
 
