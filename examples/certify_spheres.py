@@ -20,7 +20,7 @@ def spheres(path: str, most: int) -> Iterator[str]:
     """The signatures of the 3-spheres of a file of Regina's."""
     root = regina.open(path)
     if root is None:
-        sys.exit(f"{path}: no file of Regina's")
+        sys.exit(f"{path}: this is not a file of Regina")
     for packet in root:
         if isinstance(packet, regina.Triangulation3) and packet.size() <= most and packet.isSphere():
             yield packet.isoSig()
@@ -41,4 +41,6 @@ def main(path: str, folder: str, most: int = 1000) -> int:
 
 
 if __name__ == "__main__":
+    if len(sys.argv) not in (3, 4):
+        sys.exit(__doc__)
     sys.exit(main(sys.argv[1], sys.argv[2], *map(int, sys.argv[3:])))

@@ -20,7 +20,7 @@ def signatures(path: str, most: int) -> Iterator[Tuple[int, str]]:
     """Size and signature of each connected triangulation of a file of Regina's."""
     root = regina.open(path)
     if root is None:
-        sys.exit(f"{path}: no file of Regina's")
+        sys.exit(f"{path}: this is not a file of Regina")
     for packet in root:
         if isinstance(packet, regina.Triangulation3) and packet.isConnected() and packet.size() <= most:
             yield packet.size(), packet.isoSig()

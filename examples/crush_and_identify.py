@@ -25,10 +25,10 @@ def summands(signature: str) -> List[str]:
     while left:
         t = left.pop()
         shown = trinorm.zero_efficient(t)
-        if shown:
+        if shown.witness is None:
             done.append(t)
             continue
-        crushed = trinorm.crush(t, shown.vector)
+        crushed = trinorm.crush(t, shown.witness.vector)
         if len(crushed):
             left += trinorm.csig(crushed).split(".")
     return sorted(done)
@@ -53,7 +53,7 @@ def parts(signature: str) -> Tuple[List[str], List[str]]:
     """The names of the summands that are left, and of those that were lost."""
     whole = regina.Triangulation3.fromIsoSig(signature)
     if whole is None or not (whole.isClosed() and whole.isOrientable() and whole.isConnected()):
-        raise SystemExit(f"{signature}: this is no closed connected orientable triangulation")
+        raise SystemExit(f"{signature}: this is not a closed connected orientable triangulation")
     left = [trinorm.to_regina(it) for it in summands(signature)]
     lost = [what for what, prime in LOST for _ in range(rank(whole, prime) - sum(rank(it, prime) for it in left))]
     return [name(it) for it in left], lost
@@ -69,4 +69,6 @@ def main(signatures: List[str]) -> None:
 
 
 if __name__ == "__main__":
+    if len(sys.argv) < 2:
+        sys.exit(__doc__)
     main(sys.argv[1:])

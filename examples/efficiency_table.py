@@ -21,7 +21,7 @@ def signatures(path: str, most: int) -> Iterator[str]:
     """The connected triangulations of a file of Regina's."""
     root = regina.open(path)
     if root is None:
-        sys.exit(f"{path}: no file of Regina's")
+        sys.exit(f"{path}: this is not a file of Regina")
     for packet in root:
         if isinstance(packet, regina.Triangulation3) and packet.isConnected() and packet.size() <= most:
             yield packet.isoSig()
@@ -47,4 +47,6 @@ def main(path: str, most: int = 1000) -> None:
 
 
 if __name__ == "__main__":
+    if len(sys.argv) not in (2, 3):
+        sys.exit(__doc__)
     main(sys.argv[1], *map(int, sys.argv[2:]))

@@ -30,4 +30,6 @@ def main(signature, coords="standard"):
 
 
 if __name__ == "__main__":
+    if len(sys.argv) not in (2, 3) or sys.argv[2:] and sys.argv[2] not in COORDS:
+        sys.exit(__doc__)
     main(*sys.argv[1:])

@@ -4,9 +4,11 @@
 #     sh examples/zero-efficient.sh < TRIANGULATION
 #
 # TRIANGULATION is a line `sig SIGNATURE` or a gluing table. The program is `trinorm`, or the one that the variable TRINORM
-# names. All vertex surfaces in standard coordinates are listed and described, in parts that fit into one input, and the
-# counts are compared. Status 0: each surface of positive Euler characteristic is a vertex link; 1: one is not, the first of
-# which is printed; 2: a command was refused or failed, or an answer was cut off.
+# names. Printed are what `info` says of it, and its kind: closed, ideal or bounded, with the kinds of those closed vertex links
+# that are no spheres, as `kind ideal torus 2`; what is true of closed triangulations need not be true of others. All vertex
+# surfaces in standard coordinates are listed and described, in parts that fit into one input, and the counts are compared.
+# Status 0: each connected normal surface of positive Euler characteristic is a vertex link; 1: a vertex surface is not, and
+# the first one is printed; 2: a command was refused or failed, or an answer was cut off.
 set -u
 export LC_ALL=C
 trinorm=${TRINORM:-trinorm}
@@ -26,7 +28,7 @@ fail() {
 "$trinorm" info <"$folder/triangulation" >"$folder/info" || fail "info: $(cat "$folder/info")"
 "$trinorm" surfaces <"$folder/triangulation" >"$folder/list" || fail "surfaces: $(cat "$folder/list")"
 listed=$(sed -n '1s/^# surfaces //p' "$folder/list")
-[ "$(grep -c '^vec ' "$folder/list")" = "$listed" ] || fail "the list was cut off"
+[ "$(grep -c '^vec ' "$folder/list")" = "$listed" ] || fail 'the output of `surfaces` is incomplete'
 
 # the vectors in parts, each of which fits into one input with the triangulation
 room=$((most - $(wc -c <"$folder/triangulation")))
@@ -38,16 +40,26 @@ awk -v room="$room" '
         part = sprintf("%s/part-%06d", ENVIRON["folder"], ++parts)
         size = length($0) + 1
     }
-    { print >part }' "$folder/list" || fail "awk"
+    { print >part }' "$folder/list" || fail "the list could not be divided"
 : >"$folder/described"
 for part in "$folder"/part-*; do
     [ -f "$part" ] || continue
     cat "$folder/triangulation" "$part" | "$trinorm" describe >"$folder/answer" || fail "describe: $(cat "$folder/answer")"
-    cat "$folder/answer" >>"$folder/described" || fail "no room for the answers"
+    cat "$folder/answer" >>"$folder/described" || fail "the temporary folder is full"
 done
-[ "$(grep -c '^euler ' "$folder/described")" = "$listed" ] || fail "not each surface was described"
+[ "$(grep -c '^euler ' "$folder/described")" = "$listed" ] || fail 'the output of `describe` is incomplete'
 
 grep -E '^(orientable|closed) ' "$folder/info"
+# `closed` says only that there is no boundary face; closed as a manifold is what has a sphere as each vertex link
+awk '
+    $1 == "closed" { kind = $2 == "no" ? "bounded" : "closed" }
+    $1 == "vertex" && $8 == "yes" && $10 != "sphere" { links[$10 == "other" && $6 == 1 ? "projective-plane" : $10]++; ideal = 1 }
+    END {
+        printf "kind %s", kind == "closed" && ideal ? "ideal" : kind
+        names = split("projective-plane torus klein other", name)
+        for (i = 1; i <= names; i++) if (links[name[i]]) printf " %s %d", name[i], links[name[i]]
+        printf "\n"
+    }' "$folder/info"
 echo "surfaces $listed"
 awk '
     $1 == "vec" { vector = $0 }

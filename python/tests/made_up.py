@@ -89,6 +89,10 @@ def build_library(kit, archive, to):
 WASM = """NAME, PACKAGES = 'trinorm.wasm', ['tools']
 
 
+def missing():
+    return []
+
+
 def made(kit, module, say):
     if module is None:
         say('no module was kept')
@@ -144,8 +148,8 @@ class MadeUp:
         """All else that a release is made of, and a commit of it."""
         for name in ("examples", "docs", "python/trinorm"):
             shutil.copytree(REPOSITORY / name, self.top / name, ignore=IGNORED)
-        for name in ("README.md", "CHANGELOG.md", "CITATION.cff", "LICENSE-MIT", "LICENSE-APACHE", "NOTICES", ".gitignore",
-                     "python/README.md", "python/wheels.py"):
+        for name in ("README.md", "CHANGELOG.md", "CONTRIBUTING.md", "SECURITY.md", "CITATION.cff", "paper.md", "paper.bib", "LICENSE-MIT",
+                     "LICENSE-APACHE", "NOTICES", ".gitignore", "python/README.md", "python/wheels.py"):
             shutil.copy(REPOSITORY / name, self.top / name)
         for name in ("command_definitions", "text_definitions", "outcome_definitions", "surface_definitions"):
             shutil.copytree(REPOSITORY / "crates" / name / "specs", self.top / "crates" / name / "specs")
@@ -186,7 +190,7 @@ class MadeUp:
         if not kit:
             environment["PATH"] = os.environ["PATH"].replace(os.path.dirname(shutil.which("rt") or "/none"), "")
         return subprocess.run(words, cwd=self.top, env=environment, stdin=subprocess.DEVNULL, capture_output=True, text=True,
-                              timeout=60, check=False)
+                              timeout=600, check=False)
 
     def launch(self, kit: bool = True) -> str:
         """What the program answers through the launcher."""

@@ -64,7 +64,8 @@ class Build(unittest.TestCase):
     def test_a_program_is_proved_once(self):
         self.assert_answers(self.clone, ANSWER, ALL)
         self.assert_answers(self.clone, ANSWER, [])
-        self.assertEqual(os.listdir(self.folder / "cache" / "trinorm" / "programs")[0].count("-"), 1)
+        kept = [it.name for it in (self.folder / "cache" / "trinorm" / "programs").iterdir() if it.is_dir()]
+        self.assertEqual([name.count("-") for name in kept], [2])
 
     def test_a_touched_source_proves_nothing(self):
         self.clone.launch()
@@ -225,6 +226,16 @@ class Build(unittest.TestCase):
         done = self.clone.run([*words, "./trinorm"])
         self.assertEqual((done.returncode, done.stdout, done.stderr), (0, ANSWER, ""))
 
+    def test_a_changed_clone_without_a_place_for_the_build(self):
+        self.folder.chmod(0o755)
+        words = self.as_another_user()
+        if words is None:
+            self.skipTest("nothing runs as another user here")
+        self.clone.environment["XDG_CACHE_HOME"] = str(self.folder / "none")
+        done = self.clone.run([*words, "./trinorm"])
+        self.assertEqual((done.returncode, done.stdout, len(done.stderr.splitlines())), (9, "", 1), done.stderr)
+        self.assertIn("cannot be written: Permission denied. Set XDG_CACHE_HOME", done.stderr)
+
     def test_no_proof(self):
         self.assertEqual(self.clone.build("--no-proof").returncode, 9)
         self.assertEqual(self.clone.proved(), [])
@@ -265,6 +276,35 @@ class Build(unittest.TestCase):
         """The crates of which the last kept program has a verdict."""
         kept = max((self.folder / "cache" / "trinorm" / "programs").glob("*-*/MANIFEST"), key=lambda path: path.stat().st_mtime_ns)
         return sorted(line.split()[1] for line in kept.read_text().splitlines() if line.startswith("verdict "))
+
+    def test_clones_with_different_libraries(self):
+        """Each keeps its own, and neither takes that of the other."""
+        self.clone.add_library()
+        second = MadeUp(self.folder, "second")
+        second.add_library()
+        (second.top / "library" / "limits.c").write_text("another")
+        self.assertIn("links the library for other languages", self.clone.build().stderr)
+        self.assertIn("links the library for other languages", second.build().stderr)
+        for clone in (self.clone, second, self.clone):
+            shutil.rmtree(clone.top / "crates" / "trinorm" / "out")
+            said = clone.build().stderr
+            self.assertIn("took the program", said)
+            self.assertNotIn("links the library", said)
+        self.assertEqual(self.clone.proved(), ["for_c", "ground", "left", "right", "trinorm"])
+        self.assertEqual(len([it for it in (self.folder / "cache" / "trinorm" / "programs").iterdir() if it.is_dir()]), 2)
+
+    def test_the_module_for_browsers_is_made_if_it_is_asked_for(self):
+        self.clone.add_library()
+        self.clone.add_wasm()
+        module = self.clone.top / "crates" / "trinorm" / "out" / "trinorm.wasm"
+        self.assertNotIn("browsers", self.clone.build().stderr)
+        self.assertFalse(module.exists())
+        self.assertIn("makes the module for browsers", self.clone.build("--browsers").stderr)
+        self.assertTrue(module.exists())
+        self.assertEqual(self.clone.build("--browsers").stderr, "")
+        shutil.rmtree(module.parent)
+        self.assertNotIn("browsers", self.clone.build().stderr)
+        self.assertTrue(module.exists())
 
     def test_a_first_build_says_what_it_proves(self):
         said = self.clone.run(["./trinorm"]).stderr

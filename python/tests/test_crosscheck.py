@@ -20,7 +20,7 @@ class Lines(unittest.TestCase):
     def test_what_differs(self):
         same, other = {"trinorm": 1, "regina": 1, "trinorm_alone": [], "regina_alone": []}, {"trinorm": 1, "regina": 2, "trinorm_alone": [[1]], "regina_alone": [[2], [3]]}
         self.assertEqual(verdict_of({"signature": "a", "answer": {"quad": same}}), (True, ["a quad: the same 1"]))
-        lines = ["a quad: trinorm 1, Regina 2", "  trinorm alone: vec 1", "  Regina alone: vec 2", "  Regina alone: vec 3"]
+        lines = ["a quad: trinorm 1, Regina 2", "  trinorm only: vec 1", "  Regina only: vec 2", "  Regina only: vec 3"]
         self.assertEqual(verdict_of({"signature": "a", "answer": {"standard": same, "quad": other}}), (False, ["a standard: the same 1", *lines]))
         self.assertEqual(verdict_of({"signature": "a", "refused": {"line": "refused: x"}}), (False, ["a: refused: x"]))
         self.assertEqual(verdict_of({"signature": "a", "failed": "no memory"}), (False, ["a: no memory"]))

@@ -151,8 +151,8 @@ class Dask(Engines):
             os.killpg(one.pid, signal.SIGKILL)
         said = run.communicate(timeout=120)[1]
         self.assertEqual(run.returncode, 3, said)
-        self.assertIn("the engine has ended", said)
-        self.assertIn("started again with the same words it goes on", said)
+        self.assertIn("the executor has stopped", said)
+        self.assertIn("if it is started again with the same arguments, it resumes", said)
         self.assertEqual([line for line in self.lines() if "failed" in line], [])
 
     def test_no_scheduler(self):

@@ -1,5 +1,6 @@
 """Packages of the real program and library: README's lines install them, and LIBRARY's commands build a program over each that
 runs in any folder."""
+import fnmatch
 import os
 import re
 import shutil
@@ -27,9 +28,9 @@ def made():
     return packages.Made(version, {name: path.read_bytes() for name, path in paths.items()}, f"proved elsewhere\nversion {version}\n")
 
 
-def line_of_readme(ending):
-    """README's line that installs the file with an ending."""
-    return re.search(rf"^\| `[^`]*{re.escape(ending)}` \| `([^`]+)` \|", (REPOSITORY / "README.md").read_text("utf8"), re.M)[1]
+def line_of_readme(word):
+    """README's line for a system that installs the file with a word in its name."""
+    return re.search(rf"^\| [^|`]+ \| `([^`]*{re.escape(word)}[^`]*)` \|", (REPOSITORY / "README.md").read_text("utf8"), re.M)[1]
 
 
 def lines_for_c():
@@ -62,7 +63,8 @@ class Installing(unittest.TestCase):
             self.assertEqual(self.shell(str(program), other, **more), by_process(WORDS, "sig cPcbbbiht\n")[1].decode())
 
     def install_tarball(self):
-        self.shell(line_of_readme(".tar.gz").replace("FILE", self.write(packages.tarball(made()))))
+        self.write(packages.tarball(made()))
+        self.assertEqual(self.shell(f"{line_of_readme('.tar.gz')} && echo sig bkaagj | trinorm sig"), "bkaagj\n")
 
     def test_the_tarball(self):
         self.install_tarball()
@@ -72,9 +74,10 @@ class Installing(unittest.TestCase):
                          f"bkaagj True {self.home}/.local/libexec/trinorm/trinorm\n")
 
     def test_the_wheel(self):
+        self.write(packages.wheel(made()))
+        line = line_of_readme("manylinux").replace("pip install", "pip install -q --no-index --disable-pip-version-check")
         try:
-            self.shell(line_of_readme(".whl").replace("pip install", "pip install -q --no-index --disable-pip-version-check").replace(
-                "FILE", self.write(packages.wheel(made()))))
+            self.assertEqual(self.shell(f"{line} && echo sig bkaagj | trinorm sig"), "bkaagj\n")
         except AssertionError as fault:
             if "ensurepip is not" in str(fault):
                 self.skipTest("this Python can't make environments")
@@ -85,9 +88,21 @@ class Installing(unittest.TestCase):
 
     @unittest.skipUnless(shutil.which("dpkg-deb"), "dpkg-deb isn't there")
     def test_the_debian_package(self):
-        self.assertEqual(line_of_readme(".deb"), "apt install ./FILE")
-        self.shell(f"dpkg-deb -x {self.write(packages.debian(made()))} root")
+        name = self.write(packages.debian(made()))
+        self.assertEqual(line_of_readme(".deb"), "sudo apt install ./trinorm_*_amd64.deb")
+        self.assertEqual(self.shell("echo ./trinorm_*_amd64.deb"), f"./{name}\n")
+        self.shell(f"dpkg-deb -x {name} root")
         self.assertEqual(self.shell("echo sig bkaagj | root/usr/bin/trinorm sig"), "bkaagj\n")
+
+    def test_lines_for_other_systems(self):
+        """The names of wheels of other systems are as README's lines expect them."""
+        for word, machine, name in (("manylinux", "aarch64", "trinorm-1.0.0-py3-none-manylinux_2_34_aarch64.whl"),
+                                    ("musllinux", "x86_64", "trinorm-1.0.0-py3-none-musllinux_1_2_x86_64.whl"),
+                                    ("macosx", "arm64", "trinorm-1.0.0-py3-none-macosx_11_0_arm64.whl"),
+                                    ("macosx", "x86_64", "trinorm-1.0.0-py3-none-macosx_11_0_x86_64.whl")):
+            found = line_of_readme(word).split("pip install ")[1].replace("$(uname -m)", machine)
+            self.assertTrue(fnmatch.fnmatchcase(f"./{name}", found), f"{name}: {found}")
+        self.assertIn("trinorm-1.0.0-py3-none-win_amd64.whl", line_of_readme("win_amd64"))
 
     @unittest.skipUnless(shutil.which("lintian"), "lintian isn't there")
     def test_debian_s_own_checks(self):

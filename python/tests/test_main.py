@@ -31,7 +31,7 @@ class Words(unittest.TestCase):
             self.assertEqual(self.said("census", given, "--out", out)[0], 0)
             self.assertEqual(self.said("growth", out)[1].count("<circle"), 2)
             self.assertEqual(self.said("census", given, "--out", "-")[1].count('"answer"'), 2)
-            self.assertIn("`info` is asked for", self.said("census", given, "--command", "info", "--out", out)[2])
+            self.assertIn("not of `info`", self.said("census", given, "--command", "info", "--out", out)[2])
 
     def test_help_and_version(self):
         for words in (["--help"], ["--version"], ["census", "--help"]):
@@ -45,7 +45,7 @@ class Words(unittest.TestCase):
         self.assertEqual(self.said("graph", "bkaagjx"), (3, "", "trinorm: refused: signature trailing 6 (the signature is complete before this)\n"))
         self.assertEqual(self.said("census", "/no/such/file")[0], 3)
         self.assertEqual(self.said("growth", os.devnull)[0], 3)
-        self.assertIn("takes no coordinates", self.said("census", os.devnull, "--command", "info", "--coords", "quad")[2])
+        self.assertIn("coords of info must be None", self.said("census", os.devnull, "--command", "info", "--coords", "quad")[2])
 
 
 if __name__ == "__main__":

@@ -104,7 +104,7 @@ class Notebook(unittest.TestCase):
 
     def test_a_cell_is_stopped_and_the_next_goes_on(self):
         self.assertIn("stopped\n", self.written("stopped"))
-        self.assertIn("started again with the same words it goes on", self.written("stopped"))
+        self.assertIn("if it is started again with the same arguments, it resumes", self.written("stopped"))
         self.assertIn("True 400 0\n", self.written("resumed"))
 
     def test_threads(self):

@@ -1,7 +1,6 @@
 """Spheres, tori, 0-efficiency and counts; beside Regina's where this Python has it."""
-import collections
 import copy
-import json
+import dataclasses
 import pickle
 import random
 import shutil
@@ -13,7 +12,7 @@ from pathlib import Path
 import trinorm
 from trinorm.answers import Surface
 from trinorm.program import REPOSITORY
-from trinorm.questions import Contrary
+from trinorm.questions import ZeroEfficiency
 
 try:
     import regina
@@ -40,39 +39,54 @@ class Questions(unittest.TestCase):
 
     def test_zero_efficiency(self):
         for signature in (SPHERE, "bkaajj", "cPcbbbiht"):
-            self.assertIs(trinorm.zero_efficient(signature), True)
+            self.assertTrue(trinorm.zero_efficient(signature))
         for signature in NOT_EFFICIENT:
             shown = trinorm.zero_efficient(signature)
             self.assertFalse(shown)
-            self.assertIsInstance(shown, Contrary)
-            self.assertIn(shown.vector, trinorm.surfaces(signature))
-            self.assertGreater(shown.euler, 0)
-        self.assertEqual(trinorm.zero_efficient("eLMkabcddbrrag").euler, 1)
+            self.assertIsInstance(shown, ZeroEfficiency)
+            self.assertIn(shown.witness.vector, trinorm.surfaces(signature))
+            self.assertGreater(shown.witness.euler, 0)
+        self.assertEqual(trinorm.zero_efficient("eLMkabcddbrrag").witness.euler, 1)
         self.assertFalse(trinorm.zero_efficient(["- - - -"]))
 
-    def test_truth_equality_and_json_agree(self):
-        shown, other = (trinorm.zero_efficient(it) for it in ("eLMkabcddbrrag", "cMcabbjaj"))
+    def test_kinds(self):
+        for t, kind, orientable in ((SPHERE, "closed", True), ("cPcbbbiht", "ideal", True), (["- - - -"], "bounded", True), ("bkaagb", "closed", True)):
+            found = trinorm.zero_efficient(t)
+            self.assertEqual((found.kind, found.orientable), (kind, orientable), t)
+
+    def test_truth_and_equality_agree(self):
+        shown, other, right = (trinorm.zero_efficient(it) for it in ("eLMkabcddbrrag", "cMcabbjaj", SPHERE))
         self.assertFalse(shown)
-        self.assertTrue(shown == False and shown == other and shown != True and not shown > False)  # noqa: E712
-        self.assertEqual(hash(shown), hash(False))
-        self.assertEqual(json.loads(json.dumps([shown, True])), [False, True])
-        self.assertEqual(collections.Counter([shown, other, True]), {False: 2, True: 1})
+        self.assertTrue(shown == False and shown != True and shown != other and right == True and not right == False)  # noqa: E712
+        self.assertEqual((hash(shown), hash(right)), (hash(False), hash(True)))
         self.assertEqual([it for it in ("bkaagj", "eLMkabcddbrrag") if trinorm.zero_efficient(it) == False], ["eLMkabcddbrrag"])  # noqa: E712
-        self.assertNotEqual(shown.surface, other.surface)
-        self.assertEqual((shown.linking, shown.boundary, len(shown.components)), (False, False, 1))
         self.assertIn("euler=1", repr(shown))
         for again in (copy.copy(shown), copy.deepcopy(shown), pickle.loads(pickle.dumps(shown))):
-            self.assertIsInstance(again, Contrary)
-            self.assertEqual((again, again.surface), (False, shown.surface))
-        with self.assertRaises(TypeError):
-            Contrary()
-        self.assertIsInstance(shown.surface, Surface)
+            self.assertIsInstance(again, ZeroEfficiency)
+            self.assertEqual((again, again.witness), (shown, shown.witness))
+        with self.assertRaises(dataclasses.FrozenInstanceError):
+            shown.witness = None
+        self.assertIsInstance(shown.witness, Surface)
+
+    def test_old_names(self):
+        shown = trinorm.zero_efficient("eLMkabcddbrrag")
+        for name in ("vector", "euler", "linking", "boundary", "components"):
+            with self.assertWarnsRegex(DeprecationWarning, f"write `.witness.{name}`"):
+                self.assertEqual(getattr(shown, name), getattr(shown.witness, name))
+        with self.assertWarnsRegex(DeprecationWarning, "write `.witness`"):
+            self.assertIs(shown.surface, shown.witness)
+        with self.assertRaisesRegex(AttributeError, "no witness and no vector"):
+            getattr(trinorm.zero_efficient(SPHERE), "vector")
+        with self.assertWarnsRegex(DeprecationWarning, "write trinorm.ZeroEfficiency"):
+            self.assertIs(trinorm.Contrary, ZeroEfficiency)
+        with self.assertRaisesRegex(AttributeError, "has no attribute 'nothing'"):
+            getattr(trinorm, "nothing")
 
     @unittest.skipIf(shutil.which("mypy") is None, "mypy isn't there")
     def test_types(self):
         with tempfile.TemporaryDirectory() as folder:
             user = Path(folder) / "user.py"
-            user.write_text("import trinorm\nz = trinorm.zero_efficient('bkaagj')\nif not z:\n    z.vector\n"
+            user.write_text("import trinorm\nz = trinorm.zero_efficient('bkaagj')\nif z.witness is not None:\n    z.witness.vector\n"
                             "n: int = trinorm.count('bkaagj').surfaces\nv = trinorm.surfaces('bkaagj')\nw: int = v[0][0]\n")
             words = ["mypy", "--follow-imports=silent", "--ignore-missing-imports", "--no-site-packages", "--cache-dir", folder, str(user)]
             done = subprocess.run(words, env={"PATH": "/usr/bin:/bin", "MYPYPATH": str(REPOSITORY / "python")}, capture_output=True,
@@ -139,7 +153,7 @@ class BesideRegina(unittest.TestCase):
 
     def test_projective_planes_with_two_sides(self):
         t = regina.Example3.rp2xs1()
-        shown = trinorm.zero_efficient(t)
+        shown = trinorm.zero_efficient(t).witness
         self.assertEqual((shown.euler, shown.components[0].sides, t.isZeroEfficient()), (1, 2, True))
 
     def test_spheres_and_tori(self):

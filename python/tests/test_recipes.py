@@ -32,14 +32,20 @@ class ZeroEfficient(unittest.TestCase):
         return done.returncode, done.stdout.splitlines(), done.stderr
 
     def test_answers(self):
-        self.assertEqual(self.said("sig bkaagj\n"), (0, ["orientable yes", "closed yes", "surfaces 2", "positive and not linking 0"], ""))
+        self.assertEqual(self.said("sig bkaagj\n"), (0, ["orientable yes", "closed yes", "kind closed", "surfaces 2", "positive and not linking 0"], ""))
         status, lines, _ = self.said((REPOSITORY / "examples" / "projective-planes.txt").read_text())
-        self.assertEqual((status, lines[:4]), (1, ["orientable yes", "closed yes", "surfaces 9", "positive and not linking 2"]))
-        self.assertEqual(lines[5], "euler 1 linking no boundary no components 1")
-        self.assertEqual(self.said("tri 0\n")[1][2:], ["surfaces 0", "positive and not linking 0"])
+        self.assertEqual((status, lines[:5]), (1, ["orientable yes", "closed yes", "kind closed", "surfaces 9", "positive and not linking 2"]))
+        self.assertEqual(lines[6], "euler 1 linking no boundary no components 1")
+        self.assertEqual(self.said("tri 0\n")[1][3:], ["surfaces 0", "positive and not linking 0"])
         # without an end of the last line, and with CR LF
         self.assertEqual(self.said("sig bkaagj")[0], 0)
         self.assertEqual(self.said("tri 1\r\n0:1023 0:1023 0:1230 0:3012\r\n")[0], 0)
+
+    def test_the_kind(self):
+        """`closed yes` of `info` says that there is no boundary face, which is so of ideal triangulations too."""
+        for text, kind in (("sig bkaagj", "closed"), ("sig cPcbbbiht", "ideal torus 1"), ("tri 1\n- - - -", "bounded"), ("tri 0", "closed"),
+                           ("tri 1\n0:1203 0:2013 0:0231 0:0312", "ideal klein 1")):
+            self.assertEqual(self.said(f"{text}\n")[1][2], f"kind {kind}", text)
 
     def test_are_the_package_s(self):
         for t in ("bkaajj", "cPcbbbiht", "cMcabbjaj", "cMcabbgaj", "cPcbbbaai", trinorm.make(3, 8).table, trinorm.make(4, 8).table):
@@ -48,7 +54,7 @@ class ZeroEfficient(unittest.TestCase):
 
     def test_a_list_of_several_parts(self):
         status, lines, _ = self.said(str(long_one()))
-        self.assertEqual((status, lines[2:4]), (1, ["surfaces 11027", "positive and not linking 95"]))
+        self.assertEqual((status, lines[3:5]), (1, ["surfaces 11027", "positive and not linking 95"]))
 
     def test_refusals(self):
         self.assertEqual(self.said("sig bkaagjx\n"), (2, [], "zero-efficient: info: refused: signature trailing 6\n"))
@@ -58,10 +64,10 @@ class ZeroEfficient(unittest.TestCase):
 
     def test_cut_answers(self):
         real = trinorm.find()
-        for cut, text in (('case $1 in surfaces) "$real" "$@" | head -n 2 ;; *) exec "$real" "$@" ;; esac', "the list was cut off"),
-                          ('case $1 in describe) "$real" "$@" | head -n 3 ;; *) exec "$real" "$@" ;; esac', "not each surface"),
+        for cut, text in (('case $1 in surfaces) "$real" "$@" | head -n 2 ;; *) exec "$real" "$@" ;; esac', "the output of `surfaces` is incomplete"),
+                          ('case $1 in describe) "$real" "$@" | head -n 3 ;; *) exec "$real" "$@" ;; esac', "the output of `describe` is incomplete"),
                           ('case $1 in describe) exit 8 ;; *) exec "$real" "$@" ;; esac', "describe:"),
-                          ("exit 0", "the list was cut off")):
+                          ("exit 0", "the output of `surfaces` is incomplete")):
             with tempfile.TemporaryDirectory() as folder:
                 status, lines, error = self.said("sig bkaagj\n", script(folder, f"real='{real}'\n{cut}\n"))
                 self.assertEqual((status, lines), (2, []))
@@ -142,7 +148,7 @@ class OfRegina(unittest.TestCase):
         self.assertEqual([it for it in lines if not it.startswith(" ")],
                          ["eLMkabcddbrrag: RP3 # RP3", "bkaagb: S3", "cMcabbjaj: S2 x S1", "cPcbbbaai: L(3,1)"])
         self.assertIn("lost by crushing, and known by homology: RP3, RP3", lines[1])
-        self.assertIn("no closed connected orientable", self.said("crush_and_identify.py", "cPcbbbiht")[2])
+        self.assertIn("not a closed connected orientable", self.said("crush_and_identify.py", "cPcbbbiht")[2])
 
     def test_summands(self):
         whole = regina.Example3.poincare()
@@ -157,7 +163,7 @@ class OfRegina(unittest.TestCase):
         for name, more in (("efficiency_table.py", []), ("count_census.py", []), ("certify_spheres.py", [self.folder.name])):
             status, lines, error = self.said(name, "/no/such/file", *more)
             self.assertEqual((status != 0, lines), (True, []))
-            self.assertIn("no file of Regina's", error)
+            self.assertIn("this is not a file of Regina", error)
 
     @unittest.skipUnless(os.path.isfile(CENSUS), "Regina's census isn't there")
     def test_the_closed_census(self):

@@ -1,5 +1,6 @@
 """The version that is told is that of the repository, with what the build wrote."""
 import contextlib
+import importlib.metadata
 import io
 import tempfile
 import unittest
@@ -26,6 +27,18 @@ class Versions(unittest.TestCase):
             with self.assertRaises(SystemExit) as caught, contextlib.redirect_stdout(io.StringIO()) as said:
                 main(["--version"])
         self.assertEqual((caught.exception.code, said.getvalue()), (0, f"trinorm {trinorm.__version__}\ncommit abc\nkit made-up\n"))
+
+    def test_without_metadata(self):
+        """The tarball and the Debian package: the version is that of the file beside the program."""
+        with tempfile.TemporaryDirectory() as folder:
+            package = Path(folder, "share", "trinorm", "python", "trinorm", "versions.py")
+            installed = Path(folder, "libexec", "trinorm", "version")
+            with mock.patch("trinorm.versions.__file__", str(package)), mock.patch("trinorm.versions.REPOSITORY", Path(folder)), \
+                    mock.patch("importlib.metadata.version", side_effect=importlib.metadata.PackageNotFoundError):
+                self.assertEqual(versions.version(), "unknown")
+                installed.parent.mkdir(parents=True)
+                installed.write_text("proved elsewhere\nversion 1.2.3\ncommit abc\n", encoding="utf8")
+                self.assertEqual(versions.version(), "1.2.3")
 
 
 if __name__ == "__main__":

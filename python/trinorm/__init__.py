@@ -6,7 +6,7 @@
 
 This package starts the program and reads what it writes; what is proved is said of the program and not of the package.
 """
-from .answers import (Bulk, Component, Cover, Descent, Edge, Generator, Grouping, Info, Isomorphism, Made, Played,
+from .answers import (Accepted, Bulk, Component, Cover, Descent, Edge, Generator, Grouping, Info, Isomorphism, Made, Played,
                       Presentation, Relator, Sum, Surface, Term, Verdict, Vertex)
 from .batch import Answered, many
 from .census import census
@@ -14,20 +14,35 @@ from .certificates import Certificate, certify
 from .commands import (addup, bulk, check, cover, crush, csame, csig, decompose, descend, describe, group, info, lift,
                        make, pi1, play, rays, same, sig, surfaces, table, verify)
 from .program import Error, Failed, Refused, TimedOut, find
-from .questions import Contrary, Count, count, described, spheres, tori, zero_efficient
+from .questions import Count, ZeroEfficiency, count, described, spheres, tori, zero_efficient
 from .regina_surfaces import normal_surface, to_regina, vector_of
-from .tables import BadArgument, Gluing, Table, from_regina
+from .tables import BadArgument, Gluing, Table, from_regina, offer
 from .versions import version
 
 __version__ = version()
+
+# what a `Table` has as methods
+offer(certify, check, count, cover, crush, csig, decompose, descend, describe, described, info, lift, pi1, play, same, sig, spheres,
+      surfaces, tori, verify, zero_efficient)
+
+
+def __getattr__(name: str) -> object:
+    """Names of earlier versions."""
+    if name == "Contrary":
+        import warnings
+        warnings.warn("trinorm.Contrary is deprecated; write trinorm.ZeroEfficiency", DeprecationWarning, stacklevel=2)
+        return ZeroEfficiency
+    raise AttributeError(f"module {__name__!r} has no attribute {name!r}")
+
 
 __all__ = [
     "addup", "bulk", "check", "cover", "crush", "csame", "csig", "decompose", "descend", "describe", "group", "info",
     "lift", "make", "pi1", "play", "rays", "same", "sig", "surfaces", "table", "verify",
     "census", "certify", "count", "described", "many", "spheres", "tori", "zero_efficient",
-    "Answered", "Bulk", "Certificate", "Component", "Contrary", "Count", "Cover", "Descent", "Edge", "Generator", "Gluing",
+    "Accepted", "Answered", "Bulk", "Certificate", "Component", "Count", "Cover", "Descent", "Edge", "Generator", "Gluing",
     "Grouping", "Info",
     "Isomorphism", "Made", "Played", "Presentation", "Relator", "Sum", "Surface", "Table", "Term", "Verdict", "Vertex",
+    "ZeroEfficiency",
     "BadArgument", "Error", "Failed", "Refused", "TimedOut", "find", "from_regina", "normal_surface", "to_regina",
     "vector_of",
 ]

@@ -1,4 +1,4 @@
-"""python3 -m trinorm: a census on all processors, a comparison with Regina, pictures, and a check of the installation."""
+"""python3 -m trinorm: a census on all processors, a comparison with Regina, pictures, sentences for a paper, and a check of the installation."""
 from __future__ import annotations
 
 import argparse
@@ -7,7 +7,7 @@ import sys
 import threading
 from typing import List, Optional
 
-from . import certificates, commands, crosscheck, pictures, selfcheck, versions
+from . import certificates, citation, commands, crosscheck, pictures, selfcheck, versions
 from .census import add_arguments, main as run_census
 from .program import Error, Failed
 from .workers import Terminated, end_as_by_keyboard
@@ -39,33 +39,38 @@ def reader_of_words() -> argparse.ArgumentParser:
     kinds = reader.add_subparsers(dest="what", required=True)
 
     one = kinds.add_parser("census", help="run a command on each signature of a file, and write a JSON line for each",
-                           description="Started again with the same words it goes on where it stopped. "
-                                       "Status 1: some runs failed.")
+                           description="If it is started again with the same arguments, it resumes. "
+                                       "Exit status 1: some runs failed.")
     add_arguments(one)
     one.set_defaults(main=run_census)
 
-    one = kinds.add_parser("crosscheck", help="list vertex surfaces with Regina too, and print what differs",
-                           description="Status 1: something differs, or was refused.")
+    one = kinds.add_parser("crosscheck", help="list vertex surfaces with trinorm and Regina, and print the differences",
+                           description="Exit status 1: lists differ, or a triangulation was refused.")
     crosscheck.add_arguments(one)
     one.set_defaults(main=crosscheck.main)
 
-    one = kinds.add_parser("certify", help="moves that show that a triangulation is a 3-sphere, as an input of `check`",
-                           description="Status 1: none were found in time, which says nothing of the manifold.")
+    one = kinds.add_parser("certify", help="find moves that show that a triangulation is a 3-sphere, and print them as an input of `check`",
+                           description="Exit status 1: no moves were found. This does not mean that it is not a 3-sphere.")
     certificates.add_arguments(one)
     one.set_defaults(main=certificates.main)
 
-    one = kinds.add_parser("graph", help="the face-pairing graph of a triangulation, as DOT or SVG")
+    one = kinds.add_parser("cite", help="print the sentences by which a paper cites a list, with version, commit, kit and checksum",
+                           description="The sentences are those of CLAIMS, filled in for this installation.")
+    citation.add_arguments(one)
+    one.set_defaults(main=citation.main)
+
+    one = kinds.add_parser("graph", help="print the face-pairing graph of a triangulation, as DOT or SVG")
     one.add_argument("triangulation", metavar="SIGNATURE",
                      help="a signature, or - for a gluing table on standard input")
     one.add_argument("--svg", action="store_true")
     one.set_defaults(main=draw_graph)
 
-    one = kinds.add_parser("growth", help="an SVG picture of how lists grow, from the answers of a census")
+    one = kinds.add_parser("growth", help="print an SVG picture of how lists grow, from the results of a census")
     one.add_argument("answers", metavar="ANSWERS.jsonl")
     one.set_defaults(main=draw_growth)
 
-    one = kinds.add_parser("selfcheck", help="check this installation by worked rows and examples, and print what to report",
-                           description="It takes some seconds. Status 1: something differs.")
+    one = kinds.add_parser("selfcheck", help="test this installation by stored examples, and print what to report",
+                           description="It takes a few seconds. Exit status 1: something differs.")
     one.set_defaults(main=selfcheck.main)
     return reader
 

@@ -187,7 +187,7 @@ def certify(t: Given, seed: int = 0, timeout: Optional[float] = None, *, program
     """
     drawn = whole_number(seed)
     if drawn is None:
-        raise BadArgument(f"seed is a whole number, and not {shown(seed)}")
+        raise BadArgument(f"seed must be a whole number, not {shown(seed)}")
     clock = Clock(timeout)
     seconds = SECONDS if timeout is None else clock.timeout or math.inf
     table = commands.play(t, (), timeout=clock.left(), program=program).table
@@ -199,22 +199,22 @@ def certify(t: Given, seed: int = 0, timeout: Optional[float] = None, *, program
     if moves is None:
         return None
     if not commands.check(table, moves, program=program):
-        raise Failed("check did not accept the moves that were found")
+        raise Failed("`check` did not accept the moves that were found; please report this")
     return Certificate(table, tuple(moves))
 
 
 def add_arguments(reader: argparse.ArgumentParser) -> None:
     """The arguments of `python3 -m trinorm certify`."""
     reader.add_argument("triangulation", metavar="SIGNATURE", help="a signature, or - for a gluing table on standard input")
-    reader.add_argument("--seed", type=int, default=0, help="of the random numbers of the search (default: 0)")
-    reader.add_argument("--timeout", type=float, help=f"seconds of the search (default: {SECONDS:.0f})")
+    reader.add_argument("--seed", type=int, default=0, help="seed of the random numbers of the search (default: 0)")
+    reader.add_argument("--timeout", type=float, help=f"time limit of the search in seconds (default: {SECONDS:.0f})")
 
 
 def main(given: argparse.Namespace) -> int:
     """Prints the triangulation and the moves; status 1 if there are none."""
     made = certify(sys.stdin.read() if given.triangulation == "-" else given.triangulation, given.seed, given.timeout)
     if made is None:
-        print("trinorm: no moves to the 3-sphere were found, which says nothing of the manifold", file=sys.stderr)
+        print("trinorm: no moves to the 3-sphere were found; this does not mean that it is not a 3-sphere", file=sys.stderr)
         return 1
     print(made, end="")
     return 0

@@ -7,7 +7,8 @@ from typing import Dict, List, Optional, Sequence
 from . import commands
 from .answers import Vector, vector_line
 from .commands import Program
-from .regina_surfaces import COORDS, vertex_surfaces
+from .options import Coords
+from .regina_surfaces import COORDS, checked_coordinates, vertex_surfaces
 from .tables import Triangulation
 
 
@@ -29,16 +30,17 @@ class Comparison:
             return [f"{name}: the same {self.trinorm}"]
         alone = [("trinorm", it) for it in self.trinorm_alone] + [("Regina", it) for it in self.regina_alone]
         return [f"{name}: trinorm {self.trinorm}, Regina {self.regina}",
-                *(f"  {whose} alone: {vector_line(vector)}" for whose, vector in alone)]
+                *(f"  {whose} only: {vector_line(vector)}" for whose, vector in alone)]
 
 
-def compare(t: Triangulation, coords: Optional[str] = None, *,
+def compare(t: Triangulation, coords: Optional[Coords] = None, *,
             timeout: Optional[float] = None, program: Program = None) -> Dict[str, Comparison]:
     """Both lists compared in these coordinates, or in each of the three."""
+    names = list(COORDS) if coords is None else [checked_coordinates(coords)]
     table = commands.table(t, timeout=timeout, program=program)
     theirs = table.to_regina()
-    compared = {}
-    for name in [coords] if coords else COORDS:
+    compared: Dict[str, Comparison] = {}
+    for name in names:
         ours = commands.surfaces(table, name, timeout=timeout, program=program)
         compared[name] = _compared(ours, vertex_surfaces(theirs, name))
     return compared

@@ -6,8 +6,9 @@ import json
 from typing import Any, Dict, Iterable, List, Tuple
 
 from . import executors
-from .census import by_processes, faults_of_files, processors, read_entries, run_census
+from .census import by_processes, faults_of_files, read_entries, run_census
 from .comparisons import Comparison
+from .machine import processors
 from .options import add_run_arguments
 from .program import Failed, find
 from .regina_surfaces import COORDS
@@ -44,16 +45,16 @@ def all_are_same(path: str) -> bool:
 
 def add_arguments(reader: argparse.ArgumentParser) -> None:
     reader.add_argument("signatures", nargs="*", metavar="SIGNATURE")
-    reader.add_argument("--file", help="a file of lines SIGNATURE or SIGNATURE NAME, in their place")
+    reader.add_argument("--file", help="a file of lines SIGNATURE or SIGNATURE NAME, instead of signatures")
     reader.add_argument("--coords", choices=tuple(COORDS), help="only these coordinates (default: all three)")
-    reader.add_argument("--out", help="a file for a JSON line for each, gone on with as by census; only for --file")
+    reader.add_argument("--out", help="with --file, an output file of JSON lines, which is resumed as by census")
     add_run_arguments(reader)
 
 
 def main(given: argparse.Namespace) -> int:
     import_regina()
     if bool(given.signatures) == bool(given.file) or (given.out and not given.file) or given.out == "-":
-        raise Failed("either signatures are given, or --file, with or without a file behind --out")
+        raise Failed("give signatures, or --file FILE with or without --out FILE, but not both")
     task = Task("crosscheck", given.coords, given.timeout, find())
     if given.out:
         with by_processes(given.jobs or processors()) as engine:

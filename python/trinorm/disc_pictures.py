@@ -98,10 +98,10 @@ def columns_each(table: Table, vector: Sequence[int]) -> int:
     """The columns of each tetrahedron: 3, 7 or 10. `BadArgument` if a vector is none of such a width, or has other entries."""
     each = {each * len(table): each for each in (10, 3, 7)}.get(len(vector))
     if each is None:
-        raise BadArgument(f"a vector of {len(table)} tetrahedra has {7 * len(table)} entries ({3 * len(table)} in quad, {10 * len(table)} in "
-                          f"octagon coordinates), and not {len(vector)}")
+        raise BadArgument(f"with {len(table)} tetrahedra a vector has {7 * len(table)} entries ({3 * len(table)} in quad, {10 * len(table)} in "
+                          f"octagon coordinates), not {len(vector)}")
     if any(entry < 0 for entry in vector):
-        raise BadArgument("the entries of a vector are whole numbers from 0 on")
+        raise BadArgument("the entries of a vector must be whole numbers of at least 0")
     return each
 
 
@@ -264,7 +264,7 @@ def link_picture(table: Table, vertex: int) -> str:
     """A vertex link as glued triangles."""
     links = vertex_links(table)
     if not 0 <= vertex < len(links):
-        raise BadArgument(f"the triangulation has {len(links)} vertices, and vertex {vertex} is none of them")
+        raise BadArgument(f"vertex {vertex} does not exist; the triangulation has {len(links)} vertices, numbered from 0")
     link = links[vertex]
     net = Net(table, link)
     numbers = _numbers_of_cuts(table, link, net)

@@ -210,7 +210,7 @@ class Alike:
         tet, images = self._images[move.tet]
         same = self.other.move(tet, tuple(sorted(images[it] for it in move.core)))
         if same is None:
-            raise ValueError("the triangulations aren't isomorphic")
+            raise ValueError("the triangulations are not isomorphic")
         word = self.other.name(same)
         labels = [same.facets[4].labels[images[move.facets[4].vertices[label]]] for label in range(4)] + [4]
         here, there = self.one.play(move), self.other.play(same)

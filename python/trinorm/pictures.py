@@ -7,9 +7,10 @@ import math
 from typing import Any, Dict, Iterable, Iterator, List, Sequence, Tuple, Union
 
 from . import commands
-from .arguments import whole_numbers
+from .arguments import listed, plain, shown, whole_number, whole_numbers
 from .disc_pictures import edges_picture, link_picture, surface_picture
 from .drawing import BLUE, GREY, Point, svg, text, towards
+from .errors import BadArgument
 from .graph_layout import Pair, places, ports
 from .regina_surfaces import ReginaSurface, is_surface, vector_of
 from .tables import Table, Triangulation, size_of_signature
@@ -18,8 +19,16 @@ from .tables import Table, Triangulation, size_of_signature
 RADIUS, LABEL = 13.0, 23.0
 
 
+def _checked(table: Table) -> Table:
+    """A table, or BadArgument for any other value."""
+    if not isinstance(table, Table):
+        raise BadArgument(f"expected a Table, as `table` returns, not {shown(table)}")
+    return table.checked()
+
+
 def face_pairs(table: Table) -> List[Pair]:
     """The glued pairs of faces, each once."""
+    table = _checked(table)
     glued = [(tet, face, it) for tet, row in enumerate(table.rows) for face, it in enumerate(row) if it is not None]
     both = [Pair(tet, face, it.tet, it.images[face]) for tet, face, it in glued]
     return [it for it in both if it[:2] < it[2:]]
@@ -27,6 +36,7 @@ def face_pairs(table: Table) -> List[Pair]:
 
 def face_pairing_dot(table: Table) -> str:
     """The face-pairing graph: a node for each tetrahedron, an edge for each pair of glued faces, with their numbers."""
+    table = _checked(table)
     nodes = [f"  {tet};" for tet in range(len(table))]
     edges = [f'  {it.tet} -- {it.other_tet} [taillabel="{it.face}", headlabel="{it.other_face}"];'
              for it in face_pairs(table)]
@@ -81,7 +91,7 @@ def surface_svg(t: Triangulation, vector: Union[Sequence[int], ReginaSurface]) -
     table = commands.table(t)
     if is_surface(vector):
         return surface_picture(table, vector_of(vector, "octagon"))
-    return surface_picture(table, whole_numbers(vector, "a vector is a list of whole numbers or a regina.NormalSurface"))
+    return surface_picture(table, whole_numbers(vector, "a vector must be a list of whole numbers or a regina.NormalSurface"))
 
 
 def edges_svg(t: Triangulation) -> str:
@@ -95,7 +105,10 @@ def vertex_link_svg(t: Triangulation, vertex: int = 0) -> str:
 
     vertex: its number, as `info` lists the vertices
     """
-    return link_picture(commands.table(t), vertex)
+    number = whole_number(vertex)
+    if number is None or abs(number) > 1 << 64:
+        raise BadArgument(f"vertex must be the number of a vertex, not {shown(vertex)}")
+    return link_picture(commands.table(t), number)
 
 
 def _list_length(answer: Any) -> int:
@@ -109,14 +122,17 @@ def _list_length(answer: Any) -> int:
 
 def growth_points(lines: Iterable[str]) -> Iterator[Tuple[int, int]]:
     """For each answered line of a census of `surfaces`, `describe` or `count`: the tetrahedra, and the length of the list."""
-    for number, answered in enumerate(lines, 1):
+    given = plain(lines)  # an array of one value is no list
+    if isinstance(given, (str, bytes)) or not isinstance(given, Iterable):
+        raise BadArgument(f"expected a list of lines of a census, not {shown(lines)}")
+    for number, answered in enumerate(given, 1):
         try:
             entry = json.loads(answered)
             length = _list_length(entry.get("answer"))
             if length >= 0:
                 yield size_of_signature(entry["signature"]), length
-        except (ValueError, KeyError, AttributeError, IndexError) as fault:
-            raise ValueError(f"line {number} is none of a census: {fault}") from None
+        except (ValueError, KeyError, AttributeError, IndexError, TypeError) as fault:
+            raise BadArgument(f"line {number} is not a line of a census: {fault}") from None
 
 
 def _median(counts: Sequence[int]) -> float:
@@ -150,14 +166,24 @@ class Plane:
         yield f'<text x="{(self.LEFT + self.WIDE) / 2:.0f}" y="{self.HIGH - 12}" text-anchor="middle">{legend}</text>'
 
 
+def _checked_points(points: object) -> Iterator[Tuple[int, int]]:
+    """Pairs of whole numbers."""
+    expected = "points must be pairs of a number of tetrahedra and the length of a list"
+    for pair in listed(points, expected):
+        numbers = whole_numbers(pair, expected)
+        if len(numbers) != 2 or min(numbers) < 0:
+            raise BadArgument(f"{expected}, not {shown(pair)}")
+        yield numbers[0], numbers[1]
+
+
 def growth_svg(points: Iterable[Tuple[int, int]]) -> str:
     """How many surfaces triangulations have, by their number of tetrahedra: a dot for each, and the medians joined.
 
     points: pairs of a number of tetrahedra and the length of a list
     """
-    them = sorted(points)
+    them = sorted(_checked_points(points))
     if not them:
-        raise ValueError("there is nothing to draw: no list was answered")
+        raise BadArgument("there is nothing to draw: the file has no list of surfaces")
     plane = Plane(them)
     by_size: Dict[int, List[int]] = {}
     for at, count in them:

@@ -8,67 +8,90 @@ from __future__ import annotations
 
 import collections
 import itertools
+import warnings
 from dataclasses import dataclass
 from typing import (Any, Callable, Counter, Dict, Iterable, Iterator, List, Literal, NamedTuple, Optional, Tuple, Union,
                     overload)
 
 from . import arrays as numpy_arrays, commands
-from .answers import Component, Surface, Vector, is_yes, read_surfaces, read_vector
+from .answers import Component, Info, Surface, Vector, is_yes, read_surfaces, read_vector
 from .arguments import shown
 from .commands import Arrays
 from .errors import BadArgument
 from .html_tables import Shown
-from .options import words
+from .options import Coords, WithTriangles, words
 from .parts import Answers, Clock
 from .program import Program
 from .progress import Progress, reported
 from .tables import Triangulation, document
 
 
-class Contrary(int):
-    """A listed surface by which a triangulation is not 0-efficient. It is the number 0, so it counts as False, is equal to
-    False, and is `0` in JSON; it has what a `Surface` has."""
+Kind = Literal["closed", "ideal", "bounded", "invalid"]
 
-    surface: Surface
 
-    def __new__(cls, surface: Surface) -> Contrary:
-        made = super().__new__(cls, 0)
-        made.surface = surface
-        return made
+@dataclass(frozen=True, eq=False)
+class ZeroEfficiency:
+    """The verdict of `zero_efficient`, which is true or false, and equal to True or False.
 
-    def __bool__(self) -> Literal[False]:
-        return False
+    witness: None if it is true. A listed surface by which a triangulation is not 0-efficient. It is a sphere, a projective plane or a
+        disc, in standard coordinates
+    kind: `invalid`, if an edge is identified with itself in reverse; else `bounded`, if there is a boundary face; else `closed`, if
+        all vertex links are spheres; else `ideal`. What may be concluded depends on it
+    orientable: whether the triangulation is
+    """
+    witness: Optional[Surface]
+    kind: Kind
+    orientable: bool
+
+    def __bool__(self) -> bool:
+        return self.witness is None
+
+    def __eq__(self, other: object) -> bool:
+        if isinstance(other, bool):
+            return bool(self) == other
+        if not isinstance(other, ZeroEfficiency):
+            return NotImplemented
+        return (self.witness, self.kind, self.orientable) == (other.witness, other.kind, other.orientable)
+
+    def __hash__(self) -> int:
+        return hash(bool(self))
+
+    @property
+    def surface(self) -> Surface:
+        """Deprecated: `witness`."""
+        return self._named("surface", "witness")
 
     @property
     def vector(self) -> Vector:
-        """Its vector, in standard coordinates."""
-        return self.surface.vector
+        """Deprecated: `witness.vector`."""
+        return self._named("vector", "witness.vector").vector
 
     @property
     def euler(self) -> int:
-        """Its Euler characteristic: 2 for a sphere, 1 for a projective plane or a disc."""
-        return self.surface.euler
+        """Deprecated: `witness.euler`."""
+        return self._named("euler", "witness.euler").euler
 
     @property
     def linking(self) -> bool:
-        """Always False: it is no vertex link."""
-        return self.surface.linking
+        """Deprecated: `witness.linking`, which is False."""
+        return self._named("linking", "witness.linking").linking
 
     @property
     def boundary(self) -> bool:
-        """Whether it meets a boundary face."""
-        return self.surface.boundary
+        """Deprecated: `witness.boundary`."""
+        return self._named("boundary", "witness.boundary").boundary
 
     @property
     def components(self) -> Tuple[Component, ...]:
-        """Its one component."""
-        return self.surface.components
+        """Deprecated: `witness.components`."""
+        return self._named("components", "witness.components").components
 
-    def __repr__(self) -> str:
-        return f"Contrary({self.surface!r})"
-
-    def __reduce__(self) -> Tuple[Any, ...]:
-        return Contrary, (self.surface,)
+    def _named(self, old: str, new: str) -> Surface:
+        """The witness under an old name."""
+        if self.witness is None:
+            raise AttributeError(f"the verdict is true, so there is no witness and no {old}")
+        warnings.warn(f"`.{old}` is deprecated; write `.{new}`", DeprecationWarning, stacklevel=3)
+        return self.witness
 
 
 @dataclass(frozen=True)
@@ -112,7 +135,7 @@ def _read_numbers(lines: List[str]) -> List[_Numbers]:
     return [_Numbers(int(it[1]), is_yes(it[3]), most) for it, most in zip(surfaces, greatest)]
 
 
-def _described(t: Triangulation, coords: str, read: Callable[[List[str]], Answers], clock: Clock,
+def _described(t: Triangulation, coords: Coords, read: Callable[[List[str]], Answers], clock: Clock,
                program: Program) -> Iterator[Answers]:
     """What `describe` says of each vertex surface, read part by part."""
     asked, head = words("describe", coords=coords), document(t)
@@ -121,16 +144,16 @@ def _described(t: Triangulation, coords: str, read: Callable[[List[str]], Answer
 
 
 @overload
-def described(t: Triangulation, coords: str = ..., *, timeout: Optional[float] = ..., program: Program = ...,
+def described(t: Triangulation, coords: WithTriangles = ..., *, timeout: Optional[float] = ..., program: Program = ...,
               progress: Optional[Progress] = ..., arrays: Literal[False] = ...) -> List[Surface]: ...
 
 
 @overload
-def described(t: Triangulation, coords: str = ..., *, timeout: Optional[float] = ..., program: Program = ...,
+def described(t: Triangulation, coords: WithTriangles = ..., *, timeout: Optional[float] = ..., program: Program = ...,
               progress: Optional[Progress] = ..., arrays: Union[Literal[True], str]) -> numpy_arrays.Described: ...
 
 
-def described(t: Triangulation, coords: str = "standard", *, timeout: Optional[float] = None, program: Program = None,
+def described(t: Triangulation, coords: WithTriangles = "standard", *, timeout: Optional[float] = None, program: Program = None,
               progress: Optional[Progress] = None, arrays: Arrays = False) -> Union[List[Surface], numpy_arrays.Described]:
     """What `describe` says of each vertex surface, in standard or octagon coordinates.
 
@@ -146,16 +169,16 @@ def described(t: Triangulation, coords: str = "standard", *, timeout: Optional[f
 
 
 @overload
-def count(t: Triangulation, coords: str = ..., *, timeout: Optional[float] = ..., program: Program = ...,
+def count(t: Triangulation, coords: WithTriangles = ..., *, timeout: Optional[float] = ..., program: Program = ...,
           progress: Optional[Progress] = ..., arrays: Literal[False] = ...) -> Count: ...
 
 
 @overload
-def count(t: Triangulation, coords: str = ..., *, timeout: Optional[float] = ..., program: Program = ...,
+def count(t: Triangulation, coords: WithTriangles = ..., *, timeout: Optional[float] = ..., program: Program = ...,
           progress: Optional[Progress] = ..., arrays: Literal[True]) -> CountArrays: ...
 
 
-def count(t: Triangulation, coords: str = "standard", *, timeout: Optional[float] = None, program: Program = None,
+def count(t: Triangulation, coords: WithTriangles = "standard", *, timeout: Optional[float] = None, program: Program = None,
           progress: Optional[Progress] = None, arrays: bool = False) -> Union[Count, CountArrays]:
     """The vertex surfaces counted, in standard or octagon coordinates. None of them is kept.
 
@@ -166,7 +189,7 @@ def count(t: Triangulation, coords: str = "standard", *, timeout: Optional[float
     arrays: True for a `CountArrays`
     """
     if not isinstance(arrays, bool):
-        raise BadArgument(f"arrays is True or False, and not {shown(arrays)}")
+        raise BadArgument(f"arrays must be True or False, not {shown(arrays)}")
     if arrays:
         numpy_arrays.integer_type(True)  # fails without NumPy, before the list is asked
     by_euler: Counter[int] = collections.Counter()
@@ -198,31 +221,39 @@ def tori(t: Triangulation, *, timeout: Optional[float] = None, program: Program 
                  if it.euler == 0 and not it.linking and not it.boundary and it.components[0].orientable)
 
 
-def _contrary(parts: Iterable[List[Surface]]) -> Union[Literal[True], Contrary]:
-    """The first of these surfaces that has positive Euler characteristic and is no vertex link; True if there is none."""
-    for surface in itertools.chain.from_iterable(parts):
-        if surface.euler > 0 and not surface.linking:
-            return Contrary(surface)
-    return True
+def _witness(parts: Iterable[List[Surface]]) -> Optional[Surface]:
+    """The first of these surfaces that has positive Euler characteristic and is no vertex link."""
+    surfaces = itertools.chain.from_iterable(parts)
+    return next((it for it in surfaces if it.euler > 0 and not it.linking), None)
 
 
-def _by_list(text: str, clock: Clock, program: Program) -> Union[Literal[True], Contrary]:
-    """0-efficiency by the list in standard coordinates (`list_decides_efficiency`)."""
-    return _contrary(_described(text, "standard", read_surfaces, clock, program))
+def _by_list(text: str, clock: Clock, program: Program) -> Optional[Surface]:
+    """0-efficiency by the list in standard coordinates (`parts_decide_efficiency`). Returns the witness against it."""
+    return _witness(_described(text, "standard", read_surfaces, clock, program))
 
 
-def _by_quads(text: str, clock: Clock, program: Program) -> Union[Literal[True], Contrary]:
-    """0-efficiency by the lifts of the quad list, if all vertex links are spheres or discs (`quad_list_decides_efficiency`)."""
+def _by_quads(text: str, clock: Clock, program: Program) -> Optional[Surface]:
+    """0-efficiency by the lifts of the quad list, if all vertex links are spheres or discs (`described_lifts_decide_efficiency`).
+    Returns the witness against it."""
     listed = commands.listing(text, "quad", timeout=clock.left(), program=program)
     lifts = commands.ask_in_parts(["lift"], text + listed, lambda lines: lines, clock, program)
     lifted = "".join(f"{line}\n" for line in itertools.chain.from_iterable(lifts))
-    return _contrary(commands.ask_in_parts(["describe"], text + lifted, read_surfaces, clock, program))
+    return _witness(commands.ask_in_parts(["describe"], text + lifted, read_surfaces, clock, program))
+
+
+def _kind_of(info: Info) -> Kind:
+    """Whether a triangulation is closed, ideal or bounded."""
+    if not all(it.valid for it in info.edges):
+        return "invalid"
+    if not info.closed:
+        return "bounded"
+    return "closed" if all(it.kind == "sphere" for it in info.vertices) else "ideal"
 
 
 def zero_efficient(t: Triangulation, *, timeout: Optional[float] = None, program: Program = None,
-                   progress: Optional[Progress] = None) -> Union[Literal[True], Contrary]:
-    """True if each connected normal surface of positive Euler characteristic is a vertex link; else a `Contrary`, a vertex
-    surface that is none: a sphere, a projective plane or a disc. It counts as False and is equal to False.
+                   progress: Optional[Progress] = None) -> ZeroEfficiency:
+    """True if each connected normal surface of positive Euler characteristic is a vertex link; else false, with a vertex
+    surface that is none: a sphere, a projective plane or a disc.
 
     That lists decide this is proved: the quad list with its lifts, which is far shorter, if all vertex links are spheres or
     discs and all edges valid; else the list in standard coordinates. For a closed orientable triangulation it is the
@@ -231,9 +262,25 @@ def zero_efficient(t: Triangulation, *, timeout: Optional[float] = None, program
     disc, and Regina's `isZeroEfficient()` also says no if a boundary component is a sphere; here it is asked of spheres,
     projective planes and discs. A list in octagon coordinates decides another property: a sphere with an octagon is no
     vertex link, and 0-efficient triangulations of the 3-sphere have one.
+
+    Args:
+        t: the triangulation
+        progress: as of `surfaces`
+
+    Returns:
+        A `ZeroEfficiency`, which is true or false, with a `witness` if it is false, and the `kind` of the triangulation.
+
+    Raises:
+        Refused: the triangulation is no gluing table, or a number exceeds the limit
+
+    >>> import trinorm
+    >>> shown = trinorm.zero_efficient("eLMkabcddbrrag")
+    >>> bool(shown), shown.kind, shown.witness.euler
+    (False, 'closed', 1)
     """
     text, clock = document(t), Clock(timeout)
     program = reported(program, progress)
     info = commands.info(text, timeout=clock.left(), program=program)
     has_lifts = all(it.kind in ("sphere", "disc") for it in info.vertices) and all(it.valid for it in info.edges)
-    return (_by_quads if has_lifts else _by_list)(text, clock, program)
+    witness = (_by_quads if has_lifts else _by_list)(text, clock, program)
+    return ZeroEfficiency(witness, _kind_of(info), info.orientable)

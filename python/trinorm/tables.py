@@ -3,13 +3,17 @@ from __future__ import annotations
 
 import string
 from dataclasses import dataclass
-from typing import TYPE_CHECKING, Any, Iterable, Iterator, List, Optional, Protocol, Sequence, Tuple, Union
+from typing import TYPE_CHECKING, Any, Callable, Dict, Iterable, Iterator, List, Optional, Protocol, Sequence, Tuple, Union, cast
 
 from .arguments import listed, shown, whole_number
 from .errors import BadArgument as BadArgument, Failed
 
 if TYPE_CHECKING:
     from typing_extensions import TypeGuard
+
+    from .answers import (Accepted, Cover, Descent, Info, Isomorphism, Played, Presentation, Sum, Surface, Verdict)
+    from .certificates import Certificate
+    from .questions import Count, ZeroEfficiency
 
 Images = Tuple[int, int, int, int]
 
@@ -32,8 +36,8 @@ class Gluing:
         if isinstance(word, str) and word == "-":
             return None
         tet, colon, images = word.partition(":") if isinstance(word, str) else ("", "", "")
-        if not (colon and tet.isdecimal() and images.isdecimal() and len(images) == 4):
-            raise BadArgument(f"an entry of a gluing table is expected, as 1:0132, or -, and not {shown(word)}")
+        if not (colon and tet.isdecimal() and len(tet) <= 20 and images.isdecimal() and len(images) == 4):
+            raise BadArgument(f"an entry of a gluing table must be - or like 1:0132, not {shown(word)}")
         return cls(int(tet), (int(images[0]), int(images[1]), int(images[2]), int(images[3])))
 
 
@@ -41,6 +45,15 @@ Row = Tuple[Optional[Gluing], Optional[Gluing], Optional[Gluing], Optional[Gluin
 # what is taken for an entry of a row, and for a row
 GivenEntry = Union[None, str, Gluing, Tuple[int, Union[str, Sequence[int]]]]
 GivenRow = Union[str, Sequence[GivenEntry]]
+
+
+# the functions that a Table has as methods, by their names; the package puts them here, since they need what is declared here
+_functions: Dict[str, Callable[..., object]] = {}
+
+
+def offer(*functions: Callable[..., object]) -> None:
+    """Makes functions of a triangulation methods of tables."""
+    _functions.update((it.__name__, it) for it in functions)
 
 
 @dataclass(frozen=True)
@@ -65,7 +78,7 @@ class Table:
         """A table as the program writes it."""
         lines = text.splitlines() if isinstance(text, str) else []
         if lines[:1] != [f"tri {len(lines) - 1}"]:
-            raise BadArgument(f"the text of a gluing table is expected, `tri N` and N rows, and not {shown(text)}")
+            raise BadArgument(f"expected the text of a gluing table (`tri N` and N rows), not {shown(text)}")
         return cls(tuple(row_of(line) for line in lines[1:]))
 
     def to_regina(self) -> Any:
@@ -77,16 +90,100 @@ class Table:
             for tet, row in zip(tets, rows):
                 for face, gluing in enumerate(row):
                     if gluing is not None and sorted(gluing.images) != [0, 1, 2, 3]:
-                        raise ValueError(f"{gluing} has no permutation")
+                        raise ValueError(f"the entry {gluing} has no permutation")
                     if gluing is not None and tet.adjacentTetrahedron(face) is None:
                         tet.join(face, tets[gluing.tet], regina.Perm4(*gluing.images))
         except Exception as fault:  # Regina's own, whose names depend on its version
-            raise BadArgument(f"the rows of a Table are those of a gluing table: {fault}") from None
+            raise BadArgument(f"the rows of this Table are not those of a gluing table: {fault}") from None
         return made
 
     def checked(self) -> Table:
         """This table, if its rows have the form of rows; else BadArgument says what is wrong."""
-        return Table(tuple(map(row_of, listed(self.rows, "the rows of a Table are a tuple"))))
+        return Table(tuple(map(row_of, listed(self.rows, "the rows of a Table must be a tuple"))))
+
+    def info(self, *given: Any, **named: Any) -> Info:
+        """The skeleton (`trinorm.info`)."""
+        return cast("Info", _functions["info"](self, *given, **named))
+
+    def sig(self, *given: Any, **named: Any) -> str:
+        """The isomorphism signature (`trinorm.sig`)."""
+        return cast("str", _functions["sig"](self, *given, **named))
+
+    def csig(self, *given: Any, **named: Any) -> str:
+        """The signatures of the components (`trinorm.csig`)."""
+        return cast("str", _functions["csig"](self, *given, **named))
+
+    def surfaces(self, *given: Any, **named: Any) -> List[Tuple[int, ...]]:
+        """All vertex normal surfaces (`trinorm.surfaces`)."""
+        return cast("List[Tuple[int, ...]]", _functions["surfaces"](self, *given, **named))
+
+    def described(self, *given: Any, **named: Any) -> List[Surface]:
+        """All vertex normal surfaces, described (`trinorm.described`)."""
+        return cast("List[Surface]", _functions["described"](self, *given, **named))
+
+    def count(self, *given: Any, **named: Any) -> Count:
+        """The vertex normal surfaces, counted (`trinorm.count`)."""
+        return cast("Count", _functions["count"](self, *given, **named))
+
+    def spheres(self, *given: Any, **named: Any) -> List[Surface]:
+        """The vertex surfaces that are spheres (`trinorm.spheres`)."""
+        return cast("List[Surface]", _functions["spheres"](self, *given, **named))
+
+    def tori(self, *given: Any, **named: Any) -> List[Surface]:
+        """The vertex surfaces that are tori (`trinorm.tori`)."""
+        return cast("List[Surface]", _functions["tori"](self, *given, **named))
+
+    def zero_efficient(self, *given: Any, **named: Any) -> ZeroEfficiency:
+        """The verdict of `trinorm.zero_efficient`."""
+        return cast("ZeroEfficiency", _functions["zero_efficient"](self, *given, **named))
+
+    def cover(self, *given: Any, **named: Any) -> Cover:
+        """The orientable double cover (`trinorm.cover`)."""
+        return cast("Cover", _functions["cover"](self, *given, **named))
+
+    def pi1(self, *given: Any, **named: Any) -> Presentation:
+        """The fundamental group (`trinorm.pi1`)."""
+        return cast("Presentation", _functions["pi1"](self, *given, **named))
+
+    def descend(self, *given: Any, **named: Any) -> Descent:
+        """Moves that make it smaller (`trinorm.descend`)."""
+        return cast("Descent", _functions["descend"](self, *given, **named))
+
+    def certify(self, *given: Any, **named: Any) -> Optional[Certificate]:
+        """Moves to the standard 3-sphere (`trinorm.certify`)."""
+        return cast("Optional[Certificate]", _functions["certify"](self, *given, **named))
+
+    def describe(self, vectors: Any, *given: Any, **named: Any) -> List[Surface]:
+        """Surfaces described (`trinorm.describe`)."""
+        return cast("List[Surface]", _functions["describe"](self, vectors, *given, **named))
+
+    def verify(self, vectors: Any, *given: Any, **named: Any) -> List[Verdict]:
+        """Whether vectors are those of surfaces (`trinorm.verify`)."""
+        return cast("List[Verdict]", _functions["verify"](self, vectors, *given, **named))
+
+    def lift(self, vectors: Any, *given: Any, **named: Any) -> List[Tuple[int, ...]]:
+        """Vectors in quad coordinates, lifted (`trinorm.lift`)."""
+        return cast("List[Tuple[int, ...]]", _functions["lift"](self, vectors, *given, **named))
+
+    def crush(self, vector: Any, *given: Any, **named: Any) -> Table:
+        """What is left when it is crushed along a surface (`trinorm.crush`)."""
+        return cast("Table", _functions["crush"](self, vector, *given, **named))
+
+    def decompose(self, vectors: Any, *given: Any, **named: Any) -> List[Sum]:
+        """Vectors as sums of vertex surfaces (`trinorm.decompose`)."""
+        return cast("List[Sum]", _functions["decompose"](self, vectors, *given, **named))
+
+    def play(self, steps: Any, *given: Any, **named: Any) -> Played:
+        """What becomes of it by moves (`trinorm.play`)."""
+        return cast("Played", _functions["play"](self, steps, *given, **named))
+
+    def check(self, moves: Any, *given: Any, **named: Any) -> Accepted:
+        """Whether moves lead to the standard 3-sphere (`trinorm.check`)."""
+        return cast("Accepted", _functions["check"](self, moves, *given, **named))
+
+    def same(self, other: Any, *given: Any, **named: Any) -> Optional[Isomorphism]:
+        """An isomorphism to another triangulation (`trinorm.same`)."""
+        return cast("Optional[Isomorphism]", _functions["same"](self, other, *given, **named))
 
 
 class ReginaTriangulation(Protocol):
@@ -112,7 +209,7 @@ def import_regina() -> Any:
     try:
         import regina
     except ImportError:
-        raise Failed("this Python has no module regina; take the one that has, often /usr/bin/python3") from None
+        raise Failed("this Python has no module regina; use the one that Regina belongs to, often /usr/bin/python3") from None
     return regina
 
 
@@ -121,11 +218,11 @@ def row_of(row: object) -> Row:
 
     An entry is `1:0132`, `-`, None, a Gluing, or a pair of a tetrahedron and a permutation: a word or four numbers.
     """
-    expected = "a row of a gluing table is a list of four entries"
+    expected = "a row of a gluing table must have four entries"
     given: List[object] = [*row.split()] if isinstance(row, str) else listed(row, expected)
     entries: List[Optional[Gluing]] = [_entry(entry) for entry in given]
     if len(entries) != 4:
-        raise BadArgument(f"{expected}, and not of {len(entries)}")
+        raise BadArgument(f"{expected}, not {len(entries)}")
     return (entries[0], entries[1], entries[2], entries[3])
 
 
@@ -134,11 +231,11 @@ def _entry(entry: object) -> Optional[Gluing]:
         return None
     if isinstance(entry, str):
         return Gluing.parse(entry)
-    expected = "an entry of a gluing table is 1:0132, (1, '0132'), (1, (0, 1, 3, 2)), - or None"
+    expected = "an entry of a gluing table must be like 1:0132, (1, '0132'), (1, (0, 1, 3, 2)), - or None"
     pair = [entry.tet, entry.images] if isinstance(entry, Gluing) else listed(entry, expected)
     tet = whole_number(pair[0]) if len(pair) == 2 else None
-    if tet is None or tet < 0:
-        raise BadArgument(f"{expected}, and not {shown(entry)}")
+    if tet is None or not 0 <= tet < 1 << 64:
+        raise BadArgument(f"{expected}, not {shown(entry)}")
     images = pair[1] if isinstance(pair[1], str) else "".join(map(_digit, listed(pair[1], expected)))
     return Gluing.parse(f"{tet}:{images}")
 
@@ -146,7 +243,7 @@ def _entry(entry: object) -> Optional[Gluing]:
 def _digit(image: object) -> str:
     number = whole_number(image)
     if number is None or not 0 <= number <= 3:
-        raise BadArgument(f"the images of vertices are numbers from 0 to 3, and not {shown(image)}")
+        raise BadArgument(f"the images of vertices must be numbers from 0 to 3, not {shown(image)}")
     return str(number)
 
 
@@ -163,7 +260,7 @@ def is_of_snappy(value: object) -> TypeGuard[SnapPyTriangulation]:
 def from_regina(triangulation: ReginaTriangulation) -> Table:
     """The table of a `regina.Triangulation3`; tetrahedra, faces and vertices keep their numbers."""
     if not is_of_regina(triangulation):
-        raise BadArgument(f"a regina.Triangulation3 is expected, and not {shown(triangulation)}")
+        raise BadArgument(f"expected a regina.Triangulation3, not {shown(triangulation)}")
     rows = ([_gluing_in_regina(tet, face) for face in range(4)] for tet in triangulation.tetrahedra())
     return Table(tuple(map(row_of, rows)))
 
@@ -191,19 +288,18 @@ def document(triangulation: Triangulation) -> str:
 
 
 def _rows_document(rows: object) -> str:
-    forms = ("it is a signature, the text of a gluing table (of a file: Path(..).read_text()), a list of rows, or one of "
-             "Regina's or SnapPy's")
+    forms = ("a signature, the text of a gluing table (of a file: Path(..).read_text()), a list of rows, or a triangulation of "
+             "Regina or SnapPy")
     try:
-        given = listed(rows, "a triangulation is expected")
+        given = listed(rows, "expected a triangulation")
     except BadArgument as fault:
         raise BadArgument(f"{fault}: {forms}") from None
     if not given and isinstance(rows, Iterator):
-        raise BadArgument("a triangulation is expected, and not an iterator without rows: was it read before? Without "
-                          "tetrahedra it is []")
+        raise BadArgument("the iterator has no rows: it may be exhausted. The empty triangulation is []")
     try:
         return str(Table(tuple(map(row_of, given))))
     except BadArgument as fault:
-        raise BadArgument(f"a triangulation is expected: {forms}; of a list of rows: {fault}") from None
+        raise BadArgument(f"expected a triangulation: {forms}. As a list of rows it is wrong: {fault}") from None
 
 
 def _text_document(text: str) -> str:
@@ -211,9 +307,48 @@ def _text_document(text: str) -> str:
         return text if text.endswith("\n") else text + "\n"
     word = text.strip()
     if "/" in word or "." in word:
-        raise BadArgument(f"{word} is no signature: give the text of a file, not its name, and the components of a `csig` "
-                          "(between full stops) one by one")
+        raise BadArgument(f"{word} is not a signature. Of a file pass the text, not the name; of a `csig` pass each component "
+                          "(between full stops) separately")
     return f"sig {word}\n"
+
+
+def alone(triangulation: Triangulation) -> str:
+    """As `document`, for a place behind which more is written. A text with more or fewer lines than those of one triangulation
+    is a `BadArgument`, since the program would read it together with what comes after it."""
+    text = document(triangulation)
+    if not isinstance(triangulation, str):
+        return text
+    lines = _lines_of(text)
+    expected = _lines_of_head(lines[0]) if lines else None  # an empty text is refused by the program
+    if expected is not None and len(lines) != expected:
+        what = f"more text after it: {shown(lines[expected])}" if len(lines) > expected else f"{len(lines) - 1} rows of {expected - 1}"
+        raise BadArgument(f"expected the text of one triangulation; this text has {what}")
+    return text
+
+
+def is_empty(triangulation: Triangulation) -> bool:
+    """Whether a text has no line that the program reads."""
+    return isinstance(triangulation, str) and not _lines_of(triangulation)
+
+
+def _lines_of(text: str) -> List[str]:
+    """The lines of a document that the program reads: those that are neither blank nor a comment."""
+    stripped = (line.strip(" \t\r") for line in text.split("\n"))
+    return [line for line in stripped if line and not line.startswith("#")]
+
+
+def _lines_of_head(line: str) -> Optional[int]:
+    """How many lines a triangulation has that begins with this one; None if none does, which the program refuses."""
+    words = line.split()
+    if words[0] == "tri" and len(words) == 2 and words[1].isdecimal() and len(words[1]) <= 20:
+        return 1 + int(words[1])
+    return 1 if words[0] == "sig" and len(words) == 2 else None
+
+
+def size_of(text: str) -> int:
+    """How many tetrahedra the triangulation has with which a document begins."""
+    words = _lines_of(text)[0].split()
+    return int(words[1]) if words[0] == "tri" else size_of_signature(words[1])
 
 
 def size_of_signature(signature: str) -> int:

@@ -18,7 +18,8 @@ def version() -> str:
     try:
         return importlib.metadata.version("trinorm")
     except importlib.metadata.PackageNotFoundError:
-        return "unknown"
+        built = re.search(r"^version (.+)$", build(), re.MULTILINE)  # the tarball and Debian's package have no metadata of Python
+        return built[1] if built else "unknown"
 
 
 def build() -> str:
