@@ -1,13 +1,14 @@
 #!/usr/bin/env python3
 """Proves and builds the program, with all processors, and puts it at crates/trinorm/out/trinorm.
 
-    tools/build.py [--jobs N] [--keep] [--anew] [--measure]
+    tools/build.py [--jobs N] [--keep] [--browsers] [--anew] [--measure]
     tools/build.py --compare MANIFEST
     tools/build.py --take FILE
     tools/build.py --no-proof
 
 A first build proves what program and library stand on. --anew, --measure and --compare prove all crates, with the laws on which
 no program stands, and MANIFEST has the verdict of each; tests and must-fail edits are the gate's work (`rt ci`).
+The module for browsers takes about a minute more: it is made by --browsers, --anew, --measure and --compare.
 It goes by the sum of the sources: a program that was built from the same ones by the same kit, here or in another clone,
 is taken from the user's cache, where the last ten are kept. Else the work goes on in a copy of the sources in that
 cache, so it harms no other command, is interrupted at any time and goes on where it stopped, and a second one waits for
@@ -138,17 +139,22 @@ class Build:
         self.sources = read_sources(TOP, crates_of_build(TOP))
         self.others = read_other_sources(TOP, self.crates)
         self.to, self.programs, self.installed = folder_of_build(), Programs(), Installed(TOP)
+        self.with_browsers = given.anew or getattr(given, "browsers", False)
 
     def is_installed(self) -> bool:
         """Whether the program that stands in the clone was made from these sources."""
-        if self.given.anew or not self.installed.is_of(self.sources):
+        if self.given.anew or not self.installed.is_of(self.sources) or self.lacks_module(self.installed.files()):
             return False
         self.installed.touch(self.begun)
         return True
 
+    def lacks_module(self, files: Dict[str, bytes]) -> bool:
+        """Whether the module for browsers is asked for and not among these files, though it could be made of them."""
+        return self.with_browsers and "module" in files and "wasm" not in files and not wasm.missing()
+
     def is_taken(self, kit: Optional[Kit]) -> bool:
         """Whether such a program was kept, and is installed now."""
-        place = None if self.given.anew else self.programs.find(self.sources.sum(), kit.name if kit else None)
+        place = None if self.given.anew else self.programs.find(self.sources, kit.name if kit else None)
         if place is None:
             return False
         try:
@@ -156,10 +162,11 @@ class Build:
         except (OSError, NoManifest):
             # another build dropped it just now
             return False
-        if manifest.sources.linked != self.sources.linked:
+        if manifest.sources.linked != self.sources.linked or self.lacks_module(files):
             files = self.linked(kit, files)
             manifest = manifest._replace(sources=self.sources_of(files), files=sums_of(files))
-            self.keep(place, files, manifest)
+            if kit is not None:
+                self.keep(self.programs.place(manifest, kit.name), files, manifest)
         manifest = manifest._replace(version=version(TOP), commit=commit(TOP))
         self.installed.install(files, manifest, self.begun, "here")
         say(f"took the program that was built from the same sources: sha256 {manifest.files['program']}")
@@ -172,6 +179,7 @@ class Build:
             return proved
         from library import build_library
 
+        say("links the library for other languages" + (", and makes the module for browsers: about a minute" if self.with_browsers else ""))
         with tempfile.TemporaryDirectory() as folder:
             archive = Path(folder, FILES["archive"])
             archive.write_bytes(files["archive"])
@@ -181,7 +189,7 @@ class Build:
                 say(f"there is no library for other languages, since it wasn't linked: {fault}")
                 return proved
             linked = {name: Path(folder, "made", FILES[name]).read_bytes() for name in ("library", "server")}
-            return {**proved, **linked, **wasm.made(kit.at, proved.get("module"), say)}
+            return {**proved, **linked, **(wasm.made(kit.at, proved.get("module"), say) if self.with_browsers else {})}
 
     def keep(self, place: Path, files: Dict[str, bytes], manifest: Manifest) -> None:
         try:
@@ -235,7 +243,7 @@ class Build:
         manifest = Manifest(version(TOP), commit(TOP), kit.line, self.sources_of(files), sums_of(files), workspace.anew,
                             workspace.verdicts, others=self.others)
         self.installed.install(files, manifest, self.begun, "here")
-        self.keep(self.programs.place(self.sources.sum(), kit.name), files, manifest)
+        self.keep(self.programs.place(manifest, kit.name), files, manifest)
         say(f"built in {round(time.time() - self.begun)} s: version {manifest.version}, commit {manifest.commit}, {manifest.kit}, "
             f"program sha256 {manifest.files['program']}")
 
@@ -273,7 +281,7 @@ def held(path: Path, wait: str) -> Iterator[IO[str]]:
 def build_with(given: argparse.Namespace, kit: Kit) -> None:
     """Builds, where no other build of this clone or of the same sources does."""
     build = Build(given)
-    sources = build.programs.place(build.sources.sum(), kit.name)
+    sources = build.programs.proof(build.sources.sum(), kit.name)
     with held(Path(f"{build.to}.lock"), "another build is going on; waiting for it") as lock:
         with held(Path(f"{sources}.lock"), "the same sources are being built for another clone; waiting for it"):
             # what was waited for may be what is wanted
@@ -333,13 +341,14 @@ def compare(given: argparse.Namespace, kit: Kit) -> None:
 def read_words() -> argparse.Namespace:
     parser = argparse.ArgumentParser(description="Proves and builds the program.")
     parser.add_argument("--jobs", type=int, default=jobs_that_fit(), metavar="N", help="prove by N jobs at a time")
+    parser.add_argument("--browsers", action="store_true", help="make the module for browsers too")
     parser.add_argument("--keep", action="store_true", help="keep what was proved, for the build after a change")
     kinds = parser.add_mutually_exclusive_group()
-    kinds.add_argument("--anew", action="store_true", help="prove all, and take nothing that is kept")
-    kinds.add_argument("--measure", action="store_true", help="prove all, and write build_times.txt")
-    kinds.add_argument("--compare", metavar="MANIFEST", help="prove all, and compare with a release's program")
-    kinds.add_argument("--take", metavar="FILE", help="install a release's program that was made from these sources")
-    kinds.add_argument("--no-proof", action="store_true", help="end with 9 where something would have to be proved")
+    kinds.add_argument("--anew", action="store_true", help="prove everything, and use nothing that was kept")
+    kinds.add_argument("--measure", action="store_true", help="prove everything, and write build_times.txt")
+    kinds.add_argument("--compare", metavar="MANIFEST", help="prove everything, and compare with the program of a release")
+    kinds.add_argument("--take", metavar="FILE", help="install the program of a release that was made from these sources")
+    kinds.add_argument("--no-proof", action="store_true", help="end with 9 if something would have to be proved")
     given = parser.parse_args()
     given.anew = given.anew or given.measure or given.compare is not None
     given.keep = given.keep or changed(TOP, ["crates", "crates.txt", "HANDLES"])
@@ -369,6 +378,9 @@ def main() -> None:
             build_with(given, kit)
     except (NotProved, Unusable) as fault:
         say(str(fault))
+        sys.exit(9)
+    except PermissionError as fault:
+        say(f"{fault.filename} cannot be written: {fault.strerror}. Set XDG_CACHE_HOME to another folder for the build")
         sys.exit(9)
     except KeyboardInterrupt:
         sys.exit(f"{PROGRAM}: interrupted; the next build goes on from here")

@@ -13,7 +13,7 @@ from pathlib import Path
 from typing import IO, Any, Dict, Iterator, List, Optional, Tuple, cast
 
 from manifest import FILES, Manifest, NoManifest, read_manifest
-from repository import cache_folder, sum_of, sum_of_file
+from repository import Sources, cache_folder, sum_of, sum_of_file
 
 MOST_PROGRAMS = 10
 # a build's packed libraries take some 120 MB
@@ -44,20 +44,32 @@ class Programs:
     def __init__(self, folder: Optional[Path] = None) -> None:
         self.folder = folder or cache_folder() / "programs"
 
-    def place(self, sources: str, kit: str) -> Path:
+    def proof(self, sources: str, kit: str) -> Path:
+        """What the places of one proof begin with."""
         return self.folder / f"{sources[:32]}-{sum_of(kit.encode())[:16]}"
 
-    def find(self, sources: str, kit: Optional[str]) -> Optional[Path]:
-        """The folder of a program that was proved from these sources, by this kit, or by any where there is none here."""
-        if kit is None:
-            places = sorted(self.folder.glob(f"{sources[:32]}-*"), key=last_used, reverse=True)
-        else:
-            places = [self.place(sources, kit)]
-        for place in places:
-            if self.holds(place, sources):
+    def place(self, manifest: Manifest, kit: str) -> Path:
+        """The folder of a program. Those of one proof with other libraries around it have places of their own."""
+        linked = sum_of("".join(f"{line}\n" for line in manifest.sources.lines_of_linked()).encode())
+        return Path(f"{self.proof(manifest.sources.sum(), kit)}-{linked[:16]}")
+
+    def find(self, sources: Sources, kit: Optional[str]) -> Optional[Path]:
+        """The folder of a program that was proved from these sources, by this kit, or by any where there is none here; the one with
+        the same library, if there is one, else the last that was used."""
+        begin = f"{sources.sum()[:32]}-" if kit is None else self.proof(sources.sum(), kit).name
+        places = sorted((it for it in self.folder.glob(f"{begin}*") if it.is_dir()), key=last_used, reverse=True)
+        for place in sorted(places, key=lambda it: not self.has_linked(it, sources)):
+            if self.holds(place, sources.sum()):
                 os.utime(place)
                 return place
         return None
+
+    def has_linked(self, place: Path, sources: Sources) -> bool:
+        """Whether the library that is kept there was linked from these sources."""
+        try:
+            return read_manifest((place / "MANIFEST").read_text("utf8")).sources.linked == sources.linked
+        except (OSError, NoManifest):
+            return False
 
     def holds(self, place: Path, sources: str) -> bool:
         """Whether a program stands there, made from these sources, and all files are those that were kept."""
@@ -87,7 +99,7 @@ class Programs:
         kept = sorted((it for it in self.folder.iterdir() if it.is_dir()), key=last_used, reverse=True)
         for old in kept[MOST_PROGRAMS:]:
             shutil.rmtree(old, ignore_errors=True)
-            drop_lock(Path(f"{old}.lock"))
+            drop_lock(self.folder / f"{'-'.join(old.name.split('-')[:2])}.lock")
 
 
 class Libraries:

@@ -114,7 +114,7 @@ def with_library(made: Made) -> Files:
         files[f"lib/{FILES['archive']}"] = (made.files["archive"], 0o644)
         files[f"lib/pkgconfig/{PROGRAM}.pc"] = (package_config(made.version), 0o644)
         files.update(below(f"share/{PROGRAM}/rust", "library/rust"))
-    for name in ("README.md", "CHANGELOG.md", "CITATION.cff"):
+    for name in ("README.md", "CHANGELOG.md", "CONTRIBUTING.md", "SECURITY.md", "CITATION.cff", "paper.md", "paper.bib"):
         files[f"share/doc/{PROGRAM}/{name}"] = plain(TOP / name)
     return {**files, **below(f"share/doc/{PROGRAM}/docs", "docs")}
 

@@ -31,7 +31,7 @@ def refuse(why: str) -> NoReturn:
 def proved() -> Tuple[Dict[str, bytes], Manifest]:
     """What was made by a build that proved all, from the sources of this commit, and what was told of it."""
     sources, programs, command = read_sources(TOP, crates_of_build(TOP)), Programs(), shutil.which("rt")
-    place = programs.find(sources.sum(), Kit(command).name if command else None)
+    place = programs.find(sources, Kit(command).name if command else None)
     if place is None:
         refuse("no program of these sources is kept here: tools/build.py --anew proves and builds it")
     files, manifest = programs.read(place)
@@ -73,8 +73,8 @@ def release(gate: str) -> List[Tuple[str, bytes]]:
 
 def main() -> None:
     parser = argparse.ArgumentParser(description="Makes a release of the commit.")
-    parser.add_argument("--gate", metavar="FILE", help="what the gate said, whose last line goes into MANIFEST")
-    parser.add_argument("--out", metavar="FOLDER", default=str(TOP / "dist"), help="where the files go, in place of dist")
+    parser.add_argument("--gate", metavar="FILE", help="the output of the merge gate (rt ci), whose last line goes into MANIFEST")
+    parser.add_argument("--out", metavar="FOLDER", default=str(TOP / "dist"), help="the folder of the files (default: dist)")
     given = parser.parse_args()
     if commit(TOP) == "none":
         refuse("this is no checkout, so there is no commit to tell")

@@ -9,7 +9,7 @@ fn folders() -> Vec<PathBuf> {
     if let Some(named) = std::env::var_os("TRINORM_LIB_DIR") {
         return vec![PathBuf::from(named)];
     }
-    let here = std::env::var_os("CARGO_MANIFEST_DIR").expect("cargo says where the crate lies");
+    let here = std::env::var_os("CARGO_MANIFEST_DIR").expect("cargo sets CARGO_MANIFEST_DIR");
     ["../../../crates/trinorm/out", "../../../../lib"]
         .iter()
         .map(|it| Path::new(&here).join(it))
@@ -19,7 +19,7 @@ fn folders() -> Vec<PathBuf> {
 fn main() {
     let folders = folders();
     let Some(found) = folders.iter().find(|it| it.join(ARCHIVE).is_file()) else {
-        panic!("no {ARCHIVE} in {folders:?}: TRINORM_LIB_DIR names its folder");
+        panic!("{ARCHIVE} was not found in {folders:?}; name its folder by TRINORM_LIB_DIR");
     };
     println!("cargo:rerun-if-changed={}", found.join(ARCHIVE).display());
     println!("cargo:rustc-link-search=native={}", found.display());

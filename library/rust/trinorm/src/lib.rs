@@ -1,7 +1,7 @@
-//! The workbench in the process: [`run`] answers words and an input as the program `trinorm` does.
+//! The program `trinorm` as a library: [`run`] takes the arguments of a command line and an input.
 //!
-//! The answers come from a static library that is proved to give them; what is proved says nothing of this crate, which
-//! calls it and lends it memory.
+//! The results are computed by a static library that is proved. This crate, which calls the library and allocates its
+//! memory, is tested, not proved.
 #![deny(unsafe_op_in_unsafe_fn)]
 
 mod heap;
@@ -24,58 +24,58 @@ extern "C" {
 /// The status of the program.
 #[derive(Clone, Copy, Debug, PartialEq, Eq)]
 pub enum Status {
-    /// 0: the text is the answer.
+    /// 0: the text is the output.
     Done,
-    /// 2: the words are no command with its options. From here on the text is the line of a refusal.
+    /// 2: invalid command line. For this status and the next ones the text is an error line.
     Usage,
-    /// 3: the input is too long, or no document of the command.
+    /// 3: invalid input.
     Input,
-    /// 4: a check of the command refused the document.
+    /// 4: the input is valid, but the command cannot answer it.
     Refused,
-    /// 5: a number passed the limit.
+    /// 5: a number exceeds the limit.
     Large,
 }
 
-/// How the program would end, and what it would write.
+/// The exit status and the output that the program has for the same arguments and input.
 #[derive(Clone, Debug, PartialEq, Eq)]
 pub struct Answer {
     pub status: Status,
     pub text: Vec<u8>,
 }
 
-/// Why there is no answer.
+/// The reason for which there is no answer.
 #[derive(Clone, Copy, Debug, PartialEq, Eq)]
 pub enum Fault {
     /// Memory ran out.
     NoMemory,
-    /// A word has a zero byte.
+    /// An argument contains a zero byte.
     ZeroByte,
 }
 
 impl std::fmt::Display for Fault {
     fn fmt(&self, to: &mut std::fmt::Formatter<'_>) -> std::fmt::Result {
         to.write_str(match self {
-            Fault::NoMemory => "no memory",
-            Fault::ZeroByte => "a word has a zero byte",
+            Fault::NoMemory => "out of memory",
+            Fault::ZeroByte => "an argument contains a zero byte",
         })
     }
 }
 
 impl std::error::Error for Fault {}
 
-/// How large the room for an answer is at first. The system gives its pages as an answer reaches them, so a room that
+/// How large the buffer for an answer is at first. The system gives its pages as an answer reaches them, so a buffer that
 /// holds nearly every answer costs no more than a small one, and spares a second computation.
 const ROOM: usize = 1 << 26;
 
-/// Answers words, as `["surfaces", "--coords", "quad"]`, and an input, as `b"sig cPcbbbiht\n"`.
+/// Runs a command, such as `["surfaces", "--coords", "quad"]`, on an input, such as `b"sig cPcbbbiht\n"`.
 ///
-/// Fails with [`Fault::ZeroByte`] if a word has a zero byte, and with [`Fault::NoMemory`] if memory runs out, also for the
-/// room of the answer. An answer of more than 64 MiB is computed twice, since only the first run says how long it is.
+/// Fails with [`Fault::ZeroByte`] if an argument contains a zero byte, and with [`Fault::NoMemory`] if memory runs out, also
+/// for the buffer of the answer. An answer of more than 64 MiB is computed twice, since only the first run shows its length.
 pub fn run(words: &[&str], input: &[u8]) -> Result<Answer, Fault> {
     run_with_room(ROOM, words, input)
 }
 
-/// As `run`, with a first room of `size` bytes.
+/// As `run`, with a first buffer of `size` bytes.
 fn run_with_room(size: usize, words: &[&str], input: &[u8]) -> Result<Answer, Fault> {
     let words = joined(words)?;
     let mut room = Room::new(size).ok_or(Fault::NoMemory)?;
@@ -98,7 +98,7 @@ fn run_with_room(size: usize, words: &[&str], input: &[u8]) -> Result<Answer, Fa
     }
 }
 
-/// The words with a zero byte between each two.
+/// The arguments with a zero byte between each two.
 fn joined(words: &[&str]) -> Result<Vec<u8>, Fault> {
     if words.iter().any(|word| word.contains('\0')) {
         return Err(Fault::ZeroByte);
@@ -124,7 +124,7 @@ fn copied(bytes: &[u8]) -> Option<Vec<u8>> {
     Some(copy)
 }
 
-/// The status of the call, and how long its answer is, which is at the start of the room if it fits.
+/// The status of the call, and how long its answer is, which is at the start of the buffer if it fits.
 fn answer_into(room: &mut [u8], words: &[u8], input: &[u8]) -> (u8, usize) {
     let mut needed = 0;
     // SAFETY: a slice's pointer is never null, all bytes of the room are initialized, and what is borrowed for writing
