@@ -4,7 +4,7 @@
 
 Says of each subject on how many triangulations (or vectors) both say the same. 0-efficiency is compared on the first 1,000 of
 Regina's own closed orientable census too, where its file is there. Quad lists and lifts are compared where all
-edges are valid: at an internal edge that is joined to its own reverse the quad equations differ.
+edges are valid: at an internal edge that is joined to its own reverse the quad equations differ. Status 1: something differs.
 """
 import itertools
 import os
@@ -110,7 +110,7 @@ def check_census(count: Count) -> None:
         count("0-efficiency, Regina's census", bool(trinorm.zero_efficient(t)) == t.isZeroEfficient())
 
 
-def main() -> None:
+def main() -> int:
     if len(sys.argv) > 1:
         os.environ["TRINORM"] = sys.argv[1]
     random.seed(7)
@@ -126,6 +126,8 @@ def main() -> None:
     check_census(count)
     for subject, of in all_of.items():
         print(f"{subject}: {same[subject]} of {of}")
+    print(f"{sum(same.values())} of {sum(all_of.values())} comparisons of {len(all_of)} subjects agree")
+    return 0 if same == all_of else 1
 
 
-main()
+sys.exit(main())

@@ -15,10 +15,10 @@ DOCS = Path(__file__).resolve().parents[1] / "docs"
 def drawn() -> "dict[str, str]":
     """The pictures by the names of their files."""
     shown = trinorm.zero_efficient("eLMkabcddbrrag")
-    assert isinstance(shown, trinorm.Contrary)
+    assert shown.witness is not None
     return {
         "face-pairing.svg": pictures.face_pairing_svg(trinorm.table("uLMzMzMzMzMzMPcbcdefghijklmnopqrsttthhhhhhhhhhhhhhhhhhhah")),
-        "surface.svg": pictures.surface_svg("eLMkabcddbrrag", shown.vector),
+        "surface.svg": pictures.surface_svg("eLMkabcddbrrag", shown.witness.vector),
         "vertex-link.svg": pictures.vertex_link_svg("cPcbbbiht"),
     }
 

@@ -18,7 +18,7 @@ import subprocess
 import sys
 import tempfile
 from pathlib import Path
-from typing import Dict, Iterator, List
+from typing import Any, Dict, Iterator, List
 
 from common import HERE, TOP
 from trinorm import find
@@ -26,7 +26,7 @@ from trinorm import find
 sys.path.insert(0, str(Path(TOP, "python")))
 from tests.engines import environment, python_with  # noqa: E402
 
-COMMANDS = {"`sig`": ["--command", "sig"], "`surfaces`, quad": ["--coords", "quad"], "`surfaces`": []}
+COMMANDS: Dict[str, List[str]] = {"`sig`": ["--command", "sig"], "`surfaces`, quad": ["--coords", "quad"], "`surfaces`": []}
 
 
 @contextlib.contextmanager
@@ -34,7 +34,7 @@ def dask(python: str, around: Dict[str, str], folder: str) -> Iterator[str]:
     """A scheduler with two workers. Its file."""
     file = os.path.join(folder, "scheduler")
     start = [python, "-m"]
-    quiet = {"env": around, "stdout": subprocess.DEVNULL, "stderr": subprocess.DEVNULL}
+    quiet: Dict[str, Any] = {"env": around, "stdout": subprocess.DEVNULL, "stderr": subprocess.DEVNULL}
     runs = [subprocess.Popen([*start, "distributed.cli.dask_scheduler", "--host", "127.0.0.1", "--port", "0", "--no-dashboard",
                               "--scheduler-file", file], **quiet)]
     try:
@@ -71,18 +71,19 @@ def main() -> None:
         lines = Path(HERE, "census_signatures.txt").read_text("utf8").split()
         Path(signatures).write_text("".join(f"{line} {number}\n" for number in range(10) for line in lines), "utf8")
         census = ["trinorm", "census", signatures, "--out", out]
-        engines = {"one job": [sys.executable, "-m", *census, "--jobs", "1"], "two processes": [sys.executable, "-m", *census, "--jobs", "2"]}
+        engines: Dict[str, List[str]] = {name: [sys.executable, "-m", *census, "--jobs", jobs]
+                                         for name, jobs in (("one job", "1"), ("two processes", "2"))}
         if python_with("distributed"):
             file = stack.enter_context(dask(str(python_with("distributed")), around, folder))
             engines["Dask, two workers"] = [str(python_with("distributed")), "-m", *census, "--dask", file]
         if python_with("mpi4py.futures") and shutil.which("mpiexec"):
             engines["MPI, two workers"] = ["mpiexec", "-n", "3", str(python_with("mpi4py.futures")), "-m", "mpi4py.futures", "-m", *census, "--mpi"]
         print(f"| Command | {' | '.join(engines)} |\n|---|{'---|' * len(engines)}")
-        for name, command in COMMANDS.items():
+        for name, options in COMMANDS.items():
             least = {engine: float("inf") for engine in engines}
             for _ in range(given.rounds):
                 for engine, words in engines.items():
-                    least[engine] = min(least[engine], seconds([*words, *command], around, out))
+                    least[engine] = min(least[engine], seconds(words + options, around, out))
             print(f"| {name} | {' | '.join(f'{10000 / least[engine]:,.0f}' for engine in engines)} |", flush=True)
 
 

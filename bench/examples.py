@@ -1,18 +1,16 @@
 #!/usr/bin/env python3
-"""Runs each example of the README and of docs/ and compares its answer.
+"""Runs each example of the README, the paper, the package's README and docs/, and compares its answer.
 
     bench/examples.py [PAGE..]
 
 An example is a line `$ COMMAND` in an indented block, with what it writes to standard output below it, or a Python session
-(`>>> `) in one; the sessions of a page go on from each other. A command of the README's table of commands has to end with
-status 0. Python is the one that runs this script; what needs a module that it has not, as regina or numpy, is left out. Stops
-at the first that differs; the last line says how many ran.
+(`>>> `) in one; the sessions of a page go on from each other. Python is the one that runs this script; what needs a module
+that it has not, as regina or numpy, is left out. Stops at the first that differs; the last line says how many ran.
 """
 import doctest
 import glob
 import importlib.util
 import os
-import re
 import subprocess
 import sys
 from typing import Dict, Iterator, List, Optional, Tuple
@@ -35,8 +33,8 @@ def blocks(text: str) -> Iterator[List[str]]:
             block = []
 
 
-def examples(text: str) -> Iterator[Tuple[str, Optional[List[str]]]]:
-    """Each command with the lines that it has to write, or None where only its status is looked at."""
+def examples(text: str) -> Iterator[Tuple[str, List[str]]]:
+    """Each command with the lines that it has to write."""
     for block in blocks(text):
         command: Optional[str] = None
         answer: List[str] = []
@@ -47,8 +45,6 @@ def examples(text: str) -> Iterator[Tuple[str, Optional[List[str]]]]:
                 command, answer = line[2:], []
             elif command:
                 answer.append(line)
-    for command in re.findall(r"\| `(\./trinorm [^`]*)` \|", text):
-        yield command, None
 
 
 def is_left_out(example: str) -> bool:
@@ -56,12 +52,12 @@ def is_left_out(example: str) -> bool:
     return any(word in example for word in MISSING)
 
 
-def is_right(command: str, answer: Optional[List[str]], around: Dict[str, str]) -> bool:
+def is_right(command: str, answer: List[str], around: Dict[str, str]) -> bool:
     """Runs a command; where it differs, says so."""
     run = subprocess.run(["bash", "-c", command], cwd=TOP, env=around, stdin=subprocess.DEVNULL, stdout=subprocess.PIPE,
                          text=True, timeout=600, check=False)
     said = run.stdout.rstrip("\n").split("\n") if run.stdout else []
-    if (run.returncode != 0) if answer is None else (said != answer):
+    if said != answer:
         print(f"{command}\n  expected {answer}\n  got      {said} status {run.returncode}")
         return False
     return True
@@ -89,7 +85,8 @@ def runs(page: str, around: Dict[str, str]) -> Iterator[Optional[bool]]:
 
 
 def main(pages: List[str]) -> int:
-    pages = pages or [os.path.join(TOP, "README.md"), *sorted(glob.glob(os.path.join(TOP, "docs", "*.md")))]
+    others = [os.path.join(TOP, *path) for path in (("README.md",), ("paper.md",), ("python", "README.md"))]
+    pages = pages or [*others, *sorted(glob.glob(os.path.join(TOP, "docs", "*.md")))]
     os.chdir(TOP)
     sys.path.insert(0, PYTHON)
     around = dict(os.environ, PYTHONPATH=PYTHON, PATH=os.pathsep.join([os.path.dirname(sys.executable), TOP, os.environ["PATH"]]))

@@ -18,7 +18,8 @@ import sys
 import tempfile
 from typing import Callable, List, Tuple
 
-from common import find
+import common  # noqa: F401  (with the path of the package)
+from trinorm import find
 
 # a status, and what was written
 End = Tuple[int, bytes]
@@ -156,7 +157,7 @@ def failing_calls(run: Callable[[int], Tuple[int, bytes, List[int]]], kind: int,
         got, said, counts = run(call)
         failed = counts[kind] >= call
         if not (is_right(got, said) if failed else (got, said) == ordinary):
-            raise SystemExit(f"call {call} of kind {kind}: {got} {said}")
+            raise SystemExit(f"call {call} of kind {kind}: {got} {said!r}")
         if not failed:
             return call - 1
 
@@ -182,6 +183,7 @@ def main() -> None:
             )
             print(f"{' '.join(words):48} status {status}: {allocations:5} allocations, {reads:3} reads, {writes:3} writes")
             sys.stdout.flush()
+    print("each refused allocation, failed read and failed write was answered as it should be")
 
 
 if __name__ == "__main__":

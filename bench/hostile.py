@@ -21,7 +21,8 @@ import subprocess
 import time
 from typing import Callable, Counter, Dict, List, Optional, Sequence, Tuple
 
-from common import HERE, find
+from common import HERE
+from trinorm import find
 
 Words = List[str]
 # words with an input

@@ -79,7 +79,8 @@ class Way:
     def times(self, name: str) -> List[int]:
         assert self.process.stdin is not None and self.process.stdout is not None
         print(name, file=self.process.stdin, flush=True)
-        return json.loads(self.process.stdout.readline())
+        times: List[int] = json.loads(self.process.stdout.readline())
+        return times
 
     def end(self) -> None:
         self.process.communicate()

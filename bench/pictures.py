@@ -57,8 +57,8 @@ def picture(series: Series) -> str:
     parts.append(f'<text x="{(LEFT + WIDE) / 2:.0f}" y="{HIGH - 12}" text-anchor="middle">'
                  'tetrahedra (closed tables, and ideal ones a little to the right)</text>')
     for number, (name, them) in enumerate(series.items()):
-        for at, seconds in them:
-            x, y = place(at, seconds, first, last, least, most)
+        for size, seconds in them:
+            x, y = place(size, seconds, first, last, least, most)
             parts.append(f'<circle cx="{x:.1f}" cy="{y:.1f}" r="4.5" fill="{COLOURS[name]}"/>')
         parts.append(f'<circle cx="{LEFT + 20}" cy="{30 + 22 * number}" r="4.5" fill="{COLOURS[name]}"/>'
                      f'<text x="{LEFT + 32}" y="{34 + 22 * number}">{name}</text>')

@@ -42,7 +42,7 @@ def magic(side: int, with_diagonals: bool) -> Tuple[int, Rows]:
 
 def gluings_of(signature: str, program: str) -> Gluings:
     """The gluings of a table, by its signature."""
-    return [[gluing and (gluing.tet, gluing.images) for gluing in row] for row in table(signature, program=program).rows]
+    return [[None if gluing is None else (gluing.tet, gluing.images) for gluing in row] for row in table(signature, program=program).rows]
 
 
 def kind_of(a: int, b: int) -> int:
@@ -68,7 +68,9 @@ def quad_cone(gluings: Gluings) -> Tuple[int, Rows]:
                     row[3 * t + kind_of(p[0], p[2])] += 1
                     row[3 * t + kind_of(p[0], p[3])] -= 1
                     # through the face that lies opposite to the third vertex
-                    u, word = gluings[t][p[2]]
+                    across = gluings[t][p[2]]
+                    assert across is not None  # a closed triangulation
+                    u, word = across
                     q = [word[v] for v in p]
                     t, p = u, (q[0], q[1], q[3], q[2])
                     if (t, p) == (tet, (a, b, c, d)):
@@ -144,7 +146,7 @@ PEERS = (
 def peers() -> Iterator[Tuple[str, str, Callable[[str, int, Rows, str], Measured]]]:
     """The peers that are installed, each with its program."""
     for name, programs, ask in PEERS:
-        found = [path for path in map(shutil.which, programs) if path]
+        found = [path for path in (shutil.which(program) for program in programs) if path]
         if found:
             yield name, found[0], ask
 

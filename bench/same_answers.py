@@ -11,7 +11,7 @@ import os
 import subprocess
 import sys
 from concurrent.futures import ThreadPoolExecutor
-from typing import List, Tuple
+from typing import Counter, List, Tuple
 
 from common import HERE, named_program
 from trinorm import library
@@ -23,9 +23,11 @@ COMMANDS = [["surfaces", "--coords", it] for it in ("standard", "quad", "octagon
 
 def main() -> int:
     program = named_program()
-    here, statuses, differ = library.next_to(program), collections.Counter(), 0
-    if here is None:
-        sys.exit(f"there is no {library.NAME} beside {program}")
+    found_here, differ = library.next_to(program), 0
+    statuses: Counter[int] = collections.Counter()
+    if found_here is None:
+        sys.exit(f"there is no {library.NAME} in the folder of {program}")
+    here = found_here
     with open(os.path.join(HERE, "census_signatures.txt"), encoding="utf8") as file:
         signatures = file.read().split()
     jobs = [(words, f"sig {it}\n") for words in COMMANDS for it in signatures]

@@ -15,6 +15,7 @@ from typing import Iterator, List, Optional, Sequence, Tuple
 from common import ENDED, layered_loop, regina_python, regina_says, run
 from tables import BOUNDARY, CLOSED, HYPERBOLIC, IDEAL, LARGE, SLOW
 from trinorm import find
+from trinorm.options import Coords
 from trinorm.regina_surfaces import COORDS
 
 # What Regina's interpreter is told: how many surfaces there are, and the least seconds of a call.
@@ -69,12 +70,12 @@ class Bench:
                 break
         return answer, least
 
-    def regina(self, signature: str, coords: str, how: str) -> Optional[Tuple[int, float]]:
+    def regina(self, signature: str, coords: Coords, how: str) -> Optional[Tuple[int, float]]:
         """How many surfaces Regina lists and the least seconds, or None where it takes longer than the cut."""
         said = regina_says(REGINA % (signature, self.best, COORDS[coords], how), self.best * self.cut)
         return None if said is None else (int(said[-2]), float(said[-1]))
 
-    def compare(self, name: str, text: str, coords: str, peers: List[Tuple[Ratios, str]]) -> None:
+    def compare(self, name: str, text: str, coords: Coords, peers: List[Tuple[Ratios, str]]) -> None:
         """One line: the name, how many surfaces, the seconds, and of each peer its seconds and the ratio."""
         own = self.ask(["surfaces"] if coords == "standard" else ["surfaces", "--coords", coords], text)
         if own is None:
@@ -148,7 +149,8 @@ class Families:
 
     def other_coordinates(self) -> None:
         """Lists in quad and in octagon coordinates."""
-        for coords, least, most in (("quad", 14, 18), ("octagon", 9, 12)):
+        sizes: Tuple[Tuple[Coords, int, int], ...] = (("quad", 14, 18), ("octagon", 9, 12))
+        for coords, least, most in sizes:
             for _, name, text in tables(least, most) if coords in self.chosen else ():
                 self.bench.compare(f"{name}, {coords}", text, coords, [(self.ratios[coords], DEFAULT)])
 

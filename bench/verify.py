@@ -4,6 +4,8 @@
 Prints the size of the input, the seconds and the memory of the program. It compares nothing.
 Usage: bench/verify.py [PROGRAM]
 """
+from typing import List
+
 from common import MOST_BYTES, chain, named_program, run, vector_line
 
 
@@ -15,7 +17,8 @@ def filled(line: str) -> str:
 
 def main() -> None:
     program = named_program()
-    for name, entries in (("vectors of zeros", [0] * 7000), ("vectors of ones", [1] * 7000), ("empty vectors", [])):
+    empty: List[int] = []
+    for name, entries in (("vectors of zeros", [0] * 7000), ("vectors of ones", [1] * 7000), ("empty vectors", empty)):
         text = filled(vector_line(entries))
         done = run([program, "verify"], text)
         verdicts = done.answer.count("\n")
