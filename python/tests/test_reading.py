@@ -42,9 +42,15 @@ class Words(unittest.TestCase):
     def test_faults(self):
         item = Definitions().get(("table_definitions", "Table", "max_tets"))
         found = "\n".join(reading.faults([item], ["a ⊕ b"], []))
-        for words in ("no explanation of a, ⊕, b", "sentences on what is not on the page: AreQuadEquations", "explanations of what is not on the page: ≡"):
+        for words in ("no explanation of a, ⊕, b", "sentences on what is not on the page: AnswersSurfaces", "explanations of what is not on the page: ≡"):
             self.assertIn(words, found)
-        self.assertIn("no sentence on same_faces", "\n".join(reading.faults([item._replace(name="same_faces", comment="")], [], [])))
+        self.assertIn("no sentence on same_faces", "\n".join(reading.faults([item._replace(comment="")], [], ["same_faces"])))
+
+    def test_a_definition_has_the_sentence_of_its_name_on_the_page(self):
+        item = Definitions().get(("cone_definitions", "Rows", "Row"))
+        self.assertTrue(reading.sentence("EquationRow", item).startswith("The row of an equation: "))
+        self.assertTrue(reading.sentence("Row", item).startswith("A row of a gluing table: "))
+        self.assertEqual(reading.sentence("Unknown", item._replace(comment="-- a row,\n-- with columns")), "A row, with columns.")
 
 
 class Page(unittest.TestCase):
