@@ -42,7 +42,8 @@ PARTS = (
     Part("The clashing pairs", "The quadrilateral condition: at most one quad or octagon type in each tetrahedron, and at most one octagon "
          "type in all.", [("surface_definitions", "Coordinates", "clash_list")]),
     Part("The list", "The vertex surfaces are the primitive extreme solutions at which no two clashing columns are nonzero. The list has "
-         "exactly these. The last definitions are those of the clause.",
+         "exactly these. That extreme solutions, which have minimal support, are those on extreme rays of the cone of solutions is "
+         "Theorem 13 of [CLAIMS](CLAIMS.md#cones). The last definitions are those of the clause.",
          [("cone_definitions", "Surfaces", "IsSurfaceList"), ("workbench", "Prints", "AnswersSurfaces")]),
 )
 
