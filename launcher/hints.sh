@@ -4,7 +4,7 @@
 # It is read by the launcher, which has set
 #   program   the program
 #   here      the folder of this file
-#   commands  the table of commands; hints.txt is in its folder
+#   commands  the table of commands; hints.txt and words.json are in its folder
 #   version_file  the file with version, commit and sum of the program
 #   examples  the folder of the examples
 #   pages     where to read more
@@ -80,6 +80,7 @@ say_commands() {
   say "commands ($pages):"
   awk -F '\t' '!/^#/ { printf "trinorm:   %-10s %s\n", $1, $5 }' "$commands" >&2
   say "each command except make and bulk reads standard input; \`$me COMMAND --help\` describes it"
+  say "\`$me help TERM\` explains a term of the output, and \`$me help terms\` lists all of them"
   look_up surfaces && say_example "$example" surfaces
 }
 
@@ -96,6 +97,16 @@ say_help() {
     *) say "it reads $(in_words "$document") from standard input; a triangulation is \`sig SIGNATURE\`, or a gluing table (\`tri N\` and N rows)" ;;
   esac
   say_example "$example" "$1"
+}
+
+# What `help` says of a term: the help of a command, or the sentences of the table of words; of `terms`, which these are.
+say_term() {
+  [ "$1" != terms ] || set --
+  if [ $# -le 1 ] && look_up "${1-}"; then
+    say_help "$1"
+  elif ! asked=$* awk -f "$here/words.awk" "${commands%/*}/words.json" >&2; then
+    say "there is no explanation of \`$*\`; \`$me help terms\` lists the terms that have one"
+  fi
 }
 
 say_version() {
@@ -149,12 +160,16 @@ say_input() {
 }
 
 # What is wrong with these words, and what may be in their place.
-say_words() {
+say_terms() {
   case ${1-} in
     --version | -V | -v | version) say_version; return ;;
     '' | -*) say_commands; return ;;
   esac
-  case $1 in help) say_commands; return ;; esac
+  if [ "$1" = help ]; then
+    shift
+    if [ $# = 0 ]; then say_commands; else say_term "$@"; fi
+    return
+  fi
   look_up "$1" || { say_usage "$@"; say "\`$me --help\` lists the commands"; return; }
   for word; do
     case $word in --help | -h | help | '-?') say_help "$1"; return ;; esac
@@ -246,7 +261,7 @@ run "$@"
 status=$?
 [ -z "$later" ] || { kill "$later"; wait "$later"; } 2>/dev/null
 case $status in
-  2) say_words "$@" ;;
+  2) say_terms "$@" ;;
   3 | 4 | 5) say_fault "$@" ;;
   7 | 8) say_status "$status" ;;
 esac

@@ -4,8 +4,8 @@
     tools/messages.py [--check] [--list]
 
 A text has none of the words in PRIVATE, which a reader does not know, or knows with another meaning. The texts are the strings
-of more than one word in the package, the launcher, the browser page, the library and the examples; the sentences of hints.txt
-and commands.txt; what the C header and the Rust crate say of themselves; and the help of the tools. Fields in braces, and names
+of more than one word in the package, the launcher, the browser page, the library and the examples; the sentences of hints.txt,
+commands.txt and words.json; what the C header and the Rust crate say of themselves; and the help of the tools. Fields in braces, and names
 and examples in backticks, are left out.
 
 Printed is each text that has such a word, with its place. --list prints every text instead. With --check the exit status is 1
@@ -169,9 +169,17 @@ def of_table(source: str) -> Found:
             yield number, line.split("\t")[-1]
 
 
+def of_words(source: str) -> Found:
+    """The sentences of the words that are explained, in the lines of a table in JSON."""
+    for number, line in enumerate(source.split("\n"), 1):
+        if line.startswith('    "'):
+            yield number, line.partition('": "')[2].rstrip('",')
+
+
 PLACES: Sequence[Tuple[str, Callable[[str], Found]]] = (
     ("python/trinorm/errors.py", of_errors), ("python/trinorm/*.py", of_python), ("tools/pages.py", of_python), ("tools/*.py", of_help),
-    ("python/trinorm/hints.txt", of_table), ("python/trinorm/commands.txt", of_table), ("trinorm", of_shell), ("launcher/*.sh", of_shell),
+    ("python/trinorm/hints.txt", of_table), ("python/trinorm/commands.txt", of_table), ("python/trinorm/words.json", of_words),
+    ("trinorm", of_shell), ("launcher/*.sh", of_shell),
     ("launcher/*.awk", of_awk), ("examples/*.sh", of_shell), ("examples/*.py", of_python), ("library/*.c", of_c), ("library/trinorm.h", of_header),
     ("library/rust/trinorm/src/lib.rs", of_rust), ("library/rust/trinorm/build.rs", of_rust),
     ("web/*.js", of_javascript), ("web/node/*.js", of_javascript), ("web/*.html", of_html),

@@ -69,6 +69,7 @@ def shared(made: Made) -> Files:
         f"{libexec}/version": (made.version_lines.encode(), 0o644),
         f"{libexec}/commands.txt": plain(TOP / "python" / PROGRAM / "commands.txt"),
         f"{libexec}/hints.txt": plain(TOP / "python" / PROGRAM / "hints.txt"),
+        f"{libexec}/words.json": plain(TOP / "python" / PROGRAM / "words.json"),
         f"share/man/man1/{PROGRAM}.1": (pages.manual(commands, made.version, day()).encode(), 0o644),
         f"share/bash-completion/completions/{PROGRAM}": (pages.bash(commands).encode(), 0o644),
         f"share/zsh/site-functions/_{PROGRAM}": (pages.zsh(commands).encode(), 0o644),
@@ -76,7 +77,7 @@ def shared(made: Made) -> Files:
     for name, data in made.files.items():
         if name in ("program", "library", "server"):
             files[f"{libexec}/{FILES[name]}"] = (data, 0o644 if name == "library" else 0o755)
-    for name in ("hints.sh", "fault.awk", "sentences.awk", "usage.awk"):
+    for name in ("hints.sh", "fault.awk", "sentences.awk", "usage.awk", "words.awk"):
         files[f"{libexec}/{name}"] = plain(TOP / "launcher" / name)
     for name in LICENCES:
         files[f"{doc}/{name}"] = plain(TOP / name)

@@ -52,7 +52,8 @@ def manual(commands: Sequence[Command], version: str, day: str) -> str:
         f'.TH TRINORM 1 {day} "trinorm {version}" "User Commands"', ".SH NAME", rf"trinorm \- {roff(PURPOSE)}", ".SH SYNOPSIS",
         r"\fBtrinorm\fR \fICOMMAND\fR [\fB\-\-\fIoption value\fR ...] < \fIINPUT\fR", ".SH DESCRIPTION",
         "Reads standard input to its end, and prints the result to standard output. An error is printed as one line on standard output,",
-        r"which begins with \fBrefused:\fR. If standard error is a terminal, the error is explained there.",
+        r"which begins with \fBrefused:\fR. If standard error is a terminal, the error is explained there; \fBtrinorm help\fR \fITERM\fR",
+        "explains a term of the output.",
         ".PP", "A triangulation is a signature (a line \\fBsig\\fR \\fISIGNATURE\\fR) or a gluing table (a line \\fBtri\\fR \\fIN\\fR and",
         "\\fIN\\fR rows). Blank lines and lines that begin with # are ignored.", ".SH COMMANDS",
     ]

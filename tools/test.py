@@ -42,7 +42,7 @@ PYTHON = TOP / "python"
 # the tests of python/tests that are of tools, launcher, library, other systems and the page; all others are of the package
 TESTS = {
     "tools": ("test_build", "test_ci", "test_claims", "test_commits", "test_docs_site", "test_edits", "test_floors", "test_language", "test_laws",
-              "test_links", "test_messages", "test_prose", "test_reading", "test_release", "test_test", "test_twice"),
+              "test_links", "test_messages", "test_prose", "test_reading", "test_release", "test_test", "test_twice", "test_words"),
     "launcher": ("test_launcher",),
     "library": ("test_c_library", "test_installing", "test_library", "test_server"),
     "rust": ("test_rust",),
@@ -157,6 +157,7 @@ def quick_parts() -> List[Part]:
         Part("words of laws", python("tools/claims.py")),
         Part("sentences on laws", python("tools/sentences.py")),
         Part("page to read", python("tools/reading.py", "--check")),
+        Part("words that are explained", python("tools/words.py", "--check")),
         Part("links of pages", python("tools/links.py")),
         Part("sentences of pages", python("tools/prose.py", "--check")),
         Part("words of messages", python("tools/messages.py", "--check")),

@@ -18,7 +18,7 @@ def make(folder: str) -> Path:
     shutil.copytree(REPOSITORY / "launcher", top / "launcher")
     shutil.copytree(REPOSITORY / "examples", top / "examples")
     (top / "python" / "trinorm").mkdir(parents=True)
-    for name in ("commands.txt", "hints.txt"):
+    for name in ("commands.txt", "hints.txt", "words.json"):
         shutil.copy(REPOSITORY / "python" / "trinorm" / name, top / "python" / "trinorm")
     (out / ".version").write_text("proved here\nversion 1.2\ncommit abc\nkit made-up\nsources 12\nprogram 34\n")
     for path in (top / "crates.txt", out / ".sources", out / ".built"):

@@ -1,4 +1,5 @@
 """The launcher: what it says where standard error is a terminal, and that nothing else of a run changes."""
+import json
 import os
 import pty
 import re
@@ -32,14 +33,14 @@ class Launcher(unittest.TestCase):
                     done = subprocess.run([program, *words], stdin=file, stdout=subprocess.PIPE, stderr=theirs, timeout=60, check=False)
             else:
                 done = subprocess.run([program, *words], input=text, stdout=subprocess.PIPE, stderr=theirs, timeout=60, check=False)
-            os.write(theirs, b".\n")
+            os.write(theirs, b"<end>\n")
             said = ""
-            while not said.replace("\r\n", "\n").endswith(".\n"):
+            while not said.replace("\r\n", "\n").endswith("<end>\n"):
                 said += os.read(ours, 10000).decode()
         finally:
             os.close(ours)
             os.close(theirs)
-        return done.returncode, done.stdout, said.replace("\r\n", "\n")[:-2]
+        return done.returncode, done.stdout, said.replace("\r\n", "\n")[:-len("<end>\n")]
 
     def said(self, words, text=b""):
         """What is said; status and answer are the program's, and where standard error is no terminal nothing is said."""
@@ -124,7 +125,7 @@ class Launcher(unittest.TestCase):
                 with open(path, "w", encoding="utf8") as file:
                     file.write(f'#!/bin/sh\nexec {command}{" awk" if command == "busybox" else ""} "$@"\n')
                 os.chmod(path, 0o755)
-                for words, text in ((["info"], b"cPcbbbiht_BaCB"), (["surface"], b""), (["make", "--seed", "18446744073709551616", "--moves", "1"], b""), (["verify"], b"tri 0\nvec -1\n"),
+                for words, text in ((["help", "linking"], b""), (["help", "terms"], b""), (["info"], b"cPcbbbiht_BaCB"), (["surface"], b""), (["make", "--seed", "18446744073709551616", "--moves", "1"], b""), (["verify"], b"tri 0\nvec -1\n"),
                                     (["describe"], b"sig bkaagj\nvec 0 0 1\n"), (["info"], b"tri 1\n- - - 4:0123\n"), (["info"], b"sig b.aagj\n"), (["surfaces", "-f", "a=b"], b"")):
                     script = f'PATH={folder}:$PATH; export PATH; exec {self.launcher} "$@"'
                     ours = self.run_with("sh", ["-c", script, self.launcher, *words], text)
@@ -137,6 +138,22 @@ class Launcher(unittest.TestCase):
                 self.assertIn(text, said)
         self.assertNotIn("triangulation is", self.said(["rays", "--help"]))
         self.assertNotIn("reads", self.said(["make", "--help"]))
+
+    def test_help_on_a_term(self):
+        """A term by itself, those that contain it, a command, and all of them; and what has no explanation."""
+        with open(os.path.join(self.folder.name, "python", "trinorm", "words.json"), encoding="utf8") as file:
+            known = json.load(file)["words"]
+        for asked, found in ((["orientable"], ["orientable"]), (["Vertex", "LINK"], ["vertex link"]), (["linking"], ["vertex linking"]), (["0-efficient"], ["0-efficient"]),
+                             (["surface"], ["normal surface", "vertex normal surface"]), (["isomorphism"], ["isomorphism"])):
+            self.assertEqual(self.said(["help", *asked]), "".join(f"trinorm: {it}: {known[it]}\n" for it in found), asked)
+        self.assertEqual(self.said(["help", "terms"]), f"trinorm: terms that are explained: {', '.join(known)}\n")
+        for command in ("crush", "surfaces"):
+            self.assertEqual(self.said(["help", command]), self.said([command, "--help"]))
+        for words in (["help", "xyz"], ["help", "a&b\\n"], ["help", "surfaces", "quad"], ["help", ".*"], ["help", "words\": {"]):
+            said = self.said(words)
+            self.assertTrue(said.startswith(f"trinorm: there is no explanation of `{' '.join(words[1:])}`; `"), said)
+            self.assertEqual(said.count("\n"), 1)
+        self.assertIn(f"trinorm: `{self.launcher} help TERM` explains a term", self.said([]))
 
     def test_examples_of_help_run(self):
         with open(os.path.join(self.folder.name, "python", "trinorm", "commands.txt"), encoding="utf8") as file:

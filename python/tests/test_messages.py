@@ -17,6 +17,7 @@ ONE_PLACE = {
     "python/trinorm/errors.py": ('class Ended(Exception):\n    """The engine has ended."""\n', ["The engine has ended."]),
     "python/trinorm/hints.txt": ("# the words\n2\t*\tusage extra-word\t-\t`sig` takes no word\n", ["`sig` takes no word"]),
     "python/trinorm/commands.txt": ("a\ttable\t-\t./a\twhat it answers\n", ["what it answers"]),
+    "python/trinorm/words.json": ('{\n  "about": "the words",\n  "words": {\n    "a": "The word a.",\n    "b": "What b answers."\n  }\n}\n', ["The word a.", "What b answers."]),
     "tools/pages.py": ('HEAD = "# The words of it\\nfor word in words"\n', ["# The words of it"]),
     "tools/a.py": ('"""A tool of words."""\nread(help="the words of it")\nprint("the answers come")\n', ["the words of it"]),
     "launcher/a.sh": ("# asks the words\nsay \"$1 answers $words\"\nsay 'two words'\n", ["$1 answers $words", "two words"]),
