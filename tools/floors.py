@@ -48,7 +48,7 @@ SUBJECTS = {
     "sum": "sum_definitions sum_laws ray_decompose sum_commands",
     "command": "command_definitions command_laws command_words command_answers",
     "outcome": "outcome_definitions outcome_laws outcome_existence_laws outcome_answer_laws outcome_written_laws"
-    " outcome_list_laws",
+    " outcome_list_laws outcome_text_laws",
     "program": "workbench trinorm trinorm_c worked_rows worked_tables worked_cones",
 }
 MARKS = {
