@@ -160,7 +160,7 @@ say_input() {
 }
 
 # What is wrong with these words, and what may be in their place.
-say_terms() {
+say_words() {
   case ${1-} in
     --version | -V | -v | version) say_version; return ;;
     '' | -*) say_commands; return ;;
@@ -261,7 +261,7 @@ run "$@"
 status=$?
 [ -z "$later" ] || { kill "$later"; wait "$later"; } 2>/dev/null
 case $status in
-  2) say_terms "$@" ;;
+  2) say_words "$@" ;;
   3 | 4 | 5) say_fault "$@" ;;
   7 | 8) say_status "$status" ;;
 esac
