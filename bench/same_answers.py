@@ -1,6 +1,7 @@
 #!/usr/bin/env python3
-"""Compares the library and the server with the program beside which they stand: status and bytes of 10,000 calls, ten
-commands on each of the 1,000 signatures of bench/census_signatures.txt. The library's calls go in four threads.
+"""Compares the library and the server with the program beside which they stand: status and bytes of some 10,000 calls, each command
+that reads one triangulation, in all coordinates, on each of the 1,000 signatures of bench/census_signatures.txt. The library's
+calls go in four threads.
 
     bench/same_answers.py [PROGRAM]
 
@@ -11,14 +12,21 @@ import os
 import subprocess
 import sys
 from concurrent.futures import ThreadPoolExecutor
-from typing import Counter, List, Tuple
+from typing import Counter, Iterator, List, Tuple
 
 from common import HERE, named_program
 from trinorm import library
+from trinorm.options import coordinates, reading
 from trinorm.server import Server
 
-COMMANDS = [["surfaces", "--coords", it] for it in ("standard", "quad", "octagon")] + [
-    ["surfaces", "--max-entry", "3"], ["info"], ["sig"], ["csig"], ["cover"], ["pi1"], ["descend"]]
+
+def questions() -> Iterator[List[str]]:
+    """Each command that reads one triangulation, in all of its coordinates, and `surfaces` with a limit that is exceeded."""
+    for name in reading("table"):
+        yield from ([name, "--coords", it] for it in coordinates(name))
+        if not coordinates(name):
+            yield [name]
+    yield ["surfaces", "--max-entry", "3"]
 
 
 def main() -> int:
@@ -30,7 +38,7 @@ def main() -> int:
     here = found_here
     with open(os.path.join(HERE, "census_signatures.txt"), encoding="utf8") as file:
         signatures = file.read().split()
-    jobs = [(words, f"sig {it}\n") for words in COMMANDS for it in signatures]
+    jobs = [(words, f"sig {it}\n") for words in questions() for it in signatures]
 
     def by_program(job: Tuple[List[str], str]) -> Tuple[int, bytes]:
         done = subprocess.run([program, *job[0]], input=job[1].encode(), stdout=subprocess.PIPE, check=False)

@@ -3,6 +3,7 @@ import unittest
 
 import trinorm
 from trinorm import Gluing, Table
+from trinorm.options import reading
 
 SPHERE = "bkaagj"
 FIGURE_EIGHT = "cPcbbbiht"
@@ -135,7 +136,7 @@ class Moves(unittest.TestCase):
     def test_methods_of_tables(self):
         """Each is the function of its name."""
         t, quads = trinorm.table("cPcbbbiht"), trinorm.surfaces("cPcbbbiht", "quad")
-        for name in ("info", "sig", "csig", "surfaces", "described", "count", "spheres", "tori", "zero_efficient", "cover", "pi1", "descend"):
+        for name in (*reading("table"), "described", "count", "spheres", "tori", "zero_efficient"):
             self.assertEqual(getattr(t, name)(), getattr(trinorm, name)(t), name)
         self.assertEqual(t.surfaces("quad", order="short"), quads)
         self.assertEqual(t.surfaces(coords="quad", timeout=60), quads)

@@ -16,6 +16,7 @@ from pathlib import Path
 
 import trinorm
 from trinorm import library
+from trinorm.options import reading
 from trinorm.program import REPOSITORY
 
 from .programs import script
@@ -25,8 +26,8 @@ NO_WORDS = [[], [""], ["surface"], ["sig", "sig"], ["surfaces", "--coords"], ["s
             ["--help"], ["sig", "--"], ["é"], ["surfaces", "--max-entry", "0"], ["verify", "--coords", "quad", "--coords", "quad"]]
 INPUTS = ["", "sig cPcbbbiht\n", "sig bkaagj\n", "tri 1\n0:1023 0:1023 0:1230 0:3012\n", "tri 0\n", "sig jvLLMQQcdghifhihinktpphggkw\n",
           "tri 1\n- - - -\n", "cone 3 1\n1 -1 0\n", "sig \udcff\n", "sig bkaagj\0\n", "sig é\n"]
-ASKED = [["surfaces"], ["surfaces", "--coords=quad", "--order", "zeros"], ["surfaces", "--coords", "octagon"], ["surfaces", "--max-entry", "1"],
-         ["info"], ["sig"], ["csig"], ["cover"], ["pi1"], ["descend"], ["rays"], ["make", "--seed", "7", "--moves", "20"],
+ASKED = [["surfaces", "--coords=quad", "--order", "zeros"], ["surfaces", "--coords", "octagon"], ["surfaces", "--max-entry", "1"],
+         *([name] for name in reading("table")), ["rays"], ["make", "--seed", "7", "--moves", "20"],
          ["bulk", "--seed", "7", "--moves", "2"], ["play"], ["group"], ["same"], ["verify"], ["check"]]
 # a list of 15,129 surfaces, in a good fraction of a second
 LONG = "tri 20\n" + "".join(
@@ -319,7 +320,7 @@ class Memory(unittest.TestCase):
         return done.stdout
 
     def test_each_request_in_turn(self):
-        for words in (["sig"], ["csig"], ["info"], ["surfaces"], ["surfaces", "--coords", "quad"], ["cover"], ["pi1"], ["descend"], ["rays"], ["none"]):
+        for words in (*([name] for name in reading("table")), ["surfaces", "--coords", "quad"], ["rays"], ["none"]):
             self.assertIn("requests refused in turn", self.refused(words, "sig cPcbbbiht\n"))
 
     @unittest.skipUnless(shutil.which("valgrind"), "valgrind isn't there")

@@ -6,7 +6,7 @@ import typing
 import unittest
 
 import trinorm
-from trinorm import batch, errors, options as option_values, tasks
+from trinorm import batch, commands, errors, options as option_values, tasks
 from trinorm.__main__ import main
 from trinorm.options import OPTIONS, Range, at_least_one, coordinates, nearest, seconds, words
 
@@ -17,6 +17,10 @@ class Options(unittest.TestCase):
             parameters = inspect.signature(getattr(trinorm, name)).parameters
             for option in options:
                 self.assertIn(option.replace("-", "_"), parameters, name)
+
+    def test_the_package_has_each_command(self):
+        self.assertEqual(sorted([*OPTIONS, "table"]), sorted(commands.__all__))
+        self.assertLessEqual({*OPTIONS, "table"}, set(trinorm.__all__))
 
     def test_the_first_coordinates_are_the_default(self):
         for name, options in OPTIONS.items():
@@ -60,6 +64,7 @@ class Types(unittest.TestCase):
         self.assertEqual(typing.get_args(option_values.Order), option_values.OPTIONS["surfaces"]["order"])
         self.assertEqual(typing.get_args(batch.CommandName), tuple(batch.COMMANDS))
         self.assertEqual(sorted(typing.get_args(tasks.CommandName)), sorted(set(tasks.COMMANDS) - {"crosscheck"}))
+        self.assertEqual(typing.get_args(option_values.OfTable), option_values.reading("table"))
         self.assertEqual(typing.get_args(option_values.WithTriangles), option_values.OPTIONS["describe"]["coords"])
 
 

@@ -6,13 +6,13 @@
 
 This package starts the program and reads what it writes; what is proved is said of the program and not of the package.
 """
+from . import commands
 from .answers import (Accepted, Bulk, Component, Cover, Descent, Edge, Generator, Grouping, Info, Isomorphism, Made, Played,
                       Presentation, Relator, Sum, Surface, Term, Verdict, Vertex)
 from .batch import Answered, many
 from .census import census
 from .certificates import Certificate, certify
-from .commands import (addup, bulk, check, cover, crush, csame, csig, decompose, descend, describe, group, info, lift,
-                       make, pi1, play, rays, same, sig, surfaces, table, verify)
+from .commands import *  # noqa: F401,F403  (the functions of the commands, as `commands.__all__` has them)
 from .program import Error, Failed, Refused, TimedOut, find
 from .questions import Count, ZeroEfficiency, count, described, spheres, tori, zero_efficient
 from .regina_surfaces import normal_surface, to_regina, vector_of
@@ -22,8 +22,7 @@ from .versions import version
 __version__ = version()
 
 # what a `Table` has as methods
-offer(certify, check, count, cover, crush, csig, decompose, descend, describe, described, info, lift, pi1, play, same, sig, spheres,
-      surfaces, tori, verify, zero_efficient)
+offer(*(getattr(commands, name) for name in commands.__all__), certify, count, described, spheres, tori, zero_efficient)
 
 
 def __getattr__(name: str) -> object:
@@ -36,8 +35,6 @@ def __getattr__(name: str) -> object:
 
 
 __all__ = [
-    "addup", "bulk", "check", "cover", "crush", "csame", "csig", "decompose", "descend", "describe", "group", "info",
-    "lift", "make", "pi1", "play", "rays", "same", "sig", "surfaces", "table", "verify",
     "census", "certify", "count", "described", "many", "spheres", "tori", "zero_efficient",
     "Accepted", "Answered", "Bulk", "Certificate", "Component", "Count", "Cover", "Descent", "Edge", "Generator", "Gluing",
     "Grouping", "Info",
@@ -46,3 +43,4 @@ __all__ = [
     "BadArgument", "Error", "Failed", "Refused", "TimedOut", "find", "from_regina", "normal_surface", "to_regina",
     "vector_of",
 ]
+__all__ += commands.__all__

@@ -19,6 +19,7 @@ from . import certificates, commands, questions
 from .arguments import checked_timeout, plain, shown
 from .errors import BadArgument, Error, Failed
 from .machine import processors
+from .options import OfTable, reading
 from .program import Program, checked_program
 from .progress import Reported
 from .server import Server
@@ -26,9 +27,8 @@ from .tables import Triangulation, document
 
 # the functions of one triangulation that go by name
 FUNCTIONS: Tuple[Callable[..., Any], ...] = (
-    commands.surfaces, commands.info, commands.sig, commands.csig, commands.cover, commands.pi1, commands.descend,
-    commands.table, questions.described, questions.count, questions.spheres, questions.tori, questions.zero_efficient,
-    certificates.certify)
+    *(getattr(commands, name) for name in reading("table")), commands.table, questions.described, questions.count,
+    questions.spheres, questions.tori, questions.zero_efficient, certificates.certify)
 COMMANDS = {it.__name__: it for it in FUNCTIONS}
 # how many seconds a handful of triangulations is to take, how many it may have, and how many handfuls are asked at a time
 SECONDS, MOST, IN_HAND = 0.1, 256, 64
@@ -42,8 +42,7 @@ NO_TRIANGULATION = (Error, TypeError, ValueError, AttributeError, RuntimeError)
 # called with the numbers of triangulations that are answered and that failed
 Counts = Callable[[int, int], object]
 # for those who check types; a test compares it with FUNCTIONS
-CommandName = Literal["surfaces", "info", "sig", "csig", "cover", "pi1", "descend", "table", "described", "count", "spheres", "tori",
-                      "zero_efficient", "certify"]
+CommandName = Literal[OfTable, "table", "described", "count", "spheres", "tori", "zero_efficient", "certify"]
 Command = Union[CommandName, Callable[..., Any]]
 
 

@@ -26,6 +26,10 @@ from .progress import Progress, reported
 from .regina_surfaces import ReginaSurface, is_surface, vector_of
 from .tables import Table, Triangulation, alone, document, is_empty, size_of
 
+# what the package has under its own name
+__all__ = ["addup", "bulk", "check", "cover", "crush", "csame", "csig", "decompose", "descend", "describe", "group", "info", "lift",
+           "make", "pi1", "play", "rays", "same", "sig", "surfaces", "table", "verify"]
+
 Answer = TypeVar("Answer")
 Item = TypeVar("Item")
 GivenVector = Union[Sequence[int], ReginaSurface]

@@ -16,6 +16,8 @@ from .errors import BadArgument
 Coords = Literal["standard", "quad", "octagon"]
 WithTriangles = Literal["standard", "octagon"]
 Order = Literal["given", "short", "zeros"]
+# the commands that read one triangulation, for those who check types; a test compares them with the table
+OfTable = Literal["surfaces", "info", "sig", "csig", "cover", "pi1", "descend"]
 
 
 class Range(NamedTuple):
@@ -74,6 +76,11 @@ def _read() -> Dict[str, Command]:
 
 COMMANDS = _read()
 OPTIONS = {name: command.options for name, command in COMMANDS.items()}
+
+
+def reading(document: str) -> Tuple[str, ...]:
+    """The commands that read a document, such as `table`, in the order of the table of commands."""
+    return tuple(name for name, command in COMMANDS.items() if command.reads == document)
 
 
 def coordinates(command: str) -> Tuple[str, ...]:

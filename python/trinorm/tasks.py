@@ -7,7 +7,7 @@ import time
 from typing import Callable, Dict, Literal, NamedTuple, Optional
 
 from . import certificates, commands, comparisons, questions
-from .options import Coords, WithTriangles
+from .options import Coords, OfTable, WithTriangles, coordinates, reading
 from .program import Error, Refused
 from .tables import Table
 
@@ -63,19 +63,14 @@ def _plainly(command: Callable[..., object]) -> Callable[[str, Task], object]:
 
 
 # for those who check types; a test compares it with COMMANDS
-CommandName = Literal["surfaces", "describe", "count", "info", "sig", "csig", "cover", "pi1", "descend", "certify"]
+CommandName = Literal[OfTable, "describe", "count", "certify"]
 # the commands of one triangulation; `describe` and `count` take its vertex surfaces, and `crosscheck` is not the program's
 COMMANDS: Dict[str, Callable[[str, Task], object]] = {
     "surfaces": _surfaces,
     "describe": _described,
     "count": _counted,
     "crosscheck": _compared,
-    "info": _plainly(commands.info),
-    "sig": _plainly(commands.sig),
-    "csig": _plainly(commands.csig),
-    "cover": _plainly(commands.cover),
-    "pi1": _plainly(commands.pi1),
-    "descend": _plainly(commands.descend),
+    **{name: _plainly(getattr(commands, name)) for name in reading("table") if not coordinates(name)},
     "certify": _plainly(certificates.certify),
 }
 
