@@ -3,17 +3,15 @@
 
     bench/hostile.py [--inputs N] [--seed S] [--processes P] [--program PROGRAM]
 
-Each input is one of bench/hostile_inputs.json with some bytes changed, dropped or doubled, numbers made wide, words or lines
-exchanged. Checked of each run: the status is one of those told; a refusal is one line of the grammar of refusals and
+Each input is that of a stored example of the package with some bytes changed, dropped or doubled, numbers made wide, words or
+lines exchanged. Checked of each run: the status is one of those told; a refusal is one line of the grammar of refusals and
 nothing else; what was answered is read again as itself (its form is written here once more, as a second opinion beside the
 package's); the program ends within a time and a size. Prints the first that fails,
 with its words and input, and ends with inputs, statuses and seconds.
 """
 import argparse
 import collections
-import json
 import multiprocessing
-import os
 import random
 import re
 import resource
@@ -21,8 +19,9 @@ import subprocess
 import time
 from typing import Callable, Counter, Dict, List, Optional, Sequence, Tuple
 
-from common import HERE
+import common  # noqa: F401  (with the path of the package)
 from trinorm import find
+from trinorm.selfcheck import read_rows
 
 Words = List[str]
 # words with an input
@@ -30,6 +29,8 @@ Inputs = List[Tuple[Words, str]]
 
 SECONDS = 30
 BYTES = 2 << 30
+# longer inputs are those of limits
+LONGEST = 4000
 
 FAULT = r"(no-such-tet|boundary \d|repeated \d|not-matched \d \d|too-many)"
 RAY = r"\d+( \d+)*"
@@ -224,6 +225,11 @@ CHECKS: Dict[str, Callable[[str, Words, bytes, bytes], None]] = {
 }
 
 
+def stored_inputs() -> Inputs:
+    """Words and input of each stored example that names a command, except long inputs."""
+    return [(list(row.words), row.input.decode("latin-1")) for row in read_rows() if row.words and len(row.input) <= LONGEST]
+
+
 def mutate(draw: random.Random, text: bytes) -> bytes:
     """One change of a text."""
     if not text:
@@ -294,9 +300,7 @@ def main() -> int:
     reader.add_argument("--processes", type=int, help="at most so many at a time; one for each processor where it is left out")
     reader.add_argument("--program")
     given = reader.parse_args()
-    program = find(given.program)
-    with open(os.path.join(HERE, "hostile_inputs.json"), encoding="utf8") as file:
-        inputs = json.load(file)
+    program, inputs = find(given.program), stored_inputs()
     begun = time.time()
     shares = [range(first, min(first + 500, given.inputs)) for first in range(0, given.inputs, 500)]
     statuses: Counter[Optional[int]] = collections.Counter()

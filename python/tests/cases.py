@@ -1,13 +1,14 @@
 """Questions of all commands, made at random, with the answers of the built program. No answer is stored."""
-import json
 import random
 
+from trinorm import selfcheck
+from trinorm.options import OPTIONS, reading
 from trinorm.program import REPOSITORY
 
-OF_TABLES = ["surfaces", "info", "sig", "csig", "cover", "pi1", "descend", "play", "check"]
+# a triangulation alone is an input of these
+OF_TABLES = [*reading("table"), *reading("steps"), *reading("moves")]
 OF_VECTORS = {"standard": ["verify", "describe", "crush", "decompose"], "quad": ["verify", "lift", "decompose"],
               "octagon": ["verify", "describe", "decompose"]}
-WITH_COORDINATES = ("surfaces", "verify", "decompose", "addup", "describe")
 LIMITS = [1, 2, 3, 7, 2**63, 2**64, 2**127 - 1, 2**127, 0]
 NUMBERS = [0, 1, 2**32, 2**63, 2**64 - 1, 2**127, 10**40]
 
@@ -23,7 +24,7 @@ class Cases:
         self.answer = answer
         bench = REPOSITORY / "bench"
         self.signatures = (bench / "census_signatures.txt").read_text("ascii").split()
-        self.hostile = [case for case in json.loads((bench / "hostile_inputs.json").read_text("utf8")) if isinstance(case[1], str)]
+        self.hostile = [(list(row.words), row.input.decode("latin-1")) for row in selfcheck.read_rows() if row.words and len(row.input) <= 4000]
         self.examples = [path.read_text("utf8") for path in sorted((REPOSITORY / "examples").glob("*.txt"))]
 
     def ask(self, words, text=""):
@@ -46,11 +47,11 @@ class Cases:
     def options(self, command):
         """A command with options, which may exceed their limits."""
         words = [command]
-        if command in WITH_COORDINATES and self.random.random() < 0.6:
+        if "coords" in OPTIONS[command] and self.random.random() < 0.6:
             words += ["--coords", self.random.choice(["standard", "quad", "octagon"])]
-        if command in ("surfaces", "rays") and self.random.random() < 0.4:
+        if "order" in OPTIONS[command] and self.random.random() < 0.4:
             words += ["--order", self.random.choice(["given", "short", "zeros"])]
-        if command in ("surfaces", "rays", "decompose") and self.random.random() < 0.2:
+        if "max-entry" in OPTIONS[command] and self.random.random() < 0.2:
             words += ["--max-entry", str(self.random.choice(LIMITS))]
         return words
 

@@ -18,7 +18,7 @@ from .programs import script
 class Rows(unittest.TestCase):
     def test_rows_are_questions_with_answers_of_all_commands(self):
         rows = selfcheck.read_rows()
-        self.assertEqual(len(rows), 220)
+        self.assertGreater(len(rows), 350)
         table = (selfcheck.HERE / "commands.txt").read_text("utf8").splitlines()
         commands = {line.split("\t")[0] for line in table if line and not line.startswith("#")}
         self.assertLessEqual(commands, {row.words[0] for row in rows if row.words})
