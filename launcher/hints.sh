@@ -79,7 +79,8 @@ say_example() {
 say_commands() {
   say "commands ($pages):"
   awk -F '\t' '!/^#/ { printf "trinorm:   %-10s %s\n", $1, $5 }' "$commands" >&2
-  say "each command except make and bulk reads standard input; \`$me COMMAND --help\` describes it"
+  without=$(awk -F '\t' '!/^#/ && $2 == "none" { printf "%s%s", before, $1; before = " and " }' "$commands")
+  say "each command except $without reads standard input; \`$me COMMAND --help\` describes it"
   say "\`$me help TERM\` explains a term of the output, and \`$me help terms\` lists all of them"
   look_up surfaces && say_example "$example" surfaces
 }

@@ -56,19 +56,8 @@ MARKS = {
     "own": ("<!-- own definitions: tools/floors.py -->", "<!-- end of own definitions -->"),
     "chain": ("<!-- chain: tools/floors.py -->", "<!-- end of chain -->"),
 }
-# The commands of each subject.
-COMMANDS = {
-    "table": "info",
-    "signature": "sig same group",
-    "component": "csig csame",
-    "move": "play",
-    "certificate": "check descend make bulk",
-    "cover": "cover",
-    "presentation": "pi1",
-    "cone": "rays",
-    "surface": "surfaces verify describe lift crush",
-    "sum": "decompose addup",
-}
+# the file that calls the function of each command
+DISPATCH = "crates/workbench/src/dispatch.rt"
 KINDS = ("definitions", "laws", "code", "program")
 Crates = Dict[str, List[str]]
 Storeys = List[List[str]]
@@ -135,13 +124,22 @@ def quoted(names: List[str]) -> str:
     return ", ".join(f"`{name}`" for name in names)
 
 
+def functions_of_commands() -> Dict[str, List[str]]:
+    """For each crate the commands whose functions it has, by the imports and the cases of the file that calls them."""
+    source = read(DISPATCH)
+    called = re.findall(r"^        Request::\w+(?:\([\w, ]*\))? => (\w+)\(alloc, ?", source, re.M)
+    imports = re.findall(r"^use (\w+)::(?:\{([^}]*)\}|(\w+));", source, re.M)
+    return {crate: [name for name in re.split(r",\s*", many or one) if name in called] for crate, many, one in imports}
+
+
 def map_text(known: Crates) -> str:
-    """The map: a row for each subject, with its definitions, laws, code and commands."""
-    rows = ["| Subject | Definitions | Laws | Code | Commands |", "|---|---|---|---|---|"]
+    """The map: a row for each subject, with its definitions, laws and code, and the commands of its crates."""
+    rows, commands = ["| Subject | Definitions | Laws | Code | Commands |", "|---|---|---|---|---|"], functions_of_commands()
     for subject, names in SUBJECTS.items():
         crates_there = [name for name in names.split() if name in known]
         cells = [quoted([name for name in crates_there if kind(name) in kinds]) for kinds in (("definitions",), ("laws",), ("code", "program"))]
-        rows.append(f"| {subject} | {' | '.join(cells)} | {quoted(COMMANDS.get(subject, '').split())} |")
+        there = quoted([command for name in crates_there for command in commands.get(name, [])])
+        rows.append(f"| {subject} | {' | '.join(cells)} | {there} |")
     return "\n".join(rows)
 
 
