@@ -267,7 +267,7 @@ class Answers(Folder):
         end, others = process.end, []
 
         def taken_meanwhile():
-            others.append(self.server._take(server._Call()))
+            others.append(self.server._take(server.Call()))
             return end()
         process.end = taken_meanwhile
         server._end_all({process}, self.server._calls, os.getpid())

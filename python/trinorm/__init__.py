@@ -4,11 +4,11 @@
     >>> trinorm.surfaces("cPcbbbiht")
     [(1, 1, 1, 1, 0, 0, 0, 1, 1, 1, 1, 0, 0, 0)]
 
-This package starts the program and reads what it writes; what is proved is said of the program and not of the package.
+The program answers in this process, as a library, or in one of its own. What is proved is proved of the program; the package, which
+reads what the program writes, is tested. A triangulation is a signature, the text of a gluing table, a list of rows, a `Table`, or one
+of Regina or SnapPy; `help(trinorm.surfaces)` describes the arguments that all functions take.
 """
 from . import commands
-from .answers import (Accepted, Bulk, Component, Cover, Descent, Edge, Generator, Grouping, Info, Isomorphism, Made, Played,
-                      Presentation, Relator, Sum, Surface, Term, Verdict, Vertex)
 from .batch import Answered, many
 from .census import census
 from .certificates import Certificate, certify
@@ -16,13 +16,24 @@ from .commands import *  # noqa: F401,F403  (the functions of the commands, as `
 from .program import Error, Failed, Refused, TimedOut, find
 from .questions import Count, ZeroEfficiency, count, described, spheres, tori, zero_efficient
 from .regina_surfaces import normal_surface, to_regina, vector_of
-from .tables import BadArgument, Gluing, Table, from_regina, offer
+from .results import (Accepted, Bulk, Component, Cover, Descent, Edge, Generator, Grouping, Info, Isomorphism, Made, Played,
+                      Presentation, Relator, Sum, Surface, Term, Verdict, Vertex)
+from .table_methods import offer
+from .tables import BadArgument, Gluing, Table, from_regina
 from .versions import version
 
 __version__ = version()
 
+
+def _picture(table: Table) -> str:
+    """As `pictures.face_pairing_svg`, which is loaded when a notebook first shows a table."""
+    from . import pictures
+    return pictures.face_pairing_svg(table)
+
+
 # what a `Table` has as methods
-offer(*(getattr(commands, name) for name in commands.__all__), certify, count, described, spheres, tori, zero_efficient)
+offer(*(getattr(commands, name) for name in commands.__all__ if hasattr(Table, name)), certify, count, described, spheres, tori,
+      zero_efficient, picture=_picture)
 
 
 def __getattr__(name: str) -> object:

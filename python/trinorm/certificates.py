@@ -16,12 +16,12 @@ from pathlib import Path
 from typing import Dict, Iterable, List, Optional, Tuple
 
 from . import commands
-from .answers import Info, Presentation
 from .arguments import shown, whole_number
 from .pachner import CORES, Alike, Labelling, Move, Triangulation, labelling
 from .parts import Clock
 from .program import Program
 from .errors import BadArgument, Failed
+from .results import Info, Presentation
 from .tables import Table, Triangulation as Given
 
 # the seconds of a search for which none are given

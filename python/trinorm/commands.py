@@ -23,7 +23,7 @@ from .html_tables import Shown
 from .options import Coords, Order, WithTriangles, words
 from .program import Failed, Program as Program, Refused, run
 from .progress import Progress, reported
-from .regina_surfaces import ReginaSurface, is_surface, vector_of
+from .regina_vectors import ReginaSurface, is_surface, vector_of
 from .tables import Table, Triangulation, alone, document, is_empty, size_of
 
 # what the package has under its own name

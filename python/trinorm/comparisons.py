@@ -5,10 +5,10 @@ from dataclasses import dataclass
 from typing import Dict, List, Optional, Sequence
 
 from . import commands
-from .answers import Vector, vector_line
 from .commands import Program
 from .options import Coords
 from .regina_surfaces import COORDS, checked_coordinates, vertex_surfaces
+from .results import Vector, vector_line
 from .tables import Triangulation
 
 

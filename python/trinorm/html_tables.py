@@ -4,7 +4,7 @@ from __future__ import annotations
 from typing import TYPE_CHECKING, Iterable, List, Sequence, TypeVar
 
 if TYPE_CHECKING:
-    from .answers import Info, Surface
+    from .results import Info, Surface
 
 Item = TypeVar("Item")
 # of a longer list the first ones are shown, and how many there are

@@ -15,7 +15,7 @@ from typing import Any, Callable, Dict, Generator, List, Optional, Sequence, Tup
 
 from .arguments import as_bytes, checked_memory, checked_timeout, checked_words, joined, shown
 from .errors import BadArgument, Failed, TimedOut
-from .program import read_outcome
+from .outcomes import read_outcome
 
 NAME = {"win32": "trinorm.dll", "darwin": "libtrinorm.dylib"}.get(sys.platform, "libtrinorm.so.1")
 # of a call: no room, no memory; of what ended it: memory, time, a handler of a signal

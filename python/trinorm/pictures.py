@@ -12,7 +12,7 @@ from .disc_pictures import edges_picture, link_picture, surface_picture
 from .drawing import BLUE, GREY, Point, svg, text, towards
 from .errors import BadArgument
 from .graph_layout import Pair, places, ports
-from .regina_surfaces import ReginaSurface, is_surface, vector_of
+from .regina_vectors import ReginaSurface, is_surface, vector_of
 from .tables import Table, Triangulation, size_of_signature
 
 # the radius of a tetrahedron in the face-pairing graph, and where the number of a face is

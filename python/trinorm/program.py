@@ -12,7 +12,8 @@ from typing import TYPE_CHECKING, Dict, Optional, Protocol, Sequence, Tuple, Uni
 
 from .arguments import as_bytes, checked_timeout, checked_words, path_text, shown
 from .errors import BadArgument as BadArgument, Error as Error, Failed as Failed, Place as Place, Refused as Refused  # noqa: F401
-from .errors import REFUSED, USAGE, TimedOut as TimedOut, how_it_ended as how_it_ended, kind_and_places as kind_and_places  # noqa: F401
+from .errors import TimedOut as TimedOut, how_it_ended as how_it_ended, kind_and_places as kind_and_places  # noqa: F401
+from .outcomes import read_outcome as read_outcome
 from .processes import Child
 
 if TYPE_CHECKING:
@@ -102,7 +103,7 @@ def find_library() -> Optional[Library]:
     named, program = os.environ.get("TRINORM_LIBRARY"), os.environ.get("TRINORM")
     known = named, program, REPOSITORY
     if known not in _libraries:
-        from . import library  # which raises what is declared here
+        from . import library  # which loads ctypes, that a program does not need
         if named:
             _libraries[known] = library.at(os.path.realpath(os.path.expanduser(named)))
         else:
@@ -147,17 +148,3 @@ def run_process(words: Sequence[str], text: str = "", timeout: Optional[float] =
             raise
         raise Failed(f"{path}: {fault.strerror}") from None
     return read_outcome(words, started.returncode, said)
-
-
-def read_outcome(words: Sequence[str], status: int, said: bytes) -> str:
-    """The text of a run that is done; else the refusal or the failure is raised."""
-    answer = said.decode("ascii", "replace")
-    if status == 0:
-        return answer
-    if status in REFUSED and answer.startswith("refused: "):
-        refused = Refused(status, answer.rstrip("\n"))
-        if status == USAGE:
-            from .hints import usage  # which loads tables that nothing else here needs
-            refused.hint = usage(words)
-        raise refused
-    raise Failed(f"{' '.join(words)}: {how_it_ended(status)}")

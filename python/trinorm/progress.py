@@ -9,6 +9,7 @@ from typing import Callable, Optional, Sequence, Union
 from . import program
 from .arguments import as_bytes, checked_timeout, checked_words, shown
 from .errors import BadArgument, TimedOut
+from .outcomes import read_outcome
 from .processes import Child
 from .program import Program
 
@@ -53,7 +54,7 @@ class Reported:
             left = INTERVAL if limit is None else min(INTERVAL, limit - (time.monotonic() - begun))
             try:
                 said, _ = run.communicate(timeout=max(0.0, left))
-                return program.read_outcome(words, run.returncode, said)
+                return read_outcome(words, run.returncode, said)
             except subprocess.TimeoutExpired:
                 pass
             if limit is not None and time.monotonic() - begun >= limit:

@@ -14,7 +14,7 @@ from typing import (Any, Callable, Counter, Dict, Iterable, Iterator, List, Lite
                     overload)
 
 from . import arrays as numpy_arrays, commands
-from .answers import Component, Info, Surface, Vector, is_yes, read_surfaces, read_vector
+from .answers import is_yes, read_surfaces, read_vector
 from .arguments import shown
 from .commands import Arrays
 from .errors import BadArgument
@@ -23,6 +23,7 @@ from .options import Coords, WithTriangles, words
 from .parts import Answers, Clock
 from .program import Program
 from .progress import Progress, reported
+from .results import Component, Info, Surface, Vector
 from .tables import Triangulation, document
 
 

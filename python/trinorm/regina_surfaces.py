@@ -1,42 +1,16 @@
-"""Normal surfaces of Regina's and vectors of trinorm's. Regina is imported only where a value of its own is made."""
+"""Triangulations and normal surfaces as values of Regina's, which is imported only where one is made."""
 from __future__ import annotations
 
-from typing import TYPE_CHECKING, Any, Dict, List, Protocol, Sequence
+from typing import Any, List, Sequence
 
-from .answers import Vector
+from . import commands
 from .arguments import shown, whole_numbers
 from .errors import BadArgument
 from .options import Coords
+from .regina_vectors import (COORDS as COORDS, ReginaSurface as ReginaSurface, checked_coordinates as checked_coordinates,  # noqa: F401
+                             is_surface as is_surface, vector_of as vector_of)
+from .results import Vector
 from .tables import Table, Triangulation, import_regina, is_of_regina
-
-if TYPE_CHECKING:
-    from typing_extensions import TypeGuard
-
-# Regina's names of the coordinates, for vertex surfaces and for vectors
-COORDS: Dict[Coords, str] = {"standard": "NS_STANDARD", "quad": "NS_QUAD", "octagon": "NS_AN_STANDARD"}
-
-
-class ReginaSurface(Protocol):
-    """A `regina.NormalSurface`."""
-
-    def triangulation(self) -> Any:
-        """The triangulation that it lies in."""
-
-    def triangles(self, tet: int, vertex: int) -> Any:
-        """How many triangles it has there."""
-
-    def quads(self, tet: int, kind: int) -> Any:
-        """How many quads it has there."""
-
-    def octs(self, tet: int, kind: int) -> Any:
-        """How many octagons it has there."""
-
-
-def checked_coordinates(coords: Coords) -> Coords:
-    """One of `standard`, `quad` and `octagon`."""
-    if not isinstance(coords, str) or coords not in COORDS:
-        raise BadArgument(f"coords must be one of {', '.join(COORDS)}, not {shown(coords)}")
-    return coords
 
 
 def in_regina(coords: Coords) -> Any:
@@ -44,42 +18,25 @@ def in_regina(coords: Coords) -> Any:
     return getattr(import_regina(), COORDS[checked_coordinates(coords)])
 
 
-def is_surface(value: object) -> TypeGuard[ReginaSurface]:
-    """Whether a value is a `regina.NormalSurface`."""
-    return callable(getattr(value, "triangles", None)) and callable(getattr(value, "quads", None)) and not isinstance(value, type)
-
-
-def vector_of(surface: ReginaSurface, coords: Coords = "standard") -> Vector:
-    """The vector of a `regina.NormalSurface` in these coordinates.
-
-    surface: in quad coordinates it may be spun-normal; else it has finitely many triangles
-    """
-    if not is_surface(surface):
-        raise BadArgument(f"expected a regina.NormalSurface, not {shown(surface)}")
-    checked_coordinates(coords)
-    entries: List[object] = []
-    for tet in range(surface.triangulation().size()):
-        if coords != "quad":
-            entries += [surface.triangles(tet, vertex) for vertex in range(4)]
-        entries += [surface.quads(tet, kind) for kind in range(3)]
-        if coords == "octagon":
-            entries += [surface.octs(tet, kind) for kind in range(3)]
-    return tuple(map(_number, map(str, entries)))
-
-
-def _number(text: str) -> int:
-    """An entry of Regina's, which may be infinite."""
-    try:
-        return int(text)
-    except ValueError:
-        raise BadArgument("this surface is spun-normal; it has infinitely many triangles, and a vector in quad "
-                          "coordinates only") from None
-
-
 def normal_surface(t: Triangulation, vector: Sequence[int], coords: Coords = "standard") -> Any:
-    """The `regina.NormalSurface` of a vector.
+    """The normal surface of Regina with a vector.
 
-    t: a `regina.Triangulation3`, or a triangulation in any other form, which is made one first
+    Args:
+        t: a `regina.Triangulation3`, or a triangulation in any other form, which is converted first
+        vector: a list of whole numbers of at least 0, as long as the coordinates have columns
+        coords: `standard`, `quad` or `octagon`
+
+    Returns:
+        A `regina.NormalSurface`.
+
+    Raises:
+        Refused: the triangulation is not a gluing table
+        BadArgument: an argument is invalid
+        Failed: this Python has no module regina
+
+    >>> import trinorm  # needs regina
+    >>> trinorm.normal_surface("bkaagj", (0, 0, 1, 1, 0, 0, 0, 1, 0, 0), "octagon").eulerChar()
+    2
     """
     there = to_regina(t)
     width = {"standard": 7, "quad": 3, "octagon": 10}[checked_coordinates(coords)] * there.size()
@@ -92,16 +49,48 @@ def normal_surface(t: Triangulation, vector: Sequence[int], coords: Coords = "st
 
 
 def to_regina(t: Triangulation) -> Any:
-    """A triangulation in any form as a `regina.Triangulation3`, with its numbers of tetrahedra, faces and vertices."""
+    """A triangulation in any form as a triangulation of Regina, with the same numbers of tetrahedra, faces and vertices.
+
+    Args:
+        t: the triangulation
+
+    Returns:
+        A `regina.Triangulation3`; `t` itself if it is one.
+
+    Raises:
+        Refused: the triangulation is not a gluing table
+        BadArgument: it is not a triangulation
+        Failed: this Python has no module regina
+
+    >>> import trinorm  # needs regina
+    >>> trinorm.to_regina("cPcbbbiht").isoSig()
+    'cPcbbbiht'
+    """
     if is_of_regina(t):
         return t
     if isinstance(t, Table):
         return t.to_regina()
-    from .commands import table
-    return table(t).to_regina()
+    return commands.table(t).to_regina()
 
 
 def vertex_surfaces(t: Triangulation, coords: Coords = "standard") -> List[Vector]:
-    """The vectors that Regina lists for `surfaces`, in lexicographic order."""
+    """The vertex surfaces that Regina lists.
+
+    Args:
+        t: the triangulation
+        coords: `standard`, `quad` or `octagon`
+
+    Returns:
+        A list of vectors in lexicographic order, as `surfaces` returns them.
+
+    Raises:
+        Refused: the triangulation is not a gluing table
+        BadArgument: an argument is invalid
+        Failed: this Python has no module regina
+
+    >>> import trinorm  # needs regina
+    >>> trinorm.regina_surfaces.vertex_surfaces("bkaagj") == trinorm.surfaces("bkaagj")
+    True
+    """
     found = import_regina().NormalSurfaces(to_regina(t), in_regina(coords))
     return sorted(vector_of(surface, coords) for surface in found)

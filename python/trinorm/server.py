@@ -2,14 +2,8 @@
 time limit and take nothing with them when they die."""
 from __future__ import annotations
 
-import contextlib
-import math
 import os
 import queue
-import select
-import struct
-import subprocess
-import sys
 import time
 import weakref
 from _thread import start_new_thread
@@ -18,167 +12,39 @@ from typing import Any, Dict, Optional, Sequence, Set, Tuple, Union
 
 from .arguments import as_bytes, checked_timeout, checked_words, joined
 from .errors import NO_MEMORY_HERE, Failed, TimedOut, how_it_ended
-from .program import find, read_outcome
+from .outcomes import read_outcome
+from .program import find
+from .server_processes import Call, Ended, Late, OtherAnswer, ServerProcess
 
 NAME = "trinorm-server"
-# a request: its number, the lengths of words and input; an answer: that number, the status, the length of the text
-_REQUEST, _ANSWER = struct.Struct("=QII"), struct.Struct("=QBI")
+# the longest input, in bytes
 _LONGEST = (1 << 32) - 1
-# how much is read at a time, which is what a pipe holds, and the longest wait that the system takes, in milliseconds
-_PART, _LONGEST_WAIT = 1 << 16, (1 << 31) - 1
 # in seconds: a process that answered before, and is gone so soon after a request, most likely was gone before it
 _SOON = 1.0
 # in seconds: how long a thread may take to begin
 _LONGEST_START = 60.0
 _MOST_IDLE = os.cpu_count() or 1
-_LAST_NUMBER = (1 << 64) - 1
-
-
-class _Late(Exception):
-    """The answer didn't come in time."""
-
-
-class _Ended(Exception):
-    """The process ended in place of its answer."""
-
-
-class _OtherAnswer(Exception):
-    """What came is no answer to this request."""
-
-
-class _Call:
-    """A call that asks a process; `over` once it has ended in any way."""
-
-    def __init__(self) -> None:
-        self.over = False
-
-
-class _Process:
-    """A server process with its pipes, which are never waited for past a deadline. One thread asks it at a time."""
-
-    def __init__(self, path: str, own_group: bool, call: _Call, all_of_server: Set[_Process], calls: Dict[_Process, _Call]) -> None:
-        self._all = all_of_server
-        self.owner = os.getpid()
-        self.run = _started(path, own_group)
-        assert self.run.stdin is not None and self.run.stdout is not None
-        self.pipes = self.run.stdin, self.run.stdout
-        self._requests, self._answers = (pipe.fileno() for pipe in self.pipes)
-        for file in (self._requests, self._answers):
-            os.set_blocking(file, False)
-        self._to_send, self._to_receive = select.poll(), select.poll()
-        self._to_send.register(self._requests, select.POLLOUT)
-        self._to_receive.register(self._answers, select.POLLIN)
-        calls[self] = call
-        all_of_server.add(self)
-        # the number of the first request is 0, which a server without numbers takes for two lengths and refuses at once; the
-        # next ones count from a number that no other process draws
-        self._number, self._first_number = 0, int.from_bytes(os.urandom(8), "little")
-
-    @property
-    def has_answered(self) -> bool:
-        """Whether it has answered a request before."""
-        return self._number != 0
-
-    def ask(self, words: bytes, text: bytes, deadline: Optional[float]) -> Tuple[int, bytes]:
-        """The status and the text of an answer. Raises `_Late`, `_Ended` or `_OtherAnswer`."""
-        self._send(_REQUEST.pack(self._number, len(words), len(text)) + words + text, deadline)
-        received = self._receive(b"", _ANSWER.size, deadline)
-        number, status, length = _ANSWER.unpack_from(received)
-        if number != self._number:
-            raise _OtherAnswer
-        if len(received) < _ANSWER.size + length:
-            received = self._receive(received, _ANSWER.size + length, deadline)
-        if len(received) != _ANSWER.size + length:
-            raise _OtherAnswer
-        self._number = (self._number or self._first_number) + 1 & _LAST_NUMBER or 1
-        return status, received[_ANSWER.size:]
-
-    def end(self) -> int:
-        """Ends the process, and returns the status with which it ended."""
-        self.run.kill()
-        for pipe in self.pipes:
-            with contextlib.suppress(OSError):
-                pipe.close()
-        status = self.run.wait()
-        self._all.discard(self)  # last, so that it is ended again if this was interrupted
-        return status
-
-    def status(self) -> int:
-        """The status with which it ended by itself; where it goes on without its pipes it is killed."""
-        with contextlib.suppress(subprocess.TimeoutExpired):
-            self.run.wait(0.1)
-        return self.end()
-
-    def forget(self, is_asked: bool) -> None:
-        """Leaves the process to the parent of this one, which was forked from it.
-
-        is_asked: whether a call waits for it, perhaps in this thread, where a handler of a signal forked: then its descriptors stay
-            at an end of file, so that no other file gets their numbers
-        """
-        self.run.returncode = 0
-        for pipe in self.pipes:
-            with contextlib.suppress(OSError):
-                if is_asked:
-                    null = os.open(os.devnull, os.O_RDWR | os.O_CLOEXEC)
-                    os.dup2(null, pipe.fileno(), inheritable=False)
-                    os.close(null)
-                else:
-                    pipe.close()
-
-    def _send(self, request: bytes, deadline: Optional[float]) -> None:
-        rest = memoryview(request)
-        while rest:
-            try:
-                rest = rest[os.write(self._requests, rest):]
-            except BlockingIOError:
-                _wait(self._to_send, deadline)
-            except BrokenPipeError:
-                raise _Ended from None
-
-    def _receive(self, received: bytes, size: int, deadline: Optional[float]) -> bytes:
-        """What was received, and what comes until there are so many bytes."""
-        parts, missing = [received], size - len(received)
-        while missing > 0:
-            _wait(self._to_receive, deadline)
-            try:
-                part = os.read(self._answers, _PART)
-            except BlockingIOError:
-                continue
-            if not part:
-                raise _Ended
-            parts.append(part)
-            missing -= len(part)
-        return b"".join(parts)
-
-
-def _started(path: str, own_group: bool) -> subprocess.Popen[bytes]:
-    """A process of a server, whose pipes have no buffers here."""
-    pipe = subprocess.PIPE
-    if sys.version_info >= (3, 11):
-        if own_group:
-            return subprocess.Popen([path], bufsize=0, stdin=pipe, stdout=pipe, process_group=0)
-    # a session of its own is a group of its own too, but the system schedules it apart from this one
-    return subprocess.Popen([path], bufsize=0, stdin=pipe, stdout=pipe, start_new_session=own_group)
-
-
-def _wait(poll: select.poll, deadline: Optional[float]) -> None:
-    """Waits until something can be read or written, or the other end is closed. Raises `_Late` at the deadline."""
-    while True:
-        left = None if deadline is None else max(0.0, deadline - time.monotonic())
-        if poll.poll(None if left is None else min(_LONGEST_WAIT, math.ceil(left * 1000))):
-            return
-        if left == 0:
-            raise _Late
 
 
 class Server:
-    """Processes that answer words and inputs in place of a program, each for one call at a time. They are started when they
-    are needed, also in a child that was forked, and ended by `close` or with Python.
+    """Processes that answer many calls each, instead of a process for each call.
 
-    Any threads may share a server: calls at the same time have a process each.
+    They are started when they are needed, also in a child that was forked, and ended by `close` or with Python. Threads, coroutines and
+    child processes may share a server: calls at the same time have a process each. It is the argument `program=` of functions.
 
-    program: the program whose server is taken; the one that `program.find` finds if it is None
-    own_group: whether Ctrl-C on a terminal, and what else is sent to the group of this process, leaves them alone
+    Args:
+        program: the path of the program whose server is taken; by default the one that `trinorm.find` finds
+        own_group: whether the processes have a process group of their own, so that Ctrl-C on a terminal does not reach them
+
+    Raises:
+        BadArgument: an argument is invalid
+        Failed: there is no server next to the program
+
+    >>> import trinorm
+    >>> from trinorm.server import Server
+    >>> with Server() as server:
+    ...     [trinorm.sig(it, program=server, timeout=5) for it in ("bkaagj", "cPcbbbiht")]
+    ['bkaagj', 'cPcbbbiht']
     """
 
     def __init__(self, program: Optional[str] = None, *, own_group: bool = True) -> None:
@@ -193,9 +59,9 @@ class Server:
     def _begin(self) -> None:
         """Begins without processes, as in a child that was forked: those of its parent are not its own."""
         self._owner = os.getpid()
-        self._all: Set[_Process] = set()
+        self._all: Set[ServerProcess] = set()
         # which call has a process; one that none has is idle
-        self._calls: Dict[_Process, _Call] = {}
+        self._calls: Dict[ServerProcess, Call] = {}
         weakref.finalize(self, _end_all, self._all, self._calls, self._owner)
         _servers.add(self)
 
@@ -208,25 +74,77 @@ class Server:
 
     @staticmethod
     def find(program: Optional[str] = None) -> Optional[str]:
-        """The path of the server that was built with a program and is in its folder, if there is one."""
+        """The path of the server that was built with a program.
+
+        Args:
+            program: the path of the program; by default the one that `trinorm.find` finds
+
+        Returns:
+            The path, or None if there is no server in the folder of the program.
+
+        Raises:
+            BadArgument: the argument is not a path
+            Failed: there is no such program
+
+        >>> from trinorm.server import Server
+        >>> Server.find() is not None
+        True
+        """
         path = Path(os.path.realpath(find(program))).parent / NAME
         return str(path) if os.access(path, os.X_OK) else None
 
     def run(self, words: Sequence[str], text: str = "", timeout: Optional[float] = None) -> str:
-        """As `program.run`: what the program writes; a refusal, a failure or a run past its limit is raised."""
+        """Runs a command line over an input, as `trinorm.program.run` does.
+
+        Args:
+            words: the command and its options
+            text: the input
+            timeout: seconds, after which the process is ended
+
+        Returns:
+            What the program prints.
+
+        Raises:
+            Refused: the program refused the command line or the input
+            BadArgument: an argument is invalid
+            Failed: the server is closed, or its process ended; `TimedOut` if it exceeded the time limit
+
+        >>> from trinorm.server import Server
+        >>> with Server() as server:
+        ...     server.run(["sig"], "tri 1\\n0:1023 0:1023 0:1230 0:3012\\n")
+        'bkaagj\\n'
+        """
         words = checked_words(words)
         status, answer = self.ask(words, text, timeout)
         return read_outcome(words, status, answer)
 
     def ask(self, words: Sequence[str], text: str = "", timeout: Optional[float] = None) -> Tuple[int, bytes]:
-        """The status and the bytes of the answer. A process that doesn't answer in time is ended, and `TimedOut` raised."""
+        """As `run`, but returns the status also where that raises.
+
+        Args:
+            words: the command and its options
+            text: the input
+            timeout: seconds, after which the process is ended
+
+        Returns:
+            The exit status of the program, and the bytes that it prints.
+
+        Raises:
+            BadArgument: an argument is invalid
+            Failed: the server is closed, or its process ended; `TimedOut` if it exceeded the time limit
+
+        >>> from trinorm.server import Server
+        >>> with Server() as server:
+        ...     server.ask(["sig"], "sig x")
+        (3, b'refused: signature truncated 1\\n')
+        """
         words = checked_words(words)
         request, given, seconds = joined(words), as_bytes(text), checked_timeout(timeout)
         if len(given) > _LONGEST:
             raise Failed(f"{' '.join(words)}: the input has {len(given)} bytes, too many for the server")
         deadline = None if seconds is None else time.monotonic() + seconds
         while True:
-            call = _Call()
+            call = Call()
             try:
                 answer = self._ask_one(call, request, given, deadline)
             except BaseException as fault:  # as KeyboardInterrupt: the answer may still come, to no other request
@@ -237,13 +155,13 @@ class Server:
             if answer is not None:
                 raise Failed(f"{' '.join(words)}: {how_it_ended(answer)}")
 
-    def _ask_one(self, call: _Call, request: bytes, given: bytes, deadline: Optional[float]) -> Union[Tuple[int, bytes], int, None]:
+    def _ask_one(self, call: Call, request: bytes, given: bytes, deadline: Optional[float]) -> Union[Tuple[int, bytes], int, None]:
         """The answer of a process; the status with which it ended in place of one; None if it was gone before, or is that of the
         parent of this process, so that another one is to be asked."""
         process, begun = self._take(call), time.monotonic()
         try:
             answer = process.ask(request, given, deadline)
-        except _Ended:
+        except Ended:
             if process.owner != os.getpid():
                 return None
             was_idle = process.has_answered and time.monotonic() < begun + _SOON
@@ -254,7 +172,7 @@ class Server:
         self._give_back(process)
         return answer
 
-    def _end_call(self, call: _Call) -> None:
+    def _end_call(self, call: Call) -> None:
         """Ends the process of a call that was interrupted, also one that is only now starting."""
         call.over = True
         for process, other in list(self._calls.items()):
@@ -265,9 +183,9 @@ class Server:
     def _failure(self, fault: BaseException, words: Sequence[str], timeout: Optional[float]) -> BaseException:
         """What is raised of a request that went wrong; exceptions of handlers of signals stay what they are."""
         asked = " ".join(words)
-        if isinstance(fault, _Late):
+        if isinstance(fault, Late):
             return TimedOut(f"{asked}: no result within {timeout} s")
-        if isinstance(fault, _OtherAnswer):
+        if isinstance(fault, OtherAnswer):
             return Failed(f"{asked}: {self.path} answered another request; check that it has the version of this package")
         if isinstance(fault, MemoryError):
             return Failed(f"{asked}: {NO_MEMORY_HERE}")
@@ -276,7 +194,12 @@ class Server:
         return fault
 
     def close(self) -> None:
-        """Ends the processes. Calls that are running fail, and so do later ones."""
+        """Ends the processes. Calls that are running fail, and so do later ones.
+
+        >>> from trinorm.server import Server
+        >>> server = Server()
+        >>> server.close()
+        """
         self._closed = True
         _end_all(self._all, self._calls, self._owner)
 
@@ -291,7 +214,7 @@ class Server:
         if self._closed:
             raise Failed("this server is closed")
 
-    def _take(self, call: _Call) -> _Process:
+    def _take(self, call: Call) -> ServerProcess:
         """A process that answers nobody: one that is idle, else a new one. It is the call's from one step on, at which no handler
         of a signal can come between."""
         self._check_open()
@@ -304,27 +227,27 @@ class Server:
                 self._calls.pop(process, None)
         return self._start(call)
 
-    def _start(self, call: _Call) -> _Process:
+    def _start(self, call: Call) -> ServerProcess:
         """A new process. A thread starts it, since a handler of a signal that raises in `Popen` would leave it unknown."""
-        came: "queue.SimpleQueue[Union[_Process, BaseException, None]]" = queue.SimpleQueue()
+        came: "queue.SimpleQueue[Union[ServerProcess, BaseException, None]]" = queue.SimpleQueue()
         try:
             start_new_thread(self._start_in_thread, (call, came))
             came.get(timeout=_LONGEST_START)  # if memory is short, a thread may end before its first step
         except (RuntimeError, queue.Empty):
             raise Failed(f"{self.path} cannot be started: this process cannot start a thread") from None
         process = came.get()
-        if isinstance(process, _Process):
+        if isinstance(process, ServerProcess):
             return process
         if isinstance(process, OSError):
             raise Failed(f"{self.path} cannot be started: {process.strerror}")
         assert process is not None
         raise process
 
-    def _start_in_thread(self, call: _Call, came: "queue.SimpleQueue[Union[_Process, BaseException, None]]") -> None:
+    def _start_in_thread(self, call: Call, came: "queue.SimpleQueue[Union[ServerProcess, BaseException, None]]") -> None:
         """Starts a process for a call, and ends it if the call is over."""
         came.put(None)
         try:
-            process = _Process(self.path, self._own_group, call, self._all, self._calls)
+            process = ServerProcess(self.path, self._own_group, call, self._all, self._calls)
         except BaseException as fault:  # pylint: disable=broad-except
             came.put(fault)
             return
@@ -333,7 +256,7 @@ class Server:
             self._calls.pop(process, None)
         came.put(process)
 
-    def _give_back(self, process: _Process) -> None:
+    def _give_back(self, process: ServerProcess) -> None:
         """Keeps a process for the next call, if there are not more than processors."""
         if self._closed or len(self._all) - len(self._calls) >= _MOST_IDLE:
             process.end()
@@ -346,11 +269,11 @@ class Server:
         self._begin()
 
 
-def _end_all(processes: Set[_Process], calls: Dict[_Process, _Call], owner: int) -> None:
+def _end_all(processes: Set[ServerProcess], calls: Dict[ServerProcess, Call], owner: int) -> None:
     """Ends the processes of a server that is closed or gone, if this process started them."""
     if owner != os.getpid():
         return
-    last = _Call()
+    last = Call()
     last.over = True
     for process in list(processes):
         # one that is idle is taken, so that no call of another thread takes it while its pipes are closed

@@ -3,17 +3,14 @@ from __future__ import annotations
 
 import string
 from dataclasses import dataclass
-from typing import TYPE_CHECKING, Any, Callable, Dict, Iterable, Iterator, List, Optional, Protocol, Sequence, Tuple, Union, cast
+from typing import TYPE_CHECKING, Any, Iterable, Iterator, List, Optional, Protocol, Sequence, Tuple, Union
 
 from .arguments import listed, shown, whole_number
 from .errors import BadArgument as BadArgument, Failed
+from .table_methods import TableMethods
 
 if TYPE_CHECKING:
     from typing_extensions import TypeGuard
-
-    from .answers import (Accepted, Cover, Descent, Info, Isomorphism, Played, Presentation, Sum, Surface, Verdict)
-    from .certificates import Certificate
-    from .questions import Count, ZeroEfficiency
 
 Images = Tuple[int, int, int, int]
 
@@ -23,7 +20,16 @@ CHARACTERS = string.ascii_lowercase + string.ascii_uppercase + string.digits + "
 
 @dataclass(frozen=True)
 class Gluing:
-    """The gluing of a face: the tetrahedron across it, and the images of vertices 0 to 3."""
+    """The gluing of a face.
+
+    Attributes:
+        tet: the tetrahedron across the face
+        images: the images of vertices 0 to 3
+
+    >>> import trinorm
+    >>> str(trinorm.Gluing(1, (0, 1, 3, 2)))
+    '1:0132'
+    """
     tet: int
     images: Images
 
@@ -32,7 +38,21 @@ class Gluing:
 
     @classmethod
     def parse(cls, word: str) -> Optional[Gluing]:
-        """An entry of a table, as `1:0132`, or `-` for a boundary face."""
+        """An entry of a gluing table.
+
+        Args:
+            word: such as `1:0132`, or `-` for a boundary face
+
+        Returns:
+            A `Gluing`, or None for a boundary face.
+
+        Raises:
+            BadArgument: it is not such a string
+
+        >>> import trinorm
+        >>> trinorm.Gluing.parse("1:0132")
+        Gluing(tet=1, images=(0, 1, 3, 2))
+        """
         if isinstance(word, str) and word == "-":
             return None
         tet, colon, images = word.partition(":") if isinstance(word, str) else ("", "", "")
@@ -47,18 +67,18 @@ GivenEntry = Union[None, str, Gluing, Tuple[int, Union[str, Sequence[int]]]]
 GivenRow = Union[str, Sequence[GivenEntry]]
 
 
-# the functions that a Table has as methods, by their names; the package puts them here, since they need what is declared here
-_functions: Dict[str, Callable[..., object]] = {}
-
-
-def offer(*functions: Callable[..., object]) -> None:
-    """Makes functions of a triangulation methods of tables."""
-    _functions.update((it.__name__, it) for it in functions)
-
-
 @dataclass(frozen=True)
-class Table:
-    """A triangulation as a gluing table: `rows[t][f]` is the gluing of face f of tetrahedron t, None at the boundary."""
+class Table(TableMethods):
+    """A triangulation as a gluing table. It has the functions of a triangulation as methods.
+
+    Attributes:
+        rows: `rows[t][f]` is the `Gluing` of face f of tetrahedron t, or None if it is a boundary face
+
+    >>> import trinorm
+    >>> ball = trinorm.Table(((None, None, None, None),))
+    >>> ball.info().vertices[0].kind
+    'disc'
+    """
     rows: Tuple[Row, ...]
 
     def __len__(self) -> int:
@@ -68,21 +88,42 @@ class Table:
         lines = [" ".join("-" if it is None else str(it) for it in row) for row in self.rows]
         return "".join(line + "\n" for line in [f"tri {len(lines)}", *lines])
 
-    def _repr_svg_(self) -> str:
-        """What a notebook shows: the face-pairing graph."""
-        from .pictures import face_pairing_svg
-        return face_pairing_svg(self)
-
     @classmethod
     def parse(cls, text: str) -> Table:
-        """A table as the program writes it."""
+        """A table from its text.
+
+        Args:
+            text: `tri N` and N rows, as the program prints a table
+
+        Returns:
+            The `Table`.
+
+        Raises:
+            BadArgument: it is not the text of a table
+
+        >>> import trinorm
+        >>> len(trinorm.Table.parse("tri 1\\n0:1023 0:1023 0:1230 0:3012\\n"))
+        1
+        """
         lines = text.splitlines() if isinstance(text, str) else []
         if lines[:1] != [f"tri {len(lines) - 1}"]:
             raise BadArgument(f"expected the text of a gluing table (`tri N` and N rows), not {shown(text)}")
         return cls(tuple(row_of(line) for line in lines[1:]))
 
     def to_regina(self) -> Any:
-        """The `regina.Triangulation3` with the same numbers of tetrahedra, faces and vertices."""
+        """The table as a triangulation of Regina, in which tetrahedra, faces and vertices have the same numbers.
+
+        Returns:
+            A `regina.Triangulation3`.
+
+        Raises:
+            BadArgument: the rows are not those of a gluing table
+            Failed: this Python has no module regina
+
+        >>> import trinorm
+        >>> trinorm.table("cPcbbbiht").to_regina().isoSig()  # needs regina
+        'cPcbbbiht'
+        """
         regina, rows = import_regina(), self.checked().rows
         made = regina.Triangulation3()
         tets = [made.newTetrahedron() for _ in rows]
@@ -98,92 +139,19 @@ class Table:
         return made
 
     def checked(self) -> Table:
-        """This table, if its rows have the form of rows; else BadArgument says what is wrong."""
+        """This table, if its rows have the right form.
+
+        Returns:
+            A `Table` whose rows are tuples of four, of `Gluing` or None.
+
+        Raises:
+            BadArgument: a row has another form
+
+        >>> import trinorm
+        >>> trinorm.Table(["- - - -"]).checked().rows
+        ((None, None, None, None),)
+        """
         return Table(tuple(map(row_of, listed(self.rows, "the rows of a Table must be a tuple"))))
-
-    def info(self, *given: Any, **named: Any) -> Info:
-        """The skeleton (`trinorm.info`)."""
-        return cast("Info", _functions["info"](self, *given, **named))
-
-    def sig(self, *given: Any, **named: Any) -> str:
-        """The isomorphism signature (`trinorm.sig`)."""
-        return cast("str", _functions["sig"](self, *given, **named))
-
-    def csig(self, *given: Any, **named: Any) -> str:
-        """The signatures of the components (`trinorm.csig`)."""
-        return cast("str", _functions["csig"](self, *given, **named))
-
-    def surfaces(self, *given: Any, **named: Any) -> List[Tuple[int, ...]]:
-        """All vertex normal surfaces (`trinorm.surfaces`)."""
-        return cast("List[Tuple[int, ...]]", _functions["surfaces"](self, *given, **named))
-
-    def described(self, *given: Any, **named: Any) -> List[Surface]:
-        """All vertex normal surfaces, described (`trinorm.described`)."""
-        return cast("List[Surface]", _functions["described"](self, *given, **named))
-
-    def count(self, *given: Any, **named: Any) -> Count:
-        """The vertex normal surfaces, counted (`trinorm.count`)."""
-        return cast("Count", _functions["count"](self, *given, **named))
-
-    def spheres(self, *given: Any, **named: Any) -> List[Surface]:
-        """The vertex surfaces that are spheres (`trinorm.spheres`)."""
-        return cast("List[Surface]", _functions["spheres"](self, *given, **named))
-
-    def tori(self, *given: Any, **named: Any) -> List[Surface]:
-        """The vertex surfaces that are tori (`trinorm.tori`)."""
-        return cast("List[Surface]", _functions["tori"](self, *given, **named))
-
-    def zero_efficient(self, *given: Any, **named: Any) -> ZeroEfficiency:
-        """The verdict of `trinorm.zero_efficient`."""
-        return cast("ZeroEfficiency", _functions["zero_efficient"](self, *given, **named))
-
-    def cover(self, *given: Any, **named: Any) -> Cover:
-        """The orientable double cover (`trinorm.cover`)."""
-        return cast("Cover", _functions["cover"](self, *given, **named))
-
-    def pi1(self, *given: Any, **named: Any) -> Presentation:
-        """The fundamental group (`trinorm.pi1`)."""
-        return cast("Presentation", _functions["pi1"](self, *given, **named))
-
-    def descend(self, *given: Any, **named: Any) -> Descent:
-        """Moves that make it smaller (`trinorm.descend`)."""
-        return cast("Descent", _functions["descend"](self, *given, **named))
-
-    def certify(self, *given: Any, **named: Any) -> Optional[Certificate]:
-        """Moves to the standard 3-sphere (`trinorm.certify`)."""
-        return cast("Optional[Certificate]", _functions["certify"](self, *given, **named))
-
-    def describe(self, vectors: Any, *given: Any, **named: Any) -> List[Surface]:
-        """Surfaces described (`trinorm.describe`)."""
-        return cast("List[Surface]", _functions["describe"](self, vectors, *given, **named))
-
-    def verify(self, vectors: Any, *given: Any, **named: Any) -> List[Verdict]:
-        """Whether vectors are those of surfaces (`trinorm.verify`)."""
-        return cast("List[Verdict]", _functions["verify"](self, vectors, *given, **named))
-
-    def lift(self, vectors: Any, *given: Any, **named: Any) -> List[Tuple[int, ...]]:
-        """Vectors in quad coordinates, lifted (`trinorm.lift`)."""
-        return cast("List[Tuple[int, ...]]", _functions["lift"](self, vectors, *given, **named))
-
-    def crush(self, vector: Any, *given: Any, **named: Any) -> Table:
-        """What is left when it is crushed along a surface (`trinorm.crush`)."""
-        return cast("Table", _functions["crush"](self, vector, *given, **named))
-
-    def decompose(self, vectors: Any, *given: Any, **named: Any) -> List[Sum]:
-        """Vectors as sums of vertex surfaces (`trinorm.decompose`)."""
-        return cast("List[Sum]", _functions["decompose"](self, vectors, *given, **named))
-
-    def play(self, steps: Any, *given: Any, **named: Any) -> Played:
-        """What becomes of it by moves (`trinorm.play`)."""
-        return cast("Played", _functions["play"](self, steps, *given, **named))
-
-    def check(self, moves: Any, *given: Any, **named: Any) -> Accepted:
-        """Whether moves lead to the standard 3-sphere (`trinorm.check`)."""
-        return cast("Accepted", _functions["check"](self, moves, *given, **named))
-
-    def same(self, other: Any, *given: Any, **named: Any) -> Optional[Isomorphism]:
-        """An isomorphism to another triangulation (`trinorm.same`)."""
-        return cast("Optional[Isomorphism]", _functions["same"](self, other, *given, **named))
 
 
 class ReginaTriangulation(Protocol):
@@ -258,7 +226,21 @@ def is_of_snappy(value: object) -> TypeGuard[SnapPyTriangulation]:
 
 
 def from_regina(triangulation: ReginaTriangulation) -> Table:
-    """The table of a `regina.Triangulation3`; tetrahedra, faces and vertices keep their numbers."""
+    """The table of a triangulation of Regina, with the same numbers of tetrahedra, faces and vertices.
+
+    Args:
+        triangulation: a `regina.Triangulation3`, or a packet of one
+
+    Returns:
+        A `Table`.
+
+    Raises:
+        BadArgument: it is not a triangulation of Regina
+
+    >>> import regina, trinorm  # needs regina
+    >>> trinorm.from_regina(regina.Example3.figureEight()).sig()
+    'cPcbbbiht'
+    """
     if not is_of_regina(triangulation):
         raise BadArgument(f"expected a regina.Triangulation3, not {shown(triangulation)}")
     rows = ([_gluing_in_regina(tet, face) for face in range(4)] for tet in triangulation.tetrahedra())
