@@ -19,10 +19,14 @@ DIGITS = 19
 
 @dataclass(frozen=True, eq=False)
 class Components:
-    """The components of surfaces, one after another: an entry of each array, or a row, for each component.
+    """The components of surfaces, one after another: an entry of each array, or a row of `vectors`, for each component.
 
-    surface: the index of the surface that has it
-    sides: 1 or 2
+    Attributes:
+        surface: the index of the surface to which it belongs
+        euler: its Euler characteristic
+        sides: 1 or 2
+        orientable: whether it is orientable
+        vectors: its vector
     """
     surface: Any
     euler: Any
@@ -33,9 +37,20 @@ class Components:
 
 @dataclass(frozen=True, eq=False)
 class Described:
-    """What `describe` says of vectors: an entry of each array, or a row of `vectors`, for each of them.
+    """What `describe` returns, as arrays: an entry of each array, or a row of `vectors`, for each surface.
 
-    count: how many components it has
+    Attributes:
+        vectors: its vector
+        euler: its Euler characteristic
+        linking, boundary: as for `Surface`
+        count: how many components it has
+        components: these, as `Components`
+        columns: the arrays with one entry for each surface, by their names, for `pandas.DataFrame`
+
+    >>> import trinorm  # needs numpy
+    >>> found = trinorm.described("bkaagj", arrays=True)
+    >>> found.euler.tolist(), found.components.sides.tolist()
+    ([0, 2], [2, 2])
     """
     vectors: Any
     euler: Any

@@ -48,9 +48,17 @@ Command = Union[CommandName, Callable[..., Any]]
 
 @dataclass(frozen=True)
 class Answered:
-    """What came out for one triangulation: the answer, or the failure, an exception, in its place.
+    """The result of a command for one triangulation: the answer, or instead of it an exception.
 
-    index: its index among the triangulations, from 0
+    Attributes:
+        index: the index of the triangulation, from 0
+        triangulation: the triangulation as it was given
+        answer: what the command returned; None if it failed
+        failure: the exception; None if the command returned
+
+    >>> import trinorm
+    >>> [answered.index for answered in trinorm.many(["bkaagj", "no signature"], "sig") if answered.failure]
+    [1]
     """
     index: int
     triangulation: Triangulation
@@ -270,18 +278,31 @@ def _as_done(run: _Run) -> Iterator[Answered]:
 def many(triangulations: Iterable[Triangulation], command: Command = "surfaces", executor: Optional[Executor] = None,
          timeout: Optional[float] = None, progress: Optional[Counts] = None, *, in_order: bool = True,
          program: Program = None, **options: Any) -> Iterator[Answered]:
-    """What a command answers to each triangulation: an `Answered` each, by index or as they are done.
+    """Runs a command on each of many triangulations, and yields an `Answered` for each.
 
-    A failure is a value: an `Answered` with `failure`. The triangulations are taken as they are needed, so that there may
-    be any number of them.
+    A failure is a value: an `Answered` with `failure`. The triangulations are taken as they are needed, so that there may be any
+    number of them.
 
-    command: the name of a function of one triangulation (`surfaces`, `count`, `zero_efficient`, ..), or a function that
-        takes the text of one; for other processes it has to be one that they can import
-    executor: what runs it; without one it runs in threads of this process, one for each processor
-    timeout: the seconds for each triangulation, for a command that is named
-    progress: called after each answer with how many are answered and how many of these failed
-    in_order: False to yield them as they are done
-    options: further arguments of the command, as `coords="quad"`
+    Args:
+        triangulations: a list, or any other iterable
+        command: the name of a function of one triangulation (`surfaces`, `count`, `zero_efficient`, ..), or a function that takes the
+            text of one; other processes must be able to import it
+        executor: a `concurrent.futures.Executor` that runs it; by default threads of this process, one for each processor
+        timeout: the seconds for each triangulation, for a command that is named
+        progress: a function that is called after each answer with how many are answered and how many of these failed
+        in_order: False to yield them as they are ready, and not in order
+        program: as for `surfaces`
+        options: further arguments of the command, such as `coords="quad"`
+
+    Returns:
+        An iterator of `Answered`.
+
+    Raises:
+        BadArgument: an argument is invalid. It is raised by the call itself, before the first triangulation
+
+    >>> import trinorm
+    >>> [answered.value for answered in trinorm.many(["bkaagn", "cPcbbbiht"], "sig")]
+    ['bkaagj', 'cPcbbbiht']
     """
     _check_command(command, options)
     given = plain(triangulations)

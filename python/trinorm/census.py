@@ -242,7 +242,18 @@ class Earlier:
 
 @dataclass(frozen=True)
 class Ran:
-    """How many triangulations were done before, how many now, and how many of these failed."""
+    """How many triangulations a census has dealt with.
+
+    Attributes:
+        before: how many were done before
+        now: how many were done now
+        failed: how many of these failed
+
+    >>> import tempfile, trinorm
+    >>> with tempfile.NamedTemporaryFile() as out:
+    ...     trinorm.census(["bkaagj"], out.name, "sig", jobs=1)
+    Ran(before=0, now=1, failed=0)
+    """
     before: int
     now: int
     failed: int
@@ -340,15 +351,34 @@ def task_of(command: str, coords: Optional[str], timeout: Optional[float], progr
 def census(signatures: Signatures, out: str, command: CommandName = "surfaces", coords: Optional[Coords] = None, *,
            timeout: Optional[float] = None, jobs: Optional[int] = None, retry_failed: bool = False, skip_bad: bool = False,
            executor: Optional[Executor] = None, program: Optional[str] = None) -> Ran:
-    """Runs a command on each of many signatures, and writes a JSON line for each to a file. Called again with the same
-    arguments it goes on where it stopped.
+    """Runs a command on each of many signatures, and writes a JSON line for each to a file.
 
-    signatures: the path of a file of lines `SIGNATURE` or `SIGNATURE NAME`, `-` for standard input, or such lines
-    command, coords: one of `census.NAMES`, in these coordinates, if it takes some
-    timeout: seconds after which the run of one triangulation is ended
-    jobs: the number of processes, or of handfuls that an executor has at a time; by the processors or its workers if None
-    retry_failed, skip_bad: whether failed runs are tried again; whether lines that aren't UTF-8 are passed over
-    executor: any executor of `concurrent.futures`, as Dask's or MPI's, in the place of processes of this machine
+    If it is called again with the same arguments, it resumes where it stopped.
+
+    Args:
+        signatures: the path of a file of lines `SIGNATURE` or `SIGNATURE NAME`, `-` for standard input, or such lines: a list, an
+            array or a column of pandas
+        out: the path of the output
+        command: the name of a command, one of `trinorm.census.NAMES`
+        coords: coordinates, if the command takes them
+        timeout: the seconds for each triangulation
+        jobs: the number of processes, or of batches that an executor has at a time; by default by the processors or its workers
+        retry_failed: whether failed runs are tried again
+        skip_bad: whether lines that are not UTF-8 are reported as failed instead of ending the census before it begins
+        executor: a `concurrent.futures.Executor`, such as Dask's or that of MPI; by default processes on this machine
+        program: the path of a program, as for `surfaces`
+
+    Returns:
+        A `Ran`.
+
+    Raises:
+        BadArgument: an argument is invalid
+        Failed: a file cannot be read or written, or has results of another command
+
+    >>> import tempfile, trinorm
+    >>> with tempfile.NamedTemporaryFile() as out:
+    ...     trinorm.census(["bkaagj", "cPcbbbiht figure-eight"], out.name, "count", jobs=1)
+    Ran(before=0, now=2, failed=0)
     """
     task = task_of(command, coords, timeout, program)
     signatures, path = listed_lines(signatures), checked_path(out, "out")

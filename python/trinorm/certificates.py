@@ -32,8 +32,19 @@ LISTED, MOST_UP, MOST = 3, 5, 1000
 
 @dataclass(frozen=True)
 class Certificate:
-    """A triangulation, and moves that lead from it to the standard 3-sphere: `check` has accepted them. As a text it is an
-    input of `check`."""
+    """A triangulation, and moves that lead from it to the standard 3-sphere, which `check` has accepted.
+
+    `str` of it is an input of the command `check`.
+
+    Attributes:
+        table: the triangulation
+        moves: the moves, in order
+
+    >>> import trinorm
+    >>> certificate = trinorm.certify("bkaagb")
+    >>> bool(trinorm.check(certificate.table, certificate.moves))
+    True
+    """
     table: Table
     moves: Tuple[str, ...]
 
@@ -182,8 +193,23 @@ def certify(t: Given, seed: int = 0, timeout: Optional[float] = None, *, program
 
     None says nothing of the manifold, unless `info` or the first homology rules a 3-sphere out: then it is returned at once.
 
-    seed: of the random numbers; the moves depend on it alone
-    timeout: seconds of a processor that the search takes at most; 10 by default
+    Args:
+        t: the triangulation
+        seed: a whole number, from which the random numbers of the search are drawn; the moves depend on it alone
+        timeout: seconds of processor time that the search takes at most; 10 by default
+        program: as for `surfaces`
+
+    Returns:
+        A `Certificate`, or None.
+
+    Raises:
+        Refused: the triangulation is not a gluing table
+        BadArgument, Failed, TimedOut: as for `surfaces`
+
+    >>> import trinorm
+    >>> certificate = trinorm.certify("bkaagb")
+    >>> bool(trinorm.check("bkaagb", certificate.moves))
+    True
     """
     drawn = whole_number(seed)
     if drawn is None:

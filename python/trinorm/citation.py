@@ -6,8 +6,11 @@ import re
 from typing import Dict
 
 from . import versions
-from .errors import Failed
+from .arguments import shown
+from .errors import BadArgument, Failed
+from .options import coordinates
 
+PRODUCTS, COORDS = ("program", "library"), coordinates("surfaces")
 # as docs/CLAIMS.md has it, which a test compares
 SENTENCES = """
 The list of all vertex normal surfaces of T in {coords} coordinates was computed by trinorm {version} (commit {commit}, SHA-256 of the
@@ -19,15 +22,22 @@ READ = " and read by its Python package, which is tested"
 
 
 def sentences(product: str = "program", coords: str = "standard") -> str:
-    """The sentences for a list that the program printed, or that the package computed in its own process by the library.
+    """The sentences that cite a list which the program printed, or which the package computed in its own process by the library.
 
     Args:
-        product: `program` or `library`: what computed the list.
-        coords: the coordinates of the list: `standard`, `quad` or `octagon`.
+        product: `program` or `library`: what computed the list
+        coords: the coordinates of the list: `standard`, `quad` or `octagon`
+
+    Returns:
+        The sentences, on one line.
 
     Raises:
-        Failed: the installation does not know its version, commit, kit or checksum.
+        BadArgument: an argument is not one of these
+        Failed: the installation does not know its version, commit, kit or checksum
     """
+    for name, given, values in (("product", product, PRODUCTS), ("coords", coords, COORDS)):
+        if not isinstance(given, str) or given not in values:
+            raise BadArgument(f"{name} must be one of {', '.join(values)}, not {shown(given)}")
     known: Dict[str, str] = dict(re.findall(r"^(\w+) (.+)$", versions.build(), re.MULTILINE))
     facts = {"version": versions.version(), "commit": known.get("commit", ""), "kit": known.get("kit", "").split(" ")[0],
              "checksum": known.get(product, "")}
@@ -40,7 +50,7 @@ def sentences(product: str = "program", coords: str = "standard") -> str:
 
 def add_arguments(reader: argparse.ArgumentParser) -> None:
     """What the command line takes."""
-    reader.add_argument("--coords", choices=("standard", "quad", "octagon"), default="standard",
+    reader.add_argument("--coords", choices=COORDS, default="standard",
                         help="coordinates of the list (default: standard)")
 
 

@@ -169,15 +169,34 @@ def surfaces(t: Triangulation, coords: Coords = ..., order: Optional[Order] = ..
 def surfaces(t: Triangulation, coords: Coords = "standard", order: Optional[Order] = None, max_entry: Optional[int] = None, *,
              timeout: Optional[float] = None, program: Program = None, progress: Optional[Progress] = None,
              arrays: Arrays = False) -> Any:
-    """All vertex normal surfaces, each once, in lexicographic order: vectors of the width of the coordinates.
+    """All vertex normal surfaces, each once, in lexicographic order.
 
-    coords: `standard`, `quad` or `octagon`
-    order: `given` (the default), `short` or `zeros`, in which the equations are taken; the list doesn't depend on it
-    max_entry: the greatest number that may occur on the way; 2^127 - 1 by default
-    progress: called about ten times a second with the seconds since the call began and the bytes that it holds; what it
-        raises ends the call
-    arrays: True for an array of NumPy with a row for each vector, of type `int64`, or `object` if an entry exceeds that;
-        the name of a type, as `int8`, for that type, if all entries fit
+    Args:
+        t: the triangulation
+        coords: `standard`, `quad` or `octagon`
+        order: the order in which the equations are processed: `given` (the default), `short` or `zeros`. The list does not depend on
+            it; time and memory do
+        max_entry: the greatest number that may occur in the calculation; 2^127 - 1 by default
+        timeout: seconds, after which the call ends with `TimedOut`
+        program: the path of a program, or a `trinorm.server.Server`; by default the program that `find` finds, or its library
+        progress: a function that is called about ten times a second with the seconds since the call began and the bytes that it
+            holds. An exception that it raises ends the call
+        arrays: True for an array of NumPy with a row for each vector, of type `int64`, or `object` if an entry exceeds that; or
+            the name of an integer type, such as `int8`
+
+    Returns:
+        A list of vectors, which are tuples of whole numbers, with 7, 3 or 10 entries for each tetrahedron; or an array.
+
+    Raises:
+        Refused: the triangulation is not a gluing table, or a number exceeds `max_entry`
+        BadArgument: an argument is invalid, or an entry does not fit into the type of the array
+        Failed: the program was not found, was killed, or ran out of memory; `TimedOut` if it ran out of time
+
+    >>> import trinorm
+    >>> trinorm.surfaces("bkaagj")
+    [(1, 1, 0, 0, 1, 0, 0), (1, 1, 1, 1, 0, 0, 0)]
+    >>> trinorm.surfaces("bkaagj", "quad")
+    [(1, 0, 0)]
     """
     asked = words("surfaces", coords=coords, order=order, max_entry=max_entry)
     program = reported(program, progress)
@@ -190,41 +209,138 @@ def surfaces(t: Triangulation, coords: Coords = "standard", order: Optional[Orde
 
 def rays(rows: Sequence[Sequence[int]], columns: Optional[int] = None, order: Optional[Order] = None,
          max_entry: Optional[int] = None, *, timeout: Optional[float] = None, program: Program = None) -> List[Vector]:
-    """All primitive extreme rays of the cone of nonnegative vectors at which each row is 0: vectors of the width of the
-    rows, in lexicographic order.
+    """All primitive extreme rays of the cone of nonnegative vectors at which each row is 0, in lexicographic order.
 
-    rows: lists of coefficients of up to 1,000,000 in magnitude, all of one width
-    columns: that width; it must be said where there are no rows
-    order, max_entry: as for `surfaces`
+    Args:
+        rows: lists of whole numbers of at most 1,000,000 in magnitude, all of one length
+        columns: that length, which is needed if there are no rows
+        order, max_entry, timeout, program: as for `surfaces`
+
+    Returns:
+        A list of vectors of that length.
+
+    Raises:
+        Refused: a number exceeds a limit
+        BadArgument, Failed, TimedOut: as for `surfaces`
+
+    >>> import trinorm
+    >>> trinorm.rays([[1, 1, -2]])
+    [(0, 2, 1), (2, 0, 1)]
     """
     return _ask(words("rays", order=order, max_entry=max_entry), _cone(rows, columns), answers.read_list, timeout, program)
 
 
 def verify(t: Triangulation, vectors: Vectors, coords: Coords = "standard", *,
            timeout: Optional[float] = None, program: Program = None) -> List[Verdict]:
-    """For each vector, in order, whether it is an admissible solution, or what fails first. The list may have any length."""
+    """For each vector, whether it is the vector of a normal surface, or what fails first.
+
+    Args:
+        t: the triangulation
+        vectors: a list of any length
+        coords: `standard`, `quad` or `octagon`
+        timeout, program: as for `surfaces`
+
+    Returns:
+        A list of `Verdict`, one for each vector, which are true or false.
+
+    Raises:
+        Refused: the triangulation is not a gluing table, or an entry is negative
+        BadArgument, Failed, TimedOut: as for `surfaces`
+
+    >>> import trinorm
+    >>> [verdict.kind for verdict in trinorm.verify("bkaagj", [(1, 1, 0, 0, 1, 0, 0), (1, 1, 0, 0, 1, 1, 0)])]
+    ['solution', 'fails']
+    """
     text = _with_vectors(t, vectors, coords)
     return _ask_of_each(words("verify", coords=coords), text, answers.read_verdicts, timeout, program)
 
 
 def info(t: Triangulation, *, timeout: Optional[float] = None, program: Program = None) -> Info:
-    """The skeleton: classes of vertices with their links, of edges with their degrees, orientability, boundary."""
+    """The skeleton: vertices with their links, edges with their degrees, orientability, boundary, Euler characteristic.
+
+    Args:
+        t: the triangulation
+        timeout, program: as for `surfaces`
+
+    Returns:
+        An `Info`.
+
+    Raises:
+        Refused: the triangulation is not a gluing table
+        BadArgument, Failed, TimedOut: as for `surfaces`
+
+    >>> import trinorm
+    >>> skeleton = trinorm.info("cPcbbbiht")
+    >>> skeleton.tetrahedra, skeleton.euler, [vertex.kind for vertex in skeleton.vertices]
+    (2, 1, ['torus'])
+    """
     return _ask(["info"], document(t), answers.read_info, timeout, program)
 
 
 def sig(t: Triangulation, *, timeout: Optional[float] = None, program: Program = None) -> str:
-    """The isomorphism signature of a connected triangulation."""
+    """The isomorphism signature of a connected triangulation.
+
+    Args:
+        t: the triangulation
+        timeout, program: as for `surfaces`
+
+    Returns:
+        A string. Connected triangulations have the same if and only if they are isomorphic.
+
+    Raises:
+        Refused: the triangulation is not connected, or not a gluing table
+        BadArgument, Failed, TimedOut: as for `surfaces`
+
+    >>> import trinorm
+    >>> trinorm.sig("tri 1\\n0:1023 0:1023 0:1230 0:3012")
+    'bkaagj'
+    """
     return _ask(["sig"], document(t), answers.read_word, timeout, program)
 
 
 def csig(t: Triangulation, *, timeout: Optional[float] = None, program: Program = None) -> str:
-    """The signatures of the components, ascending, with a full stop between each two."""
+    """The signatures of the components of a triangulation.
+
+    Args:
+        t: the triangulation
+        timeout, program: as for `surfaces`
+
+    Returns:
+        A string: the signatures in ascending order, separated by full stops.
+
+    Raises:
+        Refused: the triangulation is not a gluing table
+        BadArgument, Failed, TimedOut: as for `surfaces`
+
+    >>> import trinorm
+    >>> trinorm.csig(["- - - -", "1:1023 1:1023 1:1230 1:3012"])
+    'baa.bkaagj'
+    """
     return _ask(["csig"], document(t), answers.read_word, timeout, program)
 
 
 def same(one: Triangulation, other: Triangulation, *,
          timeout: Optional[float] = None, program: Program = None) -> Optional[Isomorphism]:
-    """An isomorphism from one connected triangulation to another, n images long, or None where there is none."""
+    """An isomorphism from one connected triangulation to another.
+
+    Args:
+        one: a triangulation
+        other: a triangulation
+        timeout, program: as for `surfaces`
+
+    Returns:
+        An `Isomorphism`, or None if the triangulations are not isomorphic.
+
+    Raises:
+        Refused: a triangulation is not connected, or not a gluing table
+        BadArgument, Failed, TimedOut: as for `surfaces`
+
+    >>> import trinorm
+    >>> trinorm.same("bkaagn", "bkaagj").images
+    ((0, (0, 1, 3, 2)),)
+    >>> trinorm.same("bkaagb", "bkaagj") is None
+    True
+    """
     return _isomorphism("same", one, other, timeout, program)
 
 
@@ -237,12 +353,46 @@ def _isomorphism(command: str, one: Triangulation, other: Triangulation, timeout
 
 def csame(one: Triangulation, other: Triangulation, *,
           timeout: Optional[float] = None, program: Program = None) -> Optional[Isomorphism]:
-    """As `same`, of triangulations that needn't be connected."""
+    """An isomorphism from one triangulation to another, also if they have several components.
+
+    Args:
+        one: a triangulation
+        other: a triangulation
+        timeout, program: as for `surfaces`
+
+    Returns:
+        An `Isomorphism`, or None if the triangulations are not isomorphic.
+
+    Raises:
+        Refused: a triangulation is not a gluing table
+        BadArgument, Failed, TimedOut: as for `surfaces`
+
+    >>> import trinorm
+    >>> two = ["- - - -", "1:1023 1:1023 1:1230 1:3012"]
+    >>> len(trinorm.csame(two, two).images)
+    2
+    """
     return _isomorphism("csame", one, other, timeout, program)
 
 
 def group(tables: Iterable[Triangulation], *, timeout: Optional[float] = None, program: Program = None) -> Grouping:
-    """The isomorphism classes of connected triangulations, numbered as they first occur: one for each of `tables`."""
+    """The isomorphism classes of connected triangulations, numbered in the order in which they first occur.
+
+    Args:
+        tables: a list of triangulations
+        timeout, program: as for `surfaces`
+
+    Returns:
+        A `Grouping`.
+
+    Raises:
+        Refused: a triangulation is not connected, or not a gluing table
+        BadArgument, Failed, TimedOut: as for `surfaces`
+
+    >>> import trinorm
+    >>> trinorm.group(["bkaagn", "bkaagb", "bkaagj"])
+    Grouping(classes=(0, 1, 0), signatures=('bkaagj', 'bkaagb'))
+    """
     if isinstance(tables, Table):
         raise BadArgument("expected a list of triangulations; pass a single one as [t]")
     given = listed(tables, "expected a list of triangulations (a single one as [t])")
@@ -253,13 +403,46 @@ def group(tables: Iterable[Triangulation], *, timeout: Optional[float] = None, p
 
 
 def cover(t: Triangulation, *, timeout: Optional[float] = None, program: Program = None) -> Cover:
-    """The orientable double cover, of 2n tetrahedra: u and n+u lie over u."""
+    """The orientable double cover.
+
+    Args:
+        t: the triangulation, with n tetrahedra
+        timeout, program: as for `surfaces`
+
+    Returns:
+        A `Cover` with 2n tetrahedra, of which u and n + u lie over tetrahedron u.
+
+    Raises:
+        Refused: the triangulation is not a gluing table, or has more than 500 tetrahedra
+        BadArgument, Failed, TimedOut: as for `surfaces`
+
+    >>> import trinorm
+    >>> shown = trinorm.cover("bkaagj")
+    >>> len(shown.table), shown.connected
+    (2, False)
+    """
     return _ask(["cover"], document(t), answers.read_cover, timeout, program)
 
 
 def pi1(t: Triangulation, *, timeout: Optional[float] = None, program: Program = None) -> Presentation:
-    """Generators and relators: a generator for each pair of glued faces off a maximal tree, a relator for each inner
-    edge class."""
+    """A presentation of the fundamental group of a connected triangulation, by its dual 2-complex.
+
+    Args:
+        t: the triangulation
+        timeout, program: as for `surfaces`
+
+    Returns:
+        A `Presentation`, with a generator for each pair of glued faces outside a maximal tree, and a relator for each internal edge.
+
+    Raises:
+        Refused: the triangulation is not connected, has an edge that is identified with itself in reverse, or is not a gluing table
+        BadArgument, Failed, TimedOut: as for `surfaces`
+
+    >>> import trinorm
+    >>> group = trinorm.pi1("cPcbbbiht")
+    >>> len(group.generators), group.relators[0].letters
+    (3, (2, -1, 3, 1, -3))
+    """
     return _ask(["pi1"], document(t), answers.read_presentation, timeout, program)
 
 
@@ -275,10 +458,26 @@ def describe(t: Triangulation, vectors: Vectors, coords: WithTriangles = ..., *,
 
 def describe(t: Triangulation, vectors: Vectors, coords: WithTriangles = "standard", *, timeout: Optional[float] = None,
              program: Program = None, arrays: Arrays = False) -> Union[List[Surface], numpy_arrays.Described]:
-    """For each vector, in order, its Euler characteristic and its components; in standard or octagon coordinates. The
-    list may have any length.
+    """For each vector the Euler characteristic of its surface, and its components.
 
-    arrays: as of `surfaces`, for a `Described` with arrays in place of a list
+    Args:
+        t: the triangulation
+        vectors: a list of any length
+        coords: `standard` or `octagon`
+        timeout, program: as for `surfaces`
+        arrays: as for `surfaces`, for a `Described` with arrays instead of a list
+
+    Returns:
+        A list of `Surface`, one for each vector; or a `Described`.
+
+    Raises:
+        Refused: a vector is not that of a normal surface, an edge is identified with itself in reverse, or the triangulation is not
+            a gluing table
+        BadArgument, Failed, TimedOut: as for `surfaces`
+
+    >>> import trinorm
+    >>> [(surface.euler, surface.linking) for surface in trinorm.describe("bkaagj", trinorm.surfaces("bkaagj"))]
+    [(0, False), (2, True)]
     """
     asked, text = words("describe", coords=coords), _with_vectors(t, vectors, coords)
     if arrays is False:
@@ -295,19 +494,72 @@ def described_arrays(asked: Sequence[str], text: str, arrays: Arrays, clock: par
 
 
 def lift(t: Triangulation, vectors: Vectors, *, timeout: Optional[float] = None, program: Program = None) -> List[Vector]:
-    """For each vector of width 3n, in order, the standard one over it, of width 7n and without a vertex link; where one has
-    none, `Refused` names it and a vertex class. The list may have any length."""
+    """The lifts of vectors in quad coordinates: in standard coordinates, with the same quads and, at each vertex, a triangle entry 0.
+
+    Args:
+        t: the triangulation
+        vectors: a list of any length, of vectors in quad coordinates
+        timeout, program: as for `surfaces`
+
+    Returns:
+        A list of vectors in standard coordinates, one for each.
+
+    Raises:
+        Refused: a vector is not a solution, or its surface is spun-normal at a vertex; or the triangulation is not a gluing table
+        BadArgument, Failed, TimedOut: as for `surfaces`
+
+    >>> import trinorm
+    >>> trinorm.lift("bkaagj", [(1, 0, 0)])
+    [(1, 1, 0, 0, 1, 0, 0)]
+    """
     return _ask_of_each(["lift"], _with_vectors(t, vectors, "quad"), answers.read_vectors, timeout, program)
 
 
 def crush(t: Triangulation, vector: GivenVector, *, timeout: Optional[float] = None, program: Program = None) -> Table:
-    """The triangulation crushed along a normal surface, a vector of width 7n: tetrahedra without quads stay."""
+    """The triangulation crushed along a normal surface. Tetrahedra without quads are retained.
+
+    Args:
+        t: the triangulation
+        vector: a vector in standard coordinates
+        timeout, program: as for `surfaces`
+
+    Returns:
+        A `Table`.
+
+    Raises:
+        Refused: the vector is not that of a normal surface, or the triangulation is not a gluing table
+        BadArgument, Failed, TimedOut: as for `surfaces`
+
+    >>> import trinorm
+    >>> plane = trinorm.zero_efficient("eLMkabcddbrrag").witness
+    >>> trinorm.crush("eLMkabcddbrrag", plane.vector).sig()
+    'dLQabccbrwb'
+    """
     return _ask(["crush"], _with_vectors(t, [vector], "standard"), answers.read_table, timeout, program)
 
 
 def decompose(t: Triangulation, vectors: Vectors, coords: Coords = "standard", max_entry: Optional[int] = None, *,
               timeout: Optional[float] = None, program: Program = None) -> List[Sum]:
-    """Each vector, in order, as a sum of vertex surfaces; all of the width of the coordinates."""
+    """Each vector as a sum of vertex surfaces.
+
+    Args:
+        t: the triangulation
+        vectors: a list of vectors of normal surfaces
+        coords: `standard`, `quad` or `octagon`
+        max_entry, timeout, program: as for `surfaces`
+
+    Returns:
+        A list of `Sum`, one for each vector.
+
+    Raises:
+        Refused: a vector is not that of a normal surface, a number exceeds `max_entry`, or the triangulation is not a gluing table
+        BadArgument, Failed, TimedOut: as for `surfaces`
+
+    >>> import trinorm
+    >>> [total] = trinorm.decompose("bkaagj", [(3, 3, 1, 1, 2, 0, 0)])
+    >>> [(term.count, term.vector) for term in total.terms]
+    [(2, (1, 1, 0, 0, 1, 0, 0)), (1, (1, 1, 1, 1, 0, 0, 0))]
+    """
     text = _with_vectors(t, vectors, coords)
     asked = words("decompose", coords=coords, max_entry=max_entry)
     return _ask(asked, text, lambda said: answers.read_sums(said, parts.count_vectors(text)), timeout, program)
@@ -325,18 +577,20 @@ def _accepts(asked: Sequence[str], text: str, timeout: Optional[float], program:
 
 def addup(t: Triangulation, sums: Iterable[Sum], coords: Coords = "standard", *,
           timeout: Optional[float] = None, program: Program = None) -> Accepted:
-    """Whether all vectors and terms are admissible solutions and the terms add up: a verdict that is true or false.
+    """Whether all vectors and terms are admissible solutions and the terms add up.
 
     Args:
         t: the triangulation
         sums: as `decompose` returns them
         coords: those of the vectors
+        timeout, program: as for `surfaces`
 
     Returns:
-        An `Accepted`. If it is false it says what fails first; `.required()` raises that.
+        An `Accepted`, which is true or false. If it is false it says what fails first; `.required()` raises that.
 
     Raises:
-        Refused: the triangulation is no gluing table
+        Refused: the triangulation is not a gluing table
+        BadArgument, Failed, TimedOut: as for `surfaces`
 
     >>> import trinorm
     >>> bool(trinorm.addup("bkaagj", trinorm.decompose("bkaagj", [(3, 3, 1, 1, 2, 0, 0)])))
@@ -346,25 +600,45 @@ def addup(t: Triangulation, sums: Iterable[Sum], coords: Coords = "standard", *,
 
 
 def play(t: Triangulation, steps: Iterable[str] = (), *, timeout: Optional[float] = None, program: Program = None) -> Played:
-    """The triangulation after bistellar moves, as `14 0`, `23 1 0`, `32 0 01`, `41 2 3`, `undo` and `redo`, with an answer
-    for each of them."""
+    """The triangulation after Pachner moves.
+
+    Args:
+        t: the triangulation
+        steps: a list of moves, such as `14 0`, `23 1 0`, `32 0 01`, `41 2 3`, and of `undo` and `redo`
+        timeout, program: as for `surfaces`
+
+    Returns:
+        A `Played` with what each step did, and the last table. A move that is not legal changes nothing.
+
+    Raises:
+        Refused: the triangulation is not a gluing table, or a line is not a step
+        BadArgument, Failed, TimedOut: as for `surfaces`
+
+    >>> import trinorm
+    >>> played = trinorm.play("bkaagj", ["14 0", "14 9", "undo"])
+    >>> played.answers, len(played.table)
+    (('done', 'illegal no-such-tet', 'undone'), 1)
+    """
     given = listed(steps, "expected a list of steps, such as ['14 0']")
     text = alone(t) + lines(given, "steps", "14 0")
     return _ask(["play"], text, lambda said: answers.read_played(said, len(given)), timeout, program)
 
 
 def check(t: Triangulation, moves: Iterable[str], *, timeout: Optional[float] = None, program: Program = None) -> Accepted:
-    """Whether the moves are legal and lead to the standard 3-sphere: a verdict that is true or false.
+    """Whether the moves are legal and lead to the standard 3-sphere.
 
     Args:
         t: the triangulation
-        moves: as `14 0`, `23 1 0`, `32 0 01` and `41 2 3`
+        moves: a list of moves, such as `14 0`, `23 1 0`, `32 0 01` and `41 2 3`
+        timeout, program: as for `surfaces`
 
     Returns:
-        An `Accepted`. If it is false it says which move is illegal, or where they lead; `.required()` raises that.
+        An `Accepted`, which is true or false. If it is false it says which move is illegal, or where they lead; `.required()` raises
+        that.
 
     Raises:
-        Refused: the triangulation is no gluing table, or a line is no move
+        Refused: the triangulation is not a gluing table, or a line is not a move
+        BadArgument, Failed, TimedOut: as for `surfaces`
 
     >>> import trinorm
     >>> made = trinorm.make(seed=7, moves=20)
@@ -375,21 +649,89 @@ def check(t: Triangulation, moves: Iterable[str], *, timeout: Optional[float] = 
 
 
 def descend(t: Triangulation, *, timeout: Optional[float] = None, program: Program = None) -> Descent:
-    """Moves that make the triangulation smaller, and whether they reach the standard 3-sphere."""
+    """Moves that make a connected triangulation smaller, while there are any, and whether they reach the standard 3-sphere.
+
+    Args:
+        t: the triangulation
+        timeout, program: as for `surfaces`
+
+    Returns:
+        A `Descent`.
+
+    Raises:
+        Refused: the triangulation is not connected, or not a gluing table
+        BadArgument, Failed, TimedOut: as for `surfaces`
+
+    >>> import trinorm
+    >>> descent = trinorm.descend(trinorm.play("bkaagj", ["14 0"]).table)
+    >>> descent.reached, len(descent.moves)
+    (True, 1)
+    """
     return _ask(["descend"], document(t), answers.read_descent, timeout, program)
 
 
 def make(seed: int, moves: int, *, timeout: Optional[float] = None, program: Program = None) -> Made:
-    """A triangulated 3-sphere drawn from a seed, with moves that certify it."""
+    """A triangulated 3-sphere drawn from a seed, with moves that certify it.
+
+    Args:
+        seed: a whole number from 0 to 2^64 - 1
+        moves: how many moves lead to it from the standard 3-sphere, at most 1000
+        timeout, program: as for `surfaces`
+
+    Returns:
+        A `Made`, whose moves `check` accepts.
+
+    Raises:
+        BadArgument, Failed, TimedOut: as for `surfaces`
+
+    >>> import trinorm
+    >>> made = trinorm.make(seed=7, moves=20)
+    >>> len(made.moves), bool(trinorm.check(made.table, made.moves))
+    (20, True)
+    """
     asked, count = words("make", seed=seed, moves=moves), whole_number(moves) or 0
     return _ask(asked, "", lambda said: answers.read_made(said, count), timeout, program)
 
 
 def bulk(seed: int, moves: int, *, timeout: Optional[float] = None, program: Program = None) -> Bulk:
-    """A 3-sphere as of `make`, with its certificate checked and its vertex surfaces counted."""
+    """A 3-sphere as `make` makes it, with its certificate checked and its vertex surfaces counted.
+
+    Args:
+        seed: a whole number from 0 to 2^64 - 1
+        moves: how many moves lead to it from the standard 3-sphere, at most 5
+        timeout, program: as for `surfaces`
+
+    Returns:
+        A `Bulk`.
+
+    Raises:
+        BadArgument, Failed, TimedOut: as for `surfaces`
+
+    >>> import trinorm
+    >>> counted = trinorm.bulk(seed=5, moves=5)
+    >>> counted.tetrahedra, counted.surfaces
+    (6, 16)
+    """
     return _ask(words("bulk", seed=seed, moves=moves), "", answers.read_bulk, timeout, program)
 
 
 def table(t: Triangulation, *, timeout: Optional[float] = None, program: Program = None) -> Table:
-    """A triangulation in any form as a Table: what `play` answers without steps."""
+    """A triangulation in any form as a `Table`.
+
+    Args:
+        t: the triangulation
+        timeout, program: as for `surfaces`
+
+    Returns:
+        The `Table`.
+
+    Raises:
+        Refused: the triangulation is not a gluing table
+        BadArgument, Failed, TimedOut: as for `surfaces`
+
+    >>> import trinorm
+    >>> print(trinorm.table("bkaagj"), end="")
+    tri 1
+    0:1023 0:1023 0:1230 0:3012
+    """
     return play(t, timeout=timeout, program=program).table

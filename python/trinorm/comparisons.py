@@ -14,7 +14,16 @@ from .tables import Triangulation
 
 @dataclass(frozen=True)
 class Comparison:
-    """How many vertex surfaces each lists, and those that are in one list alone."""
+    """The lists of vertex surfaces of both programs.
+
+    Attributes:
+        trinorm, regina: how many vertex surfaces each lists
+        trinorm_alone, regina_alone: those that are in one list only
+
+    >>> from trinorm.comparisons import compare  # needs regina
+    >>> compare("bkaagj")["quad"]
+    Comparison(trinorm=1, regina=1, trinorm_alone=[], regina_alone=[])
+    """
     trinorm: int
     regina: int
     trinorm_alone: Sequence[Vector]
@@ -35,7 +44,24 @@ class Comparison:
 
 def compare(t: Triangulation, coords: Optional[Coords] = None, *,
             timeout: Optional[float] = None, program: Program = None) -> Dict[str, Comparison]:
-    """Both lists compared in these coordinates, or in each of the three."""
+    """The vertex surfaces of a triangulation by this program and by Regina.
+
+    Args:
+        t: the triangulation
+        coords: `standard`, `quad` or `octagon`; by default all three
+        timeout, program: as for `surfaces`
+
+    Returns:
+        A `Comparison` for each of the coordinates, by their name.
+
+    Raises:
+        Refused: the triangulation is not a gluing table
+        BadArgument, Failed, TimedOut: as for `surfaces`; `Failed` also if this Python has no module regina
+
+    >>> from trinorm.comparisons import compare  # needs regina
+    >>> [(name, found.is_same) for name, found in compare("cPcbbbiht").items()]
+    [('standard', True), ('quad', True), ('octagon', True)]
+    """
     names = list(COORDS) if coords is None else [checked_coordinates(coords)]
     table = commands.table(t, timeout=timeout, program=program)
     theirs = table.to_regina()

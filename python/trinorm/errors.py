@@ -42,18 +42,35 @@ def named_places(kind: str, places: Sequence[Place]) -> Dict[str, Place]:
 
 
 class Error(Exception):
-    """The exceptions of this package: `Refused`, `BadArgument` and `Failed`."""
+    """The exceptions of this package: `Refused`, `BadArgument` and `Failed`.
+
+    >>> import trinorm
+    >>> try:
+    ...     trinorm.info("no.txt")
+    ... except trinorm.Error as fault:
+    ...     print(type(fault).__name__)
+    BadArgument
+    """
 
 
 class Refused(Error):
     """The program refused the command line or the input.
 
-    status: 2 command line, 3 input, 4 checks, 5 a number that exceeds the limit
-    line: the line that the program printed
-    kind: the line without `refused:` and the places, as `input bad-word`, `vector clash`, `large pair`
-    places: the numbers of the line in their order; after `large` the step, the row and the rays; after `check not-standard` the
-        signature
-    hint: what is wrong and what to do, in a sentence; empty if nothing is known
+    Attributes:
+        status: 2 command line, 3 input, 4 checks, 5 a number that exceeds the limit
+        line: the line that the program printed
+        kind: the line without `refused:` and the places, such as `input bad-word`, `vector clash`, `large pair`
+        places: the numbers of the line in their order; after `large` the step, the row and the rays; after `check not-standard` the
+            signature
+        named: the same by their names
+        hint: what is wrong and what to do, in a sentence; empty if nothing is known
+
+    >>> import trinorm
+    >>> try:
+    ...     trinorm.sig("bkaagjx")
+    ... except trinorm.Refused as refused:
+    ...     print(refused.kind, refused.named, refused.hint, sep="; ")
+    signature trailing; {'character': 6}; the signature is complete before this
     """
 
     def __init__(self, status: int, line: str, hint: str = "") -> None:
@@ -76,15 +93,37 @@ class Refused(Error):
 
 
 class BadArgument(Error, ValueError):
-    """An invalid argument of a function. The program was not called."""
+    """An invalid argument of a function. The program was not called.
+
+    >>> import trinorm
+    >>> trinorm.surfaces("bkaagj", coords="quads")
+    Traceback (most recent call last):
+      ..
+    trinorm.errors.BadArgument: coords must be one of standard, quad, octagon, not 'quads'; did you mean 'quad'?
+    """
 
 
 class Failed(Error):
-    """The program was not found, was killed, ran out of memory, or printed an incomplete answer."""
+    """The program was not found, was killed, ran out of memory, or printed an incomplete answer.
+
+    >>> import trinorm
+    >>> trinorm.sig("bkaagj", program="/no/such/program")
+    Traceback (most recent call last):
+      ..
+    trinorm.errors.Failed: there is no program at /no/such/program
+    """
 
 
 class TimedOut(Failed):
-    """The call exceeded its time limit."""
+    """The call exceeded its time limit.
+
+    >>> import trinorm
+    >>> large = trinorm.make(seed=1, moves=300).table
+    >>> trinorm.surfaces(large, timeout=0.2)
+    Traceback (most recent call last):
+      ..
+    trinorm.errors.TimedOut: surfaces --coords standard: no result within 0.2 s
+    """
 
 
 def kind_and_places(line: str) -> Tuple[str, Tuple[Place, ...]]:

@@ -99,7 +99,20 @@ def _reports(progress: Progress, held: Callable[[], int], faults: List[BaseExcep
 
 
 class Library:
-    """The shared library at a path. Calls may go on in many threads at a time."""
+    """The shared library at a path, which answers in this process. Calls may run in many threads at a time.
+
+    Args:
+        path: the path of the library
+
+    Raises:
+        BadArgument: the argument is not a path
+        Failed: there is no library that can be loaded
+
+    >>> from trinorm.program import find_library
+    >>> library = find_library()
+    >>> library.run(["sig"], "tri 1\\n0:1023 0:1023 0:1230 0:3012\\n")
+    'bkaagj\\n'
+    """
 
     def __init__(self, path: str) -> None:
         try:
@@ -125,12 +138,26 @@ class Library:
 
     def answer(self, words: Sequence[str], text: str = "", timeout: Optional[float] = None,
                memory: Optional[int] = None, progress: Optional[Progress] = None) -> Tuple[int, bytes, int]:
-        """The status, the bytes of the answer, and the limit that ended the call, or 0.
+        """Runs a command line over an input.
 
-        An exception that a handler of signals raises during the call, as KeyboardInterrupt, is raised here.
+        Args:
+            words: the command and its options
+            text: the input
+            timeout: seconds after which the call is to end
+            memory: bytes that the call may hold at a time
+            progress: a function that is called about ten times a second with the bytes that the call holds. An exception that it raises
+                ends the call
 
-        timeout: seconds after which it is to end; memory: bytes that it may hold at a time
-        progress: called some ten times a second with the bytes that the call holds; what it raises ends the call
+        Returns:
+            The exit status of the program, the bytes that it prints, and the limit that ended the call: `MOST_MEMORY`, `MOST_TIME`, or 0.
+
+        Raises:
+            BadArgument: an argument is invalid
+            BaseException: whatever `progress`, or a signal handler during the call, has raised, such as KeyboardInterrupt
+
+        >>> from trinorm.program import find_library
+        >>> find_library().answer(["sig"], "sig x")
+        (3, b'refused: signature short 1\\n', 0)
         """
         said, given, rooms = joined(checked_words(words)), as_bytes(text), self._rooms.unused
         seconds, most_bytes = checked_timeout(timeout), checked_memory(memory)
@@ -165,7 +192,15 @@ class Library:
         return answered
 
     def held(self) -> int:
-        """The bytes that the call of this thread holds, for a function that it calls; 0 if the library doesn't say."""
+        """The bytes that the call of this thread holds, for a function that the call itself calls.
+
+        Returns:
+            A whole number; 0 if the library does not report it.
+
+        >>> from trinorm.program import find_library
+        >>> find_library().held()
+        0
+        """
         return 0 if self._held is None else int(self._held())
 
     def _answer_in(self, room: _Room, said: bytes, given: bytes) -> Tuple[int, bytes, int]:
@@ -183,7 +218,23 @@ class Library:
 
     def run(self, words: Sequence[str], text: str = "", timeout: Optional[float] = None,
             memory: Optional[int] = None, progress: Optional[Progress] = None) -> str:
-        """As `program.run`: what the program writes; a refusal or a call that was ended is raised."""
+        """Runs a command line over an input, as `trinorm.program.run` does.
+
+        Args:
+            words, text, timeout, memory, progress: as for `answer`
+
+        Returns:
+            What the program prints.
+
+        Raises:
+            Refused: the program refused the command line or the input
+            BadArgument: an argument is invalid
+            Failed: the call exceeded its limit of memory, or there is no memory left; `TimedOut` if it exceeded its time limit
+
+        >>> from trinorm.program import find_library
+        >>> find_library().run(["csig"], "tri 0\\n")
+        'a\\n'
+        """
         words = checked_words(words)
         status, said, reached = self.answer(words, text, timeout, memory, progress)
         if reached == MOST_TIME:
@@ -198,7 +249,23 @@ _lock = threading.Lock()
 
 
 def at(path: str) -> Library:
-    """The library at this path, which is loaded once."""
+    """The library at a path, which is loaded once.
+
+    Args:
+        path: the path of the library
+
+    Returns:
+        A `Library`.
+
+    Raises:
+        BadArgument: the argument is not a path
+        Failed: there is no library that can be loaded
+
+    >>> from trinorm import library, program
+    >>> path = program.find_library().path
+    >>> library.at(path) is library.at(path)
+    True
+    """
     if not isinstance(path, str) or not path or "\0" in path:
         raise BadArgument(f"path must be that of a library, not {shown(path)}")
     with _lock:
@@ -208,7 +275,19 @@ def at(path: str) -> Library:
 
 
 def next_to(program: str) -> Optional[Library]:
-    """The library that was built with a program and is in its folder, if there is one that can be loaded here."""
+    """The library that was built with a program.
+
+    Args:
+        program: the path of the program
+
+    Returns:
+        A `Library`, or None if there is none in the folder of the program that can be loaded.
+
+    >>> import trinorm
+    >>> from trinorm import library
+    >>> library.next_to(trinorm.find()).run(["csig"], "tri 0\\n")
+    'a\\n'
+    """
     path = Path(os.path.realpath(program)).parent / NAME
     try:
         return at(str(path)) if path.is_file() else None

@@ -27,7 +27,21 @@ def _checked(table: Table) -> Table:
 
 
 def face_pairs(table: Table) -> List[Pair]:
-    """The glued pairs of faces, each once."""
+    """The glued pairs of faces, each once.
+
+    Args:
+        table: a `Table`
+
+    Returns:
+        A list of pairs, with `tet`, `face`, `other_tet` and `other_face`.
+
+    Raises:
+        BadArgument: it is not a `Table`
+
+    >>> import trinorm
+    >>> [tuple(pair) for pair in trinorm.pictures.face_pairs(trinorm.table("bkaagj"))]
+    [(0, 0, 0, 1), (0, 2, 0, 3)]
+    """
     table = _checked(table)
     glued = [(tet, face, it) for tet, row in enumerate(table.rows) for face, it in enumerate(row) if it is not None]
     both = [Pair(tet, face, it.tet, it.images[face]) for tet, face, it in glued]
@@ -35,7 +49,21 @@ def face_pairs(table: Table) -> List[Pair]:
 
 
 def face_pairing_dot(table: Table) -> str:
-    """The face-pairing graph: a node for each tetrahedron, an edge for each pair of glued faces, with their numbers."""
+    """The face-pairing graph as DOT: a node for each tetrahedron, an edge for each pair of glued faces, with their numbers.
+
+    Args:
+        table: a `Table`
+
+    Returns:
+        The text of a file for Graphviz.
+
+    Raises:
+        BadArgument: it is not a `Table`
+
+    >>> from trinorm import pictures, table
+    >>> pictures.face_pairing_dot(table("bkaagj")).count("--")
+    2
+    """
     table = _checked(table)
     nodes = [f"  {tet};" for tet in range(len(table))]
     edges = [f'  {it.tet} -- {it.other_tet} [taillabel="{it.face}", headlabel="{it.other_face}"];'
@@ -69,8 +97,23 @@ def _node(tet: int, at: Point, row: Sequence[object], angles: Dict[int, float]) 
 
 
 def face_pairing_svg(table: Table) -> str:
-    """The face-pairing graph: a circle for each tetrahedron, a curve for each pair of glued faces, with the numbers of the
-    faces. A tetrahedron with boundary faces has a dashed rim."""
+    """The face-pairing graph as a picture: a circle for each tetrahedron, a curve for each pair of glued faces, with their numbers.
+
+    The circle of a tetrahedron with boundary faces is dashed.
+
+    Args:
+        table: a `Table`
+
+    Returns:
+        The text of an SVG file.
+
+    Raises:
+        BadArgument: it is not a `Table`
+
+    >>> from trinorm import pictures, table
+    >>> pictures.face_pairing_svg(table("bkaagj")).count('class="gluing"')
+    2
+    """
     pairs = face_pairs(table)
     margin = 85.0
     at = [(x + margin, y + margin) for x, y in places(len(table), pairs)]
@@ -84,9 +127,23 @@ def face_pairing_svg(table: Table) -> str:
 
 def surface_svg(t: Triangulation, vector: Union[Sequence[int], ReginaSurface]) -> str:
     """A normal surface as discs in its tetrahedra: each disc once, or, in a tetrahedron with more than 60, one of each type.
-    Below are what its faces are glued to, and how many discs of each type it has.
 
-    vector: in standard, quad or octagon coordinates, by its length
+    Below a tetrahedron are the gluings of its faces, and how many discs of each type it has.
+
+    Args:
+        t: the triangulation
+        vector: in standard, quad or octagon coordinates, according to its length
+
+    Returns:
+        The text of an SVG file.
+
+    Raises:
+        Refused: the triangulation is not a gluing table
+        BadArgument: an argument is invalid
+
+    >>> from trinorm import pictures
+    >>> pictures.surface_svg("bkaagj", (1, 1, 0, 0, 1, 0, 0)).count('class="disc"')
+    3
     """
     table = commands.table(t)
     if is_surface(vector):
@@ -95,15 +152,44 @@ def surface_svg(t: Triangulation, vector: Union[Sequence[int], ReginaSurface]) -
 
 
 def edges_svg(t: Triangulation) -> str:
-    """The tetrahedra with the class of each edge and its degree, as `CLASS: DEGREE`; classes as `info` numbers them."""
+    """The tetrahedra with the class of each edge and its degree, as `CLASS: DEGREE`; classes as `info` numbers them.
+
+    Args:
+        t: the triangulation
+
+    Returns:
+        The text of an SVG file.
+
+    Raises:
+        Refused: the triangulation is not a gluing table
+        BadArgument: it is not a triangulation
+
+    >>> from trinorm import pictures
+    >>> pictures.edges_svg("bkaagj").startswith("<svg")
+    True
+    """
     return edges_picture(commands.table(t))
 
 
 def vertex_link_svg(t: Triangulation, vertex: int = 0) -> str:
-    """The link of a vertex as glued triangles, laid out in the plane. `3(1)` is the triangle at vertex 1 of tetrahedron 3;
-    sides with the same number are glued too, and thick sides are boundary.
+    """The link of a vertex as glued triangles, laid out in the plane.
 
-    vertex: its number, as `info` lists the vertices
+    `3(1)` is the triangle at vertex 1 of tetrahedron 3; sides with the same number are glued too, and thick sides are boundary.
+
+    Args:
+        t: the triangulation
+        vertex: its number, as `info` lists the vertices
+
+    Returns:
+        The text of an SVG file.
+
+    Raises:
+        Refused: the triangulation is not a gluing table
+        BadArgument: an argument is invalid, or there is no such vertex
+
+    >>> from trinorm import pictures
+    >>> pictures.vertex_link_svg("cPcbbbiht").count('class="triangle"')
+    8
     """
     number = whole_number(vertex)
     if number is None or abs(number) > 1 << 64:
@@ -121,7 +207,21 @@ def _list_length(answer: Any) -> int:
 
 
 def growth_points(lines: Iterable[str]) -> Iterator[Tuple[int, int]]:
-    """For each answered line of a census of `surfaces`, `describe` or `count`: the tetrahedra, and the length of the list."""
+    """How long the lists of a census are.
+
+    Args:
+        lines: lines that a census of `surfaces`, `describe` or `count` has written; those without an answer are left out
+
+    Returns:
+        An iterator of pairs: the number of tetrahedra, and the length of the list.
+
+    Raises:
+        BadArgument: a line is not one of a census
+
+    >>> from trinorm import pictures
+    >>> list(pictures.growth_points(['{"signature": "bkaagj", "answer": {"surfaces": 2}}']))
+    [(1, 2)]
+    """
     given = plain(lines)  # an array of one value is no list
     if isinstance(given, (str, bytes)) or not isinstance(given, Iterable):
         raise BadArgument(f"expected a list of lines of a census, not {shown(lines)}")
@@ -179,7 +279,18 @@ def _checked_points(points: object) -> Iterator[Tuple[int, int]]:
 def growth_svg(points: Iterable[Tuple[int, int]]) -> str:
     """How many surfaces triangulations have, by their number of tetrahedra: a dot for each, and the medians joined.
 
-    points: pairs of a number of tetrahedra and the length of a list
+    Args:
+        points: pairs of a number of tetrahedra and the length of a list
+
+    Returns:
+        The text of an SVG file.
+
+    Raises:
+        BadArgument: there is no point, or a value that is not a pair of whole numbers
+
+    >>> from trinorm import pictures
+    >>> pictures.growth_svg([(1, 2), (2, 5), (2, 9)]).count("<circle")
+    3
     """
     them = sorted(_checked_points(points))
     if not them:

@@ -48,9 +48,25 @@ def _path_of(program: Union[str, "os.PathLike[str]"]) -> str:
 
 
 def find(program: Union[str, "os.PathLike[str]", None] = None) -> str:
-    """The path of the program: the one named, else by TRINORM in the environment, else the one of the repository that
-    this package lies in (which is built on first use), else the one that was installed with it, else the first on the
-    path."""
+    """The path of the program that is used.
+
+    That is the one that is named here; else by TRINORM in the environment; else the one of the repository that contains this package,
+    which is built on first use; else the one that was installed with the package; else the first on the path.
+
+    Args:
+        program: a path, or None
+
+    Returns:
+        The path, as a string.
+
+    Raises:
+        BadArgument: the argument is not a path
+        Failed: there is no such program, or it could not be built
+
+    >>> import os, trinorm
+    >>> os.access(trinorm.find(), os.X_OK)
+    True
+    """
     named = os.environ.get("TRINORM") if program is None else _path_of(program)
     if named:
         path = shutil.which(os.path.expanduser(named))
@@ -98,8 +114,21 @@ _libraries: Dict[Tuple[Optional[str], Optional[str], Path], Optional[Library]] =
 
 
 def find_library() -> Optional[Library]:
-    """The library that answers in this process: the one that TRINORM_LIBRARY names; else, if TRINORM names no program, the
-    one in the folder of the program that is found. None if there is none."""
+    """The library that answers in this process, if there is one.
+
+    That is the one that TRINORM_LIBRARY names in the environment; else, if TRINORM names no program, the one in the folder of the program
+    that is found.
+
+    Returns:
+        A `trinorm.library.Library`, or None.
+
+    Raises:
+        Failed: the library that is named cannot be loaded, or no program was found
+
+    >>> from trinorm.program import find_library
+    >>> find_library() is find_library()
+    True
+    """
     named, program = os.environ.get("TRINORM_LIBRARY"), os.environ.get("TRINORM")
     known = named, program, REPOSITORY
     if known not in _libraries:
@@ -112,13 +141,27 @@ def find_library() -> Optional[Library]:
 
 
 def run(words: Sequence[str], text: str = "", timeout: Optional[float] = None, program: Program = None) -> str:
-    """What the program writes to standard output for these words and this standard input.
+    """Runs a command line over an input.
 
-    It is asked of the library in this process, if there is one; a program that is named, or a limit of time, takes a
-    process. Raises `Refused`, `BadArgument` or `Failed`.
+    The library in this process answers, if there is one; if a program is named, or a time limit, it is a process.
 
-    timeout: seconds after which the run is ended and `TimedOut` is raised
-    program: the path of a program, or what runs in its place
+    Args:
+        words: the command and its options
+        text: the input
+        timeout: seconds, after which the run is ended
+        program: the path of a program, or what runs in its place, such as a `trinorm.server.Server`
+
+    Returns:
+        What the program prints.
+
+    Raises:
+        Refused: the program refused the command line or the input
+        BadArgument: an argument is invalid
+        Failed: the program was not found, was killed, or ran out of memory; `TimedOut` if it exceeded the time limit
+
+    >>> from trinorm.program import run
+    >>> run(["sig"], "tri 1\\n0:1023 0:1023 0:1230 0:3012\\n")
+    'bkaagj\\n'
     """
     if program is None and timeout is None:
         library = find_library()
@@ -134,7 +177,22 @@ def run(words: Sequence[str], text: str = "", timeout: Optional[float] = None, p
 
 def run_process(words: Sequence[str], text: str = "", timeout: Optional[float] = None,
                 program: Union[str, "os.PathLike[str]", None] = None) -> str:
-    """As `run`, by a process of its own."""
+    """Runs a command line over an input in a process of its own.
+
+    Args:
+        words, text, timeout: as for `run`
+        program: the path of a program; by default the one that `find` finds
+
+    Returns:
+        What the program prints.
+
+    Raises:
+        Refused, BadArgument, Failed, TimedOut: as for `run`
+
+    >>> from trinorm.program import run_process
+    >>> run_process(["csig"], "tri 0\\n", timeout=60)
+    'a\\n'
+    """
     words, given, seconds = checked_words(words), as_bytes(text), checked_timeout(timeout)
     as_bytes(" ".join(words))
     path = find(program)

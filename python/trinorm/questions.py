@@ -34,11 +34,16 @@ Kind = Literal["closed", "ideal", "bounded", "invalid"]
 class ZeroEfficiency:
     """The verdict of `zero_efficient`, which is true or false, and equal to True or False.
 
-    witness: None if it is true. A listed surface by which a triangulation is not 0-efficient. It is a sphere, a projective plane or a
-        disc, in standard coordinates
-    kind: `invalid`, if an edge is identified with itself in reverse; else `bounded`, if there is a boundary face; else `closed`, if
-        all vertex links are spheres; else `ideal`. What may be concluded depends on it
-    orientable: whether the triangulation is
+    Attributes:
+        witness: None if it is true; else a listed surface because of which the triangulation is not 0-efficient: a sphere, a projective
+            plane or a disc, in standard coordinates
+        kind: `invalid` if an edge is identified with itself in reverse; else `bounded` if there is a boundary face; else `closed` if
+            all vertex links are spheres; else `ideal`. What may be concluded depends on it
+        orientable: whether the triangulation is orientable
+
+    >>> import trinorm
+    >>> trinorm.zero_efficient("bkaagj")
+    ZeroEfficiency(witness=None, kind='closed', orientable=True)
     """
     witness: Optional[Surface]
     kind: Kind
@@ -97,8 +102,18 @@ class ZeroEfficiency:
 
 @dataclass(frozen=True)
 class Count:
-    """How many vertex surfaces there are, also by Euler characteristic; how many are vertex links (they have triangles
-    alone); and the greatest entry of all."""
+    """How many vertex surfaces there are.
+
+    Attributes:
+        surfaces: their number
+        euler: how many have each Euler characteristic, in descending order
+        linking: how many are vertex links: those without quads and octagons
+        greatest: the greatest entry of all
+
+    >>> import trinorm
+    >>> trinorm.count("bkaagj")
+    Count(surfaces=2, euler={2: 1, 0: 1}, linking=1, greatest=1)
+    """
     surfaces: int
     euler: Dict[int, int]
     linking: int
@@ -107,8 +122,18 @@ class Count:
 
 @dataclass(frozen=True, eq=False)
 class CountArrays:
-    """A `Count` in which `euler` is an array of the Euler characteristics, descending, and `number` says of each how many
-    surfaces have it."""
+    """A `Count` with arrays.
+
+    Attributes:
+        surfaces, linking, greatest: as for `Count`
+        euler: the Euler characteristics in descending order
+        number: how many surfaces have each of these
+
+    >>> import trinorm  # needs numpy
+    >>> found = trinorm.count("bkaagj", arrays=True)
+    >>> found.euler.tolist(), found.number.tolist()
+    ([2, 0], [1, 1])
+    """
     surfaces: int
     euler: Any
     number: Any
@@ -156,9 +181,25 @@ def described(t: Triangulation, coords: WithTriangles = ..., *, timeout: Optiona
 
 def described(t: Triangulation, coords: WithTriangles = "standard", *, timeout: Optional[float] = None, program: Program = None,
               progress: Optional[Progress] = None, arrays: Arrays = False) -> Union[List[Surface], numpy_arrays.Described]:
-    """What `describe` says of each vertex surface, in standard or octagon coordinates.
+    """What `describe` returns for each vertex surface.
 
-    progress, arrays: as of `surfaces` and `describe`
+    Args:
+        t: the triangulation
+        coords: `standard` or `octagon`
+        timeout, program, progress: as for `surfaces`; the time limit is one for the whole call
+        arrays: as for `describe`
+
+    Returns:
+        A list of `Surface`; or a `Described`.
+
+    Raises:
+        Refused: the triangulation is not a gluing table, has an edge that is identified with itself in reverse, or a number exceeds
+            the limit
+        BadArgument, Failed, TimedOut: as for `surfaces`
+
+    >>> import trinorm
+    >>> [(surface.vector, surface.euler) for surface in trinorm.described("bkaagj")]
+    [((1, 1, 0, 0, 1, 0, 0), 0), ((1, 1, 1, 1, 0, 0, 0), 2)]
     """
     clock, program = Clock(timeout), reported(program, progress)
     if arrays is False:
@@ -181,13 +222,27 @@ def count(t: Triangulation, coords: WithTriangles = ..., *, timeout: Optional[fl
 
 def count(t: Triangulation, coords: WithTriangles = "standard", *, timeout: Optional[float] = None, program: Program = None,
           progress: Optional[Progress] = None, arrays: bool = False) -> Union[Count, CountArrays]:
-    """The vertex surfaces counted, in standard or octagon coordinates. None of them is kept.
+    """The vertex surfaces counted. None of them is kept in memory.
 
-    In octagon coordinates the list has vectors without octagons, vectors with one octagon, and vectors with several of one
-    type: only those with one are octagonal almost normal surfaces.
+    In octagon coordinates the list has vectors without octagons, vectors with one octagon, and vectors with several of one type:
+    only those with one are octagonal almost normal surfaces.
 
-    progress: as of `surfaces`
-    arrays: True for a `CountArrays`
+    Args:
+        t: the triangulation
+        coords: `standard` or `octagon`
+        timeout, program, progress: as for `described`
+        arrays: True for a `CountArrays`
+
+    Returns:
+        A `Count`, or a `CountArrays`.
+
+    Raises:
+        Refused: as for `described`
+        BadArgument, Failed, TimedOut: as for `surfaces`
+
+    >>> import trinorm
+    >>> trinorm.count("bkaagj").euler
+    {2: 1, 0: 1}
     """
     if not isinstance(arrays, bool):
         raise BadArgument(f"arrays must be True or False, not {shown(arrays)}")
@@ -210,14 +265,46 @@ def count(t: Triangulation, coords: WithTriangles = "standard", *, timeout: Opti
 
 def spheres(t: Triangulation, *, timeout: Optional[float] = None, program: Program = None,
             progress: Optional[Progress] = None) -> List[Surface]:
-    """The vertex surfaces that are spheres, but not vertex links. A projective plane is none, though its double is one."""
+    """The vertex surfaces that are spheres, but not vertex links. A projective plane is not listed, though its double is a sphere.
+
+    Args:
+        t: the triangulation
+        timeout, program, progress: as for `described`
+
+    Returns:
+        A list of `Surface`, in standard coordinates.
+
+    Raises:
+        Refused: as for `described`
+        BadArgument, Failed, TimedOut: as for `surfaces`
+
+    >>> import trinorm
+    >>> trinorm.spheres("eLMkabcddbrrag")
+    []
+    """
     return Shown(it for it in described(t, timeout=timeout, program=program, progress=progress)
                  if it.euler == 2 and not it.linking and not it.boundary)
 
 
 def tori(t: Triangulation, *, timeout: Optional[float] = None, program: Program = None,
          progress: Optional[Progress] = None) -> List[Surface]:
-    """The vertex surfaces that are tori, but not vertex links. A Klein bottle is none, though its double may be one."""
+    """The vertex surfaces that are tori, but not vertex links. A Klein bottle is not listed, though its double may be a torus.
+
+    Args:
+        t: the triangulation
+        timeout, program, progress: as for `described`
+
+    Returns:
+        A list of `Surface`, in standard coordinates.
+
+    Raises:
+        Refused: as for `described`
+        BadArgument, Failed, TimedOut: as for `surfaces`
+
+    >>> import trinorm
+    >>> len(trinorm.tori("eLMkabcddbrrag"))
+    2
+    """
     return Shown(it for it in described(t, timeout=timeout, program=program, progress=progress)
                  if it.euler == 0 and not it.linking and not it.boundary and it.components[0].orientable)
 
@@ -253,26 +340,26 @@ def _kind_of(info: Info) -> Kind:
 
 def zero_efficient(t: Triangulation, *, timeout: Optional[float] = None, program: Program = None,
                    progress: Optional[Progress] = None) -> ZeroEfficiency:
-    """True if each connected normal surface of positive Euler characteristic is a vertex link; else false, with a vertex
-    surface that is none: a sphere, a projective plane or a disc.
+    """Whether each connected normal surface of positive Euler characteristic is a vertex link.
 
-    That lists decide this is proved: the quad list with its lifts, which is far shorter, if all vertex links are spheres or
-    discs and all edges valid; else the list in standard coordinates. For a closed orientable triangulation it is the
-    0-efficiency of Jaco and Rubinstein: each normal sphere is a vertex link. In a non-orientable one a projective plane
-    with two sides counts too, though its double is no sphere. For a triangulation with boundary they ask it of each normal
-    disc, and Regina's `isZeroEfficient()` also says no if a boundary component is a sphere; here it is asked of spheres,
-    projective planes and discs. A list in octagon coordinates decides another property: a sphere with an octagon is no
-    vertex link, and 0-efficient triangulations of the 3-sphere have one.
+    That lists decide this is proved: the quad list with its lifts, which is far shorter, if all vertex links are spheres or discs and
+    all edges valid; else the list in standard coordinates. For a closed orientable triangulation it is the 0-efficiency of Jaco and
+    Rubinstein: each normal sphere is a vertex link. In a non-orientable one a projective plane with two sides counts too, though its
+    double is not a sphere. For a triangulation with boundary they ask it of each normal disc, and Regina's `isZeroEfficient()` also
+    says no if a boundary component is a sphere; here it is asked of spheres, projective planes and discs. A list in octagon
+    coordinates decides another property: a sphere with an octagon is not a vertex link, and 0-efficient triangulations of the 3-sphere
+    have one.
 
     Args:
         t: the triangulation
-        progress: as of `surfaces`
+        timeout, program, progress: as for `described`
 
     Returns:
         A `ZeroEfficiency`, which is true or false, with a `witness` if it is false, and the `kind` of the triangulation.
 
     Raises:
-        Refused: the triangulation is no gluing table, or a number exceeds the limit
+        Refused: as for `described`
+        BadArgument, Failed, TimedOut: as for `surfaces`
 
     >>> import trinorm
     >>> shown = trinorm.zero_efficient("eLMkabcddbrrag")

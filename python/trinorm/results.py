@@ -33,7 +33,7 @@ class Verdict:
     >>> import trinorm
     >>> [verdict] = trinorm.verify("bkaagj", [(1, 1, 0, 0, 1, 1, 1)])
     >>> bool(verdict), verdict.kind, verdict.named
-    (False, 'fails', {'row': 0})
+    (False, 'fails', {'row': 4})
     """
     kind: str
     places: Tuple[int, ...]

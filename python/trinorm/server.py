@@ -136,7 +136,7 @@ class Server:
         >>> from trinorm.server import Server
         >>> with Server() as server:
         ...     server.ask(["sig"], "sig x")
-        (3, b'refused: signature truncated 1\\n')
+        (3, b'refused: signature short 1\\n')
         """
         words = checked_words(words)
         request, given, seconds = joined(words), as_bytes(text), checked_timeout(timeout)
