@@ -141,7 +141,7 @@ class Dask(Engines):
         self.put("s1", "slow", "s2")
         self.assertEqual(self.run_all(self.census("--timeout", "0.02"))[0], 1)
         failed = [line["failed"] for line in self.lines() if line["signature"] == "slow"]
-        self.assertEqual(failed, ["sig: no answer in 0.02 s"])
+        self.assertEqual(failed, ["sig: no result within 0.02 s"])
 
     def test_a_scheduler_that_ends(self):
         self.put(*(f"slow{number}" for number in range(400)))
