@@ -45,7 +45,14 @@ export function python_script(command, options, reads, input, version) {
 
 // ---- tables
 
-const quoted = (cell) => (/[",\n]/.test(String(cell)) ? `"${String(cell).replaceAll('"', '""')}"` : String(cell));
+const NUMBER = /^-?\d+$/;
+
+/** A cell of CSV. A spreadsheet would compute a text that begins like a formula, so that one gets an apostrophe before it. */
+function quoted(cell) {
+    const text = String(cell), shown = /^[=+\-@\t\r]/.test(text) && !NUMBER.test(text) ? `'${text}` : text;
+    return /[",\n\r]/.test(shown) ? `"${shown.replaceAll('"', '""')}"` : shown;
+}
+
 
 /** Surfaces as CSV. A record is {index, line, about}. */
 export function surfaces_as_csv(records) {

@@ -21,6 +21,7 @@ const NO_TABLE = ['none', 'cone'];
 const LICENCES = ['NOTICES', 'LICENSE-MIT', 'LICENSE-APACHE'];
 const MOST_SHOWN_LINES = 1100; // of a question: a triangulation of 1,000 tetrahedra, and some vectors
 const MOST_IN_A_TITLE = 80;
+const GONE = 'This question was too long for a link, and its input is not kept any more.';
 
 /** Says something below the form; `is_bad` for refusals and failures. */
 function say(parts, is_bad = false) {
@@ -263,10 +264,11 @@ function answer(step) {
  * too long for that is found again by its number, as long as the page is open.
  */
 function set_address(is_new, number) {
-    const fragment = form.fragment(), address = fragment || location.pathname, is_same = fragment ? fragment === location.hash : history.state?.number === number;
+    const state = {visit: visit.id, number}, fragment = form.fragment(), address = fragment || location.pathname;
+    const is_same = fragment ? fragment === location.hash : visit.find(history.state)?.number === number;
     try {
-        if (is_new && !is_same) history.pushState({number}, '', address);
-        else history.replaceState({number}, '', address);
+        if (is_new && !is_same) history.pushState(state, '', address);
+        else history.replaceState(state, '', address);
     } catch {
         // the link has it still
     }
@@ -281,7 +283,7 @@ function drop_question() {
 
 /** Answers the question of the address. One that is not understood is shown as far as it is, and is not answered. */
 function answer_address() {
-    const kept = location.hash ? undefined : visit.find(history.state?.number);
+    const kept = location.hash ? undefined : visit.find(history.state);
     if (kept) {
         form.fill(kept.command, kept.options, kept.input);
         return answer('same');
@@ -290,6 +292,7 @@ function answer_address() {
     if (faults?.length === 0) return answer('same');
     drop_question();
     clear();
+    if (!faults && history.state?.number) return say(GONE, true);
     if (faults) return say(`This link was not answered. It has ${faults.join('; ')}.`, true);
     form.take_first();
     return answer('none');
@@ -352,8 +355,8 @@ function listen() {
     if (by_id('licences').open) show_licences();
     listen_to_input(() => hints, say);
     words_explained.listen();
-    window.addEventListener('popstate', ({state}) => { if (!location.hash && visit.find(state?.number)) answer_address(); });
-    window.addEventListener('hashchange', () => { if (location.hash || !visit.find(history.state?.number)) answer_address(); });
+    window.addEventListener('popstate', ({state}) => { if (!location.hash && state?.number) answer_address(); });
+    window.addEventListener('hashchange', () => { if (location.hash || !history.state?.number) answer_address(); });
     window.addEventListener('beforeprint', () => tell_tables('whole'));
     window.addEventListener('afterprint', () => tell_tables('seen'));
 }

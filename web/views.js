@@ -80,9 +80,9 @@ const LAW = 'Proved (list_decides_efficiency): each connected normal surface of 
 const OCTAGONS = 'Surfaces with octagons do not count. In octagon coordinates, the listed surfaces without octagons are those of the standard list (proved: octagon_lists_have_standard).';
 
 function verdict_of(kind, contrary) {
-    if (!contrary) return 'Each connected normal surface of positive Euler characteristic is a vertex link.';
-    const found = `urface ${contrary.index} is a ${name_of(contrary)} and not a vertex link.`;
-    return is_of_jaco_and_rubinstein(kind) ? `Not 0-efficient: s${found}` : `S${found}`;
+    const sentence = contrary ? `Surface ${contrary.index} is a ${name_of(contrary)} and not a vertex link.` : 'Each connected normal surface of positive Euler characteristic is a vertex link.';
+    if (!is_of_jaco_and_rubinstein(kind)) return sentence;
+    return `${contrary ? 'Not 0-efficient' : '0-efficient'}: ${sentence[0].toLowerCase()}${sentence.slice(1)}`;
 }
 
 /** The verdict on 0-efficiency. */

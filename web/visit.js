@@ -11,11 +11,14 @@ export function name_of_question({words, input}) {
     return name.length > MOST_IN_A_NAME ? `${name.slice(0, MOST_IN_A_NAME)}…` : name;
 }
 
-/** The questions, the newest first. */
+/** A name for a visit that no other one has, nor the same page after it is loaded again. */
+const new_id = () => [...crypto.getRandomValues(new Uint32Array(4))].map((number) => number.toString(36)).join('-');
+
+/** The questions, the newest first. A state of the history names the visit and the number of its question. */
 export class Visit {
     /** ask_again: what a button of the list does with its question */
     constructor(ask_again) {
-        Object.assign(this, {ask_again, questions: [], by_number: new Map(), count: 0});
+        Object.assign(this, {ask_again, id: new_id(), questions: [], by_number: new Map(), count: 0});
     }
 
     /** Adds a question {command, options, words, input}, and drops it where it was before. Returns its number. */
@@ -28,9 +31,9 @@ export class Visit {
         return number;
     }
 
-    /** The question of a number, or undefined if it is gone. */
-    find(number) {
-        return this.by_number.get(number);
+    /** The question of a state of the history; undefined if it is gone, or was asked before the page was loaded. */
+    find(state) {
+        return state?.visit === this.id ? this.by_number.get(state.number) : undefined;
     }
 
     draw() {

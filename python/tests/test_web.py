@@ -19,6 +19,7 @@ import sys
 import tarfile
 import tempfile
 import threading
+import time
 import unittest
 import urllib.parse
 import zlib
@@ -586,6 +587,35 @@ return globalThis.unseen.size;""")
         self.assertEqual(self.run_script(back % ("forward", "c")), [len(long[1]), "cPcbbbiht\n", ""])
         self.assertRegex(self.run_script("by('link').click(); await until(() => message() !== ''); return message();"), "too long for a link|Answered")
 
+    def test_a_visit_is_not_mixed_with_an_older_one(self):
+        """After the page is loaded again, Back does not lead to another question that has the same number."""
+        self.window_of_a_test()
+        self.open()
+        gone = "This question was too long for a link, and its input is not kept any more."
+        older = ["sig bkaagj\n# " + "x" * 61000, "sig cPcbbbiht\n# " + "y" * 61000]
+        for text in older:
+            self.assertRegex(self.ask("sig", text), "^Answered")
+        self.run_script("setTimeout(() => location.reload()); return 0;")
+        self.run_script_after_loading("await until(() => message() !== ''); return message();", gone)
+        for text in ("sig bkaagn\n# " + "z" * 61000, "sig baa\n# " + "w" * 61000):
+            self.assertRegex(self.ask("sig", text), "^(Answered|refused)")
+        move = "by('message').textContent = ''; history.%s; await until(() => message() !== ''); await until(idle); return [message().split(' ')[0], by('input').value.slice(0, 10)];"
+        self.assertEqual(self.run_script(move % "back()"), ["Answered", "sig bkaagn"])
+        for _ in older:
+            self.assertEqual(self.run_script(move % "back()")[0], "This")
+            self.assertEqual(self.run_script("return [message(), by('result').hidden];"), [gone, True])
+        self.assertEqual(self.run_script(move % "go(2)"), ["Answered", "sig bkaagn"])
+
+    def run_script_after_loading(self, script, expected, most=60):
+        """Waits until a script, which a page that is being loaded may interrupt, gives a value."""
+        end = time.monotonic() + most
+        while True:
+            with contextlib.suppress(Exception):
+                if self.run_script(f"if (!document.documentElement.dataset.ready) throw Error('not ready'); {script}") == expected:
+                    return
+            self.assertLess(time.monotonic(), end, f"{script} does not give {expected}")
+            time.sleep(0.2)
+
     def test_bare_and_decorated_signatures(self):
         self.open()
         asked = "return [message().split(' ')[0], by('asked').textContent.split('; trinorm ')[0], by('input').value];"
@@ -805,9 +835,10 @@ return [first < 100, rows() < 100, Math.abs(middle - 50000) < 1000, document.act
         self.open()
         verdict = "return [by('view').querySelector('.verdict').textContent, by('view').textContent];"
         holds = "Each connected normal surface of positive Euler characteristic is a vertex link."
+        efficient = "0-efficient: each connected normal surface of positive Euler characteristic is a vertex link."
         closed, ideal = "It is closed (each vertex link is a sphere) and orientable, so it is ", "It is an ideal triangulation: its only vertex link is not a sphere "
         for text, short, there, absent in (
-                ("sig bkaagj", holds, [closed + self.JACO_AND_RUBINSTEIN], ["ideal", "boundary faces"]),
+                ("sig bkaagj", efficient, [closed + self.JACO_AND_RUBINSTEIN], ["ideal", "boundary faces"]),
                 ("sig cPcbbbiht", holds, [ideal + "(torus)", "it contains no normal sphere and no normal projective plane"], [self.JACO_AND_RUBINSTEIN, "closed (each"]),
                 ("tri 1\n0:1203 0:2013 0:0231 0:0312\n", holds, [ideal + "(Klein bottle)", "It is not orientable."], [self.JACO_AND_RUBINSTEIN]),
                 ("sig eLMkabcddbrrag", "Not 0-efficient: surface [0-9]+ is a projective plane and not a vertex link.", [closed + "not " + self.JACO_AND_RUBINSTEIN, "the double of this projective plane"], []),
@@ -909,6 +940,14 @@ return [first < 100, rows() < 100, Math.abs(middle - 50000) < 1000, document.act
         compile(script, "script", "exec")
         self.assertEqual(self.ask("sig", "sig bkaagj", "return ['csv', 'json', 'script'].map((id) => by(id).hidden);"), [True, True, False])
 
+    def test_labels_in_csv_are_no_formulas(self):
+        self.open()
+        labels = ["=1+1", "@SUM(A1)", "+1", "-2+3", '=HYPERLINK("x","y")', "-5", "plain"]
+        self.ask("info", "".join(f"# {label}\nbkaagj\n" for label in labels))
+        self.run_script("by('csv').click();")
+        rows = list(csv.reader(io.StringIO(self.window.downloaded("info-bkaagj.csv").decode())))
+        self.assertEqual([row[1] for row in rows[1:]], [label if label in ("-5", "plain") else f"'{label}" for label in labels])
+
     def test_a_form_that_is_changed_meanwhile_changes_no_answer(self):
         """What is saved of an answer has the question that was asked, not what the form says by then."""
         self.open()
@@ -1004,7 +1043,7 @@ return boxes.reduce((sum, box, at) => sum + boxes.slice(at + 1).filter((other) =
         self.assertRegex(eight, "^1 vertex normal surface; 1 × torus")
         self.assertIn("its only vertex link is not a sphere (Klein bottle)", gieseking)
         self.assertIn("orientableno", gieseking)
-        self.assertIn("Each connected normal surface of positive Euler characteristic is a vertex link.", poincare)
+        self.assertIn("0-efficient: each connected normal surface of positive Euler characteristic is a vertex link.", poincare)
         self.assertRegex(klein, "Klein bottle")
         self.assertRegex(contrary, "is a projective plane and not a vertex link")
         self.assertIn("4 triangulations", lens)
