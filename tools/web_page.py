@@ -21,10 +21,11 @@ from repository import PROGRAM, TOP, version
 PAGE = f"{PROGRAM}.html"
 SOURCES = TOP / "web"
 # in this order in the one file: each stands after those that it imports
-SCRIPTS = ["elements.js", "engine.js", "files.js", "asking.js", "texts.js", "kinds.js", "reading.js", "foreign.js", "understood.js",
+SCRIPTS = ["elements.js", "engine.js", "files.js", "asking.js", "texts.js", "kinds.js", "foreign.js", "reading.js", "understood.js",
            "links.js", "hints.js", "words.js", "long_table.js", "pictures.js", "turning.js", "exports.js", "questions.js", "next.js",
            "surface_list.js", "several.js", "menu.js", "visit.js", "input_field.js", "form.js", "views.js", "page.js"]
 WORKER = ["engine.js", "worker.js"]
+READER = ["engine.js", "texts.js", "foreign.js", "reading.js", "reader.js"]
 LICENCES = ["NOTICES", "LICENSE-MIT", "LICENSE-APACHE"]
 POLICY = ("default-src 'none'; script-src '{script}' 'wasm-unsafe-eval'; worker-src blob:; style-src '{style}'; img-src data:; "
           "base-uri 'none'; form-action 'none'")
@@ -57,7 +58,7 @@ def data_files() -> Dict[str, str]:
 
 def folder(module: bytes) -> Dict[str, bytes]:
     """The files of the folder, by name."""
-    names = ["index.html", "page.css", *SCRIPTS, "worker.js", "package.json", f"node/{PROGRAM}.js"]
+    names = ["index.html", "page.css", *SCRIPTS, "worker.js", "reader.js", "package.json", f"node/{PROGRAM}.js"]
     files = {name: (SOURCES / name).read_bytes() for name in names}
     files.update((name, text.encode("utf8")) for name, text in data_files().items())
     return {**files, f"{PROGRAM}.wasm": module}
@@ -94,7 +95,7 @@ def replace(pattern: str, text: str, page: str) -> Tuple[str, int]:
 def one_file(module: bytes) -> str:
     """The page as one file, which fetches nothing."""
     script, style = joined(SCRIPTS), (SOURCES / "page.css").read_text("utf8")
-    held = {**data_files(), "worker.js": joined(WORKER), f"{PROGRAM}.wasm": base64.b64encode(module).decode()}
+    held = {**data_files(), "worker.js": joined(WORKER), "reader.js": joined(READER), f"{PROGRAM}.wasm": base64.b64encode(module).decode()}
     parts = [*(element(name, text) for name, text in held.items()), f'<script type="module">{script}</script>']
     page = (SOURCES / "index.html").read_text("utf8")
     replaced = {

@@ -20,9 +20,9 @@ export async function bytes_of(name) {
     return new Uint8Array(await response.arrayBuffer());
 }
 
-/** A new worker. The text of an element starts as a script, since a page from the disk may not load a module. */
-export function new_worker() {
-    const element = element_of('worker.js');
-    if (!element) return new Worker('worker.js', {type: 'module'});
+/** A new worker of a file of the page. The text of an element starts as a script, since a page from the disk may not load a module. */
+export function new_worker(name) {
+    const element = element_of(name);
+    if (!element) return new Worker(name, {type: 'module'});
     return new Worker(URL.createObjectURL(new Blob([element.textContent], {type: 'text/javascript'})));
 }

@@ -1,69 +1,93 @@
 // What comes into the field for the input from outside: files that are opened or dropped, and pastes.
+import {Stopped} from './asking.js';
 import {by_id} from './elements.js';
 import {MOST_INPUT} from './engine.js';
-import {from_other_program} from './foreign.js';
 import {hint_on_file} from './hints.js';
-import {is_readable, opened} from './reading.js';
+import {is_readable, may_be_translated} from './reading.js';
 
-const translate = (text) => from_other_program(text, MOST_INPUT);
+const UNCHANGED = 'The input was not changed.';
+const MEBIBYTE = 1 << 20;
 
 const of_notes = (notes) => (notes.length ? ` It was ${notes.join('; ').replace(/^it was /, '')}.` : '');
 
-/** Puts the text of a file into the field: {text, is_bad}, a sentence on what was done. */
-async function taken(file, hints) {
-    try {
-        const {bytes, text, notes, is_long} = await opened(file, translate), sentence = hint_on_file(hints, bytes);
-        if (text !== null) {
-            by_id('input').value = text;
-            return {text: `Opened ${file.name}.${of_notes(notes)}`, is_bad: false};
+/** Why the text of a file is not shown. */
+function why_not({most, bytes}, name, hints) {
+    const sentence = hint_on_file(hints, bytes), of_what = most > MOST_INPUT ? 'a file of another program' : 'an input';
+    const why = most ? `is longer than ${most / MEBIBYTE} MiB, the most that ${of_what} may have` : 'is not a text file';
+    return `${name} ${why}${sentence ? `: ${sentence}` : ''}. ${UNCHANGED}`;
+}
+
+/**
+ * The field for the input, as far as it is filled from outside.
+ *
+ * reader: what reads; hints: returns the rows of hints; say: shows a sentence, which may be bad; on_change: is called when a
+ * reading begins or ends
+ */
+export class InputField {
+    constructor({reader, hints, say, on_change}) {
+        Object.assign(this, {reader, hints, say, on_change, newest: 0});
+    }
+
+    /** Lets a reading end, and says what is wrong if it fails, unless a newer one has begun. `name` is that of what is read. */
+    async read(what, name) {
+        const number = ++this.newest, reading = this.reader.read(what);
+        this.say(`Reading ${name} …`);
+        this.on_change();
+        try {
+            return await reading;
+        } catch (fault) {
+            if (number !== this.newest) return null;
+            if (fault instanceof Stopped) this.say(`Stopped. ${UNCHANGED}`);
+            else this.say(`${name} could not be read: ${fault.message}. ${UNCHANGED}`, true);
+            return null;
+        } finally {
+            this.on_change();
         }
-        const why = is_long ? 'is longer than 1 MiB, the most that an input may have' : 'is not a text file';
-        return {text: `${file.name} ${why}${sentence ? `: ${sentence}` : ''}. The input was not changed.`, is_bad: true};
-    } catch (fault) {
-        return {text: `${file.name} could not be read: ${fault.message}. The input was not changed.`, is_bad: true};
     }
-}
 
-/** A text that is put into the field instead of what was pasted; null if the browser may paste it. */
-function pasted(text) {
-    const is_whole = text.length <= MOST_INPUT && is_readable(text);
-    if (is_whole) return null;
-    try {
-        const translation = translate(text);
-        return translation && is_readable(translation.text) ? {text: translation.text, notes: translation.notes} : {text: null};
-    } catch (fault) {
-        return {text: null, why: fault.message};
+    /** Ends what is being read, without a word. */
+    drop() {
+        this.newest++;
+        this.reader.stop();
     }
-}
 
-/** Listens to files and pastes. `say` tells what was done, and `hints` gives the rows of hints. */
-export function listen_to_input(hints, say) {
-    const changed = () => by_id('input').dispatchEvent(new Event('input'));
-    const take = async (file) => {
+    put(text, sentence) {
+        by_id('input').value = text;
+        by_id('input').dispatchEvent(new Event('input'));
+        this.say(sentence);
+    }
+
+    /** Puts the text of a file into the field. */
+    async take(file) {
         if (!file) return;
-        const {text, is_bad} = await taken(file, hints());
+        const found = await this.read({file}, file.name);
         by_id('file').value = '';
-        if (!is_bad) changed();
-        say(text, is_bad);
-    };
-    const keep_out = (event, text) => {
-        const other = pasted(text);
-        if (!other) return;
+        if (found === null) return;
+        if (found.text === null) this.say(why_not(found, file.name, this.hints()), true);
+        else this.put(found.text, `Opened ${file.name}.${of_notes(found.notes)}`);
+    }
+
+    /** Keeps out what is pasted or dropped and cannot be an input. What is of another program is put there as gluing tables. */
+    async keep_out(event, text) {
+        if (text.length <= MOST_INPUT && is_readable(text)) return;
         event.preventDefault();
-        if (other.text === null) return say(`What was pasted is not text of at most 1 MiB${other.why ? ` (${other.why})` : ''}. The input was not changed.`, true);
-        by_id('input').value = other.text;
-        changed();
-        say(`The input was replaced.${of_notes(other.notes)}`);
-    };
-    by_id('file').onchange = () => take(by_id('file').files[0]);
-    by_id('input').addEventListener('paste', (event) => keep_out(event, event.clipboardData?.getData('text/plain') ?? ''));
-    document.addEventListener('dragover', (event) => { if (has_files(event)) event.preventDefault(); });
-    document.addEventListener('drop', (event) => {
-        if (has_files(event)) {
-            event.preventDefault();
-            take(event.dataTransfer.files[0]);
-        } else if (event.target === by_id('input')) keep_out(event, event.dataTransfer?.getData('text/plain') ?? '');
-    });
+        const found = may_be_translated(text) ? await this.read({text}, 'what was pasted') : {text: null};
+        if (found === null) return;
+        if (found.text === null) this.say(`What was pasted is not text of at most 1 MiB. ${UNCHANGED}`, true);
+        else this.put(found.text, `The input was replaced.${of_notes(found.notes)}`);
+    }
+
+    listen() {
+        by_id('file').onchange = () => this.take(by_id('file').files[0]);
+        by_id('input').addEventListener('paste', (event) => this.keep_out(event, event.clipboardData?.getData('text/plain') ?? ''));
+        document.addEventListener('dragover', (event) => { if (has_files(event)) event.preventDefault(); });
+        document.addEventListener('drop', (event) => {
+            if (has_files(event)) {
+                event.preventDefault();
+                this.take(event.dataTransfer.files[0]);
+            } else if (event.target === by_id('input')) this.keep_out(event, event.dataTransfer?.getData('text/plain') ?? '');
+        });
+    }
 }
 
 const has_files = ({dataTransfer}) => [...dataTransfer?.types ?? []].includes('Files');

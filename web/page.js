@@ -1,12 +1,12 @@
 // The page: asks the engine what the form says, and shows the answer, or what is wrong with the question.
-import {Broken, Engine, Stopped} from './asking.js';
+import {Broken, Engine, Reader, Stopped} from './asking.js';
 import {by_id, make} from './elements.js';
 import {NO_MEMORY} from './engine.js';
 import {pictures_as_svg, python_script, rows_as_csv, surfaces_as_csv, surfaces_as_json} from './exports.js';
 import {bytes_of, text_of} from './files.js';
 import {EFFICIENCY, Form} from './form.js';
 import {hint, read_hints} from './hints.js';
-import {listen_to_input} from './input_field.js';
+import {InputField} from './input_field.js';
 import {offer_actions} from './menu.js';
 import {zero_efficiency} from './questions.js';
 import {SeveralList} from './several.js';
@@ -42,6 +42,8 @@ let identity = ''; // the version and the module that answer
 let newest = 0; // the number of the newest question
 let newest_asked = null; // {reads, options, fragment} of the newest question; the form may have been changed since
 let is_busy = false;
+const reader = new Reader();
+const input_field = new InputField({reader, hints: () => hints, say, on_change: show_stop});
 let is_graph_asked = null; // the printed triangulation whose graph is shown
 
 const visit = new Visit((question) => {
@@ -51,9 +53,19 @@ const visit = new Visit((question) => {
 
 const spent = (milliseconds) => (milliseconds < 1000 ? `${milliseconds.toFixed(0)} ms` : `${(milliseconds / 1000).toFixed(1)} s`);
 
+function show_stop() {
+    by_id('stop').disabled = !is_busy && !reader.is_reading;
+}
+
+/** Ends what is being read, or else the question that is being answered. */
+function stop() {
+    if (reader.is_reading) reader.stop();
+    else if (is_busy) engine.stop();
+}
+
 function show_busy(busy, begun) {
     is_busy = busy;
-    by_id('stop').disabled = !busy;
+    show_stop();
     by_id('clock').classList.toggle('busy', busy);
     by_id('clock').value = `${((performance.now() - begun) / 1000).toFixed(1)} s`;
 }
@@ -248,6 +260,7 @@ function clear() {
  * or there is `none`
  */
 function answer(step) {
+    input_field.drop();
     const words = form.words(), text = form.input, options = form.options(), asked = understood(text, form.reads, names);
     const number = visit.add({command: form.command, options, words, input: text});
     newest_asked = {reads: form.reads, options, fragment: form.fragment()};
@@ -277,6 +290,7 @@ function set_address(is_new, number) {
 /** Ends the question that is being answered, if there is one, without a word. */
 function drop_question() {
     newest++;
+    input_field.drop();
     if (is_busy) engine.stop();
     show_busy(false, performance.now());
 }
@@ -341,7 +355,7 @@ const tell_tables = (event) => document.querySelectorAll('.long').forEach((table
 function listen() {
     by_id('question').onsubmit = (event) => { event.preventDefault(); answer('new'); };
     by_id('example').onchange = () => { if (form.take_example(by_id('example').value)) answer('new'); };
-    by_id('stop').onclick = () => engine.stop();
+    by_id('stop').onclick = stop;
     by_id('link').onclick = copy_link;
     by_id('close').onclick = () => by_id('large').close();
     by_id('input').oninput = () => { by_id('example').value = ''; form.tell(''); };
@@ -350,10 +364,10 @@ function listen() {
         event.preventDefault();
         answer('new');
     };
-    document.addEventListener('keydown', (event) => { if (event.key === 'Escape' && is_busy && !document.querySelector('dialog[open], #menu:popover-open')) engine.stop(); });
+    document.addEventListener('keydown', (event) => { if (event.key === 'Escape' && !document.querySelector('dialog[open], #menu:popover-open')) stop(); });
     by_id('licences').ontoggle = show_licences;
     if (by_id('licences').open) show_licences();
-    listen_to_input(() => hints, say);
+    input_field.listen();
     words_explained.listen();
     window.addEventListener('popstate', ({state}) => { if (!location.hash && state?.number) answer_address(); });
     window.addEventListener('hashchange', () => { if (location.hash || !history.state?.number) answer_address(); });

@@ -209,7 +209,7 @@ class Files(unittest.TestCase):
         self.assertEqual(len(files), 4)
 
     def test_scripts_of_the_one_file_can_be_joined(self):
-        for names in (web_page.SCRIPTS, web_page.WORKER):
+        for names in (web_page.SCRIPTS, web_page.WORKER, web_page.READER):
             with self.subTest(names=names), tempfile.TemporaryDirectory() as folder:
                 path = Path(folder, "joined.mjs")
                 path.write_text(web_page.joined(names), "utf8")
@@ -364,6 +364,13 @@ class Reading(unittest.TestCase):
                 outcome = self.understood(text)
                 self.assertEqual(outcome["input"], text)
                 self.assertRegex(outcome["notes"][0], "^it was not read as a file of another program: ")
+
+    def test_comments_of_a_regina_file_are_left_out(self):
+        row = "<!-- x --> -1 0 -1 <!--<tri dim=\"3\">-->0 -1 0 -1 0 "
+        text = f'<?xml version="1.0"?>\n<regina><!-- <tri dim="3"> --><tri label="a > b" perm="index" dim="3"><simplex>{row}</simplex></tri><tri dim="3"/><!--'
+        outcome = self.understood(text)
+        self.assertEqual([one["text"] for one in outcome["tables"]], ["tri 1\n- - - -\n", "tri 0\n"])
+        self.assertEqual(outcome["tables"][0]["label"], "a > b")
 
     def test_the_names_are_those_of_the_censuses(self):
         import_regina()
@@ -664,7 +671,7 @@ files.items.add(new File([{data}], {json.dumps(name)}));
 by('message').textContent = '';
 by('file').files = files.files;
 by('file').dispatchEvent(new Event('change'));
-await until(() => message());
+await until(idle);
 await new Promise((done) => requestAnimationFrame(() => setTimeout(done)));
 return [message(), by('input').value.slice(0, 100), (performance.now() - begun) / 1000];""")
 
@@ -682,6 +689,51 @@ return [message(), by('input').value.slice(0, 100), (performance.now() - begun) 
                 self.assertEqual(field, first)
                 self.assertLess(seconds, 10)
         self.assertEqual(self.open_file("'# é\\nsig bkaagj\\n'", "one.txt")[:2], ["Opened one.txt.", "# é\nsig bkaagj\n"])
+
+    # files of about 30 MB, and what is said of them
+    HOSTILE = (("'<regina>' + '<a>'.repeat(1e7)", "could not be read: it has no triangulation of dimension 3"),
+               ("'<regina>' + '<tri x=\"'.repeat(4e6)", "could not be read: it has no triangulation of dimension 3"),
+               ("'<regina>' + '<!---->'.repeat(4e6)", "could not be read: it has no triangulation of dimension 3"),
+               ("'% Triangulation\\n' + '7 7\\n'.repeat(7e6)", "could not be read: tetrahedron 0 has no gluings"), ("'% Triangulation\\n' + '\\n'.repeat(3e7)", "could not be read: the numbers of cusps are missing"),
+               ("'x'.repeat(3e7)", "is longer than 1 MiB"), ("new Uint8Array(3e7).fill(255)", "is longer than 1 MiB"), ("'<regina>' + ' '.repeat(34e6)", "is longer than 32 MiB"))
+
+    BEGIN_TO_READ = """
+await until(idle);
+const files = new DataTransfer();
+files.items.add(new File([%s], 'file.bin'));
+by('message').textContent = '';
+by('file').files = files.files;
+let longest = 0, seen = performance.now();
+const pulse = setInterval(() => { longest = Math.max(longest, performance.now() - seen); seen = performance.now(); }, 20);
+by('file').dispatchEvent(new Event('change'));
+"""
+
+    @timed
+    def test_large_files_of_nonsense_hold_nothing_up(self):
+        """The page answers all the time, and the input stays."""
+        self.open()
+        for data, why in self.HOSTILE:
+            with self.subTest(data=data):
+                said, field, longest = self.run_script(self.BEGIN_TO_READ % data + "seen = performance.now(); await until(idle, 200000); clearInterval(pulse); return [message(), by('input').value, longest];")
+                self.assertIn(f"file.bin {why}", said)
+                self.assertEqual(field, "sig cPcbbbiht\n")
+                self.assertLess(longest, 3000)
+
+    @timed
+    def test_reading_is_stopped_within_a_second(self):
+        self.open()
+        for stop in ("by('stop').click();", "document.dispatchEvent(new KeyboardEvent('keydown', {key: 'Escape', bubbles: true}));"):
+            said, field, spent = self.run_script(self.BEGIN_TO_READ % self.HOSTILE[0][0] + f"clearInterval(pulse); await until(() => !by('stop').disabled); const begun = performance.now(); {stop} await until(idle); return [message(), by('input').value, performance.now() - begun];")
+            self.assertEqual((said, field), ("Stopped. The input was not changed.", "sig cPcbbbiht\n"))
+            self.assertLess(spent, 1000)
+        self.assertEqual(self.open_file("'sig bkaagj'", "one.txt")[0], "Opened one.txt.")
+
+    def test_a_newer_file_or_question_ends_a_reading(self):
+        self.open()
+        said = self.run_script(self.BEGIN_TO_READ % self.HOSTILE[0][0] + "clearInterval(pulse); const one = new DataTransfer(); one.items.add(new File(['sig bkaagj'], 'one.txt')); by('file').files = one.files; by('file').dispatchEvent(new Event('change')); await until(idle); return [message(), by('input').value];")
+        self.assertEqual(said, ["Opened one.txt.", "sig bkaagj"])
+        said = self.run_script(self.BEGIN_TO_READ % self.HOSTILE[0][0] + "clearInterval(pulse); by('answer').click(); await until(idle); return [message().split(' ')[0], by('input').value];")
+        self.assertEqual(said, ["Answered", "sig bkaagj"])
 
     def test_one_answer_leads_to_the_next(self):
         self.open()
@@ -1086,7 +1138,7 @@ return boxes.reduce((sum, box, at) => sum + boxes.slice(at + 1).filter((other) =
         # pasted as text it stays, and is read when it is asked
         self.assertEqual(self.ask("sig", triangulation.snapPea(), "return [by('raw').textContent, by('asked').textContent.includes('read as 1 triangulation of a SnapPea file')];"), ["cPcbbbiht\n", True])
         bomb = "const made = []; const stream = new Blob([new Uint8Array(80 << 20)]).stream().pipeThrough(new CompressionStream('gzip')); const packed = new Uint8Array(await new Response(stream).arrayBuffer());"
-        said = self.run_script(bomb + "await until(idle); const files = new DataTransfer(); files.items.add(new File([packed], 'bomb.rga')); by('message').textContent = ''; by('file').files = files.files; by('file').dispatchEvent(new Event('change')); await until(() => message()); return message();")
+        said = self.run_script(bomb + "await until(idle); const files = new DataTransfer(); files.items.add(new File([packed], 'bomb.rga')); by('message').textContent = ''; by('file').files = files.files; by('file').dispatchEvent(new Event('change')); await until(idle); return message();")
         self.assertIn("bomb.rga is not a text file", said)
 
     def test_a_file_is_dropped(self):
@@ -1099,7 +1151,7 @@ by('message').textContent = '';
 const over = new DragEvent('dragover', {bubbles: true, cancelable: true, dataTransfer: files}), drop = new DragEvent('drop', {bubbles: true, cancelable: true, dataTransfer: files});
 document.body.dispatchEvent(over);
 document.body.dispatchEvent(drop);
-await until(() => message());
+await until(idle);
 return [over.defaultPrevented, drop.defaultPrevented, message(), by('input').value];"""
         self.assertEqual(self.run_script(drop), [True, True, "Opened one.txt.", "bkaagj"])
 
@@ -1115,7 +1167,9 @@ const event = new Event('paste', {bubbles: true, cancelable: true});
 Object.defineProperty(event, 'clipboardData', {value: data}); // which the constructor of a ClipboardEvent does not take everywhere
 by('message').textContent = '';
 by('input').dispatchEvent(event);
-return [event.defaultPrevented, message(), by('input').value.slice(0, 30), performance.now() - begun < 3000];"""
+const is_alive = performance.now() - begun < 3000;
+await until(() => by('stop').disabled);
+return [event.defaultPrevented, message(), by('input').value.slice(0, 30), is_alive];"""
         first = "sig cPcbbbiht\n"
         refused = "What was pasted is not text of at most 1 MiB. The input was not changed."
         self.assertEqual(self.run_script(paste % "'\ufffd'.repeat(1 << 20)"), [True, refused, first, True])
