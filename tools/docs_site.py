@@ -22,6 +22,7 @@ from pathlib import Path
 from typing import Dict, Iterator, List, Optional, Set, Tuple
 
 import web_page
+from installed import Installed
 from repository import PROGRAM, TOP
 
 # the pages in their order, by subject; what docs/ has besides is the last subject
@@ -158,12 +159,12 @@ def built(written: Dict[str, bytes], with_page: bool) -> Dict[str, bytes]:
     return {name: data for name, data in files.items() if name not in LEFT_OUT}
 
 
-def files(module: Optional[bytes]) -> Dict[str, bytes]:
-    """The files of the site, by path."""
+def files(module: Optional[bytes], build: Optional[Dict[str, str]] = None) -> Dict[str, bytes]:
+    """The files of the site, by path. `build` is what web_page.build_of returns of the module."""
     with_page = module is not None
     site = built(sources(with_page), with_page)
     if module is not None:
-        site[TRY] = web_page.one_file(module).encode("utf8")
+        site[TRY] = web_page.one_file(module, build).encode("utf8")
     wrong = list(faults(site))
     if wrong:
         raise NotMade("\n".join(wrong))
@@ -223,8 +224,10 @@ def write(site: Dict[str, bytes], to: Path) -> None:
 def main(words: List[str]) -> Optional[str]:
     if len(words) not in (1, 2):
         return __doc__
+    module = Path(words[1]).read_bytes() if len(words) == 2 else None
+    build = web_page.build_of(module, Installed(TOP).fields()) if module is not None else None
     try:
-        write(files(Path(words[1]).read_bytes() if len(words) == 2 else None), Path(words[0]))
+        write(files(module, build), Path(words[0]))
     except NotMade as fault:
         return f"docs_site: {fault}"
     return None

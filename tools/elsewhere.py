@@ -15,6 +15,7 @@ import native
 import packages
 import wasm
 import web_page
+from manifest import parts
 from modules import NotCompiled
 from repository import PROGRAM, TOP, sum_of
 
@@ -26,10 +27,15 @@ def page(made: packages.Made) -> List[Named]:
     if "wasm" not in made.files:
         print(f"{PROGRAM}: the release lacks {web_page.PAGE}, since the build made no {wasm.NAME}", file=sys.stderr)
         return []
-    module, name = made.files["wasm"], f"{PROGRAM}-{made.version}-web"
-    files: packages.Files = {path: (data, 0o644) for path, data in web_page.folder(module).items()}
-    return [(web_page.PAGE, web_page.one_file(module).encode("utf8")), (f"{name}.tar.gz", packages.tar(files, f"{name}/")),
+    module, name, build = made.files["wasm"], f"{PROGRAM}-{made.version}-web", build_of(made)
+    files: packages.Files = {path: (data, 0o644) for path, data in web_page.folder(module, build).items()}
+    return [(web_page.PAGE, web_page.one_file(module, build).encode("utf8")), (f"{name}.tar.gz", packages.tar(files, f"{name}/")),
             (wasm.NAME, module), (f"{wasm.NAME}.NOTICES", notice().encode("utf8"))]
+
+
+def build_of(made: packages.Made) -> Dict[str, str]:
+    """What citations of the page name of the build."""
+    return web_page.build_of(made.files["wasm"], dict(parts(made.version_lines)))
 
 
 def notice() -> str:
@@ -86,7 +92,7 @@ def documentation(made: packages.Made) -> List[Named]:
         return []
     name = f"{PROGRAM}-{made.version}-docs"
     try:
-        site = docs_site.files(made.files["wasm"])
+        site = docs_site.files(made.files["wasm"], build_of(made))
     except docs_site.NotMade as fault:
         print(f"{PROGRAM}: the release lacks {name}.tar.gz: {fault}", file=sys.stderr)
         return []

@@ -3,7 +3,8 @@
 
     tools/web_page.py MODULE FOLDER
 
-MODULE is trinorm.wasm. FOLDER gets the folder `web` and the file trinorm.html.
+MODULE is trinorm.wasm. FOLDER gets the folder `web` and the file trinorm.html. If the module is the one that the build of this
+clone made, citations name its version, commit and kit.
 """
 from __future__ import annotations
 
@@ -16,17 +17,20 @@ import sys
 from pathlib import Path
 from typing import Dict, List, Optional, Tuple
 
-from repository import PROGRAM, TOP, version
+from installed import Installed
+from repository import PROGRAM, TOP, sum_of, version
 
 PAGE = f"{PROGRAM}.html"
 SOURCES = TOP / "web"
 # in this order in the one file: each stands after those that it imports
 SCRIPTS = ["elements.js", "engine.js", "files.js", "asking.js", "texts.js", "kinds.js", "foreign.js", "reading.js", "understood.js",
            "links.js", "hints.js", "words.js", "long_table.js", "pictures.js", "turning.js", "exports.js", "questions.js", "next.js",
-           "surface_list.js", "several.js", "menu.js", "visit.js", "input_field.js", "form.js", "views.js", "page.js"]
+           "surface_list.js", "several.js", "menu.js", "visit.js", "input_field.js", "form.js", "views.js", "citation.js", "page.js"]
 WORKER = ["engine.js", "worker.js"]
 READER = ["engine.js", "texts.js", "foreign.js", "reading.js", "reader.js"]
 LICENCES = ["NOTICES", "LICENSE-MIT", "LICENSE-APACHE"]
+# what a citation names of the build that made the module
+NOTED = ("version", "commit", "kit", "wasm")
 POLICY = ("default-src 'none'; script-src '{script}' 'wasm-unsafe-eval'; worker-src blob:; style-src '{style}'; img-src data:; "
           "base-uri 'none'; form-action 'none'")
 
@@ -39,9 +43,15 @@ def examples(table: str) -> Dict[str, Dict[str, str]]:
     return examples_by_name
 
 
-def data_files() -> Dict[str, str]:
+def build_of(module: bytes, fields: Dict[str, str]) -> Dict[str, str]:
+    """What a citation names of a build, whose lines `KEY VALUE` are given; nothing if the build made another module."""
+    is_known = fields.get("wasm") == sum_of(module) and all(fields.get(name) for name in NOTED)
+    return {name: fields[name] for name in NOTED} if is_known else {}
+
+
+def data_files(build: Optional[Dict[str, str]] = None) -> Dict[str, str]:
     """What the page reads besides the module: the table of commands, hints, how discs are drawn, explained words, names of
-    manifolds, examples with and without a story, the version, and the licences."""
+    manifolds, examples with and without a story, the version with what is known of the build, and the licences."""
     table = (TOP / "python" / PROGRAM / "commands.txt").read_text("utf8")
     return {
         "commands.txt": table,
@@ -51,16 +61,16 @@ def data_files() -> Dict[str, str]:
         "names.json": (SOURCES / "names.json").read_text("utf8"),
         "stories.json": (SOURCES / "stories.json").read_text("utf8"),
         "examples.json": json.dumps(examples(table), indent=1) + "\n",
-        "about.json": json.dumps({"version": version(TOP)}) + "\n",
+        "about.json": json.dumps({"version": version(TOP), "build": build or None}) + "\n",
         **{name: (TOP / name).read_text("utf8") for name in LICENCES},
     }
 
 
-def folder(module: bytes) -> Dict[str, bytes]:
-    """The files of the folder, by name."""
+def folder(module: bytes, build: Optional[Dict[str, str]] = None) -> Dict[str, bytes]:
+    """The files of the folder, by name. `build` is what `build_of` returns."""
     names = ["index.html", "page.css", *SCRIPTS, "worker.js", "reader.js", "package.json", f"node/{PROGRAM}.js"]
     files = {name: (SOURCES / name).read_bytes() for name in names}
-    files.update((name, text.encode("utf8")) for name, text in data_files().items())
+    files.update((name, text.encode("utf8")) for name, text in data_files(build).items())
     return {**files, f"{PROGRAM}.wasm": module}
 
 
@@ -92,10 +102,10 @@ def replace(pattern: str, text: str, page: str) -> Tuple[str, int]:
     return re.subn(pattern, lambda match: match[1] + text[2:] if keeps else text, page)
 
 
-def one_file(module: bytes) -> str:
-    """The page as one file, which fetches nothing."""
+def one_file(module: bytes, build: Optional[Dict[str, str]] = None) -> str:
+    """The page as one file, which fetches nothing. `build` is what `build_of` returns."""
     script, style = joined(SCRIPTS), (SOURCES / "page.css").read_text("utf8")
-    held = {**data_files(), "worker.js": joined(WORKER), "reader.js": joined(READER), f"{PROGRAM}.wasm": base64.b64encode(module).decode()}
+    held = {**data_files(build), "worker.js": joined(WORKER), "reader.js": joined(READER), f"{PROGRAM}.wasm": base64.b64encode(module).decode()}
     parts = [*(element(name, text) for name, text in held.items()), f'<script type="module">{script}</script>']
     page = (SOURCES / "index.html").read_text("utf8")
     replaced = {
@@ -111,20 +121,21 @@ def one_file(module: bytes) -> str:
     return page
 
 
-def write(module: bytes, to: Path) -> None:
-    """Writes the folder and the one file, in place of older ones."""
+def write(module: bytes, to: Path, build: Optional[Dict[str, str]] = None) -> None:
+    """Writes the folder and the one file, in place of older ones. `build` is what `build_of` returns."""
     shutil.rmtree(to / "web", ignore_errors=True)
-    for name, data in folder(module).items():
+    for name, data in folder(module, build).items():
         path = to / "web" / name
         path.parent.mkdir(parents=True, exist_ok=True)
         path.write_bytes(data)
-    (to / PAGE).write_text(one_file(module), "utf8")
+    (to / PAGE).write_text(one_file(module, build), "utf8")
 
 
 def main(words: List[str]) -> Optional[str]:
     if len(words) != 2:
         return __doc__
-    write(Path(words[0]).read_bytes(), Path(words[1]))
+    module = Path(words[0]).read_bytes()
+    write(module, Path(words[1]), build_of(module, Installed(TOP).fields()))
     return None
 
 

@@ -1,5 +1,6 @@
 // The page: asks the engine what the form says, and shows the answer, or what is wrong with the question.
 import {Broken, Engine, Reader, Stopped} from './asking.js';
+import {checksum_of, citation, module_of} from './citation.js';
 import {by_id, make} from './elements.js';
 import {NO_MEMORY} from './engine.js';
 import {pictures_as_svg, python_script, rows_as_csv, surfaces_as_csv, surfaces_as_json} from './exports.js';
@@ -37,8 +38,8 @@ let hints = [];
 let discs = null;
 let names = null;
 let words_explained = null;
-let version = '';
-let identity = ''; // the version and the module that answer
+let about = {version: '', build: null}; // the page's version, and what its build noted of a module
+let module = null; // what is known of the module that answers
 let newest = 0; // the number of the newest question
 let newest_asked = null; // {reads, options, fragment} of the newest question; the form may have been changed since
 let is_busy = false;
@@ -126,6 +127,9 @@ function say_refusal({status, text}, words, input) {
 
 // ---- the question above its answer
 
+/** The version of the page and the module that answers. */
+const identity = () => [about.version && `trinorm ${about.version}`, module.checksum && `trinorm.wasm ${module.checksum.slice(0, 12)}…`].filter(Boolean).join(', ');
+
 const now = () => new Date().toLocaleString('en-GB', {dateStyle: 'long', timeStyle: 'short'});
 
 /** Shows the question as it was asked, with what of the input was changed, and by what it is answered. */
@@ -133,7 +137,7 @@ function show_asked(words, {input, notes, tables}) {
     const lines = input.trimEnd().split('\n'), short = !tables && lines.length === 1 && lines[0];
     const text = lines.length > MOST_SHOWN_LINES ? [...lines.slice(0, MOST_SHOWN_LINES), `… (${lines.length} lines)`].join('\n') : lines.join('\n');
     const of = tables ? [` of each of ${tables.length} triangulations`] : short ? [' of ', make('code', {}, short)] : [];
-    const more = [...notes, identity].filter(Boolean).map((note) => `; ${note}`).join('');
+    const more = [...notes, identity()].filter(Boolean).map((note) => `; ${note}`).join('');
     const question = make('div', {}, make('strong', {}, 'Question: '), make('code', {}, words.join(' ')), ...of, more, '.', make('span', {className: 'paper'}, ` ${now()}`));
     by_id('asked').replaceChildren(question, ...(short || !text ? [] : [make('pre', {tabIndex: 0, ariaLabel: 'Input'}, text)]));
     by_id('asked').hidden = false;
@@ -161,7 +165,7 @@ function download(text, name, type = 'text/plain') {
 
 /** Offers what an answer can be saved as. `text` is its text; `tables` may make {csv, json} of it. */
 function offer_files(words, input, text, tables) {
-    const name = name_of_files(words, input), script = python_script(words[0], newest_asked.options, newest_asked.reads, input, version);
+    const name = name_of_files(words, input), script = python_script(words[0], newest_asked.options, newest_asked.reads, input, about.version);
     const file = (make_text, ending, type) => make_text && (() => download(make_text(), `${name}.${ending}`, type));
     const offered = {
         copy: text && (() => copy(text)), download: text && file(() => text, 'txt'), csv: file(tables.csv, 'csv', 'text/csv'),
@@ -170,6 +174,11 @@ function offer_files(words, input, text, tables) {
     for (const [id, act] of Object.entries(offered)) Object.assign(by_id(id), {hidden: !act, onclick: act || null});
     by_id('text').hidden = !text;
     by_id('raw').textContent = text ? shortened(text) : '';
+}
+
+/** Offers the sentences for a paper. `cited` is what `citation` takes. */
+function offer_citation(cited) {
+    by_id('cite').onclick = async () => copy(await citation(cited, module, about.build), 'citation');
 }
 
 function save_picture(pictures, title) {
@@ -223,6 +232,7 @@ async function answer_command(words, {input}) {
     if (outcome.status !== 0) return say_refusal(outcome, words, input);
     const {parts, list} = await view_of(outcome.text, words, context_of(input));
     offer_files(words, input, outcome.text, tables_of(list, words, input));
+    offer_citation({words, input});
     show(parts);
     say(`Answered in ${spent(outcome.milliseconds)}.`);
     await show_triangulation(input);
@@ -234,6 +244,7 @@ async function answer_efficiency(words, {input}) {
     const verdict = await zero_efficiency(ask, input, (done, all) => say(`Described ${done} of ${plural(all, 'surface')}.`));
     if (verdict.outcome) return say_refusal(verdict.outcome, words, input);
     offer_files(words, input, '', {});
+    offer_citation({words, input, verdict});
     show(efficiency_view(verdict, context_of(input)));
     say(`Answered in ${spent(performance.now() - begun)}.`);
     return show_triangulation(input);
@@ -243,6 +254,7 @@ async function answer_efficiency(words, {input}) {
 async function answer_several(words, {input, tables}) {
     const begun = performance.now(), list = new SeveralList({tables, words, context: context_of(input)});
     offer_files(words, input, '', {csv: () => rows_as_csv(list.rows()), is_several: true});
+    offer_citation({words, input, tables});
     show(list.elements());
     await list.describe_rest();
     say(`Answered in ${spent(performance.now() - begun)}.`);
@@ -324,15 +336,15 @@ async function is_copied(text) {
 }
 
 /** Shows a text to be copied, where the browser does not allow the page to do it. */
-function show_to_copy(about, text) {
-    const field = make('textarea', {id: 'address', value: text, readOnly: true, rows: 2, ariaLabel: about});
-    say([`The browser did not allow copying. This is the ${about}: `, field], true);
+function show_to_copy(noun, text) {
+    const field = make('textarea', {id: 'address', value: text, readOnly: true, rows: noun === 'citation' ? 10 : 2, ariaLabel: noun});
+    say([`The browser did not allow copying. This is the ${noun}: `, field], true);
     field.focus();
     field.select();
 }
 
-async function copy(text) {
-    if (!await is_copied(text)) show_to_copy('text', shortened(text));
+async function copy(text, noun = 'text') {
+    if (!await is_copied(text)) show_to_copy(noun, shortened(text));
 }
 
 /** Copies the link to the question that was answered, or shows it to be copied. */
@@ -377,14 +389,11 @@ function listen() {
 
 // ---- the beginning
 
-/** Shows the module's checksum. Browsers compute it for pages from the disk, from this machine, or by https alone. */
-async function show_checksum(bytes, about) {
-    version = about.version ?? '';
-    by_id('version').textContent = version ? `Version ${version}.` : '';
-    const digest = await crypto.subtle?.digest('SHA-256', bytes);
-    const sum = digest && [...new Uint8Array(digest)].map((byte) => byte.toString(16).padStart(2, '0')).join('');
-    by_id('checksum').textContent = sum ? `SHA-256 of trinorm.wasm: ${sum} (compare with the line wasm of the release’s MANIFEST).` : '';
-    identity = [version && `trinorm ${version}`, sum && `trinorm.wasm ${sum.slice(0, 12)}…`].filter(Boolean).join(', ');
+/** Shows what is known of the module. Browsers compute checksums for pages from the disk, from this machine, or by https alone. */
+async function show_module(bytes) {
+    module = module_of(await checksum_of(bytes), about.build);
+    by_id('version').textContent = about.version ? `Version ${about.version}.` : '';
+    by_id('checksum').textContent = module.checksum ? `SHA-256 of trinorm.wasm: ${module.checksum} (compare with the line wasm of the release’s MANIFEST).` : '';
 }
 
 const data_of = async (name) => JSON.parse(await text_of(name));
@@ -398,7 +407,8 @@ async function begin() {
     form.take_first();
     listen();
     const bytes = await bytes_of('trinorm.wasm');
-    await show_checksum(bytes, await data_of('about.json'));
+    about = await data_of('about.json');
+    await show_module(bytes);
     engine = new Engine(await WebAssembly.compile(bytes));
     by_id('answer').disabled = false;
     document.documentElement.dataset.ready = 'yes';

@@ -41,6 +41,7 @@ from .cases import Cases, timed  # noqa: E402
 
 OUT = REPOSITORY / "crates" / "trinorm" / "out"
 COUNT = 2000
+BUILD = {"version": "9.9", "commit": "0123abc", "kit": "rattle-kit-0 logic 12"}
 OF_9 = "sig jLvLAQQadhfhfggiibuvfgvncab\n"
 OF_14 = "sig oLLLPwLAQMcbdfhfgiljjmmlnnabuagwehgoxxfjb\n"
 OF_18 = "sig sLLvLvPQAAAQPcdgjmhinikmlpnoqprrawgbdvfdolnbagodbac\n"
@@ -197,6 +198,26 @@ class Files(unittest.TestCase):
             text = (REPOSITORY / name).read_text("utf8")
             self.assertIn(text, page)
             self.assertEqual(files[name], text.encode("utf8"))
+
+    def test_the_page_names_the_build_of_its_own_module_only(self):
+        digest = hashlib.sha256(b"\0asm").hexdigest()
+        fields = {**BUILD, "wasm": digest, "program": "aa"}
+        build = web_page.build_of(b"\0asm", fields)
+        self.assertEqual(build, {**BUILD, "wasm": digest})
+        for wrong in ({}, {**fields, "wasm": "0" * 64}, {**fields, "commit": ""}, {name: value for name, value in fields.items() if name != "kit"}):
+            self.assertEqual(web_page.build_of(b"\0asm", wrong), {})
+        self.assertEqual(web_page.build_of(b"other", fields), {})
+        for noted, shown in ((build, build), ({}, None)):
+            about = json.loads(web_page.folder(b"\0asm", noted)["about.json"])
+            self.assertEqual((about["version"], about["build"]), (json.loads(web_page.data_files()["about.json"])["version"], shown))
+            self.assertIn(f'data-file="about.json">{json.dumps(about)}', web_page.one_file(b"\0asm", noted))
+
+    def test_a_release_names_its_build(self):
+        lines = "".join(f"{name} {value}\n" for name, value in {**BUILD, "wasm": hashlib.sha256(b"\0asm").hexdigest()}.items())
+        files = dict(elsewhere.page(packages.Made("1.0.0", {"wasm": b"\0asm"}, lines)))
+        with tarfile.open(fileobj=io.BytesIO(files["trinorm-1.0.0-web.tar.gz"])) as tar:
+            about = json.load(tar.extractfile("trinorm-1.0.0-web/about.json"))
+        self.assertEqual(about["build"]["commit"], BUILD["commit"])
 
     def test_each_file_of_a_release_has_or_names_the_notices(self):
         made = packages.Made("1.0.0", {"wasm": b"\0asm"}, "")
@@ -438,7 +459,8 @@ class Page:
     def setUpClass(cls):
         cls.folder = tempfile.TemporaryDirectory()
         cls.addClassCleanup(cls.folder.cleanup)
-        web_page.write(module().read_bytes(), Path(cls.folder.name))
+        cls.build = {**BUILD, "wasm": hashlib.sha256(module().read_bytes()).hexdigest()}
+        web_page.write(module().read_bytes(), Path(cls.folder.name), cls.build)
         handler = functools.partial(Quiet, directory=f"{cls.folder.name}/web")
         cls.server = http.server.ThreadingHTTPServer(("127.0.0.1", 0), handler)
         threading.Thread(target=cls.server.serve_forever, daemon=True).start()
@@ -767,6 +789,95 @@ by('file').dispatchEvent(new Event('change'));
         self.assertEqual(shown[0], "The browser did not allow copying. This is the link: ")
         self.assertEqual(shown[1:3], [shown[3], "address"])
         self.assertIn("#command=sig&input=sig+bkaagn", shown[1])
+
+    def cited(self):
+        """What the button for citations copies."""
+        [text] = self.run_script(f"{self.COPY} by('cite').click(); await until(() => copied.length); return copied;")
+        return text
+
+    def test_a_citation_is_that_of_claims(self):
+        claims = (REPOSITORY / "docs" / "CLAIMS.md").read_text("utf8")
+        made = re.search(r"(?m)^> (The list of all vertex normal surfaces of T .*)$", claims)[1]
+        for one, other in (("computed by", "computed in a browser by"), ("SHA-256 of the program SUM", f"SHA-256 of the module {self.build['wasm']}"),
+                           ("about the program's source", "about the source that was compiled for WebAssembly"), ("and on the system", "and on the system and the browser"),
+                           ("VERSION", "9.9"), ("COMMIT", "0123abc"), ("kit KIT", "kit rattle-kit-0")):
+            self.assertIn(one, made)
+            made = made.replace(one, other)
+        self.open(command="surfaces", input="sig cPcbbbiht\n")
+        self.run_script("return until(idle);")
+        self.assertEqual(self.cited(), f"{made}\n\nQuestion: surfaces\nT: sig cPcbbbiht\n")
+        self.assertEqual(self.run_script("return message();"), "Copied.")
+        self.open(command="surfaces", coords="quad", input="# <b>x</b>\nsig cPcbbbiht\n")
+        self.run_script("return until(idle);")
+        self.assertEqual(self.cited(), f"{made.replace('standard coordinates', 'quad coordinates')}\n\nQuestion: surfaces --coords quad\nT:\n# <b>x</b>\nsig cPcbbbiht\n")
+
+    def test_citations_of_other_questions(self):
+        self.open()
+        by = f"trinorm 9.9 (commit 0123abc, SHA-256 of the module {self.build['wasm']}, Rattle kit rattle-kit-0)"
+        self.ask("info", "m004")
+        self.assertRegex(self.cited(), f"^{re.escape(f'The result of `info` for the input below was computed in a browser by {by}. That each result is the outcome')}(?s:.*)\n\nQuestion: info\nInput: sig cPcbbbiht\n$")
+        self.ask("surfaces", "bkaagj\ncPcbbbiht\n")
+        self.assertRegex(self.cited(), "^The results of `surfaces` for each of the 2 triangulations below were computed(?s:.*)\nInput:\nsig bkaagj\nsig cPcbbbiht\n$")
+        self.ask("sig", f"# {'x' * 3000}\nsig bkaagj\n")
+        digest = hashlib.sha256(f"# {'x' * 3000}\nsig bkaagj\n".encode()).hexdigest()
+        self.assertTrue(self.cited().endswith(f"Input: an input of 3014 bytes with the SHA-256 checksum {digest}; keep it\n"))
+
+    def test_citations_of_0_efficiency_have_their_hypotheses(self):
+        self.open()
+        closed, cusped = "T is connected, orientable and closed (each vertex link is a sphere), so it is 0-efficient", "each vertex link of T is a torus or a Klein bottle, so T contains no normal sphere"
+        for text, there, absent in (("sig bkaagj", [self.DECIDED, closed], [cusped]), ("sig cPcbbbiht", [self.DECIDED, cusped], [closed]),
+                                    ("sig bGab", [self.DECIDED], [closed, cusped]),
+                                    ("sig eLMkabcddbrrag", ["in standard coordinates has Euler characteristic 1 and is not a vertex link, as computed in a browser by trinorm 9.9"], [self.DECIDED, closed, cusped]),
+                                    ("bkaagj\ncPcbbbiht\n", ["for each of the 2 triangulations below"], [closed, cusped])):
+            with self.subTest(text=text):
+                self.ask("0-efficient", text)
+                cited = self.cited()
+                for part in there:
+                    self.assertIn(part, cited)
+                for part in absent:
+                    self.assertNotIn(part, cited)
+
+    DECIDED = "By a machine-checked theorem (`list_decides_efficiency`), each connected normal surface of T with positive Euler characteristic is a vertex link."
+
+    def test_a_citation_that_cannot_be_copied_is_shown(self):
+        self.open(command="surfaces", input="sig bkaagj\n")
+        text = self.run_script("await until(idle); " + self.COPY + "by('cite').click(); await until(() => copied.length); return copied[0];")
+        for clipboard in ("undefined", "{writeText: async () => { throw new DOMException('no', 'NotAllowedError'); }}"):
+            self.open(command="surfaces", input="sig bkaagj\n")
+            shown = self.run_script(f"await until(idle); Object.defineProperty(navigator, 'clipboard', {{value: {clipboard}, configurable: true}}); by('cite').click(); await until(() => by('address')); return [message(), by('address').value, document.activeElement.id, by('address').ariaLabel];")
+            self.assertEqual(shown, ["The browser did not allow copying. This is the citation: ", text, "address", "citation"])
+
+    def test_nonsense_has_no_citation(self):
+        self.open()
+        self.assertRegex(self.ask("surfaces", "sig bkaagj"), "^Answered")
+        for command, text in (("surfaces", "nonsense <b>"), ("0-efficient", "sig xyz"), ("surfaces", "")):
+            self.assertRegex(self.ask(command, text), "^refused")
+            self.assertFalse(self.run_script("return by('cite').checkVisibility();"))
+
+    def test_another_module_is_not_cited_as_proved(self):
+        """One with a section more, which answers alike: in place of the module that the build noted, and in a page without a note."""
+        other = module().read_bytes() + b"\0\x02\x01x"
+        digest = hashlib.sha256(other).hexdigest()
+        for build, why in ((self.build, "It is not the file that the build of the page made, so"), ({}, "The page has no record of its build, so")):
+            with tempfile.TemporaryDirectory() as folder:
+                web_page.write(other, Path(folder), build)
+                address = Path(folder, web_page.PAGE).as_uri()
+                window = self.window
+                window.open(f"{address}#command=surfaces&input=sig+bkaagj")
+                self.run_script("return until(idle);")
+                self.assertEqual(self.cited(), f"The result of `surfaces` for the input below was computed in a browser by a file trinorm.wasm with the SHA-256 checksum {digest}. {why} its version, "
+                                 "commit and Rattle kit are unknown, and nothing is cited as proved. The line `wasm` in the MANIFEST of a release has the checksum of its module.\n\nQuestion: surfaces\nInput: sig bkaagj\n")
+
+    def test_without_a_checksum_nothing_is_cited_as_proved(self):
+        """As over http from another machine, where browsers compute none."""
+        if self.from_disk:
+            self.skipTest("over HTTP alone")
+        self.open()
+        self.assertEqual(self.run_script("""
+await until(idle);
+const {citation, module_of} = await import('./citation.js');
+return (await citation({words: ['make', '--seed', '5'], input: ''}, module_of('', {wasm: ''}), {wasm: ''})).split('. ')[1];"""),
+                         "Without the checksum its version, commit and Rattle kit are unknown, and nothing is cited as proved")
 
     def test_a_table_of_surfaces(self):
         self.open(command="surfaces", input="sig bkaagj\n")
