@@ -5,6 +5,8 @@ import {plural} from './texts.js';
 const SVG = 'http://www.w3.org/2000/svg';
 const MOST_NODES = 60;
 const MOST_NUMBERED = 10; // tetrahedra whose face numbers can be read in a small picture
+const MOST_NAMED_SMALL = 36; // tetrahedra whose own numbers can be read there
+const CLOSE = 5.2; // the radius by tetrahedron of a circle on which they nearly touch
 const FLAT = 140; // the height of a picture whose tetrahedra are in a row
 const BESIDE = 10; // from a loop to its label
 const NUMBER_AT = 25; // from a node to the numbers of its faces
@@ -28,9 +30,15 @@ export function about_table({size, pairs, boundary}) {
     return `${plural(size, 'tetrahedron', 'tetrahedra')}, ${plural(pairs.length, 'pair', 'pairs')} of glued faces, ${plural(faces, 'boundary face', 'boundary faces')}`;
 }
 
+/** The radius of the circle of tetrahedra: a small picture of many has them close together, so that their numbers are not too small. */
+function radius_of(count, is_large) {
+    if (count < 3) return (is_large ? 120 : 60) * (count - 1);
+    return is_large ? Math.max(140, 22 * count) : Math.max(70, count > MOST_NUMBERED ? CLOSE * count : 11 * count);
+}
+
 /** The places of tetrahedra on a circle, and the middle of the picture. */
 function circle_of(count, is_large) {
-    const radius = (is_large ? 2 : 1) * (count < 3 ? 60 * (count - 1) : Math.max(70, 11 * count)), middle = radius + 66;
+    const radius = radius_of(count, is_large), middle = radius + 66;
     const angle = (number) => 2 * Math.PI * number / count;
     return {middle, places: Array.from({length: count}, (_, number) => [middle - radius * Math.cos(angle(number)), middle - radius * Math.sin(angle(number))])};
 }
@@ -85,9 +93,10 @@ function loop(pair, nth, place, middle, is_numbered) {
     return is_numbered ? [circle, text(top[0], top[1] + 3, 'face', `${pair.face}–${pair.other_face}`)] : [circle];
 }
 
-function node(tetrahedron, [x, y], has_boundary) {
-    const dashes = has_boundary ? {'stroke-dasharray': '3 3'} : {};
-    return [element('circle', {class: 'node', cx: rounded(x), cy: rounded(y), r: 13, ...dashes}), text(rounded(x), rounded(y + 4.5), 'name', String(tetrahedron))];
+function node(tetrahedron, [x, y], has_boundary, is_named) {
+    const dashes = has_boundary ? {'stroke-dasharray': '3 3'} : {}, title = element('title', {}, `tetrahedron ${tetrahedron}`);
+    const circle = element('circle', {class: 'node', cx: rounded(x), cy: rounded(y), r: 13, ...dashes}, title);
+    return is_named ? [circle, text(rounded(x), rounded(y + 4.5), 'name', String(tetrahedron))] : [circle];
 }
 
 /** The lines of the pairs of faces, and what ends at each tetrahedron. */
@@ -112,13 +121,20 @@ function lines_of_pairs(table, middle, places, is_numbered) {
 }
 
 /** Whether a small picture of this table has face numbers. */
-export const is_numbered_small = ({size}) => size <= MOST_NUMBERED;
+const is_numbered_small = ({size}) => size <= MOST_NUMBERED;
+
+/** What a small picture lacks, as a sentence; empty if it lacks nothing. */
+export function about_small({size}) {
+    if (size <= MOST_NUMBERED) return '';
+    return `The large picture has the numbers of the ${size > MOST_NAMED_SMALL ? 'tetrahedra and ' : ''}faces.`;
+}
 
 /** The face-pairing graph, or null if it has too many tetrahedra to be read. A large one has all face numbers. */
 export function face_pairing_graph(table, is_large = false) {
     if (!table.size || table.size > MOST_NODES) return null;
     const is_numbered = is_large || is_numbered_small(table), {middle, places} = circle_of(table.size, is_large), {lines, ends} = lines_of_pairs(table, middle, places, is_numbered);
-    const nodes = places.flatMap((place, tetrahedron) => node(tetrahedron, place, table.boundary[tetrahedron] > 0));
+    const is_named = is_large || table.size <= MOST_NAMED_SMALL;
+    const nodes = places.flatMap((place, tetrahedron) => node(tetrahedron, place, table.boundary[tetrahedron] > 0, is_named));
     const numbers = is_numbered ? places.flatMap((place, tetrahedron) => face_numbers(place, ends[tetrahedron])) : [];
     const side = rounded(2 * middle), height = table.size < 3 ? FLAT : side, label = `Face-pairing graph: ${about_table(table)}`;
     return element('svg', {role: 'img', 'aria-label': label, width: side, height, viewBox: `0 ${(side - height) / 2} ${side} ${height}`}, ...lines, ...nodes, ...numbers);

@@ -2,7 +2,7 @@
 import {make, sortable_table} from './elements.js';
 import {invalid_sentence, is_of_jaco_and_rubinstein, kind_of, kind_sentence, meaning_of} from './kinds.js';
 import {action_buttons, surface_picture, triangulation_in} from './next.js';
-import {about_table, face_pairing_graph, is_numbered_small} from './pictures.js';
+import {about_small, about_table, face_pairing_graph} from './pictures.js';
 import {SurfaceList} from './surface_list.js';
 import {coordinates_of, name_of, plural, read_info, read_table, vector_lines} from './texts.js';
 import {explained} from './words.js';
@@ -16,7 +16,7 @@ export const shortened = (text) => (text.length > MOST_SHOWN ? `${text.slice(0, 
 export function triangulation_view(text, enlarge = null) {
     const table = read_table(text), picture = face_pairing_graph(table);
     if (!picture) return [make('p', {className: 'soft'}, about_table(table))];
-    const hidden = is_numbered_small(table) ? '' : 'The large picture has the face numbers.';
+    const hidden = about_small(table);
     const button = enlarge ? [make('button', {type: 'button', id: 'enlarge', onclick: enlarge}, 'Large picture')] : [];
     return [picture, make('p', {className: 'soft'}, about_table(table), hidden && `. ${hidden}`), ...button];
 }

@@ -89,6 +89,15 @@ def generated(count):
     return [json.dumps(cases.case()) for _ in range(count)]
 
 
+def made(seed, moves):
+    """A triangulation that the built program makes."""
+    library = find_library()
+    if library is None:
+        raise unittest.SkipTest("there is no library of the built program")
+    answer = library.answer(["make", "--seed", str(seed), "--moves", str(moves)], "")[1].decode()
+    return re.search(r"^tri \d+\n(?:(?:\d+:\d{4}|-) .*\n)*", answer, re.M)[0]
+
+
 class Module(unittest.TestCase):
     """trinorm.wasm by Node."""
 
@@ -1155,18 +1164,25 @@ return [first < 100, rows() < 100, Math.abs(middle - 50000) < 1000, document.act
         self.assertEqual(self.run_script(f"return {points};"), first)
 
     def test_a_large_graph_can_be_read(self):
-        """No two numbers of faces overlap; the small picture of 18 tetrahedra has none."""
+        """No two labels overlap, also not in the small picture, which has numbers of faces and tetrahedra as far as they can be read."""
         overlaps = """
-const boxes = [...document.querySelectorAll('#large text.face, #large text.name')].map((text) => text.getBoundingClientRect());
+const boxes = [...document.querySelectorAll('#%s text')].map((text) => text.getBoundingClientRect());
 const meet = (a, b) => a.left < b.right && b.left < a.right && a.top + 3 < b.bottom - 3 && b.top + 3 < a.bottom - 3;
 return boxes.reduce((sum, box, at) => sum + boxes.slice(at + 1).filter((other) => meet(box, other)).length, 0);"""
-        for text, count, small in ((OF_9, 9, True), (OF_18, 18, False), (OF_24, 24, False)):
+        small = """
+const labels = (name) => [...document.querySelectorAll(`#graph text.${name}`)].map((text) => text.getBoundingClientRect().height);
+return [labels('face').length > 0, labels('name').length > 0, Math.min(100, ...labels('name')), by('triangulation').textContent];"""
+        for text, count, has_faces, has_names in ((OF_9, 9, True, True), (OF_18, 18, False, True), (OF_24, 24, False, True), (made(2, 59), 36, False, True), (made(5, 70), 57, False, False)):
             self.open()
             self.ask("info", text)
-            self.assertEqual(self.run_script("return document.querySelectorAll('#graph text.face').length > 0;"), small)
+            faces, names, height, about = self.run_script(small)
+            self.assertEqual((faces, names), (has_faces, has_names))
+            self.assertGreater(height, 8)
+            self.assertEqual(re.findall("The large picture has .*?[.]", about), [] if has_faces else [f"The large picture has the numbers of the {'' if has_names else 'tetrahedra and '}faces."])
+            self.assertEqual(self.run_script(overlaps % "graph"), 0)
             self.run_script("by('enlarge').click();")
-            self.assertEqual(self.run_script("return [by('large').open, document.querySelectorAll('#large .node').length];"), [True, count])
-            self.assertLessEqual(self.run_script(overlaps), 1)
+            self.assertEqual(self.run_script("return [by('large').open, document.querySelectorAll('#large .node').length, document.querySelectorAll('#large text.name').length];"), [True, count, count])
+            self.assertEqual(self.run_script(overlaps % "large"), 0)
             self.keep(self.window, f"graph-{count}")
             self.window.press("Escape")
             self.assertEqual(self.run_script("return by('large').open;"), False)
