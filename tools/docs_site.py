@@ -4,7 +4,8 @@
     tools/docs_site.py FOLDER [MODULE]
 
 FOLDER gets the site, in place of an older one; a folder with anything else is left as it is. MODULE is trinorm.wasm; without it
-the site has no try/, and no links to it.
+the site has no try/, and no links to it. Each page has a field that searches all pages, by the scripts search.js and
+search_index.js.
 It needs mkdocs of Debian. Made of the same commit again, each file is the same bit for bit.
 """
 from __future__ import annotations
@@ -34,7 +35,8 @@ SUBJECTS: List[Tuple[str, List[str]]] = [
     ("Development", ["docs/ARCHITECTURE.md", "docs/PROVING.md", "docs/DECISIONS.md", "CONTRIBUTING.md", "CHANGELOG.md"]),
 ]
 OTHERS = "More"
-THEME = TOP / "tools" / "site_theme"  # of plain pages: no script, and nothing from elsewhere
+THEME = TOP / "tools" / "site_theme"  # of plain pages: no script but the search, and nothing from elsewhere
+INDEX = "search_index.js"
 LINK = re.compile(r"(\]\()([^)\s]+)(\))")
 # a block with one command, whose input is a file of examples/ or a text
 BLOCK = re.compile(r"^(?:    .*\n)+", re.M)
@@ -163,12 +165,68 @@ def files(module: Optional[bytes], build: Optional[Dict[str, str]] = None) -> Di
     """The files of the site, by path. `build` is what web_page.build_of returns of the module."""
     with_page = module is not None
     site = built(sources(with_page), with_page)
+    site[INDEX] = index_of(site)
     if module is not None:
         site[TRY] = web_page.one_file(module, build).encode("utf8")
     wrong = list(faults(site))
     if wrong:
         raise NotMade("\n".join(wrong))
     return site
+
+
+# ---- the search
+
+class Sections(html.parser.HTMLParser):
+    """The sections of a page, each as its anchor, its heading, and its text. What is around the text is left out."""
+
+    HEADINGS = ("h1", "h2", "h3", "h4", "h5", "h6")
+    IN_WORDS = ("a", "code", "em", "strong", "sup", "sub")
+
+    def __init__(self, page: str) -> None:
+        super().__init__()
+        self.sections: List[Tuple[str, List[str], List[str]]] = [("", [], [])]
+        self.is_read = self.is_in_heading = False
+        self.feed(page)
+
+    def handle_starttag(self, tag: str, attrs: List[Tuple[str, Optional[str]]]) -> None:
+        given = dict(attrs)
+        if tag in ("main", "footer") or given.get("class") == "contents":
+            self.is_read = tag == "main"
+        if self.is_read and tag in self.HEADINGS:
+            self.sections.append((given.get("id") or "", [], []))
+            self.is_in_heading = True
+        if tag not in self.IN_WORDS:
+            self.handle_data(" ")
+
+    def handle_endtag(self, tag: str) -> None:
+        # the contents are the first of all details
+        self.is_read = self.is_read or tag == "details"
+        self.is_in_heading = self.is_in_heading and tag not in self.HEADINGS
+        if tag not in self.IN_WORDS:
+            self.handle_data(" ")
+
+    def handle_data(self, data: str) -> None:
+        if self.is_read:
+            _, heading, text = self.sections[-1]
+            (heading if self.is_in_heading else text).append(data)
+
+    def found(self) -> Iterator[Tuple[str, str, str]]:
+        """The sections that have a text or a heading."""
+        for anchor, heading, text in self.sections:
+            plain = [" ".join("".join(parts).split()) for parts in (heading, text)]
+            if any(plain):
+                yield anchor, plain[0], plain[1]
+
+
+def index_of(site: Dict[str, bytes]) -> bytes:
+    """What the search looks at, as a script: the pages with their titles, and the sections of each by its number."""
+    pages_with_titles, sections = [], []
+    for number, (name, data) in enumerate(sorted((name, data) for name, data in site.items() if name.endswith(".html") and name != TRY)):
+        found = list(Sections(data.decode("utf8")).found())
+        pages_with_titles.append([name, next((heading for _, heading, _ in found if heading), name)])
+        sections += [[number, *section] for section in found]
+    text = json.dumps({"pages": pages_with_titles, "sections": sections}, ensure_ascii=False, separators=(",", ":"))
+    return f"var trinorm_index = {text};\n".encode("utf8")
 
 
 # ---- links and anchors

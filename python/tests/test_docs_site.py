@@ -1,11 +1,14 @@
 """The site of the pages: its links and anchors, that it loads nothing from elsewhere, and that it is the same whenever it is made."""
+import contextlib
 import io
+import json
 import pathlib
 import re
 import shutil
 import sys
 import tarfile
 import tempfile
+import time
 import unittest
 import urllib.parse
 
@@ -17,6 +20,8 @@ import docs_site  # noqa: E402
 import elsewhere  # noqa: E402
 import packages  # noqa: E402
 import web_page  # noqa: E402
+
+from . import browsers  # noqa: E402
 
 
 class Site(unittest.TestCase):
@@ -39,10 +44,35 @@ class Site(unittest.TestCase):
         self.assertEqual(len(list(docs_site.faults(pages))), 4)
 
     def test_it_works_from_the_disk(self):
-        """No link begins at the top of a server, and no script is loaded."""
+        """No link begins at the top of a server, and no script is loaded but that of the search."""
         for name, data in self.site.items():
             if name.endswith(".html") and name != docs_site.TRY:
-                self.assertNotRegex(data.decode("utf8"), r'(?:href|src)="/|<script', name)
+                text = data.decode("utf8")
+                self.assertNotRegex(text, r'(?:href|src)="/', name)
+                self.assertEqual(re.findall(r"<script[^>]*>", text), ['<script defer src="search.js">'], name)
+                self.assertIn("default-src 'none'; script-src 'self'; style-src 'self';", text)
+
+    def test_the_index_has_all_sections(self):
+        text = self.site[docs_site.INDEX].decode("utf8")
+        self.assertTrue(text.startswith("var trinorm_index = ") and text.endswith("};\n"))
+        index = json.loads(text[len("var trinorm_index = "):-2])
+        names = [name for name, _ in index["pages"]]
+        self.assertEqual(names, sorted(name for name in self.site if name.endswith(".html") and name != docs_site.TRY))
+        self.assertIn(["GUIDE.html", "Guide"], index["pages"])
+        ids = {name: set(re.findall(r'id="([^"]*)"', self.site[name].decode("utf8"))) for name in names}
+        for page, anchor, heading, _ in index["sections"]:
+            self.assertTrue(anchor in ids[names[page]] or not anchor and not heading, (names[page], anchor, heading))
+        headings = {(names[page], heading) for page, _, heading, _ in index["sections"]}
+        for path in ("docs/GUIDE.md", "docs/WEB.md"):
+            for heading in re.findall(r"(?m)^## ([\w .?-]+)$", (REPOSITORY / path).read_text("utf8")):
+                self.assertIn((docs_site.place(path).replace(".md", ".html"), heading), headings)
+        [law] = [text for page, _, heading, text in index["sections"] if names[page] == "LAWS.html" and heading == "list_decides_efficiency"]
+        self.assertIn("ListDecidesEfficiency", law)
+
+    def test_sections_of_a_page(self):
+        page = ('<nav>outside</nav><main><details class="contents"><summary>On this page</summary></details><p>before</p><h1 id="a">A <code>b</code></h1>'
+                "<p>one<br>two</p><details><summary>more</summary>folded &lt;b&gt;</details><h2 id=c>C</h2><table><tr><td>x</td><td>y</td></tr></table><footer>next</footer></main>")
+        self.assertEqual(list(docs_site.Sections(page).found()), [("", "", "before"), ("a", "A b", "one two more folded <b>"), ("c", "C", "x y")])
 
     def test_the_same_bit_for_bit(self):
         self.assertEqual(docs_site.files(b"\0asm"), self.site)
@@ -88,6 +118,99 @@ class Site(unittest.TestCase):
                 ("    $ trinorm sig --order=short < examples/figure-eight.txt\n", {"command": "sig", "order": "short", "input": (REPOSITORY / "examples" / "figure-eight.txt").read_text()}),
                 ("    $ echo a | trinorm sig\n    $ echo b | trinorm sig\n", None), ("    $ echo a | trinorm other\n", None), ("    $ trinorm sig | grep x\n", None), ("    a\n", None)):
             self.assertEqual(docs_site.question(block, known), fields)
+
+
+class Search:
+    """The search in a browser, from the disk and from a server."""
+
+    browser = browsers.Chromium
+
+    @classmethod
+    def setUpClass(cls):
+        if shutil.which("mkdocs") is None:
+            raise unittest.SkipTest("mkdocs is not installed")
+        cls.folder = tempfile.TemporaryDirectory()
+        cls.addClassCleanup(cls.folder.cleanup)
+        docs_site.write(docs_site.files(b"\0asm"), pathlib.Path(cls.folder.name, "site"))
+        cls.top = pathlib.Path(cls.folder.name, "site").as_uri()
+        try:
+            cls.window = cls.browser()
+        except browsers.Missing as fault:
+            raise unittest.SkipTest(str(fault)) from None
+        cls.addClassCleanup(cls.window.close)
+
+    UNTIL = """
+const by = (id) => document.getElementById(id);
+const until = async (condition, most = 60000) => {
+    for (const begun = performance.now(); !condition(); await new Promise((done) => setTimeout(done, 20))) if (performance.now() - begun > most) throw Error(`waited in vain for ${condition}`);
+};
+const search = async (text) => { by('search').value = text; by('search').dispatchEvent(new Event('input')); await until(() => by('searching').dataset.shown === text); };
+"""
+
+    def search(self, text, script="return [by('found_count').textContent, [...document.querySelectorAll('#found a')].map((one) => one.textContent)];"):
+        return self.window.run(f"{self.UNTIL} await search({json.dumps(text)}); {script}")
+
+    def test_sections_are_found_on_each_page(self):
+        for page in ("index.html", "LAWS.html", "CONTRIBUTING.html"):
+            self.window.open(f"{self.top}/{page}")
+            count, links = self.search("list_decides_efficiency")
+            self.assertRegex(count, "^[0-9]+ sections found")
+            self.assertEqual(links[0], "Laws: list_decides_efficiency")
+            self.assertIn("Guide: Is it 0-efficient?", self.search("Jaco rubinstein SPHERES")[1])
+
+    def test_a_section_is_opened(self):
+        self.window.open(f"{self.top}/index.html")
+        target = self.search("klein bottle", "return document.querySelector('#found a').href;")
+        name, _, anchor = target[len(self.top) + 1:].partition("#")
+        self.assertTrue(pathlib.Path(self.folder.name, "site", name).is_file(), target)
+        self.window.run(f"{self.UNTIL} by('search').focus();")
+        self.window.press("Enter")
+        for _ in range(100):
+            with contextlib.suppress(Exception):
+                if self.window.run("return document.readyState === 'complete' && location.href;") == target:
+                    break
+            time.sleep(0.1)
+        else:
+            self.fail(f"{target} was not opened")
+        if anchor:
+            self.assertTrue(self.window.run(f"return document.getElementById({json.dumps(anchor)}) !== null;"))
+
+    def test_words_are_marked_and_nothing_becomes_markup(self):
+        self.window.open(f"{self.top}/index.html")
+        marked = self.search("gluing table", "return [...new Set([...document.querySelectorAll('#found mark')].map((one) => one.textContent.toLowerCase()))].sort();")
+        self.assertEqual(marked, ["gluing", "table"])
+        for text in ("<img src=x onerror=alert(1)>", "(((", "\\", "[a-", "a" * 100, "$& ${x} %s", ".*"):
+            count, links = self.search(text)
+            self.assertRegex(count, "^(No|[0-9]+) sections? found")
+            self.assertEqual(self.window.run("return [document.querySelectorAll('#found img, #found script').length, document.querySelectorAll('#found *').length];")[0], 0)
+            self.assertLessEqual(len(links), 20)
+        self.assertEqual(self.search("xyzzy plugh"), ["No sections found", []])
+        self.assertEqual(self.search("  "), ["", []])
+
+    def test_the_field_has_a_name_and_goes_away_with_the_scripts(self):
+        self.window.open(f"{self.top}/GUIDE.html")
+        self.assertEqual(self.window.run("const form = document.getElementById('searching'); return [form.hidden, document.getElementById('search').labels[0].textContent, form.getAttribute('role')];"), [False, "Search the pages", "search"])
+        page = pathlib.Path(self.folder.name, "site", "GUIDE.html").read_text("utf8")
+        self.assertIn('<form id="searching" role="search" hidden>', page)
+
+    def test_a_missing_index_is_said(self):
+        path = pathlib.Path(self.folder.name, "site", docs_site.INDEX)
+        kept = path.read_bytes()
+        path.unlink()
+        try:
+            self.window.open(f"{self.top}/index.html")
+            said = self.window.run(f"{self.UNTIL} by('search').value = 'a'; by('search').dispatchEvent(new Event('input')); await until(() => by('found_count').textContent); return by('found_count').textContent;")
+            self.assertEqual(said, "The pages cannot be searched: search_index.js is missing")
+        finally:
+            path.write_bytes(kept)
+
+
+class SearchInChromium(Search, unittest.TestCase):
+    pass
+
+
+class SearchInFirefox(Search, unittest.TestCase):
+    browser = browsers.Firefox
 
 
 if __name__ == "__main__":
