@@ -42,7 +42,7 @@ function facts_of(surface) {
 function columns_of(coordinates) {
     const by = (property, last = LAST) => ({about}) => (about[property] === '' ? last : about[property]);
     return [
-        {name: '#', is_number: true, key: ({index}) => index}, {name: 'surface', key: by('order')}, {name: '', label: 'what can be done', type: 'draw'},
+        {name: '#', is_number: true, key: ({index}) => index}, {name: 'surface', key: by('order'), type: 'name'}, {name: '', label: 'what can be done', type: 'draw'},
         {name: 'χ', is_number: true, key: by('euler'), word: 'Euler characteristic'}, {name: 'sides', key: by('sides', ''), word: 'sides'},
         {name: 'orientable', key: by('orientable', ''), word: 'orientable'}, {name: 'union of vertex links', key: by('linking', ''), word: 'vertex linking'},
         {name: 'boundary', key: by('boundary', ''), word: 'boundary'}, {name: 'components', is_number: true, key: by('components'), word: 'component'},

@@ -152,7 +152,7 @@ export class Discs {
         const all = by_tetrahedron(entries, coordinates).map((parts, number) => ({own: parts.flat(), number}));
         const met = all.filter(({own}) => own.some((entry) => entry !== '0')), drawn = met.slice(0, MOST_TETRAHEDRA);
         const shapes = drawn.map(({own, number}) => ({about: `Tetrahedron ${number}: ${this.about(own, coordinates)}`, shape: new Shape(this.data, drawn_counts(own, coordinates))}));
-        const turned = new Turned(shapes), figures = turned.drawn.map((picture, number) => make('figure', {}, picture, make('figcaption', {}, shapes[number].about)));
+        const turned = new Turned(shapes), figures = turned.drawn.map((picture, number) => make('figure', {ariaLabel: shapes[number].about}, picture, make('figcaption', {}, shapes[number].about)));
         return {met: met.length, most: MOST_PARALLEL, figures, turned};
     }
 }

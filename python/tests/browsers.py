@@ -110,6 +110,17 @@ class Chromium(Downloads):
                 chain.key_up(part)
         chain.perform()
 
+    def accessible(self):
+        """What a screen reader is told: the role and the name of each element, with its other properties."""
+        self._command("Accessibility.enable")
+        nodes = self.driver.execute_cdp_cmd("Accessibility.getFullAXTree", {})["nodes"]
+        return [(node.get("role", {}).get("value", ""), node.get("name", {}).get("value", ""), {one["name"]: one["value"].get("value") for one in node.get("properties", [])})
+                for node in nodes if not node["ignored"]]
+
+    def with_role(self, role, name):
+        """How many elements have a role and a name for a screen reader."""
+        return sum((found, called) == (role, name) for found, called, _ in self.accessible())
+
     def picture(self):
         """The window as a PNG."""
         return self.driver.get_screenshot_as_png()
@@ -194,6 +205,11 @@ class Firefox(Downloads):
             actions += [{"type": "keyDown", "value": part} for part in parts]
             actions += [{"type": "keyUp", "value": part} for part in reversed(parts)]
         self._send("input.performActions", context=self.context, actions=[{"type": "key", "id": "keys", "actions": actions}])
+
+    def with_role(self, role, name):
+        """How many elements have a role and a name for a screen reader."""
+        locator = {"type": "accessibility", "value": {"role": role, "name": name}}
+        return len(self._send("browsingContext.locateNodes", context=self.context, locator=locator)["nodes"])
 
     def picture(self):
         """The window as a PNG."""

@@ -1331,6 +1331,58 @@ return [event.defaultPrevented, message(), by('input').value.slice(0, 30), is_al
         nameless = self.run_script("await until(idle); return [...document.querySelectorAll('button, select, input, textarea, a, [tabindex], svg')].filter((one) => !(one.textContent.trim() || one.labels?.length || one.getAttribute('aria-label'))).map((one) => one.outerHTML.slice(0, 80));")
         self.assertEqual(nameless, [])
 
+    # roles whose elements mean nothing without a name
+    NAMED = ("button", "link", "textbox", "combobox", "checkbox", "table", "region", "dialog", "image", "img", "menu", "menuitem", "progressbar", "form", "columnheader",
+             "rowheader", "heading", "option", "figure", "DisclosureTriangle", "search")
+
+    def test_each_view_has_roles_and_names(self):
+        """As the browser tells a screen reader, which only Chromium's driver lists."""
+        if self.browser is not browsers.Chromium:
+            self.skipTest("in Chromium alone")
+        self.open()
+        views = (("surfaces", "sig bkaagj", "document.querySelector('#view td button').click();"), ("info", OF_9, ""), ("info", "sig bkaagj", "by('enlarge').click();"),
+                 ("surfaces", "bkaagj\ncPcbbbiht", ""), ("0-efficient", "sig eLMkabcddbrrag", ""), ("sig", "sig bkaagn", "by('text').open = true;"), ("sig", "nonsense", ""),
+                 ("surfaces", "sig bkaagj", "document.querySelectorAll('#view td.draw button')[1].click();"))
+        for command, text, act in views:
+            with self.subTest(command=command, text=text, act=act):
+                self.ask(command, text, act)
+                told = self.window.accessible()
+                self.assertEqual([(role, properties) for role, name, properties in told if role in self.NAMED and not name.strip()], [])
+                levels = [properties["level"] for role, _, properties in told if role == "heading"]
+                self.assertTrue("dialog" in {role for role, _, _ in told} or levels[0] == 1 and levels.count(1) == 1, levels)
+                self.assertTrue(all(later <= earlier + 1 for earlier, later in zip(levels, levels[1:])), levels)
+                self.run_script("if (by('large').open) by('large').close(); if (by('menu').matches(':popover-open')) by('menu').hidePopover();")
+
+    def test_a_table_is_told_with_its_caption_and_its_heads(self):
+        self.open()
+        self.ask("surfaces", "sig bkaagj")
+        for role, name in (("table", "Surfaces"), ("region", "Surfaces"), ("rowheader", "0"), ("rowheader", "1"), ("columnheader", "surface"), ("columnheader", "χ"),
+                           ("columnheader", "what can be done"), ("button", "Draw Surface 0: torus"), ("button", "More for Surface 1: sphere"), ("button", "Copy citation"), ("form", "Question")):
+            self.assertEqual(self.window.with_role(role, name), 1, (role, name))
+        self.ask("info", "sig cPcbbbiht")
+        for role, name in (("table", "Vertices"), ("table", "Edges")):
+            self.assertEqual(self.window.with_role(role, name), 1, (role, name))
+        graph = "Face-pairing graph: 2 tetrahedra, 4 pairs of glued faces, 0 boundary faces"
+        self.assertEqual(max(self.window.with_role(role, graph) for role in ("img", "image")), 1)
+
+    def test_on_a_phone_the_button_is_next_to_the_name(self):
+        """It is seen without scrolling sideways, also for long names."""
+        window = self.new_window(size=(375, 812))
+        library = find_library()
+        vectors = [line for line in library.answer(["surfaces"], OF_18)[1].decode().splitlines() if line.startswith("vec")] if library else []
+        for command, text in (("surfaces", OF_9), ("describe", OF_18 + "".join(f"{vectors[index]}\n" for index in (0, 1517, 14, 1) if vectors))):
+            self.open(window, command=command, input=text)
+            places = self.run_script("""
+await until(idle);
+return [...document.querySelectorAll('#view tbody:not(.gap) tr')].map((row) => {
+    const [name, draw, more] = [row.cells[1], ...row.cells[2].querySelectorAll('button')].map((one) => one.getBoundingClientRect());
+    return draw.left >= name.right && more.right <= 375 && draw.top < name.bottom && name.top < draw.bottom;
+});""", window)
+            self.assertGreater(len(places), 0)
+            self.assertTrue(all(places), (command, places))
+            self.assertTrue(self.run_script("return document.documentElement.scrollWidth <= innerWidth;", window))
+        self.keep(window, "phone")
+
     def test_the_checksum_is_that_of_the_module(self):
         self.open()
         self.assertIn(hashlib.sha256(module().read_bytes()).hexdigest(), self.run_script("await until(() => by('checksum').textContent); return by('checksum').textContent;"))
