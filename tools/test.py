@@ -42,7 +42,7 @@ PYTHON = TOP / "python"
 # the tests of python/tests that are of tools, launcher, library, other systems and the page; all others are of the package
 TESTS = {
     "tools": ("test_build", "test_ci", "test_claims", "test_commits", "test_docs_site", "test_edits", "test_floors", "test_language", "test_laws",
-              "test_links", "test_messages", "test_prose", "test_reading", "test_release", "test_test", "test_twice", "test_words",
+              "test_links", "test_messages", "test_places", "test_prose", "test_reading", "test_release", "test_test", "test_twice", "test_words",
               "test_worked_rows"),
     "launcher": ("test_launcher",),
     "library": ("test_c_library", "test_installing", "test_library", "test_server"),
@@ -155,6 +155,7 @@ def quick_parts() -> List[Part]:
         Part("crates in order", python("tools/floors.py", "--check")),
         Part("table of commands", python("tools/commands.py", "--check")),
         Part("stored examples", python("tools/worked_rows.py", "--check")),
+        Part("places in recipes", python("tools/places.py", "--check")),
         Part("page of laws", python("tools/laws.py", "--check")),
         Part("words of laws", python("tools/claims.py")),
         Part("sentences on laws", python("tools/sentences.py")),

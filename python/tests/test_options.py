@@ -64,7 +64,7 @@ class Types(unittest.TestCase):
         self.assertEqual(typing.get_args(option_values.Order), option_values.OPTIONS["surfaces"]["order"])
         self.assertEqual(typing.get_args(batch.CommandName), tuple(batch.COMMANDS))
         self.assertEqual(sorted(typing.get_args(tasks.CommandName)), sorted(set(tasks.COMMANDS) - {"crosscheck"}))
-        self.assertEqual(typing.get_args(option_values.OfTable), option_values.reading("table"))
+        self.assertEqual(typing.get_args(commands.OfTable), option_values.reading("table"))
         self.assertEqual(typing.get_args(option_values.WithTriangles), option_values.OPTIONS["describe"]["coords"])
 
 

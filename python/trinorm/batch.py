@@ -17,9 +17,10 @@ from typing import Any, Callable, Dict, Iterable, Iterator, List, Literal, Named
 
 from . import certificates, commands, questions
 from .arguments import checked_timeout, plain, shown
+from .commands import OfTable
 from .errors import BadArgument, Error, Failed
 from .machine import processors
-from .options import OfTable, reading
+from .options import reading
 from .program import Program, checked_program
 from .progress import Reported
 from .server import Server

@@ -29,6 +29,8 @@ from .tables import Table, Triangulation, alone, document, is_empty, size_of
 # what the package has under its own name
 __all__ = ["addup", "bulk", "check", "cover", "crush", "csame", "csig", "decompose", "descend", "describe", "group", "info", "lift",
            "make", "pi1", "play", "rays", "same", "sig", "surfaces", "table", "verify"]
+# the commands that read one triangulation, for those who check types; a test compares them with the table of commands
+OfTable = Literal["surfaces", "info", "sig", "csig", "cover", "pi1", "descend"]
 
 Answer = TypeVar("Answer")
 Item = TypeVar("Item")

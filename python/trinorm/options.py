@@ -16,8 +16,6 @@ from .errors import BadArgument
 Coords = Literal["standard", "quad", "octagon"]
 WithTriangles = Literal["standard", "octagon"]
 Order = Literal["given", "short", "zeros"]
-# the commands that read one triangulation, for those who check types; a test compares them with the table
-OfTable = Literal["surfaces", "info", "sig", "csig", "cover", "pi1", "descend"]
 
 
 class Range(NamedTuple):

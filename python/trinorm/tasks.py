@@ -7,7 +7,8 @@ import time
 from typing import Callable, Dict, Literal, NamedTuple, Optional
 
 from . import certificates, commands, comparisons, questions
-from .options import Coords, OfTable, WithTriangles, coordinates, reading
+from .commands import OfTable
+from .options import Coords, WithTriangles, coordinates, reading
 from .program import Error, Refused
 from .tables import Table
 
