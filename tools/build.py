@@ -224,7 +224,7 @@ class Build:
         finally:
             progress.end()
         if self.given.measure:
-            write_times(TIMES, list(self.crates), progress.took, self.to)
+            write_times(TIMES, list(self.crates), progress.took, self.to, f"commit {commit(TOP)}, {kit.line}")
         self.finish(kit, files, workspace)
         if self.given.keep:
             workspace.keep(libraries)

@@ -156,6 +156,7 @@ def quick_parts() -> List[Part]:
         Part("table of commands", python("tools/commands.py", "--check")),
         Part("stored examples", python("tools/worked_rows.py", "--check")),
         Part("places in recipes", python("tools/places.py", "--check")),
+        Part("times of builds", python("tools/build_times.py", "--check")),
         Part("page of laws", python("tools/laws.py", "--check")),
         Part("words of laws", python("tools/claims.py")),
         Part("sentences on laws", python("tools/sentences.py")),

@@ -9,7 +9,7 @@ from trinorm.program import REPOSITORY
 
 sys.path.insert(0, str(REPOSITORY / "tools"))
 
-from build_times import Plan, Times, Took  # noqa: E402
+from build_times import NotOfThisRun, Plan, Times, Took, is_sealed, read_times, run_of, sealed, write_times  # noqa: E402
 from floors import first_sentence  # noqa: E402
 from page_facts import imported, listed, numbers, unlisted, with_numbers, wrong_stars  # noqa: E402
 from refusals import functions_of, kind, refusals  # noqa: E402
@@ -115,6 +115,32 @@ class Order(unittest.TestCase):
         below = {"a": [], "b": ["a"], "c": ["a"], "d": ["b", "c"]}
         times = Times(0, {name: Took(seconds, 0) for name, seconds in zip("abcd", (1.0, 5.0, 2.0, 1.0))})
         self.assertEqual(Plan(below, times, 2).longest_chain(), ["a", "b", "d"])
+
+    def test_a_measured_table(self):
+        """A table has the checksum of its rows; one in which a row, the run or a comment was changed has not."""
+        with tempfile.TemporaryDirectory() as folder:
+            path = Path(folder, "times.txt")
+            write_times(path, ["a", "b"], {"b": Took(7.4, 300), "a": Took(2.0, 20), "late": Took(1.0, 1)}, Path(folder), "commit abc, kit 1")
+            text = path.read_text()
+            self.assertEqual(read_times(path).crates, {"a": Took(2.0, 20), "b": Took(7.0, 300), "late": Took(1.0, 1)})
+        self.assertTrue(is_sealed(text))
+        for old, new in (("b 7", "b 8"), ("late 1 1\n", ""), ("disk", "disk 9\ndisk"), ("commit abc", "commit abd"), ("of a processor", ""), ("# checksum", "#")):
+            self.assertIn(old, text)
+            self.assertFalse(is_sealed(text.replace(old, new)), old)
+
+    def test_the_table_of_a_run(self):
+        """The log of a run has to prove the crates of the table, to its end, in no less time."""
+        table = Times(5, {"a": Took(90.0, 20), "b": Took(30.0, 300)})
+        log = ("trinorm: proves all 2 crates and builds the program once: about 1 min, by 2 jobs at a time, and 1 GB of disk\n"
+               "trinorm: proving and building, 1 of 2 crates done: a (about 1 min left)\n"
+               "trinorm: proving and building, 2 of 2 crates done: b (less than a minute left)\n"
+               "trinorm: built in 61 s: version 1, commit abc with changes, rattle-kit-9 logic 12, program sha256 77\n")
+        self.assertEqual(run_of(table, log), "commit abc with changes, rattle-kit-9 logic 12")
+        self.assertTrue(is_sealed(sealed("disk 5\na 90 20\n", run_of(table, log))))
+        for old, new in (("built in", "stopped after"), ("done: b", "done: c"), ("61 s", "59 s"), ("proves all 2", "proves 1 of the 2"), ("2 jobs", "1 job")):
+            self.assertIn(old, log)
+            with self.assertRaises(NotOfThisRun):
+                run_of(table, log.replace(old, new))
 
     def test_definitions_of_code(self):
         self.assertEqual(first_sentence("-- Rows | rays,\n-- of a step. And more.\nuse Rattle.std\n-- a ray"), "Rows \\| rays, of a step")
