@@ -3,8 +3,9 @@
 
     tools/commands.py [--check]
 
-The launcher, the completions, the manual page and the package read that table. With --check nothing is written, and the
-status is 1 where something would be.
+The launcher, the completions, the manual page, the package, the page in a browser and bench/ read that table. With --check nothing
+is written, and the status is 1 where something would be. It is 1, too, if the tables of commands and of options in REFERENCE do
+not have each command with its options, and each option with its values.
 """
 from __future__ import annotations
 
@@ -168,7 +169,33 @@ def text() -> str:
     return HEAD + "".join(f"{command.line()}\n" for command in made())
 
 
+def cells_of(page: str, heading: str) -> List[List[str]]:
+    """The cells of the table under a heading of a page."""
+    found = re.search(rf"^## {heading}\n\n((?:\|.*\n)+)", page, re.M)
+    return [[cell.strip() for cell in line.strip("|").split("|")] for line in found[1].splitlines()[2:]] if found else []
+
+
+def faults_of_reference(page: str, known: List[Command]) -> List[str]:
+    """A line for each command without its options in REFERENCE's table, and for each option without its values."""
+    options = {name: re.findall(r"`--([\w-]+)`", row[2]) for row in cells_of(page, "Commands") for name in re.findall(r"\[`([\w-]+)`\]", row[0])}
+    values = {row[0].strip("`-"): row[1] for row in cells_of(page, "Options")}
+    faults = [f"refused: REFERENCE has other options of {command.name} than the grammar" for command in known
+              if options.get(command.name) != [option.name for option in command.options]]
+    faults += [f"refused: REFERENCE has the command {name}, and the grammar has not" for name in options if name not in {it.name for it in known}]
+    every = {option.name: option for command in known for option in command.options}
+    return faults + [f"refused: REFERENCE lacks the value {value} of --{name}" for name, option in every.items()
+                     for value in option.values or [str(option.numbers[0])] if not re.search(rf"\b{value}\b", values.get(name, ""))]
+
+
 def main(checking: bool) -> int:
+    faults = faults_of_reference((TOP / "docs" / "REFERENCE.md").read_text("utf8"), made())
+    for line in faults:
+        print(line)
+    return 1 if write(checking) or faults else 0
+
+
+def write(checking: bool) -> int:
+    """Writes the table if it is stale, or says that it is."""
     wanted = text()
     if TABLE.is_file() and TABLE.read_text("utf8") == wanted:
         return 0

@@ -42,8 +42,8 @@ PYTHON = TOP / "python"
 # the tests of python/tests that are of tools, launcher, library, other systems and the page; all others are of the package
 TESTS = {
     "tools": ("test_build", "test_ci", "test_claims", "test_commits", "test_docs_site", "test_edits", "test_floors", "test_language", "test_laws",
-              "test_links", "test_messages", "test_places", "test_prose", "test_reading", "test_release", "test_test", "test_twice", "test_words",
-              "test_worked_rows"),
+              "test_links", "test_messages", "test_places", "test_prose", "test_reading", "test_release", "test_table_of_commands", "test_test",
+              "test_twice", "test_words", "test_worked_rows"),
     "launcher": ("test_launcher",),
     "library": ("test_c_library", "test_installing", "test_library", "test_server"),
     "rust": ("test_rust",),
