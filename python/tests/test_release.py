@@ -103,7 +103,7 @@ class Release(unittest.TestCase):
         self.assertEqual(self.run_alone([program]), (0, ANSWER, ""))
         self.assertEqual(self.run_alone([program], terminal=True), (0, ANSWER, ""))
         for name in ("lib/libtrinorm.so", "lib/libtrinorm.so.1", "lib/pkgconfig/trinorm.pc", "include/trinorm.h", "share/doc/trinorm/examples/quads.c",
-                     "share/trinorm/rust/trinorm/src/lib.rs", "libexec/trinorm/trinorm-server", "share/man/man1/trinorm.1", "share/zsh/site-functions/_trinorm", "share/doc/trinorm/NOTICES", "share/doc/trinorm/docs/GUIDE.md"):
+                     "share/trinorm/rust/trinorm/src/lib.rs", "libexec/trinorm/trinorm-server", "libexec/trinorm/words.json", "libexec/trinorm/words.awk", "share/man/man1/trinorm.1", "share/zsh/site-functions/_trinorm", "share/doc/trinorm/NOTICES", "share/doc/trinorm/docs/GUIDE.md"):
             self.assertTrue((top / name).is_file(), name)
         completion = top / "share/bash-completion/completions/trinorm"
         script = f". {completion}; COMP_WORDS=(trinorm describe --coords ''); COMP_CWORD=3; _trinorm; echo ${{COMPREPLY[*]}}"
