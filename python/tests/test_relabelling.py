@@ -93,6 +93,16 @@ class Relabellings(unittest.TestCase):
                     moved = [relabelled_vector(coords, tets, perms, it) for it in trinorm.surfaces(table, coords=coords)]
                     self.assertEqual(sorted(moved), [tuple(it) for it in trinorm.surfaces(image, coords=coords)])
 
+    def test_a_low_limit_can_depend_on_the_labelling(self) -> None:
+        table = trinorm.table("cPcbbbiht")
+        image = relabelled(table, [1, 0], [(0, 1, 2, 3), (0, 1, 2, 3)])
+        self.assertEqual(trinorm.sig(image), trinorm.sig(table))
+        self.assertEqual(len(trinorm.surfaces(table, max_entry=1)), 1)
+        with self.assertRaises(trinorm.Refused) as refusal:
+            trinorm.surfaces(image, max_entry=1)
+        self.assertEqual(refusal.exception.status, 5)
+        self.assertEqual(len(trinorm.surfaces(image)), 1)
+
     def test_surfaces_have_the_same_components(self) -> None:
         for signature, table, tets, perms in self.cases:
             image = relabelled(table, tets, perms)
