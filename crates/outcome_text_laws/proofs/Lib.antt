@@ -6,3 +6,4 @@ pub mod Informed
 pub mod DescribedBounds
 pub mod Described
 pub mod Refusals
+pub mod ListStatuses

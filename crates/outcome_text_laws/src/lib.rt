@@ -8,12 +8,17 @@
 
 ghost use Rattle.outcome_text_laws.specs.Descriptions.{DoneHasDescriptions, DescriptionTextsTell, DescribeTextsTellStatus};
 ghost use Rattle.outcome_text_laws.specs.Information.{InformationTextsTell};
-ghost use Rattle.outcome_text_laws.specs.Lists.{ListTextsTell};
+ghost use Rattle.outcome_text_laws.specs.Lists.{ListTextsTell, EnumerationTextsTellStatus};
 
-/// Theorem: let L and L' be lists of vectors with no entry above 2^127 - 1. If the text of L, as `surfaces` or `rays`
-/// prints it, is the text of L' as the same command prints it, then L = L'.
+/// Theorem:
+///
+/// 1. Let L and L' be lists of vectors with no entry above 2^127 - 1. If the text of L, as `surfaces` or `rays` prints
+///    it, is the text of L' as the same command prints it, then L = L'.
+/// 2. If answers of `surfaces` to two triangulations, or of `rays` to two cones, have the same text, of a list or of a
+///    refusal, they have the same status.
 pub fn list_texts_are_distinct()
-    ensures { ListTextsTell }
+    ensures lists { ListTextsTell }
+    ensures status { EnumerationTextsTellStatus }
 {}
 
 /// Theorem: let an answer of `info` to T and one to T' have the same text. Then T and T' have equally many tetrahedra,
