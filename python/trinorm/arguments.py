@@ -52,12 +52,15 @@ def _is_finite(number: float) -> bool:
 
 
 def path_text(path: object) -> Optional[str]:
-    """The text of a path; None for any other value, an empty text, or one with a zero character."""
+    """The text of a path; None for any other value, an empty text, or one that no file can have as its name."""
     try:
         text = os.fspath(path) if isinstance(path, (str, os.PathLike)) else None
-    except TypeError:  # of an `__fspath__` that returns no text
+        if not isinstance(text, str) or not text or "\0" in text:
+            return None
+        os.fsencode(text)  # fails for half of a surrogate pair
+    except (TypeError, UnicodeEncodeError):  # a TypeError of an `__fspath__` that returns no text
         return None
-    return text if isinstance(text, str) and text and "\0" not in text else None
+    return text
 
 
 def checked_memory(memory: Optional[int]) -> int:

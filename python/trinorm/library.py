@@ -13,7 +13,7 @@ import threading
 from pathlib import Path
 from typing import Any, Callable, Dict, Generator, List, Optional, Sequence, Tuple
 
-from .arguments import as_bytes, checked_memory, checked_timeout, checked_words, joined, shown
+from .arguments import as_bytes, checked_memory, checked_timeout, checked_words, joined, path_text, shown
 from .errors import BadArgument, Failed, TimedOut
 from .outcomes import read_outcome
 
@@ -115,6 +115,7 @@ class Library:
     """
 
     def __init__(self, path: str) -> None:
+        path = _checked_path(path)
         try:
             library = ctypes.CDLL(path)
             area = [ctypes.c_char_p, ctypes.c_size_t]
@@ -244,6 +245,14 @@ class Library:
         return read_outcome(words, status, said)
 
 
+def _checked_path(path: object) -> str:
+    """The text of a path."""
+    text = path_text(path)
+    if text is None:
+        raise BadArgument(f"path must be that of a library, not {shown(path)}")
+    return text
+
+
 _known: Dict[str, Library] = {}
 _lock = threading.Lock()
 
@@ -266,8 +275,7 @@ def at(path: str) -> Library:
     >>> library.at(path) is library.at(path)
     True
     """
-    if not isinstance(path, str) or not path or "\0" in path:
-        raise BadArgument(f"path must be that of a library, not {shown(path)}")
+    path = _checked_path(path)
     with _lock:
         if path not in _known:
             _known[path] = Library(path)

@@ -1,6 +1,7 @@
 """Processes that are ended whatever a handler of a signal raises, also while they are being started."""
 from __future__ import annotations
 
+import os
 import queue
 import subprocess
 import tempfile
@@ -9,7 +10,8 @@ from _thread import start_new_thread
 from types import TracebackType
 from typing import IO, Optional, Sequence, Type, Union
 
-from .errors import Failed
+from .arguments import checked_words, shown
+from .errors import BadArgument, Failed
 
 
 class Child:
@@ -23,12 +25,21 @@ class Child:
     """
 
     def __init__(self, words: Sequence[str], text: Optional[bytes] = None) -> None:
-        self._words, self._text = words, text
+        self._words, self._text = checked_words(words), text
+        if not self._words:
+            raise BadArgument("the words of a process must begin with a program")
+        if text is not None and not isinstance(text, bytes):
+            raise BadArgument(f"the input of a process must be bytes or None, not {shown(text)}")
         self._came: "queue.SimpleQueue[Union[subprocess.Popen[bytes], BaseException]]" = queue.SimpleQueue()
-        self._lock, self._is_left = threading.Lock(), False
+        self._lock, self._is_left, self._has_begun = threading.Lock(), False, False
+        self._owner = os.getpid()
         self._run: Optional[subprocess.Popen[bytes]] = None
 
     def __enter__(self) -> subprocess.Popen[bytes]:
+        with self._lock:
+            has_begun, self._has_begun = self._has_begun, True
+        if has_begun:
+            raise BadArgument("a process can be started only once")
         # all of it, since a handler may raise after each call
         try:
             self._begin()
@@ -45,7 +56,7 @@ class Child:
     def __exit__(self, kind: Optional[Type[BaseException]], fault: Optional[BaseException], trace: Optional[TracebackType]) -> None:
         assert self._run is not None
         with self._run as run:
-            if kind is not None:
+            if kind is not None and self._owner == os.getpid():  # a child that was forked leaves it to the parent
                 run.kill()
 
     def _begin(self) -> None:

@@ -10,8 +10,8 @@ from _thread import start_new_thread
 from pathlib import Path
 from typing import Any, Dict, Optional, Sequence, Set, Tuple, Union
 
-from .arguments import as_bytes, checked_timeout, checked_words, joined
-from .errors import NO_MEMORY_HERE, Failed, TimedOut, how_it_ended
+from .arguments import as_bytes, checked_timeout, checked_words, joined, shown
+from .errors import NO_MEMORY_HERE, BadArgument, Failed, TimedOut, how_it_ended
 from .outcomes import read_outcome
 from .program import find
 from .server_processes import Call, Ended, Late, OtherAnswer, ServerProcess
@@ -49,6 +49,8 @@ class Server:
 
     def __init__(self, program: Optional[str] = None, *, own_group: bool = True) -> None:
         path = self.find(program)
+        if not isinstance(own_group, bool):
+            raise BadArgument(f"own_group must be True or False, not {shown(own_group)}")
         if path is None:
             raise Failed(f"there is no {NAME} next to the program")
         self.path = path
