@@ -154,8 +154,10 @@ class Hints(unittest.TestCase):
         self.assertEqual(self.hint("# a comment\ncPcbbbiht"), "write `sig` before cPcbbbiht")
         self.assertEqual(self.hint("# a comment\ncPcbbbiht_BaCB"), "write `sig` before cPcbbbiht, and leave out SnapPy's decoration _BaCB")
         self.assertEqual(self.hint("bkaagjx"), "the signature is complete before this")
-        for name in ("m004", "s776", "4_1", "K8n1"):
-            self.assertIn(f"{name} is the name of a manifold", self.hint(name))
+        for name in ("m004", "s776", "o9_00042", "4_1", "K8n1"):
+            self.assertIn(f"{name} is the name of a manifold; in SnapPy, `Manifold('{name}')", self.hint(name))
+        for name in ("L(5,2)", "L(8,-3)"):
+            self.assertIn(f"{name} is the name of a lens space; in Regina, `Example3.lens(p, q)", self.hint(name))
 
     def test_files(self):
         self.assertIn("the input is empty", self.hint("\n"))

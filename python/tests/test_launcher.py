@@ -233,7 +233,7 @@ class Launcher(unittest.TestCase):
         for words, text, column, wanted in (
             (["info"], b"tri 1\n- - 0:1032  0:0132\n", 5, "is not glued back by the inverse permutation"), (["info"], b"tri 1\n- - - 4:0123\n", 7, "a tetrahedron that does not exist"),
             (["info"], b"tri 1\n0:0123 - - -\n", 1, "glued to itself"), (["info"], b"sig bkaagjx\n", 11, "complete before this"),
-            (["info"], b"sig bka\n", 8, "the signature is incomplete"), (["info"], b"sig b!aagj\n", 6, "letters, digits, + and -"), (["info"], b"sig baa.bkaagj\n", 8, "the signatures of several components"), (["info"], b"sig m004\n", 5, "the name of a manifold"),
+            (["info"], b"sig bka\n", 8, "the signature is incomplete"), (["info"], b"sig b!aagj\n", 6, "letters, digits, + and -"), (["info"], b"sig baa.bkaagj\n", 8, "the signatures of several components"), (["info"], b"sig m004\n", 5, "the name of a manifold"), (["info"], b"sig L(5,2)\n", 6, "the name of a lens space"), (["info"], b"L(5,2)\n", 1, "the name of a lens space"),
             (["info"], b'sig "bkaagj"\n', 5, "quotation marks"),
         ):
             said = self.said(words, text).split("\n")
