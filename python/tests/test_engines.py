@@ -48,12 +48,20 @@ class Engines(unittest.TestCase):
         self.addCleanup(self.end, run)
         return run
 
+    def begin(self, words):
+        """Starts a process that goes on. What it says is in a file: it would stop for ever at a pipe that is full."""
+        with open(os.path.join(self.folder, "log"), "ab") as log:
+            run = subprocess.Popen(words, env=self.around, stdout=subprocess.DEVNULL, stderr=log, start_new_session=True)
+        self.addCleanup(self.end, run)
+        return run
+
     @staticmethod
     def end(run):
         with contextlib.suppress(ProcessLookupError):
             os.killpg(run.pid, signal.SIGKILL)
         run.wait()
-        run.stderr.close()
+        if run.stderr is not None:
+            run.stderr.close()
 
     def run_all(self, words, timeout=120):
         """The status, and what was said on standard error."""
@@ -92,16 +100,13 @@ class Dask(Engines):
             free.bind(("127.0.0.1", 0))
             port = free.getsockname()[1]
         self.address = f"tcp://127.0.0.1:{port}"
-        self.scheduler = self.begin("scheduler", "--host", "127.0.0.1", "--port", str(port))
-        self.workers = [self.begin("worker", self.address, "--nthreads", "1", "--local-directory", self.folder) for _ in range(2)]
+        self.scheduler = self.dask("scheduler", "--host", "127.0.0.1", "--port", str(port))
+        self.workers = [self.dask("worker", self.address, "--nthreads", "1", "--local-directory", self.folder) for _ in range(2)]
         subprocess.run([self.python, "-c", f"from distributed import Client; Client('{self.address}').wait_for_workers(2)"],
                        env=self.around, stderr=subprocess.DEVNULL, timeout=120, check=True)
 
-    def begin(self, kind, *words):
-        run = subprocess.Popen([self.python, "-m", f"distributed.cli.dask_{kind}", "--no-dashboard", *words], env=self.around,
-                               stdout=subprocess.DEVNULL, stderr=subprocess.PIPE, text=True, start_new_session=True)
-        self.addCleanup(self.end, run)
-        return run
+    def dask(self, kind, *words):
+        return self.begin([self.python, "-m", f"distributed.cli.dask_{kind}", "--no-dashboard", *words])
 
     def census(self, *more):
         return [*self.words(self.python, "-m"), "--dask", self.address, *more]
@@ -176,18 +181,16 @@ class Networks(Engines):
         # that a machine is gone is known after 12 seconds, the least that there is, in place of 30
         self.around.update(DASK_DISTRIBUTED__COMM__TIMEOUTS__TCP="12s", DASK_DISTRIBUTED__SCHEDULER__WORKER_TTL="12s")
         [self.port] = slurm_node.free_ports(1)
-        self.begin([], "scheduler", "--host", "0.0.0.0", "--port", str(self.port))
+        self.dask([], "scheduler", "--host", "0.0.0.0", "--port", str(self.port))
         for network in self.both:
-            self.begin(network.words, "worker", f"tcp://{network.here}:{self.port}", "--host", network.there, "--nthreads", "1",
-                       "--local-directory", self.folder)
+            self.dask(network.words, "worker", f"tcp://{network.here}:{self.port}", "--host", network.there, "--nthreads", "1",
+                      "--local-directory", self.folder)
         self.address = f"tcp://127.0.0.1:{self.port}"
         subprocess.run([self.python, "-c", f"from distributed import Client; Client('{self.address}').wait_for_workers(2)"],
                        env=self.around, stderr=subprocess.DEVNULL, timeout=120, check=True)
 
-    def begin(self, before, kind, *words):
-        run = subprocess.Popen([*before, self.python, "-m", f"distributed.cli.dask_{kind}", "--no-dashboard", *words],
-                               env=self.around, stdout=subprocess.DEVNULL, stderr=subprocess.PIPE, text=True, start_new_session=True)
-        self.addCleanup(self.end, run)
+    def dask(self, before, kind, *words):
+        return self.begin([*before, self.python, "-m", f"distributed.cli.dask_{kind}", "--no-dashboard", *words])
 
     def run_with(self, change, count=300):
         """The lines of a census after whose first answers something is changed. Those of which machine are how many?"""
