@@ -28,7 +28,7 @@ SUBJECTS = {
     "text": "text_definitions text_document_definitions text_document_laws text_partial_laws text_io"
     " memory_io bench_io",
     "table": "table_definitions table_permutation_laws table_walk_laws perm_four finite_walks gluing_table table_commands",
-    "skeleton": "skeleton_definitions skeleton_class_laws skeleton_laws skeleton vertex_links",
+    "skeleton": "skeleton_definitions skeleton_class_laws skeleton_laws skeleton_orientation_laws skeleton vertex_links",
     "signature": "signature_definitions signature_text_laws signature_laws signature_automorphism_laws signature_codec"
     " canonical_labelling signature_census",
     "move": "move_definitions move_laws move_link_laws pachner_moves move_undo move_commands",

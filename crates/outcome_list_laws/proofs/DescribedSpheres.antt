@@ -11,7 +11,7 @@ use Rattle.outcome_list_laws.specs.Efficiency.{DecidesLinks}
 use Rattle.outcome_list_laws.specs.Spheres.{DecidesSpheres, InputsDecideSpheres, DescribedListsDecideSpheres}
 use Rattle.outcome_list_laws.proofs.Described.{inputs_decide_lem, described_lists_decide_lem}
 
-by_spheres : (coords : Coords) (rows : List Row) (p : Outcome) → HasValidEdges rows → is_closed rows ≡ true → IsOrientable rows → DecidesLinks coords rows p → DecidesSpheres coords rows p
+pub by_spheres : (coords : Coords) (rows : List Row) (p : Outcome) → HasValidEdges rows → is_closed rows ≡ true → IsOrientable rows → DecidesLinks coords rows p → DecidesSpheres coords rows p
 by_spheres coords rows p valid closed orientable r =
     let both = spheres_decide r.skeleton coords r.is_skeleton (no_first_invalid r.skeleton r.is_skeleton (subst HasValidEdges (sym r.of_rows) valid)) (ap is_closed r.of_rows ∙ closed) (subst IsOrientable (sym r.of_rows) orientable) in
     record {

@@ -9,3 +9,4 @@ pub mod LinkCount
 pub mod Lists
 pub mod Quads
 pub mod EvenComponents
+pub mod Orientable

@@ -4,5 +4,6 @@ pub mod Lists
 pub mod Parts
 pub mod Quads
 pub mod Spheres
+pub mod Orientable
 pub mod LinkCount
 pub mod EvenComponents

@@ -18,6 +18,7 @@
 
 ghost use Rattle.outcome_list_laws.specs.Efficiency.{DescribedInputsDecide, DescribedFilesDecide, DescribedListsDecide, OctagonInputsDecide, OctagonFilesDecide, DescribedOctagonsDecide};
 ghost use Rattle.outcome_list_laws.specs.Spheres.{InputsDecideSpheres, DescribedListsDecideSpheres};
+ghost use Rattle.outcome_list_laws.specs.Orientable.{OrientableInputsDecideSpheres, OrientableListsDecideSpheres, OrientablePartsDecideSpheres, OrientableFilePartsDecideSpheres, OrientableLiftsDecideSpheres};
 ghost use Rattle.outcome_list_laws.specs.EvenComponents.{OrientablePrintedAreEven, TwoSidedPrintedAreEven};
 ghost use Rattle.outcome_list_laws.specs.LinkCount.{InputsCountLinks, DescribedLinksAreCounted};
 ghost use Rattle.outcome_list_laws.specs.Runs.{FileRunsAreRead};
@@ -52,6 +53,20 @@ pub fn described_lists_decide_efficiency()
 pub fn described_lists_decide_spheres()
     ensures inputs { InputsDecideSpheres }
     ensures written { DescribedListsDecideSpheres }
+{}
+
+/// Theorem (after Jaco and Rubinstein 2003): let T be closed and orientable. Let `surfaces` list L for T in standard or
+/// octagon coordinates, and let a run of `describe` in these coordinates be done. Each connected surface of Euler
+/// characteristic 2 is a vertex link if and only if each vector with a positive `euler` has `linking yes`. The input
+/// may be
+///
+/// 1. read as T and L;
+/// 2. the text of `surfaces` after T.
+///
+/// Nothing is asked of edges: an orientable triangulation has no invalid edge (`orientable_edges_are_valid`).
+pub fn described_spheres_decide_closed_orientable()
+    ensures inputs { OrientableInputsDecideSpheres }
+    ensures written { OrientableListsDecideSpheres }
 {}
 
 /// Theorem: let `surfaces` list L for T in standard or octagon coordinates, and let a run of `describe` in these
@@ -89,6 +104,28 @@ pub fn two_sided_printed_are_even()
 pub fn parts_decide_efficiency()
     ensures parts { PartsDecideEfficiency }
     ensures files { FilePartsDecideEfficiency }
+{}
+
+/// Theorem (after Jaco and Rubinstein 2003): let T be closed and orientable, and let `surfaces` list L for T in
+/// standard or octagon coordinates. Let runs of `describe` in these coordinates be done, their vectors together those
+/// of L. Each connected surface of Euler characteristic 2 is a vertex link if and only if each vector with a positive
+/// `euler` has `linking yes`; and if and only if none has `euler 1`, and each with `euler 2` has `linking yes`. Each
+/// input may be
+///
+/// 1. read as T and the vectors of the run;
+/// 2. a file of T, the same for all runs, with one line `vec` for each vector of the run joined to its end.
+pub fn parts_decide_closed_orientable()
+    ensures parts { OrientablePartsDecideSpheres }
+    ensures files { OrientableFilePartsDecideSpheres }
+{}
+
+/// Theorem (after Jaco and Rubinstein 2003): let T be closed and orientable, let all its vertex links be spheres or
+/// discs, and let `surfaces` list Q for T in quad coordinates. Let runs of `lift`, whose vectors together are those of
+/// Q, be done, and runs of `describe` in standard coordinates, whose vectors together are the lifts. Each connected
+/// surface of Euler characteristic 2, in standard coordinates, is a vertex link if and only if each vector that is
+/// described with a positive `euler` has `linking yes`, and if and only if none has a positive `euler`.
+pub fn lifts_decide_closed_orientable()
+    ensures { OrientableLiftsDecideSpheres }
 {}
 
 /// Lemma: let a text after T be read as T and a list L. Let the input of each of given runs, which are done, be a file

@@ -19,6 +19,7 @@ pub mod Spheres
 pub mod ComponentSigns
 pub mod EvenComponents
 pub mod TwoSided
+pub mod Orientable
 pub mod TwoCopies
 pub mod Worked
 pub mod WorkedSphere

@@ -1,6 +1,6 @@
 //! The double of a connected one-sided surface is connected, and a connected closed orientable surface has an even
-//! Euler characteristic. In closed orientable tables without invalid edges, surfaces of Euler characteristic 2 alone
-//! decide 0-efficiency. The functions have empty bodies: their contracts are theorems.
+//! Euler characteristic. In closed orientable tables, surfaces of Euler characteristic 2 alone decide 0-efficiency. The
+//! functions have empty bodies: their contracts are theorems.
 //!
 //! A *surface* is an admissible solution of the matching equations of T in standard or octagon coordinates; 0 is one.
 //! It is *connected* if it has exactly one component. It *meets the boundary* if it has a disc with an arc in a
@@ -9,6 +9,7 @@
 #![tactic(auto)]
 
 ghost use Rattle.surface_double_laws.specs.Laws.{DoublesAreSurfaces, DoublesAreConnected, DoublesAreTwoCopies, OrientableSurfacesAreEven, OrientableComponentsAreEven, OrientablePartsAreEven, OneIsOneSided, TwoSidedSurfacesAreEven, TwoSidedComponentsAreEven, TwoSidedPartsAreEven, SpheresDecideEfficiency, SpheresDecideLinks, ListDecidesSpheres, PlanesAndSpheresDecide};
+ghost use Rattle.surface_double_laws.specs.Orientable.{OrientableTwoSidedAreEven, OrientableTwoSidedComponentsAreEven, OrientableTwoSidedPartsAreEven, OrientableOneIsOneSided, OrientableSpheresDecideEfficiency, OrientableSpheresDecideLinks, OrientableListDecidesSpheres, OrientableListedSpheresDecide};
 ghost use Rattle.surface_double_laws.specs.Maps.{OrientedMapsAreEven};
 ghost use Rattle.surface_double_laws.specs.WorkedOctagon.{OctagonIsOrientable};
 ghost use Rattle.surface_double_laws.specs.WorkedPlane.{PlaneIsOneSided, PlaneHasConnectedDouble};
@@ -72,6 +73,21 @@ pub fn two_sided_surfaces_are_even()
     ensures whole { TwoSidedPartsAreEven }
 {}
 
+/// Theorem: let T be closed and orientable, and let x be a surface in standard or octagon coordinates.
+///
+/// 1. If x is connected and two-sided, its Euler characteristic is even.
+/// 2. If a component of x is two-sided, its Euler characteristic is even.
+/// 3. If each component of x is two-sided, the Euler characteristic of x is even.
+/// 4. If x is connected and has Euler characteristic 1, it is one-sided.
+///
+/// Nothing is asked of edges: an orientable triangulation has no invalid edge (`orientable_edges_are_valid`).
+pub fn closed_orientable_two_sided_are_even()
+    ensures even { OrientableTwoSidedAreEven }
+    ensures components { OrientableTwoSidedComponentsAreEven }
+    ensures whole { OrientableTwoSidedPartsAreEven }
+    ensures one { OrientableOneIsOneSided }
+{}
+
 /// Example: let T be the triangulation `bkaagj` of the 3-sphere, with one tetrahedron, and let x be two triangles and
 /// an octagon of T. Then x is a connected surface, orientable, and does not meet the boundary.
 pub fn octagonal_sphere_is_orientable()
@@ -92,4 +108,19 @@ pub fn spheres_decide_efficiency()
     ensures links { SpheresDecideLinks }
     ensures listed { ListDecidesSpheres }
     ensures planes { PlanesAndSpheresDecide }
+{}
+
+/// Theorem (after Jaco and Rubinstein 2003): let T be closed and orientable, and L its list of vertex surfaces in
+/// standard or octagon coordinates. Let A say that each connected surface of Euler characteristic 2 is a vertex link.
+///
+/// 1. T is 0-efficient by its numbers if and only if A holds in standard coordinates.
+/// 2. A holds if and only if each connected surface of positive Euler characteristic is a vertex link.
+/// 3. A holds if and only if each member of L of positive Euler characteristic is a vertex link.
+/// 4. A holds if and only if no member of L has Euler characteristic 1, and those of Euler characteristic 2 are vertex
+///    links.
+pub fn spheres_decide_closed_orientable()
+    ensures spheres { OrientableSpheresDecideEfficiency }
+    ensures links { OrientableSpheresDecideLinks }
+    ensures listed { OrientableListDecidesSpheres }
+    ensures planes { OrientableListedSpheresDecide }
 {}

@@ -1,0 +1,4 @@
+pub mod Reversed
+pub mod Chains
+pub mod Parities
+pub mod Valid
