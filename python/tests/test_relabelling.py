@@ -120,6 +120,34 @@ class Relabellings(unittest.TestCase):
                         there = collections.Counter((it.euler, it.sides, it.orientable, tuple(it.vector)) for it in second.components)
                         self.assertEqual(here, there)
 
+    def test_crushed_tables_are_isomorphic(self) -> None:
+        for signature, table, tets, perms in self.cases:
+            image = relabelled(table, tets, perms)
+            for vector in trinorm.surfaces(table)[:12]:
+                with self.subTest(signature, vector=tuple(vector)):
+                    moved = relabelled_vector("standard", tets, perms, vector)
+                    self.assertEqual(trinorm.csig(trinorm.crush(table, vector)), trinorm.csig(trinorm.crush(image, moved)))
+
+    def test_covers_are_isomorphic(self) -> None:
+        for signature, table, tets, perms in self.cases:
+            with self.subTest(signature):
+                self.assertEqual(trinorm.csig(trinorm.cover(table).table), trinorm.csig(trinorm.cover(relabelled(table, tets, perms)).table))
+
+    def test_presentations_have_as_many_generators_and_relators(self) -> None:
+        for signature, table, tets, perms in self.cases:
+            if not all(edge.valid for edge in trinorm.info(table).edges):
+                continue
+            with self.subTest(signature):
+                one, other = trinorm.pi1(table), trinorm.pi1(relabelled(table, tets, perms))
+                self.assertEqual((len(one.generators), len(one.relators)), (len(other.generators), len(other.relators)))
+
+    def test_lengths_of_relators_depend_on_the_numbering(self) -> None:
+        # the example of docs/DECISIONS.md
+        image = ["1:3012 1:0213 2:3012 2:1023", "2:2031 2:1023 0:0213 0:1230", "1:1023 0:1230 1:1302 0:1023"]
+        self.assertIsNotNone(trinorm.same("dLQbcccdero", image))
+        lengths = [[len(it.letters) for it in trinorm.pi1(t).relators] for t in ("dLQbcccdero", image)]
+        self.assertEqual(lengths, [[5, 4, 3], [4, 4, 4]])
+
 
 if __name__ == "__main__":
     unittest.main()

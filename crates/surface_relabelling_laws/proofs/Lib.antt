@@ -28,3 +28,6 @@ pub mod PropertiesKept
 pub mod Components
 pub mod LiftLists
 pub mod SmallTables
+pub mod QuadTypes
+pub mod CrushedChains
+pub mod CrushedTables

@@ -1,5 +1,5 @@
-//! Isomorphic tables have corresponding surfaces, vertex surfaces and surface lists. The functions have empty bodies:
-//! their contracts are theorems.
+//! Isomorphic tables have corresponding surfaces, vertex surfaces and surface lists, and are crushed to isomorphic
+//! tables. The functions have empty bodies: their contracts are theorems.
 //!
 //! A *relabelling* renumbers the tetrahedra of a table, and the vertices of each. It *carries* T to T' if it carries
 //! the gluings of T to those of T'; then T' is *isomorphic* to T. A *vector* of T has one entry for each disc type of
@@ -13,6 +13,7 @@
 ghost use Rattle.surface_relabelling_laws.specs.WorkedTable.{FoldedIsRenamed, FoldedLists, FoldedVectorsAreRenamed};
 ghost use Rattle.surface_relabelling_laws.specs.Components.{ComponentsAreRelabelled, ComponentCharacteristicsAreKept};
 ghost use Rattle.surface_relabelling_laws.specs.LiftLists.{LiftListsAreRelabelled, LiftCharacteristicsPermute, SameSignatureSameLifts, BothQuadListsLift};
+ghost use Rattle.surface_relabelling_laws.specs.Crushing.{CrushedAreIsomorphic};
 ghost use Rattle.surface_relabelling_laws.specs.SmallTables.{IsomorphicHaveOneSize, BoundedAreBothListed, BoundedStayWithin, SmallIsomorphicPrintAsMany};
 ghost use Rattle.surface_relabelling_laws.specs.Laws.{VectorsAreRelabelled, SolutionsAreRelabelled, AdmissibleAreRelabelled, VertexSurfacesAreRelabelled, SurfaceListsAreRelabelled, IsomorphicHaveAsMany, SameSignatureHaveAsMany, SameComponentSignatureHaveAsMany, EnumerationsListAsMany, SurfacesAreRelabelled, CharacteristicsAreKept, PropertiesAreKept, CharacteristicsPermute, SameSignatureSameCharacteristics, LiftsAreRelabelled, LiftCharacteristicsAreKept, ConnectedAreRelabelled, SidesAreKept, OrientationIsKept, EfficiencyIsKept, SameSignatureSameEfficiency};
 
@@ -138,6 +139,12 @@ pub fn lift_lists_are_relabelled()
 pub fn efficiency_is_kept()
     ensures isomorphic { EfficiencyIsKept }
     ensures signature { SameSignatureSameEfficiency }
+{}
+
+/// Theorem: let a relabelling carry T to T', and let x be an admissible vector of T in standard coordinates, such as a
+/// surface. The tables that result from crushing T along x, and T' along the relabelled vector of x, are isomorphic.
+pub fn crushed_tables_are_isomorphic()
+    ensures { CrushedAreIsomorphic }
 {}
 
 /// Example: let T be one tetrahedron with faces 2 and 3 folded together, and T' one with faces 0 and 1 folded together.
