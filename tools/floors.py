@@ -34,7 +34,7 @@ SUBJECTS = {
     "move": "move_definitions move_laws move_link_laws pachner_moves move_undo move_commands",
     "certificate": "certificate_definitions certificate_laws sphere_certificate"
     " tri_build certificate_commands",
-    "cover": "cover_definitions cover_laws double_cover topology_commands",
+    "cover": "cover_definitions cover_laws cover_relabelling_laws double_cover topology_commands",
     "presentation": "presentation_definitions presentation_laws edge_group",
     "component": "component_definitions component_laws component_signature",
     "cone": "cone_definitions cone_text_definitions cone_laws cone_bound_laws cone_square_laws cone_ray_laws cone_row_laws"
