@@ -21,6 +21,7 @@ ANSWER = "ground\nleft\nright\ntrinorm\n"
 
 sys.path.insert(0, str(REPOSITORY / "tools"))
 from build import held, is_file_of  # noqa: E402
+from build_times import is_sealed, read_times  # noqa: E402
 from kept import drop_lock  # noqa: E402
 
 
@@ -84,6 +85,14 @@ class Build(unittest.TestCase):
         self.clone.write("left", "echo left\n")
         os.utime(self.clone.source("left"), (0, 0))
         self.assert_answers(self.clone, ANSWER, [])
+
+    def test_a_measured_table(self):
+        """It has each crate, and a checksum."""
+        self.assertEqual(self.clone.build("--measure").returncode, 0)
+        table = self.clone.top / "build_times.txt"
+        self.assertEqual(sorted(read_times(table).crates), EVERY)
+        self.assertTrue(is_sealed(table.read_text()))
+        self.assertRegex(table.read_text(), "# measured: commit .+, .+\n")
 
     def test_a_folder_that_is_exchanged(self):
         src = self.clone.source("right").parent
