@@ -7,3 +7,4 @@ pub mod DescribedBounds
 pub mod Described
 pub mod Refusals
 pub mod ListStatuses
+pub mod Reasons

@@ -1,7 +1,6 @@
 -- The text of an answer of `describe` determines its status.
-use Rattle.std.proofs.Common.{◌≡◌, ℕ, ◌⊎◌, inl, inr, Bool, true, false, List, ◌∷◌, ◌++◌, get_or, None, Result, Ok, Err, refl, sym, ap, ◌∙◌, subst, arith, append_assoc}
-use Rattle.std.specs.Prelude.{codes, decimal, ◌==◌, ◌&&◌, if◌then◌else◌}
-use Rattle.std.proofs.lemmas.List.{append_cancel_left}
+use Rattle.std.proofs.Common.{◌≡◌, ℕ, ◌⊎◌, inl, inr, Bool, true, false, List, get_or, None, Result, Ok, Err, refl, sym, ap, ◌∙◌, subst, arith}
+use Rattle.std.specs.Prelude.{◌==◌, ◌&&◌, if◌then◌else◌}
 use Rattle.table_definitions.specs.Table.{Row}
 use Rattle.skeleton_definitions.specs.Skeleton.{IsFirstInvalid}
 use Rattle.surface_definitions.specs.declared.Coords.{Coords}
@@ -17,8 +16,8 @@ use Rattle.outcome_definitions.specs.declared.Status.TheVariants.{Done, Refused,
 use Rattle.outcome_definitions.specs.Outcomes.{Outcome}
 use Rattle.outcome_definitions.specs.Vectors.{refusal_status, IsInvalidAnswered, AreDescribed, IsDescribeAnswer, describe_outcome}
 use Rattle.outcome_text_laws.specs.Descriptions.{HasDescriptions, DoneHasDescriptions, DescribeTextsTellStatus}
-use Rattle.outcome_text_laws.proofs.SplitWords.{split_word, number_is_plain}
 use Rattle.outcome_text_laws.proofs.Described.{first_bytes}
+use Rattle.outcome_text_laws.proofs.Reasons.{split_refusal}
 
 -- byte i of a text, or 0 after its end
 abbrev byte : ℕ → List ℕ → ℕ
@@ -69,16 +68,8 @@ done_has_descriptions coords d o h done = by h.told
     by (inl invalid) = (let z : Refused ≡ Done = sym (ap (λ (q : Outcome). q.status) invalid.2) ∙ done in absurd cc)
     by (inr a) = by_told a.1 a.1.told a.1.described a.1.outcome
 
--- what follows the number in the line of a refused vector
-same_reason : (v w : ℕ) (f g : Refusal) → refusal_line v f ≡ refusal_line w g → fault_text f ≡ fault_text g
-unfolding refusal_line
-same_reason v w f g e =
-    let parts : (n : ℕ) (text : List ℕ) → ((codes "refused: vector " ++ decimal n) ++ codes " ") ++ text ≡ codes "refused: vector " ++ (decimal n ++ 32 ∷ text) = λ n text. simp append_assoc in
-    (split_word (decimal v) (decimal w) 32 32 (fault_text f) (fault_text g) (number_is_plain v) (number_is_plain w) refl refl
-    (append_cancel_left (codes "refused: vector ") _ _ (sym (parts v (fault_text f)) ∙ e ∙ parts w (fault_text g)))).rests
-
 same_status : (v w : ℕ) (f g : Refusal) → refusal_line v f ≡ refusal_line w g → refusal_status f ≡ refusal_status g
-same_status v w f g e = sym (status_is f) ∙ ap status_of (same_reason v w f g e) ∙ status_is g
+same_status v w f g e = sym (status_is f) ∙ ap status_of (split_refusal v w f g e).rests ∙ status_is g
 
 -- the kind of an answer, by its bytes 0 and 9
 refusal_bytes : (v : ℕ) (f : Refusal) → (byte 0 (refusal_line v f) ≡ 114) × (byte 9 (refusal_line v f) ≡ 118)

@@ -1,3 +1,4 @@
 pub mod Lists
 pub mod Information
 pub mod Descriptions
+pub mod Refusals

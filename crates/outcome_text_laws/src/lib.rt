@@ -9,6 +9,7 @@
 ghost use Rattle.outcome_text_laws.specs.Descriptions.{DoneHasDescriptions, DescriptionTextsTell, DescribeTextsTellStatus};
 ghost use Rattle.outcome_text_laws.specs.Information.{InformationTextsTell};
 ghost use Rattle.outcome_text_laws.specs.Lists.{ListTextsTell, EnumerationTextsTellStatus};
+ghost use Rattle.outcome_text_laws.specs.Refusals.{RefusalTextsTell, InvalidEdgeTextsTell};
 
 /// Theorem:
 ///
@@ -42,4 +43,14 @@ pub fn description_texts_are_distinct()
     ensures done { DoneHasDescriptions }
     ensures same { DescriptionTextsTell }
     ensures status { DescribeTextsTellStatus }
+{}
+
+/// Theorem: let all numbers in two refusals be below 10^64.
+///
+/// 1. If `describe`, `lift` or `crush` refuses vector v of one input and vector w of another with the same line, then
+///    v = w, and the reasons are equal.
+/// 2. If `describe` refuses two inputs for an invalid edge with the same line, the edge classes have the same number.
+pub fn refusal_texts_are_distinct()
+    ensures vectors { RefusalTextsTell }
+    ensures edges { InvalidEdgeTextsTell }
 {}
