@@ -1,5 +1,6 @@
 """Questions of all commands, made at random, with the answers of the built program. No answer is stored."""
 import random
+import time
 
 from trinorm import selfcheck
 from trinorm.options import OPTIONS, reading
@@ -155,3 +156,10 @@ def ascii_only(content):
 def timed(test):
     """Marks a test with a limit of time that may pass on a loaded machine: tools/test.py runs it again alone if it fails."""
     return test
+
+
+def within(seconds):
+    """Goes round for so many seconds: for loops that a signal ends, which may never come."""
+    end = time.monotonic() + seconds
+    while time.monotonic() < end:
+        yield

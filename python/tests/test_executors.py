@@ -15,6 +15,7 @@ import unittest.mock
 from concurrent.futures import Executor, Future, ProcessPoolExecutor, ThreadPoolExecutor
 
 import trinorm
+from tests.cases import within
 from tests.programs import script
 from trinorm import executors
 from trinorm.executors import Ran, answers, done_of
@@ -320,7 +321,9 @@ class Processes(unittest.TestCase):
     def test_killed(self):
         workers = Workers(2)
         calls = [workers.submit(time.sleep, 100) for _ in range(5)]
-        while sum(call.running() for call in calls) < 2:
+        for _ in within(60):
+            if sum(call.running() for call in calls) == 2:
+                break
             time.sleep(0.02)
         begun = time.monotonic()
         workers.kill_workers()
@@ -450,7 +453,9 @@ class Interrupted(Programs):
             if words[1] == "-":
                 run.stdout.readline()
             else:
-                while not os.path.exists(out) or not os.path.getsize(out):
+                for _ in within(60):
+                    if os.path.exists(out) and os.path.getsize(out):
+                        break
                     time.sleep(0.02)
             time.sleep(0.5)
             run.send_signal(number)

@@ -12,7 +12,7 @@ import unittest
 import trinorm
 from trinorm import commands, parts, questions
 
-from .cases import timed
+from .cases import timed, within
 from .programs import script
 
 SPHERE = "bkaagj"
@@ -236,7 +236,7 @@ class LongLists(unittest.TestCase):
         try:
             timer.start()
             with self.assertRaises(Ended):
-                while True:
+                for _ in within(60):
                     trinorm.count(self.t)
         finally:
             timer.cancel()

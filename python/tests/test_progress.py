@@ -11,7 +11,7 @@ import trinorm
 from trinorm import library, program, progress
 from trinorm.server import Server
 
-from .cases import timed
+from .cases import timed, within
 from .programs import script
 from .test_library import LONG, named
 
@@ -61,7 +61,7 @@ class Both:
 
             begun = time.monotonic()
             with self.assertRaises(raised):
-                while True:
+                for _ in within(60):
                     trinorm.surfaces(LONG, "octagon", progress=ends, **self.way)
             self.assertLess(time.monotonic() - begun, 120)
         self.assertEqual(len(trinorm.surfaces("bkaagj", progress=ends, **self.way)), 2)
@@ -76,7 +76,7 @@ class Both:
         timer = threading.Timer(0.3, os.kill, (os.getpid(), signal.SIGINT))
         timer.start()
         with self.assertRaises(KeyboardInterrupt):
-            while True:
+            for _ in within(60):
                 trinorm.surfaces(LONG, "octagon", progress=Reports(), **self.way)
         timer.cancel()
 

@@ -1,0 +1,31 @@
+"""What tests share: signals that a shell ignores for what it starts in the background, and loops that end."""
+import subprocess
+import sys
+import time
+import unittest
+from pathlib import Path
+
+from .cases import within
+
+PACKAGE = Path(__file__).resolve().parents[1]
+
+
+class Signals(unittest.TestCase):
+    def test_they_come_in_the_background(self):
+        """As in `python3 -m unittest discover python &` of a script, whose tests would wait for their signals for ever."""
+        text = "import signal, tests; print([signal.getsignal(it) is signal.SIG_IGN for it in (signal.SIGINT, signal.SIGHUP, signal.SIGQUIT, signal.SIGTERM)])"
+        done = subprocess.run(["sh", "-c", "trap '' INT HUP QUIT TERM; \"$@\" & wait", "sh", sys.executable, "-c", text], cwd=PACKAGE, capture_output=True,
+                              text=True, timeout=60, check=True)
+        self.assertEqual(done.stdout, "[False, False, False, False]\n")
+
+
+class Loops(unittest.TestCase):
+    def test_they_end(self):
+        begun = time.monotonic()
+        self.assertGreater(sum(1 for _ in within(0.05)), 1)
+        self.assertLess(time.monotonic() - begun, 30)
+        self.assertEqual(list(within(0)), [])
+
+
+if __name__ == "__main__":
+    unittest.main()
