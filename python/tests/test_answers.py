@@ -2,7 +2,8 @@
 import random
 import unittest
 
-from trinorm.answers import numbers, read_vector
+from trinorm import Failed
+from trinorm.answers import numbers, read_made, read_vector
 
 
 class Vectors(unittest.TestCase):
@@ -19,6 +20,26 @@ class Vectors(unittest.TestCase):
         for line in ("vec x", "vec 1 x", "vec 1 \ufffd", "vec 1 \u00b2"):
             with self.assertRaises(ValueError):
                 read_vector(line)
+
+
+class Made(unittest.TestCase):
+    """What `make` prints has as many moves as were asked for, unless the triangulation is so large that no move may have been legal."""
+
+    @staticmethod
+    def lines(tetrahedra, moves):
+        return [f"tri {tetrahedra}", *["- - - -"] * tetrahedra, *moves]
+
+    def test_moves(self):
+        for tetrahedra, moves in ((1, []), (4, ["41 0 0"]), (997, ["41 0 0"] * 332)):
+            self.assertEqual(len(read_made(self.lines(tetrahedra, moves), len(moves)).moves), len(moves))
+            with self.assertRaisesRegex(Failed, f"{len(moves)} moves instead of {len(moves) + 1}"):
+                read_made(self.lines(tetrahedra, moves), len(moves) + 1)
+        self.assertEqual(len(read_made(self.lines(998, ["41 0 0"] * 332 + ["32 0 01"]), 1000).moves), 333)
+
+    def test_where_they_lead(self):
+        for moves in ([], ["41 0 0", "41 0 0"], ["32 0 01"], ["14 0"], ["23 0 0"]):
+            with self.assertRaisesRegex(Failed, "at the end of the moves instead of 1"):
+                read_made(self.lines(4, moves), len(moves))
 
 
 if __name__ == "__main__":

@@ -4,6 +4,8 @@ import unittest
 
 import trinorm
 from trinorm import BadArgument, pictures
+from trinorm.arguments import shown
+from trinorm.documents import fault_of
 
 TORUS = (1, 1, 0, 0, 1, 0, 0)
 SPHERE = "bkaagj"
@@ -130,6 +132,12 @@ class Arguments(unittest.TestCase):
         self.is_none("moves must be a whole number from 0 to 5", trinorm.bulk, 1, 6)
         self.is_none("pass columns=", trinorm.rays, [])
 
+    def test_values_are_shown_in_part(self):
+        self.assertEqual(shown("x" * 58), repr("x" * 58))
+        self.assertEqual(shown("x" * 59), "'" + "x" * 49 + " .. (of type str)")
+        self.assertEqual(shown([0] * 20), repr([0] * 20))
+        self.assertEqual(shown([0] * 21), "[" + "0, " * 16 + "0 .. (of type list)")
+
     def test_are_errors_of_both_kinds(self):
         self.assertTrue(issubclass(BadArgument, ValueError) and issubclass(BadArgument, trinorm.Error))
 
@@ -171,6 +179,21 @@ class Hints(unittest.TestCase):
         self.assertIn("such as 1:0213", self.hint("tri 1\n0:102 - - -\n"))
         self.assertIn("whole numbers of at least 0", self.hint(SPHERE, trinorm.verify, [(-1,)]))
         self.assertIn("such as 1:0213", self.hint("tri 1\n- - -\n"))
+
+    def test_places_in_inputs(self):
+        """In which state of a document a line is read."""
+        table, kind = "tri 1\n- - - -\n", "input bad-entry"
+        for reads, text, line, state in (
+            ("two-tables", table + table, 3, "tri"), ("two-tables", table + table, 4, "row"), ("two-tables", table * 3, 5, "end"), ("table", table * 2, 3, "end"),
+            ("tables", table * 3, 6, "row"), ("vectors", table + "vec 1\nvec 1\n", 4, "vector"), ("vector", table + "vec 1\nvec 1\n", 4, "end"),
+            ("steps", table + "14 0\n", 3, "steps"), ("moves", table + "14 0\n", 3, "moves"), ("cone", "cone 2 2\n1 1\n1 1\n", 3, "cone-row"),
+            ("cone", "cone 2 1\n1 1\n1 1\n", 3, "end"), ("cone", "cone 0 2\n1\n", 2, "end"),
+            ("blocks", table + "vec 1\ntimes 1 2\nterm 1 1\nterm 1 1\nvec 1\n", 4, "times"), ("blocks", table + "vec 1\ntimes 1 2\nterm 1 1\nterm 1 1\nvec 1\n", 6, "term"),
+            ("blocks", table + "vec 1\ntimes 1 2\nterm 1 1\nterm 1 1\nvec 1\n", 7, "vector"), ("blocks", table + "vec 1\ntimes 1 0\nvec 1\n", 5, "vector"),
+        ):
+            self.assertEqual(fault_of(reads, kind, (line, 5 if state == "tri" else 1), text).state, state, (reads, text, line))
+        self.assertEqual(fault_of("table", kind, (2, 3), "tri 1\n- x - -\n").words, ("x",))
+        self.assertEqual(fault_of("table", kind, (2, 3), "tri 1\n- x - -\n").number, 2)
 
     def test_checks_and_limits(self):
         for text, call, words in (

@@ -62,7 +62,7 @@ class Many(unittest.TestCase):
         """macOS and Windows have no `os.sched_getaffinity`."""
         mask = os.__dict__.pop("sched_getaffinity", None)
         try:
-            self.assertEqual(machine.processors(), os.cpu_count() or 1)
+            self.assertEqual(machine.machine.processors(), os.cpu_count() or 1)
             self.assertEqual([it.value for it in trinorm.many(SIGNATURES[:6], "sig")], SIGNATURES[:6])
         finally:
             if mask is not None:
@@ -116,6 +116,17 @@ class Many(unittest.TestCase):
         self.assertEqual([it.index for it in found], [0, 1, 2])
         self.assertIsInstance(found[1].failure, trinorm.Failed)
         self.assertTrue(all(it.answer or isinstance(it.failure, trinorm.Failed) for it in found))
+
+    def test_there_are_no_more_threads_than_processors(self):
+        threads = batch._Threads()
+        try:
+            done = [threads.submit(time.sleep, 0.001) for _ in range(5 * machine.processors())]
+            for future in done:
+                future.result(60)
+            self.assertEqual(threads._left, 0)
+            self.assertLessEqual(len(threads._begun), machine.processors())
+        finally:
+            threads.stop()
 
     def test_interrupts(self):
         long = trinorm.make(6, 24).table

@@ -88,6 +88,13 @@ class Lines(unittest.TestCase):
                          [("sig", "sig"), ("sig", "sig"), ("bkaagj", "one"), ("bkaagj", "one")])
 
 
+class Processes(unittest.TestCase):
+    def test_each_has_work_for_a_second_one(self):
+        for jobs in (1, 3):
+            with by_processes(jobs) as engine:
+                self.assertEqual(engine.hands, 2 * jobs)
+
+
 class Census(Folder):
     def run_it(self, *words, task=None, **named):
         with contextlib.redirect_stderr(io.StringIO()) as said:

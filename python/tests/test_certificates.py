@@ -1,4 +1,5 @@
 """Moves that certify a 3-sphere, by a search whose answers `check` accepts; and Pachner moves beside the program's."""
+import argparse
 import concurrent.futures
 import contextlib
 import io
@@ -98,6 +99,14 @@ class Certificates(unittest.TestCase):
             t = trinorm.make(seed, 12).table
             self.assertTrue(trinorm.check(t, trinorm.certify(t, seed=seed, timeout=60).moves))
         self.assertEqual(trinorm.certify("bkaagj").moves, ())
+
+    def test_the_seed_is_0_by_default(self):
+        of_seeds = [trinorm.certify(STUCK[2], seed).moves for seed in (0, 1)]
+        self.assertNotEqual(*of_seeds)
+        self.assertEqual(trinorm.certify(STUCK[2]).moves, of_seeds[0])
+        reader = argparse.ArgumentParser()
+        certificates.add_arguments(reader)
+        self.assertEqual(reader.parse_args(["bkaagb"]).seed, 0)
 
     def test_seeds(self):
         one, again, other = (trinorm.certify(STUCK[3], seed, timeout=60) for seed in (1, 1, 2))

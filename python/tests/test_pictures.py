@@ -3,6 +3,7 @@ import collections
 import itertools
 import json
 import math
+import re
 import unittest
 import xml.etree.ElementTree as xml
 
@@ -230,6 +231,12 @@ class Growth(unittest.TestCase):
     def test_svg(self):
         picture = growth_svg([(1, 2), (2, 1), (2, 30), (3, 0)])
         self.assertEqual((count(picture, "circle"), count(picture, "polyline")), (4, 1))
+        texts = re.findall(r'<text x="([0-9.]+)" y="([0-9.]+)"[^>]*>([^<]*)<', picture)
+        lengths, sizes, legend = texts[:3], texts[3:6], texts[6]
+        self.assertEqual([it[2] for it in lengths], ["1", "10", "100"])
+        self.assertEqual(len({it[0] for it in lengths}), 1)
+        self.assertEqual([(it[2], float(it[0])) for it in sizes], [("1", 175.0), ("2", 385.0), ("3", 595.0)])
+        self.assertEqual((legend, len(texts)), (("395", "388", "tetrahedra; the line joins the medians"), 7))
         with self.assertRaises(ValueError):
             growth_svg([])
 

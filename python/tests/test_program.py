@@ -108,6 +108,19 @@ class Finding(unittest.TestCase):
             with open(os.path.join(folder, "log"), encoding="utf8") as file:
                 self.assertEqual(file.read(), "built\n")
 
+    def test_how_a_process_ended(self):
+        for status, said in ((-9, "killed by signal 9"), (-1, "killed by signal 1"), (0, "status 0"), (1, "status 1"), (6, "standard input could not be read"),
+                             (7, "the output could not be written"), (8, "out of memory"), (9, "the command line is not UTF-8"), (10, "status 10")):
+            self.assertEqual(trinorm.program.how_it_ended(status), said)
+
+    def test_the_first_lines_of_an_answer_that_cannot_be_read(self):
+        class Prints:
+            def run(self, *_):
+                return "one\ntwo\nthree\n"
+
+        with self.assertRaisesRegex(trinorm.Failed, r"^info: the answer cannot be read: \['one', 'two'\]$"):
+            trinorm.info("bkaagj", program=Prints())
+
     def test_the_path_comes_last(self):
         with tempfile.TemporaryDirectory() as folder:
             path = os.path.join(folder, "trinorm")
