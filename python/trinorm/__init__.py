@@ -4,8 +4,8 @@
     >>> trinorm.surfaces("cPcbbbiht")
     [(1, 1, 1, 1, 0, 0, 0, 1, 1, 1, 1, 0, 0, 0)]
 
-The program answers in this process, as a library, or in one of its own. What is proved is proved of the program; the package, which
-reads what the program writes, is tested. A triangulation is a signature, the text of a gluing table, a list of rows, a `Table`, or one
+This package calls the program, as a library in this process or as a process of its own, and reads what it writes; what is proved is
+said of the program and not of the package. A triangulation is a signature, the text of a gluing table, a list of rows, a `Table`, or one
 of Regina or SnapPy; `help(trinorm.surfaces)` describes the arguments that all functions take.
 """
 from . import commands

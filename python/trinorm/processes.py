@@ -27,7 +27,7 @@ class Child:
     def __init__(self, words: Sequence[str], text: Optional[bytes] = None) -> None:
         self._words, self._text = checked_words(words), text
         if not self._words:
-            raise BadArgument("the words of a process must begin with a program")
+            raise BadArgument("a command line must begin with a program")
         if text is not None and not isinstance(text, bytes):
             raise BadArgument(f"the input of a process must be bytes or None, not {shown(text)}")
         self._came: "queue.SimpleQueue[Union[subprocess.Popen[bytes], BaseException]]" = queue.SimpleQueue()

@@ -35,8 +35,8 @@ class ZeroEfficiency:
     """The verdict of `zero_efficient`, which is true or false, and equal to True or False.
 
     Attributes:
-        witness: None if it is true; else a listed surface because of which the triangulation is not 0-efficient: a sphere, a projective
-            plane or a disc, in standard coordinates
+        witness: None if it is true. A listed surface by which a triangulation is not 0-efficient. It is a sphere, a projective plane or a
+            disc, in standard coordinates
         kind: `invalid` if an edge is identified with itself in reverse; else `bounded` if there is a boundary face; else `closed` if
             all vertex links are spheres; else `ideal`. What may be concluded depends on it
         orientable: whether the triangulation is orientable
@@ -340,7 +340,8 @@ def _kind_of(info: Info) -> Kind:
 
 def zero_efficient(t: Triangulation, *, timeout: Optional[float] = None, program: Program = None,
                    progress: Optional[Progress] = None) -> ZeroEfficiency:
-    """Whether each connected normal surface of positive Euler characteristic is a vertex link.
+    """True if each connected normal surface of positive Euler characteristic is a vertex link; else false, with a vertex
+    surface that is none: a sphere, a projective plane or a disc.
 
     That lists decide this is proved: the quad list with its lifts, which is far shorter, if all vertex links are spheres or discs and
     all edges valid; else the list in standard coordinates. For a closed orientable triangulation it is the 0-efficiency of Jaco and

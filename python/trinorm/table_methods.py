@@ -162,7 +162,7 @@ class TableMethods:
 
     def zero_efficient(self, *, timeout: Optional[float] = None, program: Program = None,
                        progress: Optional[Progress] = None) -> ZeroEfficiency:
-        """Whether it is 0-efficient, as by `trinorm.zero_efficient`.
+        """The verdict of `trinorm.zero_efficient`.
 
         >>> import trinorm
         >>> bool(trinorm.table("bkaagj").zero_efficient())
