@@ -26,7 +26,7 @@ SOURCES = TOP / "web"
 SCRIPTS = ["elements.js", "engine.js", "files.js", "asking.js", "texts.js", "kinds.js", "foreign.js", "reading.js", "understood.js",
            "links.js", "hints.js", "words.js", "long_table.js", "pictures.js", "turning.js", "exports.js", "questions.js", "next.js",
            "surface_list.js", "several.js", "menu.js", "visit.js", "input_field.js", "form.js", "views.js", "citation.js", "page.js"]
-WORKER = ["engine.js", "worker.js"]
+WORKER = ["engine.js", "texts.js", "worker.js"]
 READER = ["engine.js", "texts.js", "foreign.js", "reading.js", "reader.js"]
 LICENCES = ["NOTICES", "LICENSE-MIT", "LICENSE-APACHE"]
 # what a citation names of the build that made the module

@@ -8,37 +8,58 @@ export class Stopped extends Error {}
 /** The engine trapped or did not start. */
 export class Broken extends Error {}
 
+/** What was answered: {status, bytes, held, milliseconds}, or `surfaces` in place of bytes that were read already. */
+class Outcome {
+    constructor({answer, ...facts}) {
+        Object.assign(this, facts, {bytes: answer});
+    }
+
+    /** The answer as text, which is made when it is needed: a long one is kept as bytes alone. */
+    get text() {
+        return new TextDecoder().decode(this.bytes);
+    }
+}
+
+const MOST_ANSWERED = 1 << 22; // bytes that a worker may have worked on and wait for another question
+
 export class Engine {
     /** module: a compiled trinorm.wasm */
     constructor(module) {
         this.module = module;
+        this.handled = 0; // bytes of inputs and answers of this worker
     }
 
-    /** Asks for the answer to words and an input: {status, text, held, milliseconds}. */
-    ask(words, input) {
+    /** Asks for the outcome of words and an input. `is_description` says that surfaces are to be read of it, as of `describe`. */
+    ask(words, input, is_description = false) {
         // a worker keeps the module of its first message, and with it the instance
         const module = this.worker ? undefined : this.module;
         this.worker ??= new_worker('worker.js');
         return new Promise((answered, failed) => {
             this.fail = failed;
             this.worker.onmessage = ({data}) => {
-                const {answer, fault, ...outcome} = data;
+                this.handled += input.length + (data.answer?.length ?? 0);
                 // an instance that holds much is given back at once
-                if (outcome.held > MOST_KEPT) this.drop();
-                if (fault) failed(new Broken(fault));
-                else answered({...outcome, text: new TextDecoder().decode(answer)});
+                if (data.held > MOST_KEPT) this.drop();
+                if (data.fault) failed(new Broken(data.fault));
+                else answered(new Outcome(data));
             };
             this.worker.onerror = (event) => {
                 this.drop();
                 failed(new Broken(event.message || 'the worker did not start'));
             };
-            this.worker.postMessage({module, words, input: new TextEncoder().encode(input), limit: 0});
+            this.worker.postMessage({module, words, input: new TextEncoder().encode(input), limit: 0, is_description});
         });
     }
 
     drop() {
         this.worker?.terminate();
         this.worker = undefined;
+        this.handled = 0;
+    }
+
+    /** Gives back the memory of a worker that has worked on much, once nothing is being answered. */
+    rest() {
+        if (this.handled > MOST_ANSWERED) this.drop();
     }
 
     /** Ends the question that is being answered. */

@@ -14,7 +14,7 @@ import {SeveralList} from './several.js';
 import {coordinates_of, first_table, plural} from './texts.js';
 import {Discs} from './turning.js';
 import {Names, understood} from './understood.js';
-import {efficiency_view, large_graph, shortened, triangulation_view, view_of} from './views.js';
+import {efficiency_view, large_graph, shortened, shortened_bytes, triangulation_view, view_of} from './views.js';
 import {Visit, name_of_question} from './visit.js';
 import {Words} from './words.js';
 
@@ -89,11 +89,14 @@ async function busy(work) {
         if (newest === number) say_failure(fault);
     } finally {
         clearInterval(clock);
-        if (newest === number) show_busy(false, begun);
+        if (newest === number) {
+            show_busy(false, begun);
+            engine.rest();
+        }
     }
 }
 
-const ask = (words, input) => engine.ask(words, input);
+const ask = (words, input, is_description) => engine.ask(words, input, is_description);
 
 // ---- refusals
 
@@ -163,17 +166,17 @@ function download(text, name, type = 'text/plain') {
     setTimeout(() => URL.revokeObjectURL(link.href), 60000);
 }
 
-/** Offers what an answer can be saved as. `text` is its text; `tables` may make {csv, json} of it. */
-function offer_files(words, input, text, tables) {
+/** Offers what an answer can be saved as. `outcome` has its text, or is null; `tables` may make {csv, json} of it. */
+function offer_files(words, input, outcome, tables) {
     const name = name_of_files(words, input), script = python_script(words[0], newest_asked.options, newest_asked.reads, input, about.version);
     const file = (make_text, ending, type) => make_text && (() => download(make_text(), `${name}.${ending}`, type));
     const offered = {
-        copy: text && (() => copy(text)), download: text && file(() => text, 'txt'), csv: file(tables.csv, 'csv', 'text/csv'),
+        copy: outcome && (() => copy(outcome.text)), download: outcome && file(() => outcome.bytes, 'txt'), csv: file(tables.csv, 'csv', 'text/csv'),
         json: file(tables.json, 'json', 'application/json'), script: tables.is_several ? null : file(() => script, 'py'),
     };
     for (const [id, act] of Object.entries(offered)) Object.assign(by_id(id), {hidden: !act, onclick: act || null});
-    by_id('text').hidden = !text;
-    by_id('raw').textContent = text ? shortened(text) : '';
+    by_id('text').hidden = !outcome;
+    by_id('raw').textContent = outcome ? shortened_bytes(outcome.bytes) : '';
 }
 
 /** Offers the sentences for a paper. `cited` is what `citation` takes. */
@@ -230,8 +233,8 @@ function tables_of(list, words, input) {
 async function answer_command(words, {input}) {
     const outcome = await ask(words, input);
     if (outcome.status !== 0) return say_refusal(outcome, words, input);
-    const {parts, list} = await view_of(outcome.text, words, context_of(input));
-    offer_files(words, input, outcome.text, tables_of(list, words, input));
+    const {parts, list} = await view_of(outcome, words, context_of(input));
+    offer_files(words, input, outcome.bytes.length ? outcome : null, tables_of(list, words, input));
     offer_citation({words, input});
     show(parts);
     say(`Answered in ${spent(outcome.milliseconds)}.`);
@@ -243,7 +246,7 @@ async function answer_efficiency(words, {input}) {
     const begun = performance.now();
     const verdict = await zero_efficiency(ask, input, (done, all) => say(`Described ${done} of ${plural(all, 'surface')}.`));
     if (verdict.outcome) return say_refusal(verdict.outcome, words, input);
-    offer_files(words, input, '', {});
+    offer_files(words, input, null, {});
     offer_citation({words, input, verdict});
     show(efficiency_view(verdict, context_of(input)));
     say(`Answered in ${spent(performance.now() - begun)}.`);
@@ -253,7 +256,7 @@ async function answer_efficiency(words, {input}) {
 /** Asks the question about each of several triangulations. */
 async function answer_several(words, {input, tables}) {
     const begun = performance.now(), list = new SeveralList({tables, words, context: context_of(input)});
-    offer_files(words, input, '', {csv: () => rows_as_csv(list.rows()), is_several: true});
+    offer_files(words, input, null, {csv: () => rows_as_csv(list.rows()), is_several: true});
     offer_citation({words, input, tables});
     show(list.elements());
     await list.describe_rest();

@@ -1,12 +1,12 @@
 // Questions that take several calls of the engine: lists described in parts, and whether a triangulation is 0-efficient.
-import {first_table, read_descriptions, vector_lines, read_info} from './texts.js';
+import {VectorLines, first_table, read_info} from './texts.js';
 
 const MOST_SURFACES = 500; // described at a time
 const MOST_BYTES = 350000; // of their vectors: a lift may make these 7/3 as long, and an input has at most 1 MiB
 
 /** How many of the vectors from `from` on are described at a time; 0 if all before `from` are all. */
 export function part_length(lines, from) {
-    const fitting = Math.floor(MOST_BYTES / ((lines[from]?.length ?? 0) + 1));
+    const fitting = Math.floor(MOST_BYTES / ((lines.size_of(from) || 0) + 1));
     return Math.min(lines.length - from, MOST_SURFACES, Math.max(1, fitting));
 }
 
@@ -22,9 +22,9 @@ const reason = (why) => (why.startsWith('no-lift') ? `spun-normal at vertex ${wh
 async function ask_about(ask, table, lines, coordinates) {
     const words = coordinates === 'octagon' ? ['describe', '--coords', 'octagon'] : ['describe'];
     const text = `${table}${lines.join('\n')}\n`;
-    if (coordinates !== 'quad') return ask(words, text);
+    if (coordinates !== 'quad') return ask(words, text, true);
     const lifted = await ask(['lift'], text);
-    return lifted.status === 0 ? ask(words, `${table}${lifted.text}`) : lifted;
+    return lifted.status === 0 ? ask(words, `${table}${lifted.text}`, true) : lifted;
 }
 
 /**
@@ -35,9 +35,9 @@ export async function described(ask, input, lines, coordinates) {
     const table = first_table(input), surfaces = new Array(lines.length);
     let left = lines.map((line, place) => ({line, place}));
     while (left.length) {
-        const {status, text} = await ask_about(ask, table, left.map(({line}) => line), coordinates);
+        const outcome = await ask_about(ask, table, left.map(({line}) => line), coordinates), {status, text} = outcome;
         const refused = status === 0 ? null : refused_vector(text);
-        if (status === 0) read_descriptions(text).forEach((surface, number) => { surfaces[left[number].place] = surface; });
+        if (status === 0) outcome.surfaces.forEach((surface, number) => { surfaces[left[number].place] = surface; });
         else if (!refused) left.forEach(({place}) => { surfaces[place] = {why: text.replace(/^refused: /, '').trim() || 'out of memory'}; });
         if (!refused) break;
         surfaces[left[refused.index].place] = {why: reason(refused.why)};
@@ -59,13 +59,13 @@ export async function zero_efficiency(ask, input, progress) {
     if (numbers.status !== 0) return {outcome: numbers};
     const list = await ask(['surfaces'], input);
     if (list.status !== 0) return {outcome: list};
-    const lines = vector_lines(list.text), info = read_info(numbers.text);
+    const lines = new VectorLines(list.bytes), info = read_info(numbers.text);
     for (let from = 0; from < lines.length;) {
         const length = part_length(lines, from), part = await described(ask, input, lines.slice(from, from + length), 'standard');
         const refused = part.find((surface) => surface.why);
         if (refused) return {outcome: {status: 4, text: `refused: ${refused.why}\n`}};
         const place = part.findIndex(is_contrary);
-        if (place >= 0) return {info, count: lines.length, contrary: {...part[place], index: from + place}};
+        if (place >= 0) return {info, count: lines.length, contrary: {...part[place], index: from + place, line: lines.at(from + place)}};
         from += length;
         progress(from, lines.length);
     }

@@ -38,15 +38,15 @@ function facts_of(surface) {
     };
 }
 
-/** The columns of the table. A record is {index, line, about}. */
-function columns_of(coordinates) {
+/** The columns of the table. A record is {index, about}; its vector is in the lines. */
+function columns_of(coordinates, lines) {
     const by = (property, last = LAST) => ({about}) => (about[property] === '' ? last : about[property]);
     return [
         {name: '#', is_number: true, key: ({index}) => index}, {name: 'surface', key: by('order'), type: 'name'}, {name: '', label: 'what can be done', type: 'draw'},
         {name: 'χ', is_number: true, key: by('euler'), word: 'Euler characteristic'}, {name: 'sides', key: by('sides', ''), word: 'sides'},
         {name: 'orientable', key: by('orientable', ''), word: 'orientable'}, {name: 'union of vertex links', key: by('linking', ''), word: 'vertex linking'},
         {name: 'boundary', key: by('boundary', ''), word: 'boundary'}, {name: 'components', is_number: true, key: by('components'), word: 'component'},
-        {name: DISCS[coordinates], key: ({line}) => line, word: 'vector'},
+        {name: DISCS[coordinates], key: ({index}) => lines.at(index), word: 'vector'},
     ];
 }
 
@@ -90,10 +90,10 @@ class Filter {
 
 /** A list of surfaces. */
 export class SurfaceList {
-    /** lines: vectors; noun: what one of them is; context: as `view_of` has it */
+    /** lines: vectors, as VectorLines; noun: what one of them is; context: as `view_of` has it */
     constructor({lines, coordinates, noun, context}) {
         Object.assign(this, {lines, coordinates, noun, context, done: 0, counts: new Map(), known: new Map()});
-        this.table = new LongTable('Surfaces', columns_of(coordinates), (record) => this.cells(record));
+        this.table = new LongTable('Surfaces', columns_of(coordinates, lines), (record) => this.cells(record));
         this.filter = new Filter(() => this.show_filtered());
         this.tally = make('p', {id: 'tally'});
         this.progress = make('progress', {max: lines.length, value: 0, ariaLabel: 'Surfaces described'});
@@ -106,7 +106,7 @@ export class SurfaceList {
     async describe_next() {
         const from = this.done, length = part_length(this.lines, from), part = this.lines.slice(from, from + length);
         const surfaces = await described(this.context.ask, this.context.input, part, this.coordinates);
-        const records = surfaces.map((surface, number) => ({index: from + number, line: part[number], about: this.about(surface)}));
+        const records = surfaces.map((surface, number) => ({index: from + number, about: this.about(surface)}));
         for (const {about} of records) this.counts.set(about.name, (this.counts.get(about.name) ?? 0) + 1);
         this.done += length;
         this.table.add(records);
@@ -139,7 +139,7 @@ export class SurfaceList {
     }
 
     cells(record) {
-        const {index, line, about} = record, {name, euler, sides, orientable, linking, boundary, components} = about;
+        const {index, about} = record, line = this.lines.at(index), {name, euler, sides, orientable, linking, boundary, components} = about;
         const title = `Surface ${index}: ${name}`, actions = () => actions_on(line, this.coordinates, this.context);
         const draw = make('button', {type: 'button', ariaLabel: `Draw ${title}`, onclick: () => this.draw(record, title)}, 'Draw');
         const more = make('button', {type: 'button', ariaLabel: `More for ${title}`, ariaHasPopup: 'menu', onclick: () => this.context.offer(more, actions())}, '⋯');
@@ -147,7 +147,7 @@ export class SurfaceList {
     }
 
     draw(record, title) {
-        const section = surface_picture(record.line, this.coordinates, title, this.context);
+        const section = surface_picture(this.lines.at(record.index), this.coordinates, title, this.context);
         this.drawing.replaceChildren(section);
         this.table.choose(record);
         section.focus();
@@ -164,8 +164,8 @@ export class SurfaceList {
         this.filter.say(this.table.shown.length, this.done);
     }
 
-    /** The surfaces that are shown, in their order. */
-    get records() { return this.table.shown; }
+    /** The surfaces that are shown, in their order, as {index, about, line}. */
+    get records() { return this.table.shown.map((record) => ({...record, line: this.lines.at(record.index)})); }
 
     elements() {
         this.say();

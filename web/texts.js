@@ -61,18 +61,51 @@ export function read_table(text) {
     return {size: rows.length, pairs, boundary};
 }
 
-/** The vectors of an answer of `surfaces` or `rays`, as its lines. */
-export const vector_lines = (text) => lines_of(text).filter((line) => line.startsWith('vec'));
+const LINE_FEED = 10;
+const is_vector = (bytes, at) => bytes[at] === 0x76 && bytes[at + 1] === 0x65 && bytes[at + 2] === 0x63; // `vec`
+
+/** The vectors of an answer as its lines. They are kept as its bytes alone, since a list can have a hundred thousand of them. */
+export class VectorLines {
+    /** bytes: those of the answer */
+    constructor(bytes) {
+        const starts = [], ends = [];
+        for (let at = 0, end; at < bytes.length; at = end + 1) {
+            end = bytes.indexOf(LINE_FEED, at);
+            if (end < 0) end = bytes.length;
+            if (!is_vector(bytes, at)) continue;
+            starts.push(at);
+            ends.push(end);
+        }
+        Object.assign(this, {bytes, starts: Uint32Array.from(starts), ends: Uint32Array.from(ends), length: starts.length});
+    }
+
+    /** The line of an index. */
+    at(index) {
+        return new TextDecoder().decode(this.bytes.subarray(this.starts[index], this.ends[index]));
+    }
+
+    /** How many bytes the line of an index has. */
+    size_of(index) {
+        return this.ends[index] - this.starts[index];
+    }
+
+    /** The lines from an index to another one. */
+    slice(from, to) {
+        return Array.from({length: to - from}, (_, number) => this.at(from + number));
+    }
+}
 
 /** The entries of a line `vec ..`, as words: they may exceed what a number of JavaScript can hold. */
 export const entries_of = (line) => line.split(' ').slice(1);
 
-/** The surfaces of an answer of `describe`. */
+const MOST_FACTS = 8; // words before the vector of a line
+
+/** What an answer of `describe` says of its surfaces, without their vectors. */
 export function read_descriptions(text) {
     const surfaces = [];
     for (const line of lines_of(text)) {
-        const words = line.split(' '), last = surfaces.at(-1);
-        if (words[0] === 'vec') surfaces.push({line, components: []});
+        const words = line.split(' ', MOST_FACTS), last = surfaces.at(-1);
+        if (words[0] === 'vec') surfaces.push({components: []});
         else if (words[0] === 'euler') Object.assign(last, {euler: Number(words[1]), linking: is_yes(words[3]), boundary: is_yes(words[5])});
         else if (words[0] === 'component') last.components.push({euler: Number(words[2]), sides: words[4], orientable: is_yes(words[6])});
     }

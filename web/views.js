@@ -4,10 +4,13 @@ import {invalid_sentence, is_of_jaco_and_rubinstein, kind_of, kind_sentence, mea
 import {action_buttons, surface_picture, triangulation_in} from './next.js';
 import {about_small, about_table, face_pairing_graph} from './pictures.js';
 import {SurfaceList} from './surface_list.js';
-import {coordinates_of, name_of, plural, read_info, read_table, vector_lines} from './texts.js';
+import {VectorLines, coordinates_of, name_of, plural, read_info, read_table} from './texts.js';
 import {explained} from './words.js';
 
 const MOST_SHOWN = 200000; // characters of a text
+
+/** The text of an answer, given as bytes, as far as a page can show it. */
+export const shortened_bytes = (bytes) => shortened(new TextDecoder().decode(bytes.subarray(0, MOST_SHOWN + 1)));
 
 /** A text as far as a page can show it. */
 export const shortened = (text) => (text.length > MOST_SHOWN ? `${text.slice(0, MOST_SHOWN)}\n… (shortened; copy or download the whole text)` : text);
@@ -68,10 +71,10 @@ async function list_view(lines, coordinates, noun, context) {
  * words: the question's; context: {input, options, ask, busy, discs, follow, use, copy, offer, save_picture}, the input and the
  * options, the ways to ask more, how discs are drawn, and what buttons do
  */
-export async function view_of(text, words, context) {
-    if (words[0] === 'surfaces') return list_view(vector_lines(text), coordinates_of(words), 'vertex normal surface', context);
-    if (words[0] === 'describe') return list_view(vector_lines(text), coordinates_of(words), 'surface', context);
-    return {parts: words[0] === 'info' ? info_view(text) : text_view(text, words[0], context), list: null};
+export async function view_of(outcome, words, context) {
+    const noun = {surfaces: 'vertex normal surface', describe: 'surface'}[words[0]];
+    if (noun) return list_view(new VectorLines(outcome.bytes), coordinates_of(words), noun, context);
+    return {parts: words[0] === 'info' ? info_view(outcome.text) : text_view(outcome.text, words[0], context), list: null};
 }
 
 // ---- 0-efficiency
