@@ -160,6 +160,24 @@ class Dask(Engines):
         self.assertIn("if it is started again with the same arguments, it resumes", said)
         self.assertEqual([line for line in self.lines() if "failed" in line], [])
 
+    def test_a_scheduler_that_stops_for_a_while(self):
+        """It is connected, but says nothing. After a minute there is a line, here sooner; when it goes on, so does the census."""
+        self.put(*(f"slow{number}" for number in range(200)))
+        soon = os.path.join(self.folder, "soon.py")
+        with open(soon, "w", encoding="utf8") as file:
+            file.write("import sys\nfrom trinorm import __main__, executors\nexecutors.LOOK = 0.2\nsys.exit(__main__.main(sys.argv[1:]))\n")
+        run = self.start([self.python, soon, *self.census()[3:]])
+        self.until(lambda: len(self.lines()) > 5)
+        os.kill(self.scheduler.pid, signal.SIGSTOP)
+        for line in run.stderr:
+            if "no result for a minute: the executor does not answer. The run waits for it" in line:
+                break
+        os.kill(self.scheduler.pid, signal.SIGCONT)
+        said = run.communicate(timeout=180)[1]
+        self.assertEqual(run.returncode, 0, said)
+        self.assertIn("200 answered, 0 refused, 0 failed", said)
+        self.assert_each_once(200)
+
     def test_no_scheduler(self):
         self.put("s")
         status, said = self.run_all([*self.words(self.python, "-m"), "--dask", "nonsense://"])

@@ -165,11 +165,23 @@ class Watched:
     def __init__(self, idle, workers=1):
         self.idle, self.count = idle, workers
 
-    def workers(self):
-        return self.count
+    def look(self):
+        return executors.Seen(self.count, self.idle)
 
-    def is_idle(self):
-        return self.idle
+
+class Stopped:
+    """A client of a Dask scheduler that answers nothing until it goes on."""
+
+    def __init__(self):
+        self.goes_on, self.asked = threading.Event(), 0
+
+    def nthreads(self):
+        self.asked += 1
+        self.goes_on.wait(60)
+        return {"tcp://a": 1, "tcp://b": 1}
+
+    def processing(self):
+        return {"tcp://a": ["run-1"], "tcp://b": []}
 
 
 class GivesUp(Made):
@@ -268,6 +280,25 @@ class Handing(Programs):
             time.sleep(0.1)
             self.assertEqual([silence.is_too_long() for _ in range(3)], [False] * 3)
         self.assertEqual(said.getvalue().count("has no worker"), 1)
+
+    def test_a_scheduler_that_says_nothing_is_named(self):
+        """It is asked once, and its answer counts when it comes after all."""
+        client, said = Stopped(), io.StringIO()
+        with unittest.mock.patch.multiple(executors, LOOK=0.01), contextlib.redirect_stderr(said):
+            watch = executors.DaskWatch(client)
+            silence = executors.Silence(watch)
+            time.sleep(0.1)
+            self.assertEqual([silence.is_too_long() for _ in range(5)], [False] * 5)
+        self.assertEqual(said.getvalue().count("no result for a minute: the executor does not answer"), 1)
+        self.assertEqual(client.asked, 1)
+        client.goes_on.set()
+        self.assertEqual([watch.look(), watch.look(), client.asked], [executors.Seen(2, False), executors.Seen(2, False), 2])
+
+    def test_a_scheduler_that_can_not_be_asked(self):
+        class Gone:
+            def nthreads(self):
+                raise OSError("Timed out")
+        self.assertIsNone(executors.DaskWatch(Gone()).look())
 
     def test_an_executor_of_which_nothing_is_known_is_waited_for(self):
         """With a line; what it has in hand is not asked anew."""

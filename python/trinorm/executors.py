@@ -13,6 +13,7 @@ import os
 import queue
 import shutil
 import sys
+import threading
 import time
 from concurrent.futures import BrokenExecutor, CancelledError, Executor, Future
 from typing import Any, Deque, Dict, Iterable, Iterator, List, NamedTuple, Optional, Protocol, Tuple
@@ -32,16 +33,19 @@ PARTS = 64
 LOOK, IDLE_LOOKS, SILENCE = 10.0, 3, 600.0
 
 
+class Seen(NamedTuple):
+    """How many workers an engine has, and whether none of them has anything to do."""
+    workers: int
+    is_idle: bool
+
+
 class Watch(Protocol):
     """What is known of an engine that may lose what it was asked."""
 
     loses: bool  # whether what it has in hand may be asked anew
 
-    def workers(self) -> int:
-        """How many workers it has."""
-
-    def is_idle(self) -> bool:
-        """Whether no worker has anything to do."""
+    def look(self) -> Optional[Seen]:
+        """What it says of its workers; None if it says nothing soon."""
 
 
 class Done(NamedTuple):
@@ -128,13 +132,11 @@ class Silence:
         """Looks at the engine. True if all that it has in hand is to be asked anew."""
         if self._watch is None:
             return False
-        if self._watch.workers() == 0:
-            self._say("the executor has no worker. The run resumes when a worker connects")
+        seen = self._watch.look()
+        if seen is None or seen.workers == 0 or not self._watch.loses:
+            self._say(_what_is_waited_for(seen))
             return False
-        if not self._watch.loses:
-            self._say("the executor has not stopped. The run waits for it")
-            return False
-        self._idle_looks = self._idle_looks + 1 if self._watch.is_idle() else 0
+        self._idle_looks = self._idle_looks + 1 if seen.is_idle else 0
         is_late = time.monotonic() - self._begun > self._longest
         if not is_late and self._idle_looks < IDLE_LOOKS:
             return False
@@ -147,6 +149,15 @@ class Silence:
         if not self._has_said and time.monotonic() - self._begun >= 6 * LOOK:
             print(f"trinorm: no result for a minute: {what}", file=sys.stderr, flush=True)
             self._has_said = True
+
+
+def _what_is_waited_for(seen: Optional[Seen]) -> str:
+    """What a user is told of an engine that is not asked anew."""
+    if seen is None:
+        return "the executor does not answer. The run waits for it"
+    if seen.workers == 0:
+        return "the executor has no worker. The run resumes when a worker connects"
+    return "the executor has not stopped. The run waits for it"
 
 
 class Handfuls:
@@ -306,36 +317,40 @@ class Unknown:
 
     loses = False
 
-    def workers(self) -> int:
-        """How many workers it has, which it doesn't say."""
-        return 1
-
-    def is_idle(self) -> bool:
-        """Whether no worker has anything to do, which it doesn't say."""
-        return False
+    def look(self) -> Seen:
+        """That it works, since it doesn't say."""
+        return Seen(1, False)
 
 
 class DaskWatch:
-    """What the scheduler of a Dask client says."""
+    """What the scheduler of a Dask client says. The client asks it in a thread, since it waits for ever if the scheduler was
+    stopped but is still connected."""
 
     loses = True
 
     def __init__(self, client: Any) -> None:
-        self._client = client
+        self._client, self._is_asked = client, False
+        self._came: "queue.SimpleQueue[Optional[Seen]]" = queue.SimpleQueue()
 
-    def workers(self) -> int:
-        """How many workers it has; 1 if the scheduler doesn't answer, of which the client tells by itself."""
+    def look(self) -> Optional[Seen]:
+        """How many workers it has, and whether all are idle, as they are if it forgot all after a worker died. Of a scheduler that
+        is gone the client tells by itself."""
+        if not self._is_asked:
+            threading.Thread(target=self._ask, daemon=True).start()
+        self._is_asked = True
         try:
-            return len(self._client.nthreads())
-        except Exception:  # pylint: disable=broad-except
-            return 1
+            seen = self._came.get(timeout=LOOK)
+        except queue.Empty:
+            return None
+        self._is_asked = False
+        return seen
 
-    def is_idle(self) -> bool:
-        """Whether no worker has anything to do. That is so where the scheduler forgot all after a worker died."""
+    def _ask(self) -> None:
         try:
-            return self.workers() > 0 and not any(self._client.processing().values())
+            workers = len(self._client.nthreads())
+            self._came.put(Seen(workers, not any(self._client.processing().values())))
         except Exception:  # pylint: disable=broad-except
-            return False
+            self._came.put(None)
 
 
 @contextlib.contextmanager
