@@ -23,3 +23,4 @@ pub mod StepLemmas
 pub mod ViewLemmas
 pub mod FoundLemmas
 pub mod FreeLemmas
+pub mod AdjacentLemmas

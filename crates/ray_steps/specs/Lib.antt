@@ -10,3 +10,4 @@ pub mod Next
 pub mod Appended
 pub mod Partners
 pub mod Steps
+pub mod Adjacent

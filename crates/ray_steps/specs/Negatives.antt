@@ -3,11 +3,10 @@ use Rattle.std.specs.Prelude.{◌≡◌, ℕ, ◌<◌, ◌≤◌, ◌⊎◌, ◌
 use Rattle.support_bits.specs.Columns.{Meets}
 use Rattle.support_table.specs.Counts.{columns_in_either}
 use Rattle.ray_steps.specs.declared.negatives.Negatives.{Negatives}
-use Rattle.ray_steps.specs.declared.search.AllRays.{AllRays}
 use Rattle.ray_steps.specs.declared.signs.Sign.{Sign}
 use Rattle.ray_steps.specs.declared.signs.Sign.TheVariants.{Zero}
 use Rattle.ray_steps.specs.Signs.{AreNegativePlaces, IsNegative}
-use Rattle.ray_steps.specs.Rivals.{HasSupportsOf, HasAllSupports}
+use Rattle.ray_steps.specs.Rivals.{HasSupportsOf}
 
 -- the indices of all negative rays, ascending, with their supports
 pub record AreNegatives (rays : List (List ℕ)) (signs : List Sign) (columns : ℕ) (negatives : Negatives) : Type 0 where
@@ -18,11 +17,6 @@ pub record AreNegatives (rays : List (List ℕ)) (signs : List Sign) (columns : 
 pub record TellNegatives (signs : List Sign) (n : ℕ) (flags : List Bool) : Type 0 where
   pub count : length flags ≡ n
   pub each : (k : ℕ) → k < n → IsNegative (slice_index_or signs k Zero) ↔ (slice_index_or flags k false ≡ true)
-
--- the supports of all rays, and which are negative
-pub record AreAllRays (rays : List (List ℕ)) (signs : List Sign) (columns : ℕ) (all : AllRays) : Type 0 where
-  pub supports : HasAllSupports rays columns all.table
-  pub negative : TellNegatives signs (length signs) all.negative.items
 
 -- the support contains a joined column, or its union with a has more than `most` columns
 abbrev pub IsRuledOut : List Bool → List Bool → ℕ → List Bool → Type 0

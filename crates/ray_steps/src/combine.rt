@@ -2,7 +2,8 @@
 
 ghost use Rattle.std.specs.Prelude.{◌+◌, ◌<◌, length, IfOk, IfErr, IfSome, OnOk};
 ghost use Rattle.ray_steps.specs.Faults.{IfLarge};
-ghost use Rattle.ray_steps.specs.Negatives.{AreAllRays, AreNegatives};
+ghost use Rattle.ray_steps.specs.Adjacent.{AreAdjacentLists, AreAdjacentPlaces};
+ghost use Rattle.ray_steps.specs.Negatives.{AreNegatives};
 ghost use Rattle.ray_steps.specs.Steps.{AreMadeBelow, AreMadeTo, AreMadeOf, IsAdjacentIfAdmissible, IsFirstLargeOf};
 
 use crate::combinations::CombinationsSoFar;
@@ -12,13 +13,11 @@ use crate::negatives::{NegativeSearch, Negatives, first_not_excluded, negatives_
 use crate::pairs::{SignedPair, combine_pair};
 use crate::ray_list::RayList;
 use crate::rays::{RayWithSupport, StepFault};
-use crate::search::AllRays;
 use crate::signs::Sign;
 use crate::step::Step;
-use crate::thirds::is_single;
 use crate::turned::has_positive;
 use std::alloc::Global;
-use support_table::minimal_places;
+use support_table::Found;
 
 impl<'a, 'b, C: Compatible> FoundPair<'a, 'b, C> {
     /// Appends the combination of the two rays, if they are positive and negative and the union of their supports
@@ -100,18 +99,17 @@ impl<'a, C: Compatible> Step<'a, C> {
         Ok(())
     }
 
-    /// Appends the combinations of ray `i`, if it is positive, with each adjacent negative ray, which are found by
-    /// minimal residuals: one pass over all rays for each positive ray. Fails with `Large` at the first pair of which an
-    /// entry exceeds the limit.
-    fn combine_minimal(
+    /// Appends the combinations of ray `i`, if it is positive, with the rays `places`, among which are all negative rays
+    /// adjacent to it. Fails with `Large` at the first pair of which an entry exceeds the limit.
+    fn combine_found(
         &self,
         alloc: Global,
         i: usize,
-        all: &AllRays,
+        places: &[usize],
         made: &mut Vec<RayWithSupport>,
     ) -> Result<(), StepFault>
         requires in_range { i < length self.now.rays }
-        requires all { AreAllRays self.now.rays self.now.signs self.now.columns all.now }
+        requires places { AreAdjacentPlaces self.now i places.now }
         requires made { AreMadeTo self.now i 0 made.old.items }
         ensures ok { OnOk result (AreMadeTo self.now (i + 1) 0 made.new.items) }
         ensures err { IfErr result (IfLarge (IsFirstLargeOf self.now)) }
@@ -119,19 +117,7 @@ impl<'a, C: Compatible> Step<'a, C> {
         let Sign::Positive(_) = self.signs[i] else {
             return Ok(());
         };
-        let clashes = self.clashes;
-        let u = &self.ray_list[i];
-        let joined = clashes.joined(alloc, &u.support)?;
-        let places = minimal_places(
-            alloc,
-            &all.table,
-            &all.negative,
-            &u.support,
-            &joined,
-            i,
-            self.most,
-        )?;
-        for place in &places {
+        for place in places {
             let pair = FoundPair {
                 step: self,
                 i,
@@ -142,41 +128,41 @@ impl<'a, C: Compatible> Step<'a, C> {
         Ok(())
     }
 
-    /// Appends the combinations of ray `i`: by residuals if `all` is given and the ray has more than one column,
-    /// otherwise by a search for third rays. Fails with `Large` at the first pair of which an entry exceeds the limit.
+    /// Appends the combinations of ray `i`: with the rays that `found` has for it, if there is such a list, otherwise by
+    /// a search for third rays. Fails with `Large` at the first pair of which an entry exceeds the limit.
     fn combine_one(
         &self,
         alloc: Global,
         i: usize,
         negatives: &Negatives,
-        all: &Option<AllRays>,
+        found: &Option<Vec<Found>>,
         made: &mut CombinationsSoFar,
     ) -> Result<(), StepFault>
         requires in_range { i < length self.now.rays }
         requires negatives { AreNegatives self.now.rays self.now.signs self.now.columns negatives.now }
-        requires all { IfSome all.now (AreAllRays self.now.rays self.now.signs self.now.columns) }
+        requires found { IfSome found.now (λ lists. AreAdjacentLists self.now lists.items) }
         requires made { AreMadeBelow self.now i made.old }
         ensures ok { OnOk result (AreMadeBelow self.now (i + 1) made.new) }
         ensures err { IfErr result (IfLarge (IsFirstLargeOf self.now)) }
     {
-        if let Some(rays) = all {
-            if !is_single(&self.ray_list[i].support) {
-                return self.combine_minimal(alloc, i, rays, &mut made.ray_list);
+        if let Some(lists) = found {
+            if let Some(places) = &lists[i].places {
+                return self.combine_found(alloc, i, places, &mut made.ray_list);
             }
         }
         self.combine_with(alloc, i, negatives, made)
     }
 
-    /// The combinations of all adjacent pairs, each once, by the negative rays `negatives` and, if they are to be used,
-    /// all rays `all`. Fails with `Large` at the first pair of which an entry exceeds the limit.
+    /// The combinations of all adjacent pairs, each once, by the negative rays `negatives` and the adjacent rays `found`,
+    /// if these were looked for. Fails with `Large` at the first pair of which an entry exceeds the limit.
     fn combine_each(
         &self,
         alloc: Global,
         negatives: &Negatives,
-        all: &Option<AllRays>,
+        found: &Option<Vec<Found>>,
     ) -> Result<Vec<RayWithSupport>, StepFault>
         requires negatives { AreNegatives self.now.rays self.now.signs self.now.columns negatives.now }
-        requires all { IfSome all.now (AreAllRays self.now.rays self.now.signs self.now.columns) }
+        requires found { IfSome found.now (λ lists. AreAdjacentLists self.now lists.items) }
         ensures ok { IfOk result (λ made. AreMadeOf self.now made.items) }
         ensures err { IfErr result (IfLarge (IsFirstLargeOf self.now)) }
     {
@@ -185,7 +171,7 @@ impl<'a, C: Compatible> Step<'a, C> {
             rivals: None,
         };
         for i in 0..self.ray_list.len() {
-            self.combine_one(alloc, i, negatives, all, &mut made)?;
+            self.combine_one(alloc, i, negatives, found, &mut made)?;
         }
         Ok(made.ray_list)
     }
@@ -207,7 +193,7 @@ impl<'a, C: Compatible> Step<'a, C> {
             items: &self.ray_list,
         };
         let negatives = negatives_of(alloc, rays, &self.signs)?;
-        let all = self.rays_if_large(alloc)?;
-        self.combine_each(alloc, &negatives, &all)
+        let found = self.adjacent_if_large(alloc)?;
+        self.combine_each(alloc, &negatives, &found)
     }
 }

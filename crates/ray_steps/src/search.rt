@@ -1,7 +1,8 @@
 //! The search for adjacent pairs: whether two rays have no third ray between them, and whether residuals are used.
 
 ghost use Rattle.std.specs.Prelude.{◌≡◌, ◌<◌, ◌↔◌, length, IsTrue, IfOk, IfSome, OnOk};
-ghost use Rattle.ray_steps.specs.Negatives.{AreAllRays};
+ghost use Rattle.std.specs.List.{All};
+ghost use Rattle.ray_steps.specs.Adjacent.{AreAdjacentLists, IsOuterOf, IsOuterAt};
 ghost use Rattle.ray_steps.specs.Rivals.{HaveCompatible};
 ghost use Rattle.ray_steps.specs.Signs.{IsAdjacentPair};
 ghost use Rattle.ray_steps.specs.Steps.{IsSearchAt};
@@ -11,23 +12,17 @@ use crate::compatible::Compatible;
 use crate::negatives::are_negative;
 use crate::ray_list::RayList;
 use crate::rivals::{CompatibleRays, all_supports, compatible_rays};
+use crate::signs::Sign;
 use crate::step::Step;
-use crate::thirds::{PairAmong, has_single, third_inside};
+use crate::thirds::{PairAmong, has_single, is_single, third_inside};
 use crate::turned::positive_count;
 use out_of_memory::NoMemory;
 use std::alloc::Global;
 use support_bits::Support;
-use support_table::RayTable;
+use support_table::{Found, Outer, PartSearch, RayTable, find_adjacent};
 
 /// Adjacent pairs are found by residuals only in steps with at least this many rays.
 const MANY_RAYS: usize = 1000;
-
-/// The supports of all rays, and for each ray whether it is negative.
-#[derive(Drop)]
-pub struct AllRays {
-    pub table: RayTable,
-    pub negative: Vec<bool>,
-}
 
 impl<'a, C: Compatible> Step<'a, C> {
     /// A search for the third rays of ray `i`, given compatible rays that an earlier search gathered.
@@ -125,9 +120,40 @@ impl<'a, C: Compatible> Step<'a, C> {
             && positive_count(&self.signs) >= clashes.columns() as usize
     }
 
-    /// All rays if `is_large` holds, and else `None`. Both ways find the same pairs.
-    pub(crate) fn rays_if_large(&self, alloc: Global) -> Result<Option<AllRays>, NoMemory>
-        ensures { IfOk result (λ all. IfSome all (AreAllRays self.now.rays self.now.signs self.now.columns)) }
+    /// Ray `i` with the columns that clash with it.
+    fn outer_at(&self, alloc: Global, i: usize) -> Result<Outer, NoMemory>
+        requires { i < length self.now.rays }
+        ensures { IfOk result (IsOuterAt self.now i) }
+    {
+        let clashes = self.clashes;
+        let u = &self.ray_list[i];
+        let support = u.support.copy(alloc)?;
+        let joined = clashes.joined(alloc, &u.support)?;
+        Ok(Outer {
+            place: i,
+            support,
+            joined,
+        })
+    }
+
+    /// The positive rays of more than one column. Which they are affects speed alone, so the contract does not say it.
+    fn outers(&self, alloc: Global) -> Result<Vec<Outer>, NoMemory>
+        ensures { IfOk result (λ outers. All (IsOuterOf self.now) outers.items) }
+    {
+        let mut outers = Vec::new(alloc);
+        for i in 0..self.ray_list.len() {
+            let kept = &self.ray_list[i];
+            if matches!(self.signs[i], Sign::Positive(_)) && !is_single(&kept.support) {
+                outers.push(self.outer_at(alloc, i)?)?;
+            }
+        }
+        Ok(outers)
+    }
+
+    /// For each positive ray of more than one column the negative rays adjacent to it, if `is_large` holds, and else
+    /// `None`. Both ways find the same pairs.
+    pub(crate) fn adjacent_if_large(&self, alloc: Global) -> Result<Option<Vec<Found>>, NoMemory>
+        ensures { IfOk result (λ found. IfSome found (λ lists. AreAdjacentLists self.now lists.items)) }
     {
         if !self.is_large() {
             return Ok(None);
@@ -136,13 +162,21 @@ impl<'a, C: Compatible> Step<'a, C> {
             return Ok(None);
         };
         let clashes = self.clashes;
-        let rays = RayList {
+        let ray_list = RayList {
             columns: clashes.columns(),
             items: &self.ray_list,
         };
-        let supports = all_supports(alloc, rays)?;
+        let supports = all_supports(alloc, ray_list)?;
         let table = RayTable::of(alloc, supports, count)?;
         let negative = are_negative(alloc, &self.signs)?;
-        Ok(Some(AllRays { table, negative }))
+        let outers = self.outers(alloc)?;
+        let search = PartSearch {
+            rays: &table,
+            wanted: &negative,
+            outers: &outers,
+            most: self.most,
+        };
+        let found = find_adjacent(alloc, search)?;
+        Ok(Some(found))
     }
 }

@@ -18,7 +18,7 @@ use Rattle.support_table.proofs.TableLemmas.{part_within, table_of, count_of, wo
 common_of : (m n i : ℕ) → m < 2 → n < 2 → min m n ≡ 1 → (m ≡ 1) × (n ≡ 1)
 common_of m n i p q e = (omega arith, omega arith)
 
-common_bits : (m n k i : ℕ) → k ≡ bit_and m n → bit_at k i ≡ 1 → (bit_at m i ≡ 1) × (bit_at n i ≡ 1)
+pub common_bits : (m n k i : ℕ) → k ≡ bit_and m n → bit_at k i ≡ 1 → (bit_at m i ≡ 1) × (bit_at n i ≡ 1)
 common_bits m n k i is one = common_of (bit_at m i) (bit_at n i) i (bit_at-lt m i) (bit_at-lt n i) (sym (bit_at_and m n i) ∙ ap (λ w. bit_at w i) (sym is) ∙ one)
 
 -- ---- a block is appended

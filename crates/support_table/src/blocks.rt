@@ -17,7 +17,7 @@ pub fn part(words: &[u64], start: usize, width: usize) -> &[u64]
 }
 
 /// Clears each bit of `blocks` that is not set in `words`, from the word with index `start` on.
-fn keep_common(blocks: &mut Vec<u64>, start: usize, words: &[u64])
+pub fn keep_common(blocks: &mut Vec<u64>, start: usize, words: &[u64])
     requires { start + length words.now ≤ length blocks.old.items }
     ensures { KeepsCommon start (length words.now) words.now blocks.old.items blocks.new.items }
 {

@@ -4,8 +4,9 @@ ghost use Rattle.std.specs.Prelude.{◌≡◌, ◌+◌, ◌<◌, ◌↔◌, fals
 ghost use Rattle.std.specs.List.{All};
 ghost use Rattle.support_table.specs.Counts.{columns_in_either};
 ghost use Rattle.support_table.specs.Groups.{IsWantedAlone, AreWantedAlone};
+ghost use Rattle.support_table.specs.Parts.{AreNear};
 ghost use Rattle.support_table.specs.Residuals.{AreMinimalOf};
-ghost use Rattle.support_table.specs.Rivals.{AreCandidates, AreFound};
+ghost use Rattle.support_table.specs.Rivals.{AreCandidates, AreFound, AreRivals};
 
 use crate::counts::union_count;
 use crate::groups::{in_groups, ranges_of};
@@ -14,7 +15,7 @@ use crate::marks::{marks_of, unhit};
 use crate::others::has_other;
 use crate::outer::OuterRay;
 use crate::ray_table::RayTable;
-use crate::rivals::{Candidate, rivals_of};
+use crate::rivals::{Candidate, rivals_among, rivals_of};
 use out_of_memory::NoMemory;
 use std::alloc::Global;
 use support_bits::Support;
@@ -27,23 +28,28 @@ fn single_size(outer: &Support) -> u64
     union_count(outer.words(), outer.words()) + 1
 }
 
-/// Candidates for adjacency to `outer`, among which are all that have a minimal residual.
-fn candidates(alloc: Global, outer: OuterRay) -> Result<Vec<Candidate>, NoMemory>
+/// Those of `rivals`, all candidates for adjacency to `outer`, that no marked column rules out: among them are all that
+/// have a minimal residual.
+fn candidates(
+    alloc: Global,
+    outer: OuterRay,
+    rivals: &[Candidate],
+) -> Result<Vec<Candidate>, NoMemory>
+    requires { AreRivals outer.rays.now.supports outer.support.now outer.joined.now outer.own outer.most (length outer.rays.now.supports) rivals.now }
     ensures { IfOk result (λ candidates. AreCandidates outer.entry.rays.now.supports outer.entry.support.now outer.entry.joined.now outer.entry.own outer.entry.most candidates.items) }
 {
-    let rivals = rivals_of(alloc, outer)?;
     let rays = outer.rays;
     let table = rays.table();
     let single = single_size(outer.support);
     let found = FoundCandidates {
         table,
         outer: outer.support,
-        list: &rivals,
+        list: rivals,
     };
     let marks = marks_of(alloc, found, single)?;
     let marked = MarkedCandidates {
         table,
-        list: &rivals,
+        list: rivals,
         marks: &marks,
         single,
     };
@@ -93,6 +99,60 @@ fn has_wanted(list: &[Candidate], wanted: &[bool]) -> bool
     false
 }
 
+/// The indices, ascending, of those of `rivals`, all candidates for adjacency to `ray`, that are `true` in `wanted` and
+/// whose residual contains that of no other.
+fn minimal_of(
+    alloc: Global,
+    ray: OuterRay,
+    wanted: &[bool],
+    rivals: &[Candidate],
+) -> Result<Vec<usize>, NoMemory>
+    requires wanted { length wanted.now ≡ length ray.rays.now.supports }
+    requires rivals { AreRivals ray.rays.now.supports ray.support.now ray.joined.now ray.own ray.most (length ray.rays.now.supports) rivals.now }
+    ensures { IfOk result (λ places. AreMinimalOf ray.entry.rays.now.supports ray.entry.support.now ray.entry.joined.now ray.entry.own ray.entry.most wanted.now places.items) }
+{
+    let list = candidates(alloc, ray, rivals)?;
+    if !has_wanted(&list, wanted) {
+        return Ok(Vec::new(alloc));
+    }
+    let rays = ray.rays;
+    let outer = ray.support;
+    let table = rays.table();
+    let found = FoundCandidates {
+        table,
+        outer,
+        list: &list,
+    };
+    let by_group = in_groups(alloc, found)?;
+    let groups = GroupedList {
+        list: &by_group,
+        groups: table.columns() as usize + 1,
+    };
+    let ranges = ranges_of(alloc, groups)?;
+    let family = Family {
+        table,
+        outer,
+        list: &by_group,
+        ranges: &ranges,
+    };
+    wanted_alone(alloc, family, &list, wanted)
+}
+
+/// The same as `minimal_places` for `ray`, if among the rays `places` are all that contain none of `ray.joined`.
+pub fn minimal_among(
+    alloc: Global,
+    ray: OuterRay,
+    wanted: &[bool],
+    places: &[usize],
+) -> Result<Vec<usize>, NoMemory>
+    requires wanted { length wanted.now ≡ length ray.rays.now.supports }
+    requires near { AreNear ray.rays.now.supports ray.joined.now places.now }
+    ensures { IfOk result (λ places. AreMinimalOf ray.entry.rays.now.supports ray.entry.support.now ray.entry.joined.now ray.entry.own ray.entry.most wanted.now places.items) }
+{
+    let rivals = rivals_among(alloc, ray, places)?;
+    minimal_of(alloc, ray, wanted, &rivals)
+}
+
 /// The indices, ascending, of the candidates that are `true` in `wanted` and whose residual, their columns outside
 /// `outer`, contains that of no other candidate. Candidates are the rays other than the one with index `own` that
 /// contain none of the columns `joined`, which clash with a column of `outer`, and whose union with `outer` has at most
@@ -118,27 +178,6 @@ pub fn minimal_places(
         own,
         most,
     };
-    let list = candidates(alloc, ray)?;
-    if !has_wanted(&list, wanted) {
-        return Ok(Vec::new(alloc));
-    }
-    let table = rays.table();
-    let found = FoundCandidates {
-        table,
-        outer,
-        list: &list,
-    };
-    let by_group = in_groups(alloc, found)?;
-    let groups = GroupedList {
-        list: &by_group,
-        groups: table.columns() as usize + 1,
-    };
-    let ranges = ranges_of(alloc, groups)?;
-    let family = Family {
-        table,
-        outer,
-        list: &by_group,
-        ranges: &ranges,
-    };
-    wanted_alone(alloc, family, &list, wanted)
+    let rivals = rivals_of(alloc, ray)?;
+    minimal_of(alloc, ray, wanted, &rivals)
 }

@@ -1,4 +1,4 @@
-//! The ray whose adjacent rays are looked for.
+//! The rays whose adjacent rays are looked for.
 
 ghost use Rattle.std.specs.Prelude.{◌≡◌, length};
 
@@ -17,4 +17,12 @@ pub struct OuterRay<'a> {
     pub most: u64,
     pub ghost columns: { length support.now ≡ rays.now.columns },
     pub ghost joined_columns: { length joined.now ≡ rays.now.columns },
+}
+
+/// A ray whose adjacent rays are looked for: its index, its support, and the columns that clash with it.
+#[derive(Drop)]
+pub struct Outer {
+    pub place: usize,
+    pub support: Support,
+    pub joined: Support,
 }

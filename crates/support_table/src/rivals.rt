@@ -3,6 +3,7 @@
 ghost use Rattle.std.specs.Prelude.{◌≡◌, ℕ, ◌+◌, ◌<◌, ◌^◌, List, Bool, length, IfOk, OnOk};
 ghost use Rattle.std.specs.Int.{bit_at};
 ghost use Rattle.support_table.specs.Holders.{TellsMeeting};
+ghost use Rattle.support_table.specs.Parts.{AreNear};
 ghost use Rattle.support_table.specs.Rivals.{AreRivals, IsRivalPushed, AreRivalsPushed, NamesCandidates};
 ghost use Rattle.support_table.specs.Tables.{IsFarBlock};
 
@@ -95,6 +96,27 @@ pub fn rivals_of(alloc: Global, outer: OuterRay) -> Result<Vec<Candidate>, NoMem
     let mut rivals = Vec::new(alloc);
     for (k, word) in places.words().iter().enumerate() {
         push_rivals(outer, 64 * k, *word, &mut rivals)?;
+    }
+    Ok(rivals)
+}
+
+/// The candidates for adjacency to `outer`, by index. Only the rays `places` are tested, among which are all that
+/// contain none of `outer.joined`.
+pub fn rivals_among(
+    alloc: Global,
+    outer: OuterRay,
+    places: &[usize],
+) -> Result<Vec<Candidate>, NoMemory>
+    requires { AreNear outer.rays.now.supports outer.joined.now places.now }
+    ensures { IfOk result (λ rivals. AreRivals outer.entry.rays.now.supports outer.entry.support.now outer.entry.joined.now outer.entry.own outer.entry.most (length outer.entry.rays.now.supports) rivals.items) }
+{
+    let rays = outer.rays;
+    let table = rays.table();
+    let mut rivals = Vec::new(alloc);
+    for place in places {
+        if !table.meets(*place, outer.joined) {
+            push_rival(outer, *place, &mut rivals)?;
+        }
     }
     Ok(rivals)
 }

@@ -1,4 +1,4 @@
-use Rattle.std.proofs.Common.{subst, subst₂}
+use Rattle.std.proofs.Common.{subst}
 use Rattle.std.specs.Prelude.{IfOk}
 use Rattle.std.proofs.lemmas.Result.{IfOk-weaker}
 use Rattle.support_table.specs.Tables.{Table}
@@ -11,11 +11,10 @@ returns c =
     let outer = c.args.outer in
     let supports = outer.rays.now.supports in
     let single = c.single_size-single.result in
-    let rivals = c.in_ok-rivals.rivals.items in
+    let rivals = c.args.rivals.now in
     let marks = c.in_ok-marks.marks.items in
     IfOk-weaker c.unhit.result (λ left. AreUnhit supports marks single rivals left.items) (λ left. AreCandidates supports outer.support.now outer.joined.now outer.own outer.most left.items)
-    (λ left h. candidates_left supports outer.support.now outer.joined.now outer.own outer.most single rivals left.items marks c.in_ok-rivals.ensures
-    (subst (λ (t : Table). AreMarks t.supports outer.support.now single rivals marks) c.table-table.ensures
-    (subst (λ rs. AreMarks c.table-table.result.now.supports outer.support.now single rs marks) c.deref.ensures.value c.in_ok-marks.ensures)) h c.single_size-single.ensures)
+    (λ left h. candidates_left supports outer.support.now outer.joined.now outer.own outer.most single rivals left.items marks c.requires
+    (subst (λ (t : Table). AreMarks t.supports outer.support.now single rivals marks) c.table-table.ensures c.in_ok-marks.ensures) h c.single_size-single.ensures)
     (subst (λ (t : Table). IfOk c.unhit.result (λ left. AreUnhit t.supports marks single rivals left.items)) c.table-table.ensures
-    (subst₂ (λ ms rs. IfOk c.unhit.result (λ left. AreUnhit c.table-table.result.now.supports ms single rs left.items)) c.deref-3.ensures.value c.deref-2.ensures.value c.unhit.ensures))
+    (subst (λ ms. IfOk c.unhit.result (λ left. AreUnhit c.table-table.result.now.supports ms single rivals left.items)) c.deref.ensures.value c.unhit.ensures))

@@ -1,0 +1,249 @@
+-- Rays among which the rays adjacent to some outer rays are looked for.
+use Rattle.std.proofs.Common.{◌≡◌, ℕ, bit_and, ◌+◌, ◌-◌, ◌/◌, ◌%◌, ◌<◌, ◌≤◌, inl, inr, Bool, true, eqb, List, [], ◌∷◌, ◌++◌, Contains, length, length-append, get_or, set, length-set, get_or-set_same, get_or-set_other, refl, subst, sym, ap, ◌∙◌, arith}
+use Rattle.std.specs.Prelude.{None, IfSome}
+use Rattle.std.specs.List.{All}
+use Rattle.std.specs.Int.{bit_at}
+use Rattle.std.proofs.lemmas.Bool.{cases_eq, cases_lt, eq-eqb, false≢true}
+use Rattle.std.proofs.lemmas.List.{get_or_default, get_or_past, get_or_append_left, get_or-append-add}
+use Rattle.std.proofs.lemmas.Option.{IfSome_then}
+use Rattle.std.proofs.lemmas.List.Elements.{All-push, All-contains, Contains-push, Contains-append_left}
+use Rattle.std.proofs.lemmas.List.Quantifiers.{all_pairs_push}
+use Rattle.std.proofs.lemmas.Nat.Bits.{bit_at-zero}
+use Rattle.support_bits.specs.Columns.{HasColumn, Meets}
+use Rattle.support_bits.specs.Words.{bit_of, AreWordsOf}
+use Rattle.support_bits.proofs.WordLemmas.{is_one}
+use Rattle.support_table.specs.Blocks.{KeepsCommon}
+use Rattle.support_table.specs.Parts.{outer_at, AreAllBelow, AreNear, HasAllApart, IsPart, AreColumnsOf, AreCommonColumns, HasOneOf, AreLeft, IsFoundFor, AreFoundFor}
+use Rattle.support_table.specs.Residuals.{support_at, IsRival, AreMinimalOf}
+use Rattle.support_table.specs.Rivals.{AreRivals}
+use Rattle.support_table.specs.declared.outer.Outer.{Outer}
+use Rattle.support_table.specs.declared.parts.Found.{Found}
+use Rattle.support_table.specs.declared.rivals.Candidate.{Candidate}
+use Rattle.support_table.proofs.BlockLemmas.{common_bits}
+use Rattle.support_table.proofs.HolderLemmas.{rivals_past, rivals_all}
+use Rattle.support_table.proofs.RivalLemmas.{rival_skip}
+
+same_at : (places : List ℕ) (k m d e : ℕ) → k ≡ m → m < length places → get_or places k d ≡ get_or places m e
+same_at places k m d e is within = ap (λ j. get_or places j d) is ∙ get_or_default places m d e within
+
+-- ---- candidates among some rays
+
+-- the candidates among the first m of the rays
+pub record AreRivalsTo (supports : List (List Bool)) (outer joined : List Bool) (own most : ℕ) (places : List ℕ) (m : ℕ) (rivals : List Candidate) : Type 0 where
+  pub up_to : ℕ
+  pub before : (k d : ℕ) → k < m → k < length places → get_or places k d < up_to
+  pub after : (k d : ℕ) → m ≤ k → k < length places → up_to ≤ get_or places k d
+  pub so_far : AreRivals supports outer joined own most up_to rivals
+
+module _ (supports : List (List Bool)) (outer joined : List Bool) (own most : ℕ) (places : List ℕ) where
+  pub among_none : (rivals : List Candidate) → rivals ≡ [] → AreRivalsTo supports outer joined own most places 0 rivals
+  among_none rivals none = let empty : length rivals ≡ 0 = ap length none in record {
+    up_to = 0;
+    before = λ k d less. absurd (omega arith);
+    after = λ k d _ within. omega arith;
+    so_far = record {
+      each = λ k d within. absurd (omega (arith, empty));
+      below = λ k d within. absurd (omega (arith, empty));
+      ascending = λ k l d less within. absurd (omega (arith, empty));
+      complete = λ place less. absurd (omega arith);
+    };
+  }
+
+  module _ (near : AreNear supports joined places) where
+    -- a candidate from up_to on is one of the rays from m on
+    rival_from : (m : ℕ) (rivals : List Candidate) → (t : AreRivalsTo supports outer joined own most places m rivals) → (place : ℕ) → t.up_to ≤ place → IsRival supports outer joined own most place →
+        (k : ℕ) × (m ≤ k) × (k < length places) × (get_or places k place ≡ place)
+    rival_from m rivals t place from rival =
+        let c = near.complete place rival.in_range rival.apart in
+        elim (cases_lt c.0 m) [
+          | inl early ↦ let b = t.before c.0 place early c.1 in let e = c.2 in absurd (omega arith)
+          | inr late ↦ (c.0, omega arith, c.1, c.2)
+        ]
+
+    none_between : (m : ℕ) (rivals : List Candidate) → (t : AreRivalsTo supports outer joined own most places m rivals) → m < length places → (place : ℕ) → t.up_to ≤ place → place < get_or places m 0 → ¬ IsRival supports outer joined own most place
+    none_between m rivals t within place from less rival =
+        let c = rival_from m rivals t place from rival in
+        elim (cases_eq c.0 m) [
+          | inl e ↦ let same = same_at places c.0 m place 0 e within in let is = c.3 in omega arith
+          | inr other ↦ let low = c.1 in let b = near.ascending m c.0 0 (omega arith) c.2 in let same = get_or_default places c.0 place 0 c.2 in let is = c.3 in omega arith
+        ]
+
+    pub among_reach : (m : ℕ) (rivals : List Candidate) → AreRivalsTo supports outer joined own most places m rivals → m < length places → AreRivals supports outer joined own most (get_or places m 0) rivals
+    among_reach m rivals t within =
+        let low = t.after m 0 (omega arith) within in
+        subst (λ n. AreRivals supports outer joined own most n rivals) {x = t.up_to + (get_or places m 0 - t.up_to)} {y = get_or places m 0} (omega (arith, low))
+        (rivals_past supports outer joined own most t.up_to (get_or places m 0 - t.up_to) rivals (λ i less. none_between m rivals t within (t.up_to + i) (omega arith) (omega arith)) t.so_far)
+
+    pub among_next : (m : ℕ) (rivals : List Candidate) → m < length places → AreRivals supports outer joined own most (get_or places m 0 + 1) rivals → AreRivalsTo supports outer joined own most places (m + 1) rivals
+    among_next m rivals within h = record {
+      up_to = get_or places m 0 + 1;
+      before = λ k d less l. elim (cases_eq k m) [
+        | inl e ↦ let same = same_at places k m d 0 e within in omega arith
+        | inr other ↦ let b = near.ascending k m 0 (omega arith) within in let same = get_or_default places k d 0 l in omega arith
+      ];
+      after = λ k d more l. let b = near.ascending m k 0 (omega arith) l in let same = get_or_default places k d 0 l in omega arith;
+      so_far = h;
+    }
+
+    pub among_skip : (m : ℕ) (rivals : List Candidate) → AreRivalsTo supports outer joined own most places m rivals → m < length places → Meets (support_at supports (get_or places m 0)) joined →
+        AreRivalsTo supports outer joined own most places (m + 1) rivals
+    among_skip m rivals t within meets = among_next m rivals within (rival_skip supports outer joined own most (get_or places m 0) rivals (among_reach m rivals t within) (λ r. r.apart meets))
+
+    pub among_all : (m : ℕ) (rivals : List Candidate) → AreRivalsTo supports outer joined own most places m rivals → length places ≤ m → AreRivals supports outer joined own most (length supports) rivals
+    among_all m rivals t all = rivals_all supports outer joined own most (t.up_to + length supports) rivals (omega arith)
+        (rivals_past supports outer joined own most t.up_to (length supports) rivals
+        (λ i less rival. let c = rival_from m rivals t (t.up_to + i) (omega arith) rival in let low = c.1 in let l = c.2 in omega arith) t.so_far)
+
+-- ---- columns that several outer rays clash with
+
+kept_at : (words old new : List ℕ) (j : ℕ) → KeepsCommon 0 (length words) words old new → j < length words → get_or new j 0 ≡ bit_and (get_or old j 0) (get_or words j 0)
+kept_at words old new j keeps less = let e : 0 + j ≡ j = omega arith in subst (λ n. get_or new n 0 ≡ bit_and (get_or old n 0) (get_or words j 0)) e (keeps.kept j less)
+
+kept_bits : (words old new : List ℕ) → KeepsCommon 0 (length words) words old new → length words ≡ length old → (column : ℕ) → bit_of new column ≡ true → (bit_of old column ≡ true) × (bit_of words column ≡ true)
+kept_bits words old new keeps long column is =
+    let j = column / 64 in
+    let i = column % 64 in
+    elim (cases_lt j (length words)) [
+      | inl less ↦ let both = common_bits (get_or old j 0) (get_or words j 0) (get_or new j 0) i (kept_at words old new j keeps less) (is_one _ _ is) in (eq-eqb _ 1 both.0, eq-eqb _ 1 both.1)
+      | inr past ↦ let count = keeps.count in
+          let nothing : get_or new j 0 ≡ 0 = get_or_past new j 0 (omega (arith, count, long)) in
+          absurd (false≢true (sym (ap (λ m. eqb (bit_at m i) 1) nothing ∙ ap (λ m. eqb m 1) (bit_at-zero i)) ∙ is))
+    ]
+
+-- the columns that each of the first n chosen outer rays clashes with
+pub record AreCommonTo (outers : List Outer) (chosen : List ℕ) (n columns : ℕ) (words : List ℕ) : Type 0 where
+  pub count : length words ≡ (columns + 63) / 64
+  pub each : (i d : ℕ) → i < n → i < length chosen → AreColumnsOf (outer_at outers (get_or chosen i d)).joined words
+
+module _ (outers : List Outer) (chosen : List ℕ) (columns : ℕ) where
+  pub common_none : (words : List ℕ) → length words ≡ (columns + 63) / 64 → AreCommonTo outers chosen 0 columns words
+  common_none words count = record { count = count; each = λ i d less. absurd (omega arith) }
+
+  pub common_next : (n : ℕ) (old new words : List ℕ) (it : Outer) → AreCommonTo outers chosen n columns old → n < length chosen → outer_at outers (get_or chosen n 0) ≡ it → length it.joined ≡ columns → AreWordsOf it.joined words →
+      KeepsCommon 0 (length words) words old new → AreCommonTo outers chosen (n + 1) columns new
+  common_next n old new words it h within it_is wide of_words keeps =
+      let long : length words ≡ length old = of_words.count ∙ ap (λ c. (c + 63) / 64) wide ∙ sym h.count in record {
+        count = keeps.count ∙ h.count;
+        each = λ i d less l column is. let both = kept_bits words old new keeps long column is in elim (cases_lt i n) [
+          | inl early ↦ h.each i d early l column both.0
+          | inr last ↦ let e : i ≡ n = omega arith in
+              subst (λ (o : Outer). HasColumn o.joined column) (sym (ap (outer_at outers) (same_at chosen i n d 0 e within) ∙ it_is)) (sym (of_words.bits column) ∙ both.1)
+        ];
+      }
+
+-- ---- rays that contain none of some columns
+
+module _ (supports : List (List Bool)) (words places : List ℕ) where
+  pub left_none : (left : List ℕ) → left ≡ [] → AreLeft supports words places 0 left
+  left_none left none = let empty : length left ≡ 0 = ap length none in record {
+    from = λ k d within. absurd (omega (arith, empty));
+    ascending = λ _ k l d less within. absurd (omega (arith, empty));
+    complete = λ k d less. absurd (omega arith);
+  }
+
+  still_from : (n : ℕ) (left : List ℕ) → AreLeft supports words places n left → All (λ place. (k : ℕ) × (k < n + 1) × (k < length places) × ((d : ℕ) → get_or places k d ≡ place)) left
+  still_from n left h k d within = let s = h.from k d within in (s.0, omega (arith, s.1), s.2, s.3)
+
+  pub left_push : (n : ℕ) (left : List ℕ) → AreLeft supports words places n left → n < length places → (p : ℕ) → ((d : ℕ) → get_or places n d ≡ p) → AreLeft supports words places (n + 1) (left ++ p ∷ [])
+  left_push n left h within p is = record {
+    from = All-push (λ place. (k : ℕ) × (k < n + 1) × (k < length places) × ((d : ℕ) → get_or places k d ≡ place)) left p (still_from n left h) (n, omega arith, within, is);
+    ascending = λ up. all_pairs_push (λ one other. one < other) left p (h.ascending up)
+        (λ k d inside. let s = h.from k d inside in let b = up s.0 n 0 s.1 within in let one = s.3 0 in let other = is 0 in omega arith);
+    complete = λ k d less l none. elim (cases_lt k n) [
+      | inl old ↦ Contains-append_left left (p ∷ []) (get_or places k d) (h.complete k d old l none)
+      | inr last ↦ let e : k ≡ n = omega arith in subst (Contains (left ++ p ∷ [])) (sym (is d) ∙ ap (λ j. get_or places j d) (sym e)) (Contains-push left p)
+    ];
+  }
+
+  pub left_skip : (n : ℕ) (left : List ℕ) → AreLeft supports words places n left → (p : ℕ) → ((d : ℕ) → get_or places n d ≡ p) → HasOneOf (support_at supports p) words → AreLeft supports words places (n + 1) left
+  left_skip n left h p is has = record {
+    from = still_from n left h;
+    ascending = h.ascending;
+    complete = λ k d less l none. elim (cases_lt k n) [
+      | inl old ↦ h.complete k d old l none
+      | inr last ↦ let e : k ≡ n = omega arith in absurd (none (subst (λ q. HasOneOf (support_at supports q) words) (sym (is d) ∙ ap (λ j. get_or places j d) (sym e)) has))
+    ];
+  }
+
+-- ---- parts
+
+pub chosen_push : (chosen part : List ℕ) (n p : ℕ) → All (Contains chosen) part → n < length chosen → ((d : ℕ) → get_or chosen n d ≡ p) → All (Contains chosen) (part ++ p ∷ [])
+chosen_push chosen part n p h within is = All-push (Contains chosen) part p h (n, within, is p)
+
+module _ (supports : List (List Bool)) (outers : List Outer) where
+  -- some of the outer rays
+  pub part_of : (chosen some places : List ℕ) → IsPart supports outers chosen places → All (Contains chosen) some → IsPart supports outers some places
+  part_of chosen some places h from = record {
+    are_outers = λ k d within. All-contains (λ j. j < length outers) chosen (get_or some k d) h.are_outers (from k d within);
+    in_range = h.in_range;
+    ascending = h.ascending;
+    complete = λ k d within. All-contains (λ j. HasAllApart supports (outer_at outers j).joined places) chosen (get_or some k d) h.complete (from k d within);
+  }
+
+  -- Theorem: rays that contain a column with which all outer rays clash may be left out
+  pub part_left : (chosen places left words : List ℕ) (columns n : ℕ) → IsPart supports outers chosen places → AreCommonColumns outers chosen columns words → length places ≤ n → AreLeft supports words places n left → IsPart supports outers chosen left
+  part_left chosen places left words columns n h common all l = record {
+    are_outers = h.are_outers;
+    in_range = λ k d within. let s = l.from k d within in subst (λ p. p < length supports) (s.3 0) (h.in_range s.0 0 s.2);
+    ascending = l.ascending h.ascending;
+    complete = λ k d within place inside apart.
+        let c = h.complete k d within place inside apart in
+        let free : ¬ HasOneOf (support_at supports place) words = (λ has. apart (has.0, has.1, common.each k d within has.0 has.2)) in
+        subst (Contains left) c.2 (l.complete c.0 place (let less = c.1 in omega arith) c.1 (subst (λ p. ¬ HasOneOf (support_at supports p) words) (sym c.2) free));
+  }
+
+  pub near_of : (chosen places : List ℕ) (n : ℕ) (it : Outer) → IsPart supports outers chosen places → n < length chosen → outer_at outers (get_or chosen n 0) ≡ it → AreNear supports it.joined places
+  near_of chosen places n it h within is = record {
+    in_range = h.in_range;
+    ascending = h.ascending;
+    complete = subst (λ (o : Outer). HasAllApart supports o.joined places) is (h.complete n 0 within);
+  }
+
+-- ---- what was found
+
+module _ (supports : List (List Bool)) (outers : List Outer) (wanted : List Bool) (most : ℕ) where
+  pub found_set : (found new : List Found) (k : ℕ) (it : Outer) (entry : Found) → AreFoundFor supports outers wanted most found → k < length outers → outer_at outers k ≡ it → it.place < length supports →
+      IfSome entry.places (λ list. AreMinimalOf supports it.support it.joined it.place most wanted list.items) → new ≡ set found it.place entry → AreFoundFor supports outers wanted most new
+  found_set found new k it entry h within it_is inside minimal is = record {
+    count = ap length is ∙ length-set found it.place entry ∙ h.count;
+    each = λ place d less. elim (cases_eq place it.place) [
+      | inl e ↦ subst (IsFoundFor supports outers wanted most place) (sym (ap (λ fs. get_or fs place d) is ∙ ap (λ p. get_or (set found it.place entry) p d) e ∙ get_or-set_same found it.place entry d (omega (arith, inside, h.count)))) (rest place e)
+      | inr other ↦ subst (IsFoundFor supports outers wanted most place) (sym (ap (λ fs. get_or fs place d) is ∙ get_or-set_other found it.place place entry d other))
+          (h.each place d (let n = ap length is ∙ length-set found it.place entry in omega arith))
+    ];
+  }
+    where
+      rest : (place : ℕ) → place ≡ it.place → IsFoundFor supports outers wanted most place entry
+      rest place e = subst (λ p. IsFoundFor supports outers wanted most p entry) (sym e) (IfSome_then entry.places minimal
+          (λ list m. (k, within, ap (λ (o : Outer). o.place) it_is, subst (λ (o : Outer). AreMinimalOf supports o.support o.joined it.place most wanted list.items) (sym it_is) m)))
+
+-- nothing was found yet
+pub found_none : (supports : List (List Bool)) (outers : List Outer) (wanted : List Bool) (most : ℕ) (found : List Found) → length found ≡ length supports → All (λ (it : Found). it.places ≡ None) found → AreFoundFor supports outers wanted most found
+found_none supports outers wanted most found count none = record {
+  count = count;
+  each = λ place d less. subst (λ o. IfSome o (λ list. (k : ℕ) × (k < length outers) × ((outer_at outers k).place ≡ place) × AreMinimalOf supports (outer_at outers k).support (outer_at outers k).joined place most wanted list.items))
+      (sym (none place d less)) tt;
+}
+
+-- ---- all rays
+
+pub below_none : AreAllBelow 0 []
+below_none = record { count_is = refl; each = λ k d less. absurd (omega arith) }
+
+pub below_push : (n : ℕ) (places : List ℕ) → AreAllBelow n places → AreAllBelow (n + 1) (places ++ n ∷ [])
+below_push n places h = record {
+  count_is = omega (arith, h.count_is, length-append places (n ∷ []));
+  each = λ k d less. elim (cases_lt k n) [
+    | inl old ↦ get_or_append_left places (n ∷ []) d k (omega (arith, h.count_is)) ∙ h.each k d old
+    | inr past ↦ let at : k ≡ length places + 0 = omega (arith, h.count_is) in let e : n ≡ k = omega arith in
+        ap (λ j. get_or (places ++ n ∷ []) j d) at ∙ get_or-append-add places (n ∷ []) 0 d ∙ e
+  ];
+}
+
+pub part_of_all : (supports : List (List Bool)) (outers : List Outer) (chosen places : List ℕ) → AreAllBelow (length outers) chosen → AreAllBelow (length supports) places → IsPart supports outers chosen places
+part_of_all supports outers chosen places c p = record {
+  are_outers = λ k d within. let n = c.count_is in let is = c.each k d (omega (arith, n)) in omega (arith, is, n);
+  in_range = λ k d within. let n = p.count_is in let is = p.each k d (omega (arith, n)) in omega (arith, is, n);
+  ascending = λ k l d less within. let n = p.count_is in let one = p.each k d (omega (arith, n)) in let other = p.each l d (omega (arith, n)) in omega (arith, one, other);
+  complete = λ k d within place inside apart. (place, (let n = p.count_is in omega (arith, n)), p.each place place inside);
+}
