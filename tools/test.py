@@ -194,6 +194,7 @@ def late_parts() -> List[Part]:
         typed("types", TOP / "tools", *files["tools"]),
         typed("types of the package", PYTHON, "trinorm"),
         typed("types of bench", TOP / "bench", *files["bench"]),
+        Part("types of the page", ["tsc", "--project", "web"], TOP, "tsc"),
         Part("worked rows", [python_of_tests(), "-m", "trinorm.selfcheck"], PYTHON, str(PYTHON / "trinorm" / "selfcheck")),
         Part("examples", [python_of_tests(), "bench/examples.py"]),
     ]

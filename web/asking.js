@@ -10,6 +10,8 @@ export class Broken extends Error {}
 
 /** What was answered: {status, bytes, held, milliseconds}, or `surfaces` in place of bytes that were read already. */
 class Outcome {
+    bytes;
+
     constructor({answer, ...facts}) {
         Object.assign(this, facts, {bytes: answer});
     }

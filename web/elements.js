@@ -1,9 +1,11 @@
 // Elements of the page. Texts become text nodes, and never markup.
 
-/** The element of the page with this name. */
+/** The element of the page with this name.
+ * @returns {any} */
 export const by_id = (id) => document.getElementById(id);
 
-/** An HTML element with properties or attributes, and parts. */
+/** An HTML element with properties or attributes, and parts.
+ * @returns {any} */
 export function make(name, settings = {}, ...parts) {
     const made = document.createElement(name);
     for (const [key, value] of Object.entries(settings)) {
@@ -73,7 +75,7 @@ export function sortable_table(caption, columns) {
 }
 
 /** How two keys of a column compare, for a sort that rises or falls. */
-export const compared = (one, other, falls) => (falls ? -1 : 1) * ((one > other) - (one < other));
+export const compared = (one, other, falls) => (falls ? -1 : 1) * (Number(one > other) - Number(one < other));
 
 /** A cell's number; cells without one come last. */
 const number_of = (text) => (text === '' ? Infinity : Number(text));

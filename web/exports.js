@@ -113,8 +113,8 @@ function as_one_file(pictures, title) {
         file.append(copy);
     });
     const size = [width * Math.min(ACROSS, pictures.length), height * Math.ceil(pictures.length / ACROSS)];
-    file.setAttribute('width', size[0]);
-    file.setAttribute('height', size[1]);
+    file.setAttribute('width', String(size[0]));
+    file.setAttribute('height', String(size[1]));
     file.setAttribute('viewBox', `0 0 ${size.join(' ')}`);
     return `<?xml version="1.0" encoding="UTF-8"?>\n${new XMLSerializer().serializeToString(file)}\n`;
 }

@@ -91,7 +91,8 @@ function triangulation_at(name, attributes, label) {
     return null;
 }
 
-/** The triangulations of a Regina file, each as {label, rows}. */
+/** The triangulations of a Regina file, each as {label, rows}.
+ * @returns {any[]} */
 function of_regina(text) {
     const found = [], open = [];
     let label = '';

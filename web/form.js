@@ -21,6 +21,8 @@ function field_of({name, is_needed, values, range}) {
 }
 
 export class Form {
+    examples; stories;
+
     /** table: the text of the table of commands; examples: the inputs by name; stories: explained questions */
     constructor(table, examples, stories) {
         this.commands = read_commands(table);

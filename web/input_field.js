@@ -24,6 +24,8 @@ function why_not({most, bytes}, name, hints) {
  * reading begins or ends
  */
 export class InputField {
+    reader; hints; say; on_change; newest;
+
     constructor({reader, hints, say, on_change}) {
         Object.assign(this, {reader, hints, say, on_change, newest: 0});
     }

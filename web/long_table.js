@@ -7,6 +7,8 @@ const MOST_ON_PAPER = 5000;
 const USUAL_HEIGHT = 34; // of a row, until one has been drawn
 
 export class LongTable {
+    columns; cells_of; records; shown; drawn; sorted; height; is_on_paper; above; body; below;
+
     /**
      * caption: what the table has
      * columns: {name, key, is_number, type, word} each; `key` is what a record is sorted by
@@ -14,6 +16,7 @@ export class LongTable {
      */
     constructor(caption, columns, cells_of) {
         Object.assign(this, {columns, cells_of, records: [], shown: [], drawn: new Map(), sorted: null, height: USUAL_HEIGHT, is_on_paper: false});
+        /** @type {(record: any) => boolean} */
         this.passes = () => true;
         this.heads = heads_of(columns, (number) => this.sort_by(number));
         [this.above, this.body, this.below] = ['gap', '', 'gap'].map((className) => make('tbody', {className}));

@@ -93,8 +93,8 @@ function loop(pair, nth, place, middle, is_numbered) {
     return is_numbered ? [circle, text(top[0], top[1] + 3, 'face', `${pair.face}–${pair.other_face}`)] : [circle];
 }
 
-function node(tetrahedron, [x, y], has_boundary, is_named) {
-    const dashes = has_boundary ? {'stroke-dasharray': '3 3'} : {}, title = element('title', {}, `tetrahedron ${tetrahedron}`);
+function node(tetrahedron, place, has_boundary, is_named) {
+    const [x, y] = place, dashes = has_boundary ? {'stroke-dasharray': '3 3'} : {}, title = element('title', {}, `tetrahedron ${tetrahedron}`);
     const circle = element('circle', {class: 'node', cx: rounded(x), cy: rounded(y), r: 13, ...dashes}, title);
     return is_named ? [circle, text(rounded(x), rounded(y + 4.5), 'name', String(tetrahedron))] : [circle];
 }

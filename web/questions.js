@@ -53,6 +53,7 @@ const is_contrary = (surface) => surface.euler > 0 && !surface.linking;
  *
  * Returns {outcome} if a call was refused or failed; else {info, count, contrary}: what `info` prints, the number of
  * listed surfaces, and the first that is none, with its index, or null. `progress` is called with how many are described.
+ * @returns {Promise<any>}
  */
 export async function zero_efficiency(ask, input, progress) {
     const numbers = await ask(['info'], input);

@@ -68,6 +68,8 @@ function columns_of_several(columns) {
 
 /** Several triangulations and what is asked of each. */
 export class SeveralList {
+    tables; words; context; columns; summary; records;
+
     /** tables: {label, text} each; words: the question's; context: as `view_of` has it */
     constructor({tables, words, context}) {
         const {columns, summary} = SUMMARIES[words[0]] ?? TEXT;

@@ -40,6 +40,7 @@ function facts_of(surface) {
 
 /** The columns of the table. A record is {index, about}; its vector is in the lines. */
 function columns_of(coordinates, lines) {
+    /** @type {(property: string, last?: any) => any} */
     const by = (property, last = LAST) => ({about}) => (about[property] === '' ? last : about[property]);
     return [
         {name: '#', is_number: true, key: ({index}) => index}, {name: 'surface', key: by('order'), type: 'name'}, {name: '', label: 'what can be done', type: 'draw'},
@@ -90,6 +91,8 @@ class Filter {
 
 /** A list of surfaces. */
 export class SurfaceList {
+    lines; coordinates; noun; context; done; counts; known;
+
     /** lines: vectors, as VectorLines; noun: what one of them is; context: as `view_of` has it */
     constructor({lines, coordinates, noun, context}) {
         Object.assign(this, {lines, coordinates, noun, context, done: 0, counts: new Map(), known: new Map()});

@@ -66,6 +66,8 @@ const is_vector = (bytes, at) => bytes[at] === 0x76 && bytes[at + 1] === 0x65 &&
 
 /** The vectors of an answer as its lines. They are kept as its bytes alone, since a list can have a hundred thousand of them. */
 export class VectorLines {
+    bytes; starts; ends; length;
+
     /** bytes: those of the answer */
     constructor(bytes) {
         const starts = [], ends = [];

@@ -42,6 +42,8 @@ const FIRST_TURN = [[0.515, 0.291, -0.806], [0.831, 0.061, 0.553], [0.21, -0.955
 
 /** The discs of a tetrahedron in space. */
 class Shape {
+    edges; discs; space; counts;
+
     constructor({edges, discs, space}, counts) {
         Object.assign(this, {edges, discs, space, counts});
         this.polygons = discs.flatMap(({name, corners}, column) => Array.from({length: counts[column]}, (_, nth) => ({kind: name.split(' ')[0], points: corners.map((corner) => this.corner(column, nth, corner))})));
@@ -101,6 +103,8 @@ class Shape {
 
 /** Pictures that turn together, by dragging and by keys. */
 class Turned {
+    shapes; turn;
+
     /** shapes: {about, shape} of each tetrahedron that is drawn */
     constructor(shapes) {
         Object.assign(this, {shapes, turn: FIRST_TURN});

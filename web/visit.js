@@ -16,6 +16,8 @@ const new_id = () => [...crypto.getRandomValues(new Uint32Array(4))].map((number
 
 /** The questions, the newest first. A state of the history names the visit and the number of its question. */
 export class Visit {
+    ask_again; id; questions; by_number; count;
+
     /** ask_again: what a button of the list does with its question */
     constructor(ask_again) {
         Object.assign(this, {ask_again, id: new_id(), questions: [], by_number: new Map(), count: 0});

@@ -11,6 +11,8 @@ export const explained = (word, label = word) => make('dfn', {tabIndex: 0, 'data
 
 /** The box that explains a word. */
 export class Words {
+    box; shown; timer;
+
     /** words: sentences by their words */
     constructor(words) {
         sentences = new Map(Object.entries(words));

@@ -6,6 +6,7 @@ import {read_descriptions} from './texts.js';
 
 let engine;
 
+const page = /** @type {any} */ (self);
 const NO_ANSWER = new Uint8Array(0);
 
 /** What is returned of an outcome. */
@@ -14,13 +15,13 @@ function returned(outcome, is_description) {
     return {...outcome, answer: NO_ANSWER.slice(), surfaces: read_descriptions(new TextDecoder().decode(outcome.answer))};
 }
 
-self.onmessage = ({data: {module, words, input, limit, is_description}}) => {
+page.onmessage = ({data: {module, words, input, limit, is_description}}) => {
     const begun = performance.now();
     engine = module ?? engine;
     try {
         const outcome = returned(call(engine, words, input, limit), is_description);
-        self.postMessage({...outcome, milliseconds: performance.now() - begun}, [outcome.answer.buffer]);
+        page.postMessage({...outcome, milliseconds: performance.now() - begun}, [outcome.answer.buffer]);
     } catch (fault) {
-        self.postMessage({fault: String(fault), milliseconds: performance.now() - begun});
+        page.postMessage({fault: String(fault), milliseconds: performance.now() - begun});
     }
 };
