@@ -62,7 +62,7 @@ class Many(unittest.TestCase):
         """macOS and Windows have no `os.sched_getaffinity`."""
         mask = os.__dict__.pop("sched_getaffinity", None)
         try:
-            self.assertEqual(machine.machine.processors(), os.cpu_count() or 1)
+            self.assertEqual(machine.processors(), os.cpu_count() or 1)
             self.assertEqual([it.value for it in trinorm.many(SIGNATURES[:6], "sig")], SIGNATURES[:6])
         finally:
             if mask is not None:

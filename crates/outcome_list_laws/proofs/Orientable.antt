@@ -72,7 +72,7 @@ module _ (s : Skeleton) (coords : Coords) (h : IsClosedOrientable s) (triangles 
       let euler = euler_is s coords v m.0 m.2 in (
         λ one. at.0 (euler ∙ one),
         λ two. linking_is_link s h.skeleton coords triangles v (All-contains (IsVertexSurfaceOf s coords) listed v surfaces.vertex_surfaces c)
-        (sym (properties s coords v m.0 m.2).linking ∙ at.1 (euler ∙ two)),
+            (sym (properties s coords v m.0 m.2).linking ∙ at.1 (euler ∙ two)),
       ))
 
 pub orientable_parts_lem : OrientablePartsDecideSpheres
