@@ -237,6 +237,8 @@ class Growth(unittest.TestCase):
         self.assertEqual(len({it[0] for it in lengths}), 1)
         self.assertEqual([(it[2], float(it[0])) for it in sizes], [("1", 175.0), ("2", 385.0), ("3", 595.0)])
         self.assertEqual((legend, len(texts)), (("395", "388", "tetrahedra; the line joins the medians"), 7))
+        for most, labels in ((0, ["1", "10"]), (10, ["1", "10"]), (11, ["1", "10", "100"]), (100, ["1", "10", "100"])):
+            self.assertEqual(re.findall(r'text-anchor="end">([^<]*)<', growth_svg([(1, most)])), labels)
         with self.assertRaises(ValueError):
             growth_svg([])
 
