@@ -8,7 +8,7 @@ import unittest
 import xml.etree.ElementTree as xml
 
 import trinorm
-from trinorm import Table, pictures
+from trinorm import Table, graph_layout, pictures
 from trinorm.disc_pictures import DISCS, EDGES, Discs, edge_classes, place_of_vertex, vertex_links
 from trinorm.graph_layout import APART, places, ports
 from trinorm.html_tables import Shown
@@ -217,6 +217,23 @@ class Tables(unittest.TestCase):
             self.assertEqual(len(html.findall("tr")), 1 + rows)
         self.assertEqual(repr(Shown([(1, 2)])), "[(1, 2)]")
         self.assertEqual(Shown([1]), [1])
+
+
+class Angles(unittest.TestCase):
+    """The angles in which boundary faces leave a tetrahedron: the middle of the greatest gap each."""
+
+    def test_free_ones(self):
+        quarter = math.pi / 2
+        for angles, free in (([], 1), ([0], 2), ([1], 3), ([0, 1], 2.5), ([0, 1, 2], 3), ([3, 4.5], 5.75), ([-1, 1.5], 0.25), ([0, 5.5], 2.75)):
+            found = graph_layout._free([it * quarter for it in angles]) / quarter
+            self.assertAlmostEqual(found % 4, free % 4, msg=angles)
+
+    def test_a_tetrahedron_alone(self):
+        [angles] = ports([(0.0, 0.0)], [])
+        self.assertEqual(sorted(angles), [0, 1, 2, 3])
+        turns = sorted(angle / (math.pi / 2) % 4 for angle in angles.values())
+        for turn, right in zip(turns, (0, 1, 2, 3)):
+            self.assertAlmostEqual(turn % 4, right)
 
 
 class Growth(unittest.TestCase):
