@@ -44,6 +44,9 @@ trinorm.make("one", 2)
 trinorm.surfaces("bkaagj", coords="quads")
 trinorm.described("bkaagj", "quad")
 trinorm.surfaces("bkaagj", order="long")
+trinorm.table("bkaagj").surfaces("quads")
+trinorm.table("bkaagj").describe([], limit=5)
+trinorm.table("bkaagj").count(arrays=True).number + trinorm.table("bkaagj").count().number
 """
 
 
@@ -66,7 +69,7 @@ class Types(unittest.TestCase):
     def test_its_users(self):
         self.assertIn("Success: no issues found", self.mypy("-c", USER))
         said = self.mypy("-c", WRONG)
-        self.assertEqual(said.count(": error: "), 6, said)
+        self.assertEqual(said.count(": error: "), 9, said)
 
 
 if __name__ == "__main__":
