@@ -15,14 +15,13 @@ use Rattle.outcome_definitions.specs.Outcomes.{Outcome}
 use Rattle.surface_laws.specs.MatchingLaws.{HasTriangles}
 use Rattle.surface_agreement_laws.specs.VertexSurfaces.{IsVertexSurfaceOf, IsSurfaceListOf}
 use Rattle.surface_agreement_laws.proofs.LinkSurfaces.{linking_is_link, link_is_linking}
-use Rattle.surface_efficiency_laws.specs.Laws.{PositiveAreLinks}
 use Rattle.surface_double_laws.specs.Laws.{SpheresAreLinks}
 use Rattle.surface_double_laws.proofs.Orientable.{closed_spheres, closed_listed}
 use Rattle.command_definitions.specs.declared.Request.TheVariants.{Describe}
-use Rattle.outcome_list_laws.specs.Runs.{ListRun, HaveSameVectors, vectors_of}
-use Rattle.outcome_list_laws.specs.Efficiency.{DecidesLinks, IsLinkingWherePositive}
+use Rattle.outcome_list_laws.specs.Runs.{HaveSameVectors, vectors_of}
+use Rattle.outcome_list_laws.specs.Efficiency.{DecidesLinks}
 use Rattle.outcome_list_laws.specs.Spheres.{DecidesSpheres}
-use Rattle.outcome_list_laws.specs.Orientable.{IsLinkingSphere, PartsDecideLinkSpheres, OrientableInputsDecideSpheres, OrientableListsDecideSpheres, OrientablePartsDecideSpheres, OrientableFilePartsDecideSpheres, OrientableLiftsDecideSpheres}
+use Rattle.outcome_list_laws.specs.Orientable.{IsLinkingSphere, OrientableInputsDecideSpheres, OrientableListsDecideSpheres, OrientablePartsDecideSpheres, OrientableFilePartsDecideSpheres, OrientableLiftsDecideSpheres}
 use Rattle.outcome_list_laws.proofs.DescribedSpheres.{by_spheres}
 use Rattle.outcome_list_laws.proofs.Described.{inputs_decide_lem, described_lists_decide_lem}
 use Rattle.outcome_list_laws.proofs.Parts.{properties, euler_is, told_of, told_as, decided}
