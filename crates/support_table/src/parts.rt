@@ -24,6 +24,9 @@ const FEW_RAYS: usize = 64;
 /// Outer rays are parted at most so many times, since each time takes some of the stack. Affects speed alone.
 const MOST_PARTINGS: u32 = 20;
 
+/// If a part has more than all rays divided by this, all are looked through, by words of 64 rays. Affects speed alone.
+const WORDS_SHARE: usize = 16;
+
 /// The rays adjacent to one ray, if they were looked for.
 #[derive(Drop)]
 pub struct Found {
@@ -104,7 +107,7 @@ fn chosen_by(
 }
 
 /// The rays adjacent to `outer` that are `true` in `search.wanted`, if among the rays `places` are all that do not clash
-/// with it. If `places` are over half of all rays, all are looked through, by words.
+/// with it. If `places` are many, all are looked through, by words.
 fn find_one(
     alloc: Global,
     search: PartSearch,
@@ -118,7 +121,7 @@ fn find_one(
 {
     let rays = search.rays;
     let table = rays.table();
-    if places.len() > table.len() / 2 {
+    if places.len() > table.len() / WORDS_SHARE {
         return minimal_places(
             alloc,
             rays,
