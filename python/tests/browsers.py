@@ -43,13 +43,15 @@ class Downloads:
         self.folder = tempfile.mkdtemp(prefix="downloads-")
 
     def downloaded(self, name, most=20):
-        """The bytes of a file that is being downloaded."""
+        """The bytes of a file that is being downloaded. The file is removed, since another download may have its name."""
         path, end = Path(self.folder, name), time.monotonic() + most
         while not path.is_file() or not path.stat().st_size:
             if time.monotonic() > end:
                 raise RuntimeError(f"{name} was not downloaded")
             time.sleep(0.1)
-        return path.read_bytes()
+        data = path.read_bytes()
+        path.unlink()
+        return data
 
     def close(self):
         shutil.rmtree(self.folder, ignore_errors=True)
