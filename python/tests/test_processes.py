@@ -39,6 +39,7 @@ class Interrupts(unittest.TestCase):
         self.endless = script(self.folder.name, "exec sleep 300\n")
 
         def raises(_number, _frame):
+            signal.setitimer(signal.ITIMER_REAL, 0)
             raise Asked
 
         before = signal.signal(signal.SIGALRM, raises)
@@ -50,7 +51,8 @@ class Interrupts(unittest.TestCase):
         before = children()
         for step in range(150):
             with self.assertRaises(Asked):
-                signal.setitimer(signal.ITIMER_REAL, 1e-5 + step * 4e-5)
+                # it comes again after a second, since one that comes just before a wait of the system does not end that wait
+                signal.setitimer(signal.ITIMER_REAL, 1e-5 + step * 4e-5, 1)
                 call()
         signal.setitimer(signal.ITIMER_REAL, 0)
         for thread in threading.enumerate():

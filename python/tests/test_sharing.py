@@ -220,6 +220,7 @@ class Interrupted(unittest.TestCase):
 
     def handler(self, _number, _frame):
         if self.is_on:
+            signal.setitimer(signal.ITIMER_REAL, 0)
             raise Asked
 
     def interrupted(self, call, seconds, times=120):
@@ -231,7 +232,8 @@ class Interrupted(unittest.TestCase):
         for step in range(times):
             try:
                 self.is_on = True
-                signal.setitimer(signal.ITIMER_REAL, 1e-5 + seconds * step / times)
+                # it comes again after a second, since one that comes just before a wait of the system does not end that wait
+                signal.setitimer(signal.ITIMER_REAL, 1e-5 + seconds * step / times, 1)
                 try:
                     call()
                 finally:
