@@ -26,10 +26,10 @@ use Rattle.outcome_list_laws.proofs.Spheres.{spheres_decide_lem}
 -- the outcome of one run is the text of its one part
 one_text : (s : Skeleton) (coords : Coords) (o : Outcome) (parts : List (List Description)) → o ∷ [] ≡ texts_of s coords parts → o ≡ describe_outcome s coords (Ok (joined parts))
 one_text s coords o [] e = cc
-one_text s coords o (told ∷ []) e =
-    let first : o ≡ describe_outcome s coords (Ok told) = cc in
-    first ∙ ap (λ (ds : List Description). describe_outcome s coords (Ok ds)) (sym (append-nil told))
-one_text s coords o (told ∷ next ∷ parts) e = cc
+one_text s coords o (reported ∷ []) e =
+    let first : o ≡ describe_outcome s coords (Ok reported) = cc in
+    first ∙ ap (λ (ds : List Description). describe_outcome s coords (Ok ds)) (sym (append-nil reported))
+one_text s coords o (reported ∷ next ∷ parts) e = cc
 
 module _ (coords : Coords) (rows : List Row) (list asked : List (List ℕ)) (input : List ℕ) (p : Outcome) (read : IsListInput rows input list) (described : IsOutcomeTo (Describe coords) asked input p)
     (done : p.status ≡ Done) where
@@ -45,11 +45,11 @@ module _ (coords : Coords) (rows : List Row) (list asked : List (List ℕ)) (inp
   same_vectors : HaveSameVectors list (vectors_of (run ∷ []))
   same_vectors = subst (HaveSameVectors list) (sym all_vectors) (All-contains_itself list, All-contains_itself list)
 
-  one_outcome : (s : Skeleton) (told : List Description) → ArePrinted s coords (run ∷ []) told → p ≡ describe_outcome s coords (Ok told)
-  one_outcome s told t = one_text s coords p t.parts t.outcomes ∙ ap (λ (ds : List Description). describe_outcome s coords (Ok ds)) t.joined
+  one_outcome : (s : Skeleton) (reported : List Description) → ArePrinted s coords (run ∷ []) reported → p ≡ describe_outcome s coords (Ok reported)
+  one_outcome s reported t = one_text s coords p t.parts t.outcomes ∙ ap (λ (ds : List Description). describe_outcome s coords (Ok ds)) t.joined
 
-  one_list : (s : Skeleton) (told : List Description) → ArePrinted s coords (run ∷ []) told → IsSurfaceListOf s coords list → IsSurfaceListOf s coords (map (λ (d : Description). d.vector) told)
-  one_list s told t surfaces = subst (IsSurfaceListOf s coords) (sym (t.vectors ∙ all_vectors)) surfaces
+  one_list : (s : Skeleton) (reported : List Description) → ArePrinted s coords (run ∷ []) reported → IsSurfaceListOf s coords list → IsSurfaceListOf s coords (map (λ (d : Description). d.vector) reported)
+  one_list s reported t surfaces = subst (IsSurfaceListOf s coords) (sym (t.vectors ∙ all_vectors)) surfaces
 
 pub inputs_decide_lem : DescribedInputsDecide
 inputs_decide_lem coords rows list asked input p triangles listed read described done =
@@ -59,7 +59,7 @@ inputs_decide_lem coords rows list asked input p triangles listed read described
       skeleton = h.skeleton;
       of_rows = h.of_rows;
       is_skeleton = h.is_skeleton;
-      told = h.printed;
+      reported = h.printed;
       outcome = one_outcome coords rows list asked input p read described done h.skeleton h.printed h.are_printed;
       surfaces = one_list coords rows list asked input p read described done h.skeleton h.printed h.are_printed h.surfaces;
       decides = h.decides;
@@ -73,7 +73,7 @@ octagon_inputs_decide_lem rows list asked input p listed read described done =
       skeleton = h.skeleton;
       of_rows = h.of_rows;
       is_skeleton = h.is_skeleton;
-      told = h.printed;
+      reported = h.printed;
       outcome = one_outcome Octagon rows list asked input p read described done h.skeleton h.printed h.are_printed;
       surfaces = one_list Octagon rows list asked input p read described done h.skeleton h.printed h.are_printed h.surfaces;
       decides = h.decides;

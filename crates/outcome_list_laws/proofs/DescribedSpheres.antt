@@ -18,7 +18,7 @@ by_spheres coords rows p valid closed orientable r =
       skeleton = r.skeleton;
       of_rows = r.of_rows;
       is_skeleton = r.is_skeleton;
-      printed = r.told;
+      printed = r.reported;
       outcome = r.outcome;
       decides = (λ spheres. (r.decides).0 (both.1 spheres), λ all. both.0 ((r.decides).1 all));
     }

@@ -43,17 +43,17 @@ not_quad : (coords : Coords) → HasTriangles coords → coords ≢ Quad
 not_quad coords h e = absurd (subst HasTriangles e h)
 
 module _ (s : Skeleton) (k : IsSkeleton s) (valid : IsFirstInvalid s None) (coords : Coords) (triangles : HasTriangles coords) (equations : List EquationRow) (of_table : AreEquations coords s.rows equations) where
-  abbrev IsTold : List ℕ → Description → Type 0
-  IsTold v d = IsDescription s coords equations v (Ok d)
+  abbrev IsResult : List ℕ → Description → Type 0
+  IsResult v d = IsDescription s coords equations v (Ok d)
 
-  told_even : (v : List ℕ) (d : Description) → IsTold v d → IsEvenWhereOrientable s coords d
+  told_even : (v : List ℕ) (d : Description) → IsResult v d → IsEvenWhereOrientable s coords d
   told_even v d t boundary =
       let surface : IsSurface s.rows coords v = surface_is coords s.rows equations v (not_quad coords triangles) k.table of_table t.0 in
-      let told : AreProperties s coords v d.properties = t.2.1 in
+      let reported : AreProperties s coords v d.properties = t.2.1 in
       let listed : AreListedComponents s.rows coords v d.components = t.3.1 in
-      let none : meets_boundary s.rows coords v ≡ false = sym told.boundary ∙ boundary in (
+      let none : meets_boundary s.rows coords v ≡ false = sym reported.boundary ∙ boundary in (
         each surface listed.classes listed.count listed.numbered none (below listed.count) d.components listed.each,
-        λ all. subst IsEven (sym (euler_printed s coords v d told))
+        λ all. subst IsEven (sym (euler_printed s coords v d reported))
             (parts_even s coords v listed.classes listed.count k valid surface listed.numbered (λ i l.
             let c = zip_on (IsComponent s.rows coords v listed.classes) (below listed.count) d.components listed.each i (Among-below i listed.count l) in
             (c.2).orientable.0 (All-contains (λ (c : Component). c.orientable ≡ true) d.components c.0 all (contains_among c.0 d.components c.1))) none),
@@ -69,26 +69,26 @@ module _ (s : Skeleton) (k : IsSkeleton s) (valid : IsFirstInvalid s None) (coor
           (λ yes. subst (λ (ys : List ℕ). IsEven (characteristic s coords ys)) (sym (h.0).vector) (part_even s coords v classes count k valid w numbered i ((h.0).orientable.0 yes) none))
           (each w classes count numbered none is cs h.1)
 
-  told_two_sided : is_closed s.rows ≡ true → IsOrientable s.rows → (v : List ℕ) (d : Description) → IsTold v d → IsEvenWhereTwoSided s coords d
+  told_two_sided : is_closed s.rows ≡ true → IsOrientable s.rows → (v : List ℕ) (d : Description) → IsResult v d → IsEvenWhereTwoSided s coords d
   told_two_sided closed orientable v d t =
-      let told : AreProperties s coords v d.properties = t.2.1 in
-      let even = told_even v d t (told.boundary ∙ none_meets s coords v closed) in
+      let reported : AreProperties s coords v d.properties = t.2.1 in
+      let even = told_even v d t (reported.boundary ∙ none_meets s coords v closed) in
       let alike : All (λ (c : Component). c.two_sided ≡ c.orientable) d.components = described_alike s coords equations v d (not_quad coords triangles) k orientable of_table t in (
         λ i c l two. even.0 i c l (sym (alike i c l) ∙ two),
         λ all. even.1 (λ i c l. sym (alike i c l) ∙ all i c l),
       )
 
-  prints_each : (IsPrinted : Skeleton → Coords → Description → Type 0) → ((v : List ℕ) (d : Description) → IsTold v d → IsPrinted s coords d)
-      → (rows : List Row) → s.rows ≡ rows → (vectors : List (List ℕ)) (o : Outcome) → o.status ≡ Done → (told : Result (List Description) (ℕ × Refusal)) → AreAnswered (IsDescription s coords equations) vectors told
-      → o ≡ describe_outcome s coords told → PrintsEach IsPrinted coords rows o
+  prints_each : (IsPrinted : Skeleton → Coords → Description → Type 0) → ((v : List ℕ) (d : Description) → IsResult v d → IsPrinted s coords d)
+      → (rows : List Row) → s.rows ≡ rows → (vectors : List (List ℕ)) (o : Outcome) → o.status ≡ Done → (reported : Result (List Description) (ℕ × Refusal)) → AreAnswered (IsDescription s coords equations) vectors reported
+      → o ≡ describe_outcome s coords reported → PrintsEach IsPrinted coords rows o
   prints_each IsPrinted is rows of_rows vectors o done (Err refusal) t e = absurd (never_done refusal.1 (sym (ap (λ (q : Outcome). q.status) e) ∙ done))
-  prints_each IsPrinted is rows of_rows vectors o done (Ok told) t e = record {
+  prints_each IsPrinted is rows of_rows vectors o done (Ok reported) t e = record {
     skeleton = s;
     of_rows = of_rows;
     is_skeleton = k;
-    printed = told;
+    printed = reported;
     outcome = e;
-    each = λ i d l. let m = zip_back IsTold vectors told t (slice_index_or told i d) (among_contains (slice_index_or told i d) told (Contains-get_or told i d l)) in is m.0 (slice_index_or told i d) m.2;
+    each = λ i d l. let m = zip_back IsResult vectors reported t (slice_index_or reported i d) (among_contains (slice_index_or reported i d) reported (Contains-get_or reported i d l)) in is m.0 (slice_index_or reported i d) m.2;
   }
 
 -- what holds of each description of a table without invalid edges holds of each vector of an outcome that is done
@@ -99,11 +99,11 @@ printed_lem : (IsPrinted : Skeleton → Coords → Description → Type 0) (coor
     → PrintsEach IsPrinted coords rows o
 printed_lem IsPrinted coords rows is words bytes o vectors triangles asked read done =
     let answer : IsDescribeAnswer coords (rows, vectors) o = answer_to_value (vectors_document bytes) (rows, vectors) (IsDescribeAnswer coords) o read (answer_to (Describe coords) words bytes o asked) in
-    elim answer.told [
+    elim answer.reported [
       | inl invalid ↦ absurd (refused_not_done o _ invalid.2 done)
-      | inr told ↦ (let d : AreDescribed answer.skeleton coords vectors o = told.1 in
-          prints_each answer.skeleton answer.is_skeleton told.0 coords triangles d.equations d.of_table IsPrinted (is answer.skeleton answer.of_rows answer.is_skeleton told.0 d.equations d.of_table)
-          rows answer.of_rows vectors o done d.told d.described d.outcome)
+      | inr reported ↦ (let d : AreDescribed answer.skeleton coords vectors o = reported.1 in
+          prints_each answer.skeleton answer.is_skeleton reported.0 coords triangles d.equations d.of_table IsPrinted (is answer.skeleton answer.of_rows answer.is_skeleton reported.0 d.equations d.of_table)
+          rows answer.of_rows vectors o done d.reported d.described d.outcome)
     ]
 
 pub orientable_printed_lem : OrientablePrintedAreEven

@@ -8,5 +8,6 @@ pub mod DescribedSpheres
 pub mod LinkCount
 pub mod Lists
 pub mod Quads
+pub mod SurfaceKinds
 pub mod EvenComponents
 pub mod Orientable

@@ -39,23 +39,23 @@ same_count {A} {B} R p q same (x ∷ xs) (y ∷ ys) z = by_test (p x) (q y) (sam
     by_test false false e more = more
 
 module _ (s : Skeleton) (k : IsSkeleton s) (coords : Coords) (triangles : HasTriangles coords) (equations : List EquationRow) where
-  abbrev IsTold : List ℕ → Description → Type 0
-  IsTold v d = IsDescription s coords equations v (Ok d)
+  abbrev IsResult : List ℕ → Description → Type 0
+  IsResult v d = IsDescription s coords equations v (Ok d)
 
-  linking_is : (v : List ℕ) (d : Description) → IsTold v d → d.properties.linking ≡ is_linking coords v
+  linking_is : (v : List ℕ) (d : Description) → IsResult v d → d.properties.linking ≡ is_linking coords v
   linking_is v d t = let p : AreProperties s coords v d.properties = t.2.1 in p.linking
 
   -- an answer with the status of success describes all vectors
-  counts_by : (rows : List Row) → s.rows ≡ rows → (list : List (List ℕ)) → IsSurfaceListOf s coords list → (o : Outcome) → o.status ≡ Done → (told : Result (List Description) (ℕ × Refusal))
-      → AreAnswered (IsDescription s coords equations) list told → o ≡ describe_outcome s coords told → CountsLinks coords rows o
+  counts_by : (rows : List Row) → s.rows ≡ rows → (list : List (List ℕ)) → IsSurfaceListOf s coords list → (o : Outcome) → o.status ≡ Done → (reported : Result (List Description) (ℕ × Refusal))
+      → AreAnswered (IsDescription s coords equations) list reported → o ≡ describe_outcome s coords reported → CountsLinks coords rows o
   counts_by rows of_rows list surfaces o done (Err refusal) t e = absurd (never_done refusal.1 (sym (ap (λ (q : Outcome). q.status) e) ∙ done))
-  counts_by rows of_rows list surfaces o done (Ok told) t e = record {
+  counts_by rows of_rows list surfaces o done (Ok reported) t e = record {
     skeleton = s;
     of_rows = of_rows;
     is_skeleton = k;
-    told = told;
+    reported = reported;
     outcome = e;
-    links = same_count IsTold (is_linking coords) (λ (d : Description). d.properties.linking) linking_is list told t
+    links = same_count IsResult (is_linking coords) (λ (d : Description). d.properties.linking) linking_is list reported t
         ∙ counted s k coords triangles list surfaces;
   }
 
@@ -64,7 +64,7 @@ inputs_count_links_lem coords rows list asked input p triangles listed read desc
     let k = listed_skeleton coords rows list listed in
     let run : ListRun = record { words = asked; input = input; vectors = list; outcome = p } in
     let d : AreDescribed k.0 coords list p = (answered k.0 coords k.2 triangles rows k.1 run (record { read = read; asked = described; done = done })).1 in
-    counts_by k.0 k.2 coords triangles d.equations rows k.1 list (listed_of coords rows list listed k.0 k.1 triangles) p done d.told d.described d.outcome
+    counts_by k.0 k.2 coords triangles d.equations rows k.1 list (listed_of coords rows list listed k.0 k.1 triangles) p done d.reported d.described d.outcome
 
 -- the table as it is written, and what was printed, are such an input
 pub described_links_are_counted_lem : DescribedLinksAreCounted

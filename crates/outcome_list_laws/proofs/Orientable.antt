@@ -26,7 +26,7 @@ use Rattle.outcome_list_laws.proofs.DescribedSpheres.{by_spheres}
 use Rattle.outcome_list_laws.proofs.Described.{inputs_decide_lem, described_lists_decide_lem}
 use Rattle.outcome_list_laws.proofs.Parts.{properties, euler_is, told_of, told_as, decided}
 use Rattle.outcome_list_laws.proofs.Quads.{lifts_decide_lem}
-use Rattle.outcome_list_laws.proofs.Runs.{IsTold, Parts, parts_of, are_printed, joined, listed_skeleton, listed_of, file_runs_lem}
+use Rattle.outcome_list_laws.proofs.Runs.{IsResult, Parts, parts_of, are_printed, joined, listed_skeleton, listed_of, file_runs_lem}
 
 -- if the one holds if and only if the second does, and the second if and only if the third does
 both : {A B C : Type 0} → A ↔ B → A ↔ C → C ↔ B
@@ -52,22 +52,22 @@ pub orientable_lists_lem : OrientableListsDecideSpheres
 orientable_lists_lem words asked bytes o p coords order most rows closed orientable triangles listed read done described done_too =
     by_orientable coords rows p closed orientable (described_lists_decide_lem words asked bytes o p coords order most rows triangles listed read done described done_too)
 
-module _ (s : Skeleton) (coords : Coords) (h : IsClosedOrientable s) (triangles : HasTriangles coords) (listed list : List (List ℕ)) (told : List Description) (surfaces : IsSurfaceListOf s coords listed)
-    (same : HaveSameVectors listed list) (zipped : AllZip (IsTold s coords) list told) where
-  printed_spheres : SpheresAreLinks s coords → All IsLinkingSphere told
+module _ (s : Skeleton) (coords : Coords) (h : IsClosedOrientable s) (triangles : HasTriangles coords) (listed list : List (List ℕ)) (reported : List Description) (surfaces : IsSurfaceListOf s coords listed)
+    (same : HaveSameVectors listed list) (zipped : AllZip (IsResult s coords) list reported) where
+  printed_spheres : SpheresAreLinks s coords → All IsLinkingSphere reported
   printed_spheres spheres i e l =
-      let d : Description = slice_index_or told i e in
-      let m = told_of s coords list told zipped (slice_index_or told i e) (Contains-get_or told i e l) in
+      let d : Description = slice_index_or reported i e in
+      let m = told_of s coords list reported zipped (slice_index_or reported i e) (Contains-get_or reported i e l) in
       let at = (closed_listed s coords listed h.skeleton h.closed h.orientable triangles surfaces).0 spheres m.0 (All-contains (Contains listed) list m.0 same.1 m.1) in
       let euler = euler_is s coords m.0 d m.2 in (
         λ one. at.0 (sym euler ∙ one),
         λ two. (properties s coords m.0 d m.2).linking ∙ link_is_linking s h.skeleton coords triangles m.0 (at.1 (sym euler ∙ two)),
       )
 
-  by_printed : All IsLinkingSphere told → SpheresAreLinks s coords
+  by_printed : All IsLinkingSphere reported → SpheresAreLinks s coords
   by_printed all = (closed_listed s coords listed h.skeleton h.closed h.orientable triangles surfaces).1 (λ v c.
-      let m = told_as s coords list told zipped v (All-contains (Contains list) listed v same.0 c) in
-      let at : IsLinkingSphere m.0 = All-contains IsLinkingSphere told m.0 all m.1 in
+      let m = told_as s coords list reported zipped v (All-contains (Contains list) listed v same.0 c) in
+      let at : IsLinkingSphere m.0 = All-contains IsLinkingSphere reported m.0 all m.1 in
       let euler = euler_is s coords v m.0 m.2 in (
         λ one. at.0 (euler ∙ one),
         λ two. linking_is_link s h.skeleton coords triangles v (All-contains (IsVertexSurfaceOf s coords) listed v surfaces.vertex_surfaces c)

@@ -18,44 +18,44 @@ use Rattle.command_definitions.specs.declared.Request.TheVariants.{Describe}
 use Rattle.outcome_list_laws.specs.Runs.{HaveSameVectors, vectors_of}
 use Rattle.outcome_list_laws.specs.Efficiency.{IsLinkingWherePositive}
 use Rattle.outcome_list_laws.specs.Parts.{PartsDecideEfficiency, FilePartsDecideEfficiency}
-use Rattle.outcome_list_laws.proofs.Runs.{IsTold, Parts, parts_of, are_printed, joined, listed_skeleton, listed_of, file_runs_lem}
+use Rattle.outcome_list_laws.proofs.Runs.{IsResult, Parts, parts_of, are_printed, joined, listed_skeleton, listed_of, file_runs_lem}
 use Rattle.outcome_list_laws.proofs.Zipped.{zip_back, zip_on}
 
 module _ (s : Skeleton) (coords : Coords) where
-  pub properties : (v : List ℕ) (d : Description) → IsTold s coords v d → AreProperties s coords v d.properties
+  pub properties : (v : List ℕ) (d : Description) → IsResult s coords v d → AreProperties s coords v d.properties
   properties v d t = t.2.1
 
   pub euler_printed : (v : List ℕ) (d : Description) → AreProperties s coords v d.properties → d.properties.euler ≡ characteristic s coords v
   euler_printed v d p = p.euler ∙ (λ i. euler (p.points i) (p.arcs i) (p.pieces i))
 
-  pub euler_is : (v : List ℕ) (d : Description) → IsTold s coords v d → d.properties.euler ≡ characteristic s coords v
+  pub euler_is : (v : List ℕ) (d : Description) → IsResult s coords v d → d.properties.euler ≡ characteristic s coords v
   euler_is v d t = euler_printed v d (properties v d t)
 
   -- each description is of a vector
-  pub told_of : (list : List (List ℕ)) (told : List Description) → AllZip (IsTold s coords) list told → (d : Description) → Contains told d → (v : List ℕ) × Contains list v × IsTold s coords v d
-  told_of list told zipped d c = let m = zip_back (IsTold s coords) list told zipped d (among_contains d told c) in (m.0, contains_among m.0 list m.1, m.2)
+  pub told_of : (list : List (List ℕ)) (reported : List Description) → AllZip (IsResult s coords) list reported → (d : Description) → Contains reported d → (v : List ℕ) × Contains list v × IsResult s coords v d
+  told_of list reported zipped d c = let m = zip_back (IsResult s coords) list reported zipped d (among_contains d reported c) in (m.0, contains_among m.0 list m.1, m.2)
 
   -- each vector is described
-  pub told_as : (list : List (List ℕ)) (told : List Description) → AllZip (IsTold s coords) list told → (v : List ℕ) → Contains list v → (d : Description) × Contains told d × IsTold s coords v d
-  told_as list told zipped v c = let m = zip_on (IsTold s coords) list told zipped v (among_contains v list c) in (m.0, contains_among m.0 told m.1, m.2)
+  pub told_as : (list : List (List ℕ)) (reported : List Description) → AllZip (IsResult s coords) list reported → (v : List ℕ) → Contains list v → (d : Description) × Contains reported d × IsResult s coords v d
+  told_as list reported zipped v c = let m = zip_on (IsResult s coords) list reported zipped v (among_contains v list c) in (m.0, contains_among m.0 reported m.1, m.2)
 
-  module _ (k : IsSkeleton s) (triangles : HasTriangles coords) (listed list : List (List ℕ)) (told : List Description) (surfaces : IsSurfaceListOf s coords listed) (same : HaveSameVectors listed list)
-      (zipped : AllZip (IsTold s coords) list told) where
-    told_linking : PositiveAreLinks s coords → All IsLinkingWherePositive told
+  module _ (k : IsSkeleton s) (triangles : HasTriangles coords) (listed list : List (List ℕ)) (reported : List Description) (surfaces : IsSurfaceListOf s coords listed) (same : HaveSameVectors listed list)
+      (zipped : AllZip (IsResult s coords) list reported) where
+    told_linking : PositiveAreLinks s coords → All IsLinkingWherePositive reported
     told_linking h i e l positive =
-        let d : Description = slice_index_or told i e in
-        let m = told_of list told zipped d (Contains-get_or told i e l) in
+        let d : Description = slice_index_or reported i e in
+        let m = told_of list reported zipped d (Contains-get_or reported i e l) in
         let link = (list_decides s k coords triangles listed surfaces).0 h m.0 (All-contains (Contains listed) list m.0 same.1 m.1) (subst (λ z. pos 0 <ℤ z) (euler_is m.0 d m.2) positive) in
         (properties m.0 d m.2).linking ∙ link_is_linking s k coords triangles m.0 link
 
-    linking_decides : All IsLinkingWherePositive told → PositiveAreLinks s coords
+    linking_decides : All IsLinkingWherePositive reported → PositiveAreLinks s coords
     linking_decides h = (list_decides s k coords triangles listed surfaces).1 (λ v c positive.
-        let m = told_as list told zipped v (All-contains (Contains list) listed v same.0 c) in
-        let at : IsLinkingWherePositive m.0 = All-contains IsLinkingWherePositive told m.0 h m.1 in
+        let m = told_as list reported zipped v (All-contains (Contains list) listed v same.0 c) in
+        let at : IsLinkingWherePositive m.0 = All-contains IsLinkingWherePositive reported m.0 h m.1 in
         let linking = at (subst (λ z. pos 0 <ℤ z) (sym (euler_is v m.0 m.2)) positive) in
         linking_is_link s k coords triangles v (All-contains (IsVertexSurfaceOf s coords) listed v surfaces.vertex_surfaces c) (sym (properties v m.0 m.2).linking ∙ linking))
 
-    pub decided : PositiveAreLinks s coords ↔ All IsLinkingWherePositive told
+    pub decided : PositiveAreLinks s coords ↔ All IsLinkingWherePositive reported
     decided = (told_linking, linking_decides)
 
 pub parts_decide_lem : PartsDecideEfficiency

@@ -59,39 +59,39 @@ outcomes_of runs = map (λ (run : ListRun). run.outcome) runs
 
 module _ (s : Skeleton) (coords : Coords) where
   -- the description of a vector, by the matching equations
-  abbrev pub IsTold : List ℕ → Description → Type 0
-  IsTold v d = IsDescription s coords (matching_rows coords s.rows) v (Ok d)
+  abbrev pub IsResult : List ℕ → Description → Type 0
+  IsResult v d = IsDescription s coords (matching_rows coords s.rows) v (Ok d)
 
   abbrev pub texts_of : List (List Description) → List Outcome
   texts_of parts = map (λ (part : List Description). describe_outcome s coords (Ok part)) parts
 
-  pub vectors_are : (list : List (List ℕ)) (told : List Description) → AllZip IsTold list told → map (λ (d : Description). d.vector) told ≡ list
-  vectors_are list told zipped = zip_map IsTold (λ (d : Description). d.vector) (λ v d t. t.1) list told zipped
+  pub vectors_are : (list : List (List ℕ)) (reported : List Description) → AllZip IsResult list reported → map (λ (d : Description). d.vector) reported ≡ list
+  vectors_are list reported zipped = zip_map IsResult (λ (d : Description). d.vector) (λ v d t. t.1) list reported zipped
 
   -- what one run prints
   record Part (vectors : List (List ℕ)) (o : Outcome) : Type 0 where
-    told : List Description
-    zipped : AllZip IsTold vectors told
-    outcome : o ≡ describe_outcome s coords (Ok told)
+    reported : List Description
+    zipped : AllZip IsResult vectors reported
+    outcome : o ≡ describe_outcome s coords (Ok reported)
 
-  part_by : (vectors : List (List ℕ)) (o : Outcome) → o.status ≡ Done → (told : Result (List Description) (ℕ × Refusal)) → AreAnswered (IsDescription s coords (matching_rows coords s.rows)) vectors told
-      → o ≡ describe_outcome s coords told → Part vectors o
+  part_by : (vectors : List (List ℕ)) (o : Outcome) → o.status ≡ Done → (reported : Result (List Description) (ℕ × Refusal)) → AreAnswered (IsDescription s coords (matching_rows coords s.rows)) vectors reported
+      → o ≡ describe_outcome s coords reported → Part vectors o
   part_by vectors o done (Err refusal) t e = absurd (never_done refusal.1 (sym (ap (λ (q : Outcome). q.status) e) ∙ done))
-  part_by vectors o done (Ok told) t e = record { told = told; zipped = t; outcome = e }
+  part_by vectors o done (Ok reported) t e = record { reported = reported; zipped = t; outcome = e }
 
   module _ (k : IsSkeleton s) (triangles : HasTriangles coords) (rows : List Row) (of_rows : s.rows ≡ rows) where
     part_of : (vectors : List (List ℕ)) (o : Outcome) → o.status ≡ Done → AreDescribed s coords vectors o → Part vectors o
-    part_of vectors o done d = part_by vectors o done d.told
-        (subst (λ (es : List EquationRow). AreAnswered (IsDescription s coords es) vectors d.told) (by_matching coords s.rows d.equations triangles d.of_table) d.described) d.outcome
+    part_of vectors o done d = part_by vectors o done d.reported
+        (subst (λ (es : List EquationRow). AreAnswered (IsDescription s coords es) vectors d.reported) (by_matching coords s.rows d.equations triangles d.of_table) d.described) d.outcome
 
     -- a run that is done describes its vectors, and no edge is invalid
     pub answered : (run : ListRun) → IsDoneRun (Describe coords) rows run → IsFirstInvalid s None × AreDescribed s coords run.vectors run.outcome
     answered run is =
         let answer : IsDescribeAnswer coords (rows, run.vectors) run.outcome =
         answer_to_value (vectors_document run.input) (rows, run.vectors) (IsDescribeAnswer coords) run.outcome is.read (answer_to (Describe coords) run.words run.input run.outcome is.asked) in
-        elim answer.told [
+        elim answer.reported [
           | inl invalid ↦ absurd (refused_not_done run.outcome _ invalid.2 is.done)
-          | inr told ↦ subst (λ (t : Skeleton). IsFirstInvalid t None × AreDescribed t coords run.vectors run.outcome) (one_skeleton answer.skeleton s (answer.of_rows ∙ sym of_rows) answer.is_skeleton k) told
+          | inr reported ↦ subst (λ (t : Skeleton). IsFirstInvalid t None × AreDescribed t coords run.vectors run.outcome) (one_skeleton answer.skeleton s (answer.of_rows ∙ sym of_rows) answer.is_skeleton k) reported
         ]
 
     part_run : (run : ListRun) → IsDoneRun (Describe coords) rows run → Part run.vectors run.outcome
@@ -100,7 +100,7 @@ module _ (s : Skeleton) (coords : Coords) where
     -- what all runs print
     pub record Parts (runs : List ListRun) : Type 0 where
       pub parts : List (List Description)
-      pub zipped : AllZip IsTold (vectors_of runs) (joined parts)
+      pub zipped : AllZip IsResult (vectors_of runs) (joined parts)
       pub outcomes : outcomes_of runs ≡ texts_of parts
 
     pub parts_of : (runs : List ListRun) → All (IsDoneRun (Describe coords) rows) runs → Parts runs
@@ -109,8 +109,8 @@ module _ (s : Skeleton) (coords : Coords) where
         let first = part_run run (All-head (IsDoneRun (Describe coords) rows) run runs h) in
         let rest = parts_of runs (All-tail (IsDoneRun (Describe coords) rows) run runs h) in
         record {
-          parts = first.told ∷ rest.parts;
-          zipped = zip_append IsTold run.vectors (vectors_of runs) first.told (joined rest.parts) first.zipped rest.zipped;
+          parts = first.reported ∷ rest.parts;
+          zipped = zip_append IsResult run.vectors (vectors_of runs) first.reported (joined rest.parts) first.zipped rest.zipped;
           outcomes = ap₂ ◌∷◌ first.outcome rest.outcomes;
         }
 

@@ -13,24 +13,24 @@ use Rattle.surface_efficiency_laws.proofs.Efficiency.{listed_connected}
 use Rattle.surface_euler_laws.specs.Laws.{IsOctagonalAlmostNormalSphere}
 use Rattle.surface_euler_laws.proofs.AlmostNormal.{almost_normal_listed}
 use Rattle.outcome_list_laws.specs.Runs.{HaveSameVectors, IsDoneRun, vectors_of}
-use Rattle.outcome_list_laws.specs.Efficiency.{IsToldAlmostNormal}
+use Rattle.outcome_list_laws.specs.Efficiency.{IsPrintedAlmostNormal}
 use Rattle.outcome_list_laws.specs.Parts.{PartsDecideSpheres}
-use Rattle.outcome_list_laws.proofs.Runs.{IsTold, Parts, parts_of, are_printed, joined, listed_skeleton, listed_of, answered}
+use Rattle.outcome_list_laws.proofs.Runs.{IsResult, Parts, parts_of, are_printed, joined, listed_skeleton, listed_of, answered}
 use Rattle.outcome_list_laws.proofs.Parts.{euler_is, told_of, told_as}
 
-module _ (s : Skeleton) (k : IsSkeleton s) (valid : IsFirstInvalid s None) (listed list : List (List ℕ)) (told : List Description) (surfaces : IsSurfaceListOf s Octagon listed) (same : HaveSameVectors listed list)
-    (zipped : AllZip (IsTold s Octagon) list told) (efficient : IsZeroEfficient s) where
-  to : ((xs : List ℕ) × IsOctagonalAlmostNormalSphere s xs) → (d : Description) × Contains told d × IsToldAlmostNormal s d
+module _ (s : Skeleton) (k : IsSkeleton s) (valid : IsFirstInvalid s None) (listed list : List (List ℕ)) (reported : List Description) (surfaces : IsSurfaceListOf s Octagon listed) (same : HaveSameVectors listed list)
+    (zipped : AllZip (IsResult s Octagon) list reported) (efficient : IsZeroEfficient s) where
+  to : ((xs : List ℕ) × IsOctagonalAlmostNormalSphere s xs) → (d : Description) × Contains reported d × IsPrintedAlmostNormal s d
   to h =
       let found = (almost_normal_listed s k valid listed surfaces efficient).0 h in
       let sphere : IsOctagonalAlmostNormalSphere s found.0 = found.2 in
-      let m = told_as s Octagon list told zipped found.0 (All-contains (Contains list) listed found.0 same.0 found.1) in
+      let m = told_as s Octagon list reported zipped found.0 (All-contains (Contains list) listed found.0 same.0 found.1) in
       (m.0, m.1, (ap (octagons s) (m.2).1 ∙ sphere.one_octagon, euler_is s Octagon found.0 m.0 m.2 ∙ sphere.two))
 
-  from : ((d : Description) × Contains told d × IsToldAlmostNormal s d) → (xs : List ℕ) × IsOctagonalAlmostNormalSphere s xs
+  from : ((d : Description) × Contains reported d × IsPrintedAlmostNormal s d) → (xs : List ℕ) × IsOctagonalAlmostNormalSphere s xs
   from h =
-      let m = told_of s Octagon list told zipped h.0 h.1 in
-      let numbers : IsToldAlmostNormal s h.0 = h.2 in (
+      let m = told_of s Octagon list reported zipped h.0 h.1 in
+      let numbers : IsPrintedAlmostNormal s h.0 = h.2 in (
         m.0,
         record {
           connected = listed_connected s k Octagon tt listed surfaces m.0 (All-contains (Contains listed) list m.0 same.1 m.1);
@@ -39,7 +39,7 @@ module _ (s : Skeleton) (k : IsSkeleton s) (valid : IsFirstInvalid s None) (list
         },
       )
 
-  pub sphere_decided : ((xs : List ℕ) × IsOctagonalAlmostNormalSphere s xs) ↔ ((d : Description) × Contains told d × IsToldAlmostNormal s d)
+  pub sphere_decided : ((xs : List ℕ) × IsOctagonalAlmostNormalSphere s xs) ↔ ((d : Description) × Contains reported d × IsPrintedAlmostNormal s d)
   sphere_decided = (to, from)
 
 pub spheres_decide_lem : PartsDecideSpheres

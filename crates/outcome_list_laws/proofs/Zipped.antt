@@ -19,10 +19,10 @@ zip_on R (x ∷ xs) (y ∷ ys) z a (inr m) = let r = zip_on R xs ys z.1 a m in (
 
 -- if each item of the second list determines that of the first, the first list is the list of these
 pub zip_map : {A B : Type 0} (R : A → B → Type 0) (f : B → A) → ((a : A) (b : B) → R a b → f b ≡ a) → (xs : List A) (ys : List B) → AllZip R xs ys → map f ys ≡ xs
-zip_map R f told [] [] z = refl
-zip_map R f told [] (y ∷ ys) z = absurd z
-zip_map R f told (x ∷ xs) [] z = absurd z
-zip_map R f told (x ∷ xs) (y ∷ ys) z = ap₂ ◌∷◌ (told x y z.0) (zip_map R f told xs ys z.1)
+zip_map R f reported [] [] z = refl
+zip_map R f reported [] (y ∷ ys) z = absurd z
+zip_map R f reported (x ∷ xs) [] z = absurd z
+zip_map R f reported (x ∷ xs) (y ∷ ys) z = ap₂ ◌∷◌ (reported x y z.0) (zip_map R f reported xs ys z.1)
 
 pub zip_append : {A B : Type 0} (R : A → B → Type 0) (xs others : List A) (ys more : List B) → AllZip R xs ys → AllZip R others more → AllZip R (xs ++ others) (ys ++ more)
 zip_append R [] others [] more z w = w

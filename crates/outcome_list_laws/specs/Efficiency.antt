@@ -34,10 +34,10 @@ pub record DecidesLinks (coords : Coords) (rows : List Row) (o : Outcome) : Type
   pub skeleton : Skeleton
   pub of_rows : skeleton.rows ≡ rows
   pub is_skeleton : IsSkeleton skeleton
-  pub told : List Description
-  pub outcome : o ≡ describe_outcome skeleton coords (Ok told)
-  pub surfaces : IsSurfaceListOf skeleton coords (map (λ (d : Description). d.vector) told)
-  pub decides : PositiveAreLinks skeleton coords ↔ All IsLinkingWherePositive told
+  pub reported : List Description
+  pub outcome : o ≡ describe_outcome skeleton coords (Ok reported)
+  pub surfaces : IsSurfaceListOf skeleton coords (map (λ (d : Description). d.vector) reported)
+  pub decides : PositiveAreLinks skeleton coords ↔ All IsLinkingWherePositive reported
 
 -- Theorem: each answer of `describe` to an input that is read as the table and what `surfaces` listed for it decides
 -- whether each connected surface of positive Euler characteristic is a vertex link.
@@ -64,8 +64,8 @@ DescribedFilesDecide =
     → table_document (front ++ 10 ∷ []) ≡ Ok rows → IsOutcomeTo (Describe coords) asked (front ++ 10 ∷ listed.outcome.text) p → p.status ≡ Done → DecidesLinks coords rows p
 
 -- for a vector with one octagon Euler characteristic 2 is printed
-abbrev pub IsToldAlmostNormal : Skeleton → Description → Type 0
-IsToldAlmostNormal s d = (octagons s d.vector ≡ 1) × (d.properties.euler ≡ pos 2)
+abbrev pub IsPrintedAlmostNormal : Skeleton → Description → Type 0
+IsPrintedAlmostNormal s d = (octagons s d.vector ≡ 1) × (d.properties.euler ≡ pos 2)
 
 -- all octagon vertex surfaces of the table are described, and if it is 0-efficient there is an octagonal almost normal
 -- sphere if and only if one is printed
@@ -73,10 +73,10 @@ pub record DecidesAlmostNormal (rows : List Row) (o : Outcome) : Type 0 where
   pub skeleton : Skeleton
   pub of_rows : skeleton.rows ≡ rows
   pub is_skeleton : IsSkeleton skeleton
-  pub told : List Description
-  pub outcome : o ≡ describe_outcome skeleton Octagon (Ok told)
-  pub surfaces : IsSurfaceListOf skeleton Octagon (map (λ (d : Description). d.vector) told)
-  pub decides : IsZeroEfficient skeleton → ((xs : List ℕ) × IsOctagonalAlmostNormalSphere skeleton xs) ↔ ((d : Description) × Contains told d × IsToldAlmostNormal skeleton d)
+  pub reported : List Description
+  pub outcome : o ≡ describe_outcome skeleton Octagon (Ok reported)
+  pub surfaces : IsSurfaceListOf skeleton Octagon (map (λ (d : Description). d.vector) reported)
+  pub decides : IsZeroEfficient skeleton → ((xs : List ℕ) × IsOctagonalAlmostNormalSphere skeleton xs) ↔ ((d : Description) × Contains reported d × IsPrintedAlmostNormal skeleton d)
 
 -- Theorem: each answer of `describe` to an input that is read as the table and what `surfaces` listed for it in octagon
 -- coordinates decides whether a 0-efficient table has an octagonal almost normal sphere by its numbers.

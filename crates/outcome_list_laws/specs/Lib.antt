@@ -1,6 +1,7 @@
 pub mod Runs
 pub mod Efficiency
 pub mod Lists
+pub mod SurfaceKinds
 pub mod Parts
 pub mod Quads
 pub mod Spheres

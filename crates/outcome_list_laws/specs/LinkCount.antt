@@ -20,9 +20,9 @@ pub record CountsLinks (coords : Coords) (rows : List Row) (o : Outcome) : Type 
   pub skeleton : Skeleton
   pub of_rows : skeleton.rows ≡ rows
   pub is_skeleton : IsSkeleton skeleton
-  pub told : List Description
-  pub outcome : o ≡ describe_outcome skeleton coords (Ok told)
-  pub links : length (filter (λ (d : Description). d.properties.linking) told) ≡ skeleton.vertices.count
+  pub reported : List Description
+  pub outcome : o ≡ describe_outcome skeleton coords (Ok reported)
+  pub links : length (filter (λ (d : Description). d.properties.linking) reported) ≡ skeleton.vertices.count
 
 -- Theorem: in standard and octagon coordinates, if the input of `describe` is read as a table and what `surfaces`
 -- listed for it, `describe` prints `linking yes` for as many surfaces as the table has vertex classes.

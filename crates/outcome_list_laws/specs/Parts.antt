@@ -13,7 +13,7 @@ use Rattle.surface_laws.specs.MatchingLaws.{HasTriangles}
 use Rattle.surface_agreement_laws.specs.VertexSurfaces.{IsSurfaceListOf}
 use Rattle.surface_efficiency_laws.specs.Laws.{PositiveAreLinks, IsZeroEfficient}
 use Rattle.surface_euler_laws.specs.Laws.{IsOctagonalAlmostNormalSphere}
-use Rattle.outcome_list_laws.specs.Efficiency.{IsLinkingWherePositive, IsToldAlmostNormal}
+use Rattle.outcome_list_laws.specs.Efficiency.{IsLinkingWherePositive, IsPrintedAlmostNormal}
 use Rattle.outcome_list_laws.specs.Runs.{AreListed, ListRun, IsDoneRun, IsFileRun, vectors_of, HaveSameVectors}
 
 -- the runs print these descriptions, one run after the other: one for each vector, in the order of the vectors
@@ -59,7 +59,7 @@ pub record PartsDecideAlmostNormal (rows : List Row) (list : List (List ℕ)) (r
   pub printed : List Description
   pub are_printed : ArePrinted skeleton Octagon runs printed
   pub surfaces : IsSurfaceListOf skeleton Octagon list
-  pub decides : IsZeroEfficient skeleton → ((xs : List ℕ) × IsOctagonalAlmostNormalSphere skeleton xs) ↔ ((d : Description) × Contains printed d × IsToldAlmostNormal skeleton d)
+  pub decides : IsZeroEfficient skeleton → ((xs : List ℕ) × IsOctagonalAlmostNormalSphere skeleton xs) ↔ ((d : Description) × Contains printed d × IsPrintedAlmostNormal skeleton d)
 
 -- Theorem: if the inputs of one or more runs of `describe` in octagon coordinates that are done are read as the table
 -- and, together, as the vectors that `surfaces` listed for it, in any order, the runs decide whether a 0-efficient

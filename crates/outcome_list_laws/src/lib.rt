@@ -13,7 +13,8 @@
 //! A *surface* is an admissible solution of the matching equations in standard or octagon coordinates. T is
 //! *0-efficient by its numbers* if each connected surface of positive Euler characteristic, in standard coordinates, is
 //! a vertex link. An *octagonal almost normal sphere, by its numbers* is a connected surface in octagon coordinates
-//! with exactly one octagon and Euler characteristic 2.
+//! with exactly one octagon and Euler characteristic 2. A quad vector is *on an extreme ray* if a positive multiple of
+//! it is a positive multiple of an extreme solution of the quad equations.
 #![tactic(auto)]
 
 ghost use Rattle.outcome_list_laws.specs.Efficiency.{DescribedInputsDecide, DescribedFilesDecide, DescribedListsDecide, OctagonInputsDecide, OctagonFilesDecide, DescribedOctagonsDecide};
@@ -24,6 +25,7 @@ ghost use Rattle.outcome_list_laws.specs.LinkCount.{InputsCountLinks, DescribedL
 ghost use Rattle.outcome_list_laws.specs.Runs.{FileRunsAreRead};
 ghost use Rattle.outcome_list_laws.specs.Parts.{PartsDecideEfficiency, FilePartsDecideEfficiency, PartsDecideSpheres};
 ghost use Rattle.outcome_list_laws.specs.Quads.{InformationDecidesVertices, DescribedLiftsDecide};
+ghost use Rattle.outcome_list_laws.specs.SurfaceKinds.{ListedInputsAreOfOneKind, LiftedInputsAreOfOneKind};
 ghost use Rattle.outcome_list_laws.specs.Lists.{LiftedInputsAreListed, LiftedListsAreListed, ListedInputsAreVerified, LiftedInputsAreVerified, OctagonListsHaveStandard};
 
 /// Theorem (Jaco and Rubinstein 2003): let `surfaces` list L for T in standard or octagon coordinates, and let a run of
@@ -171,6 +173,18 @@ pub fn described_lifts_decide_efficiency()
 pub fn lifted_lists_are_listed()
     ensures inputs { LiftedInputsAreListed }
     ensures written { LiftedListsAreListed }
+{}
+
+/// Theorem (Burton 2009): let `surfaces` list Q for T in quad coordinates and L in standard coordinates. For each
+/// vector y of L exactly one of these holds: y is a vertex link; y is as below; y is the lift of its quad part, which
+/// is on no extreme ray, and a positive multiple of which is a sum of two or more different vectors of Q, each with a
+/// positive integer coefficient.
+///
+/// 1. y is the lift of a vector of Q.
+/// 2. Let runs of `lift`, whose vectors together are those of Q, be done. One of them prints y.
+pub fn listed_surfaces_are_lifts()
+    ensures inputs { ListedInputsAreOfOneKind }
+    ensures printed { LiftedInputsAreOfOneKind }
 {}
 
 /// Theorem: let the input of a run of `verify` be read as T and vectors. For each vector the run prints `solution`, or

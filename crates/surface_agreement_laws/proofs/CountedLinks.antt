@@ -20,7 +20,7 @@ use Rattle.surface_quad_laws.specs.LinkLaws.{link_of, IsVertexLink}
 use Rattle.surface_quad_laws.proofs.VertexLinks.{link_surface}
 use Rattle.surface_agreement_laws.specs.VertexSurfaces.{IsVertexSurfaceOf, IsSurfaceListOf}
 use Rattle.surface_agreement_laws.specs.Laws.{HasTriangleAt, HasOneListedLink}
-use Rattle.surface_agreement_laws.proofs.LinkSurfaces.{link_vertex, linking_is_link, one_there, none_beside, same_link}
+use Rattle.surface_agreement_laws.proofs.LinkSurfaces.{link_vertex, linking_is_link, one_there, none_listed, same_link}
 
 module _ (s : Skeleton) (k : IsSkeleton s) (coords : Coords) (h : HasTriangles coords) (list : List (List ℕ)) (one : IsSurfaceListOf s coords list) where
   abbrev class_of : ℕ → ℕ
@@ -50,7 +50,7 @@ module _ (s : Skeleton) (k : IsSkeleton s) (coords : Coords) (h : HasTriangles c
     | inl same ↦ link.2 ∙ ap (link_of s coords) (sym same)
     | inr off ↦ (let li : there.0 < 4 * length s.rows = there.1 in
         let none : slice_index (link_of s coords link.0) (tri_column coords (there.0 / 4) (there.0 % 4)) ≡ 0 =
-        none_beside s k coords h link.0 link.1 (there.0 / 4) (there.0 % 4) (omega arith) (omega arith) (λ e. off (sym (ap class_of (number-vertex there.0) ∙ there.2) ∙ e)) in
+        none_listed s k coords h link.0 link.1 (there.0 / 4) (there.0 % 4) (omega arith) (omega arith) (λ e. off (sym (ap class_of (number-vertex there.0) ∙ there.2) ∙ e)) in
         absurd (there.3 (ap (λ ws. slice_index ws (tri_column coords (there.0 / 4) (there.0 % 4))) link.2 ∙ none)))
   ]
 
@@ -86,6 +86,6 @@ module _ (s : Skeleton) (k : IsSkeleton s) (coords : Coords) (h : HasTriangles c
 
   pub counted : length (filter (is_linking coords) list) ≡ s.vertices.count
   counted =
-      let few : length (filter (is_linking coords) list) ≤ length links = apart_short (filter (is_linking coords) list) links (apart_filter (is_linking coords) list list_apart) back in
+      let limited : length (filter (is_linking coords) list) ≤ length links = apart_short (filter (is_linking coords) list) links (apart_filter (is_linking coords) list list_apart) back in
       let many : length links ≤ length (filter (is_linking coords) list) = apart_short links (filter (is_linking coords) list) links_apart into in
       omega (arith, length-links)

@@ -10,6 +10,8 @@ pub mod Lists
 pub mod Divisors
 pub mod LinksOrLifts
 pub mod OneTerm
+pub mod SurfaceKinds
 pub mod CountedLinks
 pub mod Numbers
+pub mod KindCounts
 pub mod Worked

@@ -41,8 +41,8 @@ module _ (s : Skeleton) (k : IsSkeleton s) (coords : Coords) (h : HasTriangles c
   pub one_there : (t v : ℕ) → t < n → v < 4 → class_of (vertex_number t v) ≡ c → slice_index link (tri_column coords t v) ≡ 1
   one_there t v lt lv e = link-one n s.vertices.classes c coords t v h lt lv e
 
-  pub none_beside : (t v : ℕ) → t < n → v < 4 → class_of (vertex_number t v) ≢ c → slice_index link (tri_column coords t v) ≡ 0
-  none_beside t v lt lv e = link-none n s.vertices.classes c coords t v h lt lv e
+  pub none_listed : (t v : ℕ) → t < n → v < 4 → class_of (vertex_number t v) ≢ c → slice_index link (tri_column coords t v) ≡ 0
+  none_listed t v lt lv e = link-none n s.vertices.classes c coords t v h lt lv e
 
   abbrev place : ℕ
   place = ((k.vertices).none_empty c lc).0
@@ -80,7 +80,7 @@ module _ (s : Skeleton) (k : IsSkeleton s) (coords : Coords) (h : HasTriangles c
     some_of_it z = some.1 (by_column coords h n (λ i. slice_index zs i ≡ 0)
         (λ t v lt lv. elim (cases_eq (class_of (vertex_number t v)) c) [
           | inl e ↦ triangle_is t v lt lv ∙ ap many e ∙ z
-          | inr off ↦ inside (tri_column coords t v) (none_beside t v lt lv off)
+          | inr off ↦ inside (tri_column coords t v) (none_listed t v lt lv off)
         ])
         (λ i l high. inside i (others-link n s.vertices.classes c coords i h l high))
         some.0 (nonzero_before zs (columns coords n) some.0 sz.width some.1))
@@ -90,7 +90,7 @@ module _ (s : Skeleton) (k : IsSkeleton s) (coords : Coords) (h : HasTriangles c
         (by_column coords h n (λ i. slice_index zs i ≡ 0 → slice_index link i ≡ 0)
         (λ t v lt lv z. elim (cases_eq (class_of (vertex_number t v)) c) [
           | inl e ↦ absurd (some_of_it (sym (ap many e) ∙ sym (triangle_is t v lt lv) ∙ z))
-          | inr off ↦ none_beside t v lt lv off
+          | inr off ↦ none_listed t v lt lv off
         ])
         (λ i l high z. others-link n s.vertices.classes c coords i h l high))
         (λ i l z. entry_past link (columns coords n) i (length-link n s.vertices.classes c coords) l)
@@ -117,7 +117,7 @@ module _ (s : Skeleton) (k : IsSkeleton s) (coords : Coords) (h : HasTriangles c
           (by_column coords h n (λ i. slice_index ys i ≡ 0 → slice_index link i ≡ 0)
           (λ t v lt lv z. elim (cases_eq (class_of (vertex_number t v)) c) [
             | inl e ↦ absurd (at_member t v lt lv e z)
-            | inr off ↦ none_beside t v lt lv off
+            | inr off ↦ none_listed t v lt lv off
           ])
           (λ i l high z. others-link n s.vertices.classes c coords i h l high))
           (λ i l z. entry_past link (columns coords n) i (length-link n s.vertices.classes c coords) l)
@@ -167,7 +167,7 @@ same_link s k coords h c d lc ld e = elim (cases_eq c d) [
       let li : m.0 < 4 * length s.rows = m.1 in
       let at : slice_index s.vertices.classes (vertex_number (m.0 / 4) (m.0 % 4)) ≡ c = ap (slice_index s.vertices.classes) (number-vertex m.0) ∙ m.2 in
       let one : slice_index (link_of s coords c) (tri_column coords (m.0 / 4) (m.0 % 4)) ≡ 1 = one_there s k coords h c lc (m.0 / 4) (m.0 % 4) (omega arith) (omega arith) at in
-      let none : slice_index (link_of s coords d) (tri_column coords (m.0 / 4) (m.0 % 4)) ≡ 0 = none_beside s k coords h d ld (m.0 / 4) (m.0 % 4) (omega arith) (omega arith) (λ f. off (sym at ∙ f)) in
+      let none : slice_index (link_of s coords d) (tri_column coords (m.0 / 4) (m.0 % 4)) ≡ 0 = none_listed s k coords h d ld (m.0 / 4) (m.0 % 4) (omega arith) (omega arith) (λ f. off (sym at ∙ f)) in
       let same : slice_index (link_of s coords c) (tri_column coords (m.0 / 4) (m.0 % 4)) ≡ slice_index (link_of s coords d) (tri_column coords (m.0 / 4) (m.0 % 4)) = ap (λ ws. slice_index ws (tri_column coords (m.0 / 4) (m.0 % 4))) e in
       absurd (omega arith)
 ]

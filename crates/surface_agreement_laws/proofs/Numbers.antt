@@ -38,7 +38,7 @@ module _ (s : Skeleton) (k : IsSkeleton s) (standard : List (List ℕ)) (one : I
 
   module _ (links : List Link) (kinds : HasSphereAndDiscLinks s links) (quad_rows : List EquationRow) (equations : AreEquations Quad s.rows quad_rows) (quads : List (List ℕ)) (other : IsSurfaceListBy s Quad quad_rows quads) where
     -- a quad vertex surface is not 0, so a vector over it is not linking
-    not_linking : (xs ys : List ℕ) → IsVertexSurfaceBy s Quad quad_rows xs → IsVertexSurfaceOf s Standard ys → quads_of s ys ≡ xs → not (is_linking Standard ys) ≡ true
+    pub not_linking : (xs ys : List ℕ) → IsVertexSurfaceBy s Quad quad_rows xs → IsVertexSurfaceOf s Standard ys → quads_of s ys ≡ xs → not (is_linking Standard ys) ≡ true
     not_linking xs ys vertex over e = by_test (is_linking Standard ys) refl
       where
         high : (t j : ℕ) → j < 3 → is_quad_or_octagon Standard (quad_column Standard t j) ≡ true

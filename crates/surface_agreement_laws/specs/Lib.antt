@@ -1,3 +1,4 @@
 pub mod VertexSurfaces
 pub mod Laws
+pub mod SurfaceKinds
 pub mod WorkedTable

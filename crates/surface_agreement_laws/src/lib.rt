@@ -5,11 +5,13 @@
 //! in no clashing pair of columns; a *list* of T has exactly these, in ascending lexicographic order. The *quad part*
 //! of a standard vector consists of its entries at quads. The *vertex link* of a vertex class is 1 at each triangle
 //! around a vertex of the class, and 0 elsewhere. A vector is *canonical* if each vertex class has a vertex around
-//! which it has no triangle. A *lift* of a quad vector is a canonical standard solution with this quad part. A standard
-//! vector is *taken into* octagon coordinates with 0 at each octagon.
+//! which it has no triangle. A *lift* of a quad vector is a canonical standard solution with this quad part. A quad
+//! vector is *on an extreme ray* if a positive multiple of it is a positive multiple of an extreme solution of the quad
+//! equations. A standard vector is *taken into* octagon coordinates with 0 at each octagon.
 #![tactic(auto)]
 
 ghost use Rattle.surface_agreement_laws.specs.Laws.{LiftsAreVertexSurfaces, LinksAreVertexSurfaces, QuadVertexSurfacesLift, StandardAreInOctagons, WithoutOctagonsAreStandard, CharacteristicsAgree};
+ghost use Rattle.surface_agreement_laws.specs.SurfaceKinds.{LiftsHaveVertexQuads, LiftsHaveExtremeQuads, ListedAreOfOneKind, OtherQuadsAreOnNoRay, StandardListIsCounted};
 ghost use Rattle.surface_agreement_laws.specs.WorkedTable.{TwoQuadsAreVertexSurface, TwoQuadsAreCanonical, TheirQuadsAreNone};
 ghost use Rattle.surface_agreement_laws.specs.Laws.{ListedLiftsAreListed, ListedQuadsLift, LinksAreListed, StandardListIsLong, OneListedLinkEach, ListedLinksAreCounted, ListsAgree, VertexSurfacesAreLinksOrCanonical, LinkingAreLinks, VertexSurfacesAreLinksOrLifts, QuadsAreSums, OneTermIsListed};
 
@@ -82,6 +84,32 @@ pub fn vertex_surfaces_are_links_or_lifts()
     ensures either { VertexSurfacesAreLinksOrCanonical }
     ensures linking { LinkingAreLinks }
     ensures lifts { VertexSurfacesAreLinksOrLifts }
+{}
+
+/// Theorem (Burton 2009): let y be a standard vertex surface of T, and q its quad part.
+///
+/// 1. y is the lift of a quad vertex surface if and only if q is a quad vertex surface.
+/// 2. y is the lift of a quad vertex surface if and only if q is on an extreme ray.
+/// 3. Let y be in the standard list, and L the quad list. Exactly one holds: y is a vertex link; y is the lift of a
+///    surface in L; y is the lift of q, q is on no extreme ray, and a positive multiple of q is a sum of two or more
+///    different members of L with positive integer coefficients.
+pub fn standard_surfaces_are_lifts()
+    ensures quads { LiftsHaveVertexQuads }
+    ensures rays { LiftsHaveExtremeQuads }
+    ensures listed { ListedAreOfOneKind }
+{}
+
+/// Theorem: let R consist of the surfaces in the standard list of T that have quads, and whose quad part is not in the
+/// quad list.
+///
+/// 1. A surface in the standard list is in R if and only if it is the lift of its quad part, this is on no extreme ray,
+///    and a positive multiple of it is a sum of two or more different members of the quad list, each with a positive
+///    integer coefficient.
+/// 2. Let each vertex link be a sphere or a disc. The length of the standard list is the length of the quad list, plus
+///    the number of vertex classes, plus the length of R.
+pub fn standard_lists_are_counted()
+    ensures kinds { OtherQuadsAreOnNoRay }
+    ensures number { StandardListIsCounted }
 {}
 
 /// Theorem: let L be the quad list of T.
