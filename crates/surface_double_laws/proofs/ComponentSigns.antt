@@ -6,7 +6,7 @@ use Rattle.std.proofs.lemmas.Bool.{cases_lt, lt-ltb, le-ltb}
 use Rattle.basic_lemmas.proofs.Truths.{one_if}
 use Rattle.table_definitions.specs.Lists.{below}
 use Rattle.table_definitions.specs.Permutation.{image, is_odd}
-use Rattle.table_definitions.specs.Table.{Gluing, way_back}
+use Rattle.table_definitions.specs.Table.{Gluing, inverse_gluing}
 use Rattle.table_definitions.proofs.Listed.{below-among}
 use Rattle.table_definitions.proofs.PermutationLaws.{image_below, images_apart}
 use Rattle.skeleton_definitions.specs.Skeleton.{Skeleton}
@@ -166,7 +166,7 @@ module _ (s : Skeleton) (coords : Coords) (xs components : List ℕ) (count : �
       let keeps : keeps_sides coords ys a g ≡ keeps_sides coords xs b g = λ z. if side_here z then side_there z else not (side_there z) in
       let one : IsFound ys (disc_of coords ys a) = piece_found ys (disc_of coords ys a) (piece_there s.rows coords ys surface a g m) in
       let own_back = meets_back s.rows coords ys surface a g m in
-      let two : IsFound ys (disc_of coords ys (arc_across g a)) = piece_found ys (disc_of coords ys (arc_across g a)) (piece_there s.rows coords ys surface (arc_across g a) (way_back (face_of_arc a) g) own_back.meets) in
+      let two : IsFound ys (disc_of coords ys (arc_across g a)) = piece_found ys (disc_of coords ys (arc_across g a)) (piece_there s.rows coords ys surface (arc_across g a) (inverse_gluing (face_of_arc a) g) own_back.meets) in
       let sign_here : own_sign sign (disc_number ys (disc_of coords ys a)) ≡ sign (disc_number xs (disc_of coords xs b)) =
       own_sign_is sign (disc_number ys (disc_of coords ys a)) (disc_of coords xs b) one.in_range k.2 (sym here ∙ sym one.there) in
       let sign_there : own_sign sign (disc_number ys (disc_of coords ys (arc_across g a))) ≡ sign (disc_number xs (disc_of coords xs (arc_across g b))) =

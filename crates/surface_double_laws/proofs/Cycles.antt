@@ -58,11 +58,11 @@ module _ (n : ℕ) (f : ℕ → ℕ) (p : IsPermutationBelow n f) where
   one_change h a l same = same_ones (h (f a)) (h a) (one_left (λ d. one_if (h (f d))) (λ d. one_if (h d)) a (below n) (apart_below n) (Among-below a n l) (λ d m ne. ap one_if (same d (below-among d n m) ne)) (moved (λ d. one_if (h d))))
 
 -- the number of cycles does not depend on how they are numbered
-few : (n : ℕ) (f cycle other : ℕ → ℕ) (count number : ℕ) → AreCycles n f cycle count → AreCycles n f other number → count ≤ number
-few n f cycle other count number c o =
+limited : (n : ℕ) (f cycle other : ℕ → ℕ) (count number : ℕ) → AreCycles n f cycle count → AreCycles n f other number → count ≤ number
+limited n f cycle other count number c o =
     let long : length (map at (below count)) ≡ count = length-map (below count) at ∙ length-range_with_len 0 count in
     let wide : length (below number) ≡ number = length-range_with_len 0 number in
-    let short = apart_short (map at (below count)) (below number) (map_apart at (below count) (apart_below count) (λ i j a b e. apart i j (below-among i count a) (below-among j count b) e))
+    let short = apart_short (map at (below count)) (below number) (map_apart at (below count) (apart_below count) (λ i j a b e. separate i j (below-among i count a) (below-among j count b) e))
     (λ x a. let m = map-among at x (below count) a in subst (λ z. Among z (below number)) (sym m.2) (Among-below (at m.0) number (low m.0 (below-among m.0 count m.1)))) in
     omega arith
   where
@@ -93,11 +93,11 @@ few n f cycle other count number c o =
         let at_j : cycle y.0 ≡ i = eqb-true (cycle y.0) i (sym same ∙ eq-eqb (cycle x.0) i x.2) in
         sym at_j ∙ y.2
 
-    apart : (i j : ℕ) → i < count → j < count → at i ≡ at j → i ≡ j
-    apart i j l m e = apart_if i j l m (cases_lt i count) (cases_lt j count) e
+    separate : (i j : ℕ) → i < count → j < count → at i ≡ at j → i ≡ j
+    separate i j l m e = apart_if i j l m (cases_lt i count) (cases_lt j count) e
 
 pub one_count : (n : ℕ) (f cycle other : ℕ → ℕ) (count number : ℕ) → AreCycles n f cycle count → AreCycles n f other number → count ≡ number
-one_count n f cycle other count number c o = let a = few n f cycle other count number c o in let b = few n f other cycle number count o c in omega arith
+one_count n f cycle other count number c o = let a = limited n f cycle other count number c o in let b = limited n f other cycle number count o c in omega arith
 
 -- the cycles of a permutation that agrees with f below n
 pub same_cycles : (n : ℕ) (f g cycle : ℕ → ℕ) (count : ℕ) → ((d : ℕ) → d < n → g d ≡ f d) → AreCycles n f cycle count → AreCycles n g cycle count

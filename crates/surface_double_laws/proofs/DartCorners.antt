@@ -63,7 +63,7 @@ module _ (s : Skeleton) (k : IsSkeleton s) (valid : (c : ℕ) → c < s.edges.co
                 | inr h ↦ absurd (let many = h.many in
                     let place = h.place in
                     let two = arcs_are s.rows coords xs surface t x.in_range v w u f b' in
-                    let none = none_behind s.rows coords xs surface t x.in_range v f w u (last_two v f u w a) (omega arith) h.apart in
+                    let none = none_behind s.rows coords xs surface t x.in_range v f w u (last_two v f u w a) (omega arith) h.separate in
                     omega arith)
               ] in
               let n : IsNear s.rows coords xs surface t x.in_range v f w j = near s.rows coords xs surface t x.in_range v f w u j (last_two v f u w a) lj stays in

@@ -4,7 +4,7 @@ use Rattle.std.proofs.Common.{◌≡◌, ◌≢◌, ℕ, ◌+◌, ◌-◌, ◌*�
 use Rattle.std.specs.Prelude.{◌==◌, slice_index}
 use Rattle.std.proofs.lemmas.Bool.{cases_lt, eq-eqb, and_from}
 use Rattle.table_definitions.specs.Permutation.{image}
-use Rattle.table_definitions.specs.Table.{Gluing, Face, glue, other_side, way_back, same_face}
+use Rattle.table_definitions.specs.Table.{Gluing, Face, glue, other_side, inverse_gluing, same_face}
 use Rattle.skeleton_definitions.specs.Skeleton.{Skeleton, IsSkeleton, IsValidClass}
 use Rattle.surface_definitions.specs.Coordinates.{keeping}
 use Rattle.surface_definitions.specs.declared.Coords.{Coords}
@@ -109,10 +109,10 @@ module _ (s : Skeleton) (k : IsSkeleton s) (valid : (c : ℕ) → c < s.edges.co
             ap start r.next_is ∙ start_is (arc_at b.tet (from b) b.vertex b.place) (to b) b.face r.dart ∙ sym (stop_is b (from b) (to b) d))
         | inr h ↦ (let e = placed s.rows coords xs surface sign signs b (tri coords xs b.tet b.vertex + h.i) h.place in
             let d0 : Dart (arc_at b.tet b.face b.vertex (tri coords xs b.tet b.vertex + h.i)) (from b) (to b) = subst (λ z. Dart z (from b) (to b)) e d in
-            let r = far_step s.rows coords xs surface sign signs b.tet b.vertex b.face (from b) (to b) h.i h.j d0 h.many h.apart in
+            let r = far_step s.rows coords xs surface sign signs b.tet b.vertex b.face (from b) (to b) h.i h.j d0 h.many h.separate in
             let many = h.many in
             let four : Four b.vertex b.face (to b) (from b) = last_two b.vertex b.face (from b) (to b) d.four in
-            let m = broad_once b.tet b.vertex b.face (to b) (from b) x.in_range four (omega arith) h.apart in
+            let m = broad_once b.tet b.vertex b.face (to b) (from b) x.in_range four (omega arith) h.separate in
             let place : broad b.tet b.vertex (to b) - 1 - (tri coords xs b.tet b.vertex + h.i) ≡ tri coords xs b.tet (to b) + h.j = omega arith in
             ap (λ z. start (after z)) e ∙ ap start r.next_is
             ∙ start_is (arc_at b.tet (from b) (to b) (tri coords xs b.tet (to b) + h.j)) b.vertex b.face r.dart
@@ -142,7 +142,7 @@ module _ (s : Skeleton) (k : IsSkeleton s) (valid : (c : ℕ) → c < s.edges.co
     pub flip_twice : (b : Arc) → OnSurface b → flip (flip b) ≡ b
     flip_twice b x =
         let g = closed b x in
-        ap flip (flip_is b g.0 g.1) ∙ flip_is (arc_across g.0 b) (way_back (face_of_arc b) g.0) (glued_back s.rows coords xs surface b g.0 x g.1) ∙ across_back s.rows coords xs surface b g.0 x g.1
+        ap flip (flip_is b g.0 g.1) ∙ flip_is (arc_across g.0 b) (inverse_gluing (face_of_arc b) g.0) (glued_back s.rows coords xs surface b g.0 x g.1) ∙ across_back s.rows coords xs surface b g.0 x g.1
 
     pub flip_apart : (b : Arc) → OnSurface b → face_of_arc (flip b) ≢ face_of_arc b
     flip_apart b x e =
@@ -150,7 +150,7 @@ module _ (s : Skeleton) (k : IsSkeleton s) (valid : (c : ℕ) → c < s.edges.co
         let y : Face = face_of_arc b in
         let same : other_side (face_of_arc b) g.0 ≡ face_of_arc b = ap (λ (z : Arc). face_of_arc z) (sym (flip_is b g.0 g.1)) ∙ e in
         let t : same_face (face_of_arc b) (face_of_arc b) ≡ true = and_from (b.tet == b.tet) (b.face == b.face) (eq-eqb b.tet b.tet refl) (eq-eqb b.face b.face refl) in
-        let u : not (same_face (other_side (face_of_arc b) g.0) (face_of_arc b)) ≡ true = (surface.table).apart (face_of_arc b) g.0 g.1 in
+        let u : not (same_face (other_side (face_of_arc b) g.0) (face_of_arc b)) ≡ true = (surface.table).separate (face_of_arc b) g.0 g.1 in
         let z : false ≡ true = sym (ap not (ap (λ (q : Face). same_face q (face_of_arc b)) same ∙ t)) ∙ u in
         cc
 

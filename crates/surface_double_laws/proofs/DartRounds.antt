@@ -82,9 +82,9 @@ module _ (rows : List Row) (coords : Coords) (xs : List ℕ) (s : IsSurface rows
           disc = r.disc ∙ q.disc;
           many = omega arith;
         } in
-        let apart : keeping v w ≢ keeping v f = other_type v w f u (middle_two v f w u (last_two v f u w four)) in
+        let separate : keeping v w ≢ keeping v f = other_type v w f u (middle_two v f w u (last_two v f u w four)) in
         let kinds : keeping f w ≡ keeping v u = sym (opposite v u f w (middle_two v f u w four)) in (
-          seen_far t v u w f i j between (λ g. apart (sym e ∙ sym types ∙ g)),
+          seen_far t v u w f i j between (λ g. separate (sym e ∙ sym types ∙ g)),
           ap (type_of coords xs t) kinds ∙ types ∙ e ∙ opposite v w f u (middle_two v f w u (last_two v f u w four)),
         )
 
@@ -237,7 +237,7 @@ module _ (rows : List Row) (coords : Coords) (xs : List ℕ) (s : IsSurface rows
           let at : c ≡ arc_at c.tet c.face c.vertex (tri coords xs c.tet c.vertex + (c.place - tri coords xs c.tet c.vertex)) = placed rows coords xs s sign signs c (tri coords xs c.tet c.vertex + (c.place - tri coords xs c.tet c.vertex)) (omega arith) in
           let column : tri_column coords t v ≡ behind_type coords xs c.tet (keeping c.vertex c.face) =
           e ∙ ap (λ (p : NormalDisc). p.column) (ap (λ z. of z) at ∙ high_disc rows coords xs s c.tet y.in_range c.vertex c.face (third c.vertex c.face) (fourth c.vertex c.face) r i) in
-          let few : tri_column coords t v % columns_each coords < 4 = low_triangle coords t v s.triangles lv in
+          let limited : tri_column coords t v % columns_each coords < 4 = low_triangle coords t v s.triangles lv in
           let more : 4 ≤ behind_type coords xs c.tet (keeping c.vertex c.face) % columns_each coords = high_behind coords xs c.tet c.face c.vertex s.triangles y.face y.is_vertex y.off in
           let same = ap (λ z. z % columns_each coords) column in
           omega arith

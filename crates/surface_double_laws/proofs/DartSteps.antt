@@ -189,7 +189,7 @@ module _ (rows : List Row) (coords : Coords) (xs : List ℕ) (s : IsSurface rows
     pub j : ℕ
     pub place : p ≡ tri coords xs t v + i
     pub many : i + j + 1 ≡ behind coords xs t (keeping v f)
-    pub apart : type_of coords xs t (keeping v f) ≢ keeping v w
+    pub separate : type_of coords xs t (keeping v f) ≢ keeping v w
 
   pub stays_or_leaves : (t v f u w p z : ℕ) → Four v f u w → OnSurface (arc_at t f v p) → StaysAt coords xs t v f z p ⊎ Leaves t v f z p
   stays_or_leaves t v f u w p z four x = elim (cases_lt p (tri coords xs t v)) [
@@ -203,7 +203,7 @@ module _ (rows : List Row) (coords : Coords) (xs : List ℕ) (s : IsSurface rows
             j = behind coords xs t (keeping v f) - 1 - (p - tri coords xs t v);
             place = omega arith;
             many = omega arith;
-            apart = ne;
+            separate = ne;
           }))
     ]
   ]
@@ -233,7 +233,7 @@ module _ (rows : List Row) (coords : Coords) (xs : List ℕ) (s : IsSurface rows
               back = ap (previous) r.next_is ∙ r.back_is;
             })
         | inr h ↦ (let e = placed b (tri coords xs b.tet b.vertex + h.i) h.place in
-            let r = far_step b.tet b.vertex b.face u w h.i h.j (subst (λ z. Dart z u w) e d) h.many h.apart in
+            let r = far_step b.tet b.vertex b.face u w h.i h.j (subst (λ z. Dart z u w) e d) h.many h.separate in
             record {
               on = subst (λ z. OnSurface z) (sym (ap next e ∙ r.next_is)) (r.dart).on;
               disc = ap (λ z. of (next z)) e ∙ ap (λ z. of z) r.next_is ∙ r.disc ∙ ap (λ z. of z) (sym e);

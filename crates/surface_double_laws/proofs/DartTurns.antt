@@ -70,9 +70,9 @@ module _ (s : Skeleton) (k : IsSkeleton s) (valid : (c : ℕ) → c < s.edges.co
           inl (record { f = u; w = f; dart = r.dart; value = ap h (sym r.next_is) ∙ e }))
       | inr q ↦ (let place = q.place in
           let many = q.many in
-          let r = far_step s.rows coords xs surface sign signs t v f u w q.i q.j (at_index t v f u w j q.i d q.place) q.many q.apart in
+          let r = far_step s.rows coords xs surface sign signs t v f u w q.i q.j (at_index t v f u w j q.i d q.place) q.many q.separate in
           let x = d.on in
-          let m = broad_once s k valid coords xs surface sign signs t v f w u x.in_range (last_two v f u w d.four) (omega arith) q.apart in
+          let m = broad_once s k valid coords xs surface sign signs t v f w u x.in_range (last_two v f u w d.four) (omega arith) q.separate in
           inr (tri coords xs t w + q.j, record { f = u; w = f; dart = r.dart; value = ap h (sym (ap (λ z. after (arc_at t f v z)) q.place ∙ r.next_is)) ∙ e }, omega arith))
     ]
 
@@ -99,9 +99,9 @@ module _ (s : Skeleton) (k : IsSkeleton s) (valid : (c : ℕ) → c < s.edges.co
           }))
       | inr q ↦ (let place = q.place in
           let many = q.many in
-          let r = far_before s.rows coords xs surface sign signs t v f u w q.i q.j (at_index t v f u w j q.i d q.place) q.many q.apart in
+          let r = far_before s.rows coords xs surface sign signs t v f u w q.i q.j (at_index t v f u w j q.i d q.place) q.many q.separate in
           let x = d.on in
-          let m = broad_once s k valid coords xs surface sign signs t v f u w x.in_range d.four (omega arith) q.apart in
+          let m = broad_once s k valid coords xs surface sign signs t v f u w x.in_range d.four (omega arith) q.separate in
           inr (
             tri coords xs t u + q.j,
             record {

@@ -19,7 +19,7 @@ use Rattle.surface_double_laws.proofs.Words.{odd, odd_ends, odd_across}
 abbrev pub same_if : Bool → Bool → Bool
 same_if x b = if b then x else not x
 
-abbrev turned_on : Bool → Bool → Bool
+abbrev pub turned_on : Bool → Bool → Bool
 turned_on d x = if d then x else not x
 
 -- how the direction changes across a gluing, by whether it is odd, and by the sides and signs on both sides of it

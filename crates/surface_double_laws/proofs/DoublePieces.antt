@@ -8,12 +8,12 @@ use Rattle.basic_lemmas.proofs.Numbers.{equals_one_of_two}
 use Rattle.cone_definitions.specs.Vectors.{multiple}
 use Rattle.cone_definitions.proofs.Entries.{length-multiple, entry-multiple}
 use Rattle.table_definitions.specs.Permutation.{image}
-use Rattle.table_definitions.specs.Table.{Gluing, Row, way_back}
+use Rattle.table_definitions.specs.Table.{Gluing, Row, inverse_gluing}
 use Rattle.table_definitions.proofs.PermutationLaws.{image_below, images_apart}
 use Rattle.skeleton_definitions.specs.Skeleton.{Skeleton}
 use Rattle.surface_definitions.specs.declared.Coords.{Coords}
 use Rattle.surface_definitions.specs.Pieces.{NormalDisc, discs_of, disc_number, Arc, arcs_around, arc_across, disc_of, Meets, ArcsLead, AreComponents, looks_positive, keeps_sides, IsTwoSided}
-use Rattle.surface_laws.specs.PieceLaws.{IsSurface, IsPieceOf, HasComponents, MeetsBack, face_of_arc, turned_if}
+use Rattle.surface_laws.specs.PieceLaws.{IsSurface, IsPieceOf, HasComponents, MeetsBack, face_of_arc, reversed_if}
 use Rattle.surface_laws.proofs.ArcPieces.{from_end_twice}
 use Rattle.surface_laws.proofs.ComponentsFound.{components_found}
 use Rattle.surface_laws.proofs.ComponentSurfaces.{piece_there}
@@ -23,7 +23,7 @@ use Rattle.surface_laws.proofs.PieceNumbers.{piece_at, no_piece, IsFound, piece_
 use Rattle.surface_efficiency_laws.specs.Laws.{IsConnectedSurface}
 use Rattle.surface_double_laws.proofs.Doubles.{lift, double_surface, arcs_twice, lifted}
 
-pub turned_low : (b : Bool) (k : ℕ) → k < 2 → turned_if b k < 2
+pub turned_low : (b : Bool) (k : ℕ) → k < 2 → reversed_if b k < 2
 turned_low true k l = l
 turned_low false k l = omega arith
 
@@ -32,7 +32,7 @@ abbrev same_if : Bool → Bool → Bool
 same_if x b = if b then x else not x
 
 -- two changes of side, one at each end of a crossing, are a change if sides are exchanged
-pub turned_both : (a b : Bool) (k : ℕ) → k < 2 → turned_if b (turned_if a k) ≡ turned_if (if a then b else not b) k
+pub turned_both : (a b : Bool) (k : ℕ) → k < 2 → reversed_if b (reversed_if a k) ≡ reversed_if (if a then b else not b) k
 turned_both true true k l = refl
 turned_both true false k l = refl
 turned_both false true k l = refl
@@ -50,7 +50,7 @@ module _ (rows : List Row) (coords : Coords) (xs : List ℕ) (w : IsSurface rows
     arc : Arc
     meets : Meets rows coords (multiple 2 xs) arc g
     here : disc_of coords (multiple 2 xs) arc ≡ lift (disc_of coords xs a) k
-    there : disc_of coords (multiple 2 xs) (arc_across g arc) ≡ lift (disc_of coords xs (arc_across g a)) (turned_if (keeps_sides coords xs a g) k)
+    there : disc_of coords (multiple 2 xs) (arc_across g arc) ≡ lift (disc_of coords xs (arc_across g a)) (reversed_if (keeps_sides coords xs a g) k)
 
   crossing : (a : Arc) (g : Gluing) (k : ℕ) → k < 2 → Meets rows coords xs a g → IsCrossing a g k
   crossing a g k l m =
@@ -60,8 +60,8 @@ module _ (rows : List Row) (coords : Coords) (xs : List ℕ) (w : IsSurface rows
       let v : ℕ = image g.perm a.vertex in
       let p : Bool = looks_positive coords xs a in
       let q : Bool = looks_positive coords xs (arc_across g a) in
-      let i : ℕ = turned_if (looks_positive coords xs a) k in
-      let li : turned_if (looks_positive coords xs a) k < 2 = turned_low (looks_positive coords xs a) k l in
+      let i : ℕ = reversed_if (looks_positive coords xs a) k in
+      let li : reversed_if (looks_positive coords xs a) k < 2 = turned_low (looks_positive coords xs a) k l in
       let place : a.place < arcs_around coords xs a.tet a.face a.vertex = m.there in
       let many = arcs_twice rows coords xs w a.tet a.face a.vertex in
       record {
@@ -83,8 +83,8 @@ module _ (rows : List Row) (coords : Coords) (xs : List ℕ) (w : IsSurface rows
   lifted_chain p q [] k l e = record { end = k; low = l; arcs = []; leads = ap (λ z. lift z k) e }
   lifted_chain p q (a ∷ arcs) k l (g, m, e, more) =
       let c : IsCrossing a g k = crossing a g k l m in
-      let r : HasLiftedChain (disc_of coords xs (arc_across g a)) q (turned_if (keeps_sides coords xs a g) k) =
-      lifted_chain (disc_of coords xs (arc_across g a)) q arcs (turned_if (keeps_sides coords xs a g) k) (turned_low (keeps_sides coords xs a g) k l) more in
+      let r : HasLiftedChain (disc_of coords xs (arc_across g a)) q (reversed_if (keeps_sides coords xs a g) k) =
+      lifted_chain (disc_of coords xs (arc_across g a)) q arcs (reversed_if (keeps_sides coords xs a g) k) (turned_low (keeps_sides coords xs a g) k l) more in
       record {
         end = r.end;
         low = r.low;
@@ -184,8 +184,8 @@ module _ (rows : List Row) (coords : Coords) (xs : List ℕ) (w : IsSurface rows
 
     -- if they are in two components, these are the sides of the surface
     module _ (two : class_of (lift first 0) ≢ class_of (lift first 1)) where
-      apart : (p : NormalDisc) → IsPieceOf xs p → class_of (lift p 0) ≢ class_of (lift p 1)
-      apart p h e = two (at 0 (omega arith) ∙ sym (at 1 (omega arith)))
+      separate : (p : NormalDisc) → IsPieceOf xs p → class_of (lift p 0) ≢ class_of (lift p 1)
+      separate p h e = two (at 0 (omega arith) ∙ sym (at 1 (omega arith)))
         where
           at : (k : ℕ) → k < 2 → class_of (lift first k) ≡ class_of (lift p 0)
           at k l = elim (class_along first p k l start h) [ inl a ↦ a | inr a ↦ a ∙ sym e ]
@@ -215,23 +215,23 @@ module _ (rows : List Row) (coords : Coords) (xs : List ℕ) (w : IsSurface rows
           hp = piece_there rows coords xs w a g m
 
           hq : IsPieceOf xs (disc_of coords xs (arc_across g a))
-          hq = piece_there rows coords xs w (arc_across g a) (way_back (face_of_arc a) g) (meets_back rows coords xs w a g m).meets
+          hq = piece_there rows coords xs w (arc_across g a) (inverse_gluing (face_of_arc a) g) (meets_back rows coords xs w a g m).meets
 
-          one_step : (k : ℕ) → k < 2 → class_of (lift (disc_of coords xs a) k) ≡ class_of (lift (disc_of coords xs (arc_across g a)) (turned_if (keeps_sides coords xs a g) k))
+          one_step : (k : ℕ) → k < 2 → class_of (lift (disc_of coords xs a) k) ≡ class_of (lift (disc_of coords xs (arc_across g a)) (reversed_if (keeps_sides coords xs a g) k))
           one_step k l =
               let c : IsCrossing a g k = crossing a g k l m in
-              joined_class (lift (disc_of coords xs a) k) (lift (disc_of coords xs (arc_across g a)) (turned_if (keeps_sides coords xs a g) k)) (c.arc ∷ [])
-              (lift_piece (disc_of coords xs a) k l hp) (lift_piece (disc_of coords xs (arc_across g a)) (turned_if (keeps_sides coords xs a g) k) (turned_low (keeps_sides coords xs a g) k l) hq)
+              joined_class (lift (disc_of coords xs a) k) (lift (disc_of coords xs (arc_across g a)) (reversed_if (keeps_sides coords xs a g) k)) (c.arc ∷ [])
+              (lift_piece (disc_of coords xs a) k l hp) (lift_piece (disc_of coords xs (arc_across g a)) (reversed_if (keeps_sides coords xs a g) k) (turned_low (keeps_sides coords xs a g) k l) hq)
               (g, c.meets, c.here, c.there)
 
           go : (b : Bool) → keeps_sides coords xs a g ≡ b → (class_of (lift (disc_of coords xs (arc_across g a)) 0) == class_of (lift first 0)) ≡ same_if (class_of (lift (disc_of coords xs a) 0) == class_of (lift first 0)) (keeps_sides coords xs a g)
           go true t =
-              let same : class_of (lift (disc_of coords xs a) 0) ≡ class_of (lift (disc_of coords xs (arc_across g a)) 0) = one_step 0 (omega arith) ∙ ap (λ b. class_of (lift (disc_of coords xs (arc_across g a)) (turned_if b 0))) t in
+              let same : class_of (lift (disc_of coords xs a) 0) ≡ class_of (lift (disc_of coords xs (arc_across g a)) 0) = one_step 0 (omega arith) ∙ ap (λ b. class_of (lift (disc_of coords xs (arc_across g a)) (reversed_if b 0))) t in
               ap (λ c. c == class_of (lift first 0)) (sym same) ∙ sym (ap (same_if (class_of (lift (disc_of coords xs a) 0) == class_of (lift first 0))) t)
           go false t =
-              let same : class_of (lift (disc_of coords xs a) 1) ≡ class_of (lift (disc_of coords xs (arc_across g a)) 0) = one_step 1 (omega arith) ∙ ap (λ b. class_of (lift (disc_of coords xs (arc_across g a)) (turned_if b 1))) t in
+              let same : class_of (lift (disc_of coords xs a) 1) ≡ class_of (lift (disc_of coords xs (arc_across g a)) 0) = one_step 1 (omega arith) ∙ ap (λ b. class_of (lift (disc_of coords xs (arc_across g a)) (reversed_if b 1))) t in
               ap (λ c. c == class_of (lift first 0)) (sym same)
-              ∙ equals_one_of_two (class_of (lift (disc_of coords xs a) 0)) (class_of (lift (disc_of coords xs a) 1)) (class_of (lift first 0)) (apart (disc_of coords xs a) hp) (class_along first (disc_of coords xs a) 0 (omega arith) start hp)
+              ∙ equals_one_of_two (class_of (lift (disc_of coords xs a) 0)) (class_of (lift (disc_of coords xs a) 1)) (class_of (lift first 0)) (separate (disc_of coords xs a) hp) (class_along first (disc_of coords xs a) 0 (omega arith) start hp)
               ∙ sym (ap (same_if (class_of (lift (disc_of coords xs a) 0) == class_of (lift first 0))) t)
 
       pub two_sided : IsTwoSided rows coords xs components 0
@@ -239,7 +239,7 @@ module _ (rows : List Row) (coords : Coords) (xs : List ℕ) (w : IsSurface rows
         sign,
         λ a g m e.
             let hp : IsPieceOf xs (disc_of coords xs a) = piece_there rows coords xs w a g m in
-            let hq : IsPieceOf xs (disc_of coords xs (arc_across g a)) = piece_there rows coords xs w (arc_across g a) (way_back (face_of_arc a) g) (meets_back rows coords xs w a g m).meets in
+            let hq : IsPieceOf xs (disc_of coords xs (arc_across g a)) = piece_there rows coords xs w (arc_across g a) (inverse_gluing (face_of_arc a) g) (meets_back rows coords xs w a g m).meets in
             sign_at (disc_of coords xs (arc_across g a)) hq ∙ across a g m (keeps_sides coords xs a g) refl
             ∙ sym (ap (λ b. if keeps_sides coords xs a g then b else not b) (sign_at (disc_of coords xs a) hp)),
       )

@@ -18,7 +18,7 @@ use Rattle.surface_definitions.specs.Coordinates.{tri_column, quad_column, keepi
 use Rattle.surface_definitions.specs.Equations.{matching, glued_pairs}
 use Rattle.surface_definitions.specs.declared.Coords.{Coords}
 use Rattle.surface_definitions.specs.Pieces.{NormalDisc, arcs_around, disc_of, type_in, keeps_by_zero, looks_positive}
-use Rattle.surface_laws.specs.PieceLaws.{IsSurface, first_nonzero, turned_if}
+use Rattle.surface_laws.specs.PieceLaws.{IsSurface, first_nonzero, reversed_if}
 use Rattle.surface_laws.proofs.ArcPieces.{from_end, arcs_are, triangle_piece, behind_piece}
 use Rattle.surface_laws.proofs.Matched.{pair_glued}
 use Rattle.surface_laws.proofs.MeetingArcs.{arc_at}
@@ -48,7 +48,7 @@ first_twice xs (o ∷ os) q =
       | inr none ↦ first_test (multiple 2 xs) o os q false (le-ltb 0 (slice_index (multiple 2 xs) o) (omega arith)) ∙ first_twice xs os q ∙ sym (first_test xs o os q false (le-ltb 0 (slice_index xs o) none))
     ]
 
-from_end_double : (e : ℕ) (b : Bool) (i k : ℕ) → i < e → k < 2 → from_end (2 * e) b (2 * i + k) ≡ 2 * from_end e b i + turned_if b k
+from_end_double : (e : ℕ) (b : Bool) (i k : ℕ) → i < e → k < 2 → from_end (2 * e) b (2 * i + k) ≡ 2 * from_end e b i + reversed_if b k
 from_end_double e true i k l m = refl
 from_end_double e false i k l m = omega arith
 
@@ -95,16 +95,16 @@ module _ (rows : List Row) (coords : Coords) (xs : List ℕ) (w : IsSurface rows
     b = keeps_by_zero (type_in coords col) v
 
     -- both arcs of the double that are parallel to an arc are of the discs parallel to its disc
-    pub lifted : (j k : ℕ) → j < arcs_around coords xs t f v → k < 2 → disc_of coords (multiple 2 xs) (arc_at t f v (2 * j + k)) ≡ lift (disc_of coords xs (arc_at t f v j)) (turned_if (looks_positive coords xs (arc_at t f v j)) k)
+    pub lifted : (j k : ℕ) → j < arcs_around coords xs t f v → k < 2 → disc_of coords (multiple 2 xs) (arc_at t f v (2 * j + k)) ≡ lift (disc_of coords xs (arc_at t f v j)) (reversed_if (looks_positive coords xs (arc_at t f v j)) k)
     lifted j k l lk = elim (cases_lt j (slice_index xs tri)) [
       | inl low ↦ (let e : slice_index ys tri ≡ 2 * slice_index xs tri = entry-multiple 2 xs tri in
           let positive : looks_positive coords xs (arc_at t f v j) ≡ true = ap (λ z. z || b) (lt-ltb j (slice_index xs tri) low) in
           triangle_piece coords n ys double_surface.triangles double_surface.admissible t f v lt lf lv off (2 * j + k) (omega arith)
-          ∙ sym ((λ z. lift (triangle_piece coords n xs w.triangles w.admissible t f v lt lf lv off j low z) (turned_if (positive z) k))))
+          ∙ sym ((λ z. lift (triangle_piece coords n xs w.triangles w.admissible t f v lt lf lv off j low z) (reversed_if (positive z) k))))
       | inr high ↦ behind (j - slice_index xs tri) (omega arith)
     ]
       where
-        behind : (i : ℕ) → slice_index xs tri + i ≡ j → disc_of coords (multiple 2 xs) (arc_at t f v (2 * j + k)) ≡ lift (disc_of coords xs (arc_at t f v j)) (turned_if (looks_positive coords xs (arc_at t f v j)) k)
+        behind : (i : ℕ) → slice_index xs tri + i ≡ j → disc_of coords (multiple 2 xs) (arc_at t f v (2 * j + k)) ≡ lift (disc_of coords xs (arc_at t f v j)) (reversed_if (looks_positive coords xs (arc_at t f v j)) k)
         behind i e =
             let m : ℕ = slice_index xs tri in
             let all : arcs_around coords xs t f v ≡ slice_index xs tri + slice_index xs col = arcs_are coords n xs w.triangles w.admissible t f v lt lf lv off xs (λ c z. z) in
@@ -119,7 +119,7 @@ module _ (rows : List Row) (coords : Coords) (xs : List ℕ) (w : IsSurface rows
             ∙ ap (λ c. piece_at c (from_end (slice_index ys c) (keeps_by_zero (type_in coords c) v) (2 * i + k))) same
             ∙ ap (λ q. piece_at col (from_end q b (2 * i + k))) (entry-multiple 2 xs col)
             ∙ ap (piece_at col) (from_end_double (slice_index xs col) b i k li lk)
-            ∙ sym (λ z. lift (is z) (turned_if (positive z) k))
+            ∙ sym (λ z. lift (is z) (reversed_if (positive z) k))
 
 double_euler : (p a r q b t : ℕ) → q + t ≡ 2 * (p + r) → b ≡ 2 * a → euler q b t ≡ euler p a r +ℤ euler p a r
 double_euler p a r q b t e f = omega (arith, ints)

@@ -197,7 +197,7 @@ module _ (s : Skeleton) (k : IsSkeleton s) (valid : (c : ℕ) → c < s.edges.co
       let one : is_first (face_of_arc b) ≡ is_face_before (face_of_arc b) (other_side (face_of_arc b) g.0) = ap (is_first_side (face_of_arc b)) g.1 in
       let two : is_first (face_of_arc (over b)) ≡ is_face_before (other_side (face_of_arc b) g.0) (face_of_arc b) =
       ap (λ (z : Arc). is_first (face_of_arc z)) (flip_is s k valid coords xs surface sign signs b g.0 g.1) ∙ ap (is_first_side y) i.back ∙ ap (is_face_before y) i.returns in
-      one_of_two (is_first (face_of_arc b)) (is_first (face_of_arc (over b))) (elim (before_or_after (face_of_arc b) (other_side (face_of_arc b) g.0) ((k.table).apart (face_of_arc b) g.0 g.1)) [
+      one_of_two (is_first (face_of_arc b)) (is_first (face_of_arc (over b))) (elim (before_or_after (face_of_arc b) (other_side (face_of_arc b) g.0) ((k.table).separate (face_of_arc b) g.0 g.1)) [
         | inl t ↦ inl (one ∙ t, two ∙ not_before b.tet b.face y.tet y.face t)
         | inr t ↦ inr (one ∙ not_before y.tet y.face b.tet b.face t, two ∙ t)
       ])

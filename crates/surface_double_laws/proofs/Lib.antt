@@ -21,5 +21,8 @@ pub mod EvenComponents
 pub mod TwoSided
 pub mod Orientable
 pub mod TwoCopies
+pub mod CopiedDiscs
+pub mod CopyChains
+pub mod CopyCounts
 pub mod Worked
 pub mod WorkedSphere

@@ -9,13 +9,13 @@ use Rattle.surface_double_laws.proofs.Cycles.{one_change}
 pub record IsExchange (n : ℕ) (f g : ℕ → ℕ) (a b : ℕ) : Type 0 where
   pub la : a < n
   pub lb : b < n
-  pub apart : a ≢ b
+  pub separate : a ≢ b
   pub at_a : g a ≡ f b
   pub at_b : g b ≡ f a
   pub others : (d : ℕ) → d < n → d ≢ a → d ≢ b → g d ≡ f d
 
 pub exchanged_back : (n : ℕ) (f g : ℕ → ℕ) (a b : ℕ) → IsExchange n f g a b → IsExchange n f g b a
-exchanged_back n f g a b x = record { la = x.lb; lb = x.la; apart = (λ e. x.apart (sym e)); at_a = x.at_b; at_b = x.at_a; others = (λ d l nb na. x.others d l na nb) }
+exchanged_back n f g a b x = record { la = x.lb; lb = x.la; separate = (λ e. x.separate (sym e)); at_a = x.at_b; at_b = x.at_a; others = (λ d l nb na. x.others d l na nb) }
 
 -- the number of a cycle once cycle high has become a part of cycle low
 merged_by : ℕ → ℕ → ℕ → ℕ

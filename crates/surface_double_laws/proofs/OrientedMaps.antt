@@ -26,24 +26,24 @@ exchanged n f g p q a b x cycle count c = elim (cases_order (cycle a) (cycle b))
 ]
 
 module _ (n : ℕ) (back turn next : ℕ → ℕ) (m : IsOrientedMap n back turn next) where
-  abbrev turned_if : Bool → ℕ → ℕ
-  turned_if s d = cond s (back d) d
+  abbrev reversed_if : Bool → ℕ → ℕ
+  reversed_if s d = cond s (back d) d
 
   -- the darts of each edge of which one dart is less than k are exchanged
-  turned : ℕ → ℕ → ℕ
-  turned k d = turned_if (nat_lt d k || nat_lt (back d) k) d
+  backwards : ℕ → ℕ → ℕ
+  backwards k d = reversed_if (nat_lt d k || nat_lt (back d) k) d
 
-  is_turned : (k d : ℕ) → (d < k) ⊎ (back d < k) → turned k d ≡ back d
-  unfolding turned
-  is_turned k d (inl l) = ap (λ s. turned_if (s || nat_lt (back d) k) d) (lt-ltb d k l)
-  is_turned k d (inr l) = elim (cases_lt d k) [
-    | inl x ↦ ap (λ s. turned_if (s || nat_lt (back d) k) d) (lt-ltb d k x)
-    | inr x ↦ ap (λ s. turned_if (s || nat_lt (back d) k) d) (le-ltb d k x) ∙ ap (λ s. turned_if s d) (lt-ltb (back d) k l)
+  is_negated : (k d : ℕ) → (d < k) ⊎ (back d < k) → backwards k d ≡ back d
+  unfolding backwards
+  is_negated k d (inl l) = ap (λ s. reversed_if (s || nat_lt (back d) k) d) (lt-ltb d k l)
+  is_negated k d (inr l) = elim (cases_lt d k) [
+    | inl x ↦ ap (λ s. reversed_if (s || nat_lt (back d) k) d) (lt-ltb d k x)
+    | inr x ↦ ap (λ s. reversed_if (s || nat_lt (back d) k) d) (le-ltb d k x) ∙ ap (λ s. reversed_if s d) (lt-ltb (back d) k l)
   ]
 
-  is_still : (k d : ℕ) → k ≤ d → k ≤ back d → turned k d ≡ d
-  unfolding turned
-  is_still k d l x = ap (λ s. turned_if (s || nat_lt (back d) k) d) (le-ltb d k l) ∙ ap (λ s. turned_if s d) (le-ltb (back d) k x)
+  is_still : (k d : ℕ) → k ≤ d → k ≤ back d → backwards k d ≡ d
+  unfolding backwards
+  is_still k d l x = ap (λ s. reversed_if (s || nat_lt (back d) k) d) (le-ltb d k l) ∙ ap (λ s. reversed_if s d) (le-ltb (back d) k x)
 
   either : (k d : ℕ) → ((d < k) ⊎ (back d < k)) ⊎ ((k ≤ d) × (k ≤ back d))
   either k d = elim (cases_lt d k) [
@@ -51,16 +51,16 @@ module _ (n : ℕ) (back turn next : ℕ → ℕ) (m : IsOrientedMap n back turn
     | inr l ↦ elim (cases_lt (back d) k) [ inl x ↦ inl (inr x) | inr x ↦ inr (l, x) ]
   ]
 
-  turned_below : (k d : ℕ) → d < n → turned k d < n
+  turned_below : (k d : ℕ) → d < n → backwards k d < n
   turned_below k d l = elim (either k d) [
-    | inl x ↦ (let e = is_turned k d x in let b = m.back_within d l in omega arith)
+    | inl x ↦ (let e = is_negated k d x in let b = m.back_within d l in omega arith)
     | inr x ↦ (let e = is_still k d x.0 x.1 in omega arith)
   ]
 
-  turned_twice : (k d : ℕ) → d < n → turned k (turned k d) ≡ d
+  turned_twice : (k d : ℕ) → d < n → backwards k (backwards k d) ≡ d
   turned_twice k d l = elim (either k d) [
-    | inl x ↦ ap (turned k) (is_turned k d x) ∙ is_turned k (back d) (swapped x) ∙ m.back_twice d l
-    | inr x ↦ ap (turned k) (is_still k d x.0 x.1) ∙ is_still k d x.0 x.1
+    | inl x ↦ ap (backwards k) (is_negated k d x) ∙ is_negated k (back d) (swapped x) ∙ m.back_twice d l
+    | inr x ↦ ap (backwards k) (is_still k d x.0 x.1) ∙ is_still k d x.0 x.1
   ]
     where
       swapped : (d < k) ⊎ (back d < k) → (back d < k) ⊎ (back (back d) < k)
@@ -68,13 +68,13 @@ module _ (n : ℕ) (back turn next : ℕ → ℕ) (m : IsOrientedMap n back turn
       swapped (inr y) = inl y
 
   part : ℕ → ℕ → ℕ
-  part k d = turn (turned k d)
+  part k d = turn (backwards k d)
 
   part_permutes : (k : ℕ) → IsPermutationBelow n (part k)
   unfolding part
   part_permutes k = record {
-    within = λ d l. (m.turns).within (turned k d) (turned_below k d l);
-    injective = λ d e ld le q. sym (turned_twice k d ld) ∙ ap (turned k) ((m.turns).injective (turned k d) (turned k e) (turned_below k d ld) (turned_below k e le) q) ∙ turned_twice k e le;
+    within = λ d l. (m.turns).within (backwards k d) (turned_below k d l);
+    injective = λ d e ld le q. sym (turned_twice k d ld) ∙ ap (backwards k) ((m.turns).injective (backwards k d) (backwards k e) (turned_below k d ld) (turned_below k e le) q) ∙ turned_twice k e le;
   }
 
   more : (k d : ℕ) → (d < k) ⊎ (back d < k) → (d < suc k) ⊎ (back d < suc k)
@@ -85,7 +85,7 @@ module _ (n : ℕ) (back turn next : ℕ → ℕ) (m : IsOrientedMap n back turn
   same_part : (k : ℕ) → k < n → back k < k → (d : ℕ) → d < n → part (suc k) d ≡ part k d
   unfolding part
   same_part k lk low d l = elim (either k d) [
-    | inl x ↦ ap turn (is_turned (suc k) d (more k d x) ∙ sym (is_turned k d x))
+    | inl x ↦ ap turn (is_negated (suc k) d (more k d x) ∙ sym (is_negated k d x))
     | inr x ↦ (let one = x.0 in
         let two = x.1 in
         let not_k : d ≢ k = λ e. let z = ap back e in absurd (omega arith) in
@@ -101,11 +101,11 @@ module _ (n : ℕ) (back turn next : ℕ → ℕ) (m : IsOrientedMap n back turn
       record {
         la = lk;
         lb = m.back_within k lk;
-        apart = λ e. absurd (omega arith);
-        at_a = ap turn (is_turned (suc k) k (inl (omega arith)) ∙ sym (is_still k (back k) (omega arith) (omega arith)));
-        at_b = ap turn (is_turned (suc k) (back k) (inr (omega arith)) ∙ twice ∙ sym (is_still k k (omega arith) (omega arith)));
+        separate = λ e. absurd (omega arith);
+        at_a = ap turn (is_negated (suc k) k (inl (omega arith)) ∙ sym (is_still k (back k) (omega arith) (omega arith)));
+        at_b = ap turn (is_negated (suc k) (back k) (inr (omega arith)) ∙ twice ∙ sym (is_still k k (omega arith) (omega arith)));
         others = λ d l na nb. elim (either k d) [
-          | inl x ↦ ap turn (is_turned (suc k) d (more k d x) ∙ sym (is_turned k d x))
+          | inl x ↦ ap turn (is_negated (suc k) d (more k d x) ∙ sym (is_negated k d x))
           | inr x ↦ (let one = x.0 in
               let two = x.1 in
               let not_back : back d ≢ k = λ e. nb (sym (m.back_twice d l) ∙ ap back e) in
@@ -183,7 +183,7 @@ module _ (n : ℕ) (back turn next : ℕ → ℕ) (m : IsOrientedMap n back turn
         let h : HasParity n = parity n (omega arith) in
         let even = h.even in
         let half = half_first in
-        let all : AreCycles n next h.cycle h.count = same_cycles n (part n) next h.cycle h.count (λ d l. m.next_is d l ∙ ap turn (sym (is_turned n d (inl l)))) h.are in
+        let all : AreCycles n next h.cycle h.count = same_cycles n (part n) next h.cycle h.count (λ d l. m.next_is d l ∙ ap turn (sym (is_negated n d (inl l)))) h.are in
         let same = one_count n next face h.cycle faces h.count f all in
         omega arith
 

@@ -84,7 +84,7 @@ module _ (rows : List Row) (coords : Coords) (xs : List ℕ) (s : IsSurface rows
       none_behind ne = elim kind [
         | inl a ↦ a.no_other (keeping v u) (type_below v u w f (round_four v f u w four)) (λ g. other_type v f u w four (sym g))
         | inr a ↦ elim (one_of_types v f u w a.o four a.below_three) [
-          | inl g ↦ absurd (a.apart g)
+          | inl g ↦ absurd (a.separate g)
           | inr (inl g) ↦ ap (behind coords xs t) (sym g) ∙ a.none
           | inr (inr g) ↦ absurd (ne (a.type_is ∙ g))
         ]

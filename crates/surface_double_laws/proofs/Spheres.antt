@@ -113,8 +113,8 @@ double_no_link s coords xs c (v, lv, e) =
     let two : slice_index (multiple 2 xs) (slice_index_or (discs_of xs) some.0 no_piece).column ≡ 2 * slice_index xs (slice_index_or (discs_of xs) some.0 no_piece).column = entry-multiple 2 xs i in
     let entry : slice_index (multiple 2 xs) (slice_index_or (discs_of xs) some.0 no_piece).column ≡ link_entry coords s.vertices.classes v (slice_index_or (discs_of xs) some.0 no_piece).column =
     ap (λ (ys : List ℕ). slice_index ys i) e ∙ get_or-map-range_with_len (link_entry coords s.vertices.classes v) 0 (columns coords (length s.rows)) i i 0 (omega arith) (omega arith) in
-    let few = at_most_one (nat_lt (i % columns_each coords) 4 && (slice_index s.vertices.classes (vertex_number (i / columns_each coords) (i % columns_each coords)) == v)) in
-    omega (arith, few)
+    let limited = at_most_one (nat_lt (i % columns_each coords) 4 && (slice_index s.vertices.classes (vertex_number (i / columns_each coords) (i % columns_each coords)) == v)) in
+    omega (arith, limited)
   where
     at_most_one : (b : Bool) → (if b then 1 else 0) ≤ 1
     at_most_one true = omega arith

@@ -118,7 +118,7 @@ module _ (n : ℕ) (f : ℕ → ℕ) (p : IsPermutationBelow n f) (a b : ℕ) (l
     -- the way ends at b, since the cycle of a has b
     whole : on_way a ≡ true → ⊥
     whole t =
-        let b_off : on_way b ≡ false = one_on a b t stops_a stops_b (λ e. x.apart (sym e)) in
+        let b_off : on_way b ≡ false = one_on a b t stops_a stops_b (λ e. x.separate (sym e)) in
         let closed : (d : ℕ) → d < n → on_way (f d) ≡ on_way d = not_lost n f p on_way (λ d l s. elim (cases_eq d a) [
           | inl e ↦ ap (λ z. on_way (f z)) e ∙ first_on
           | inr na ↦ next_on d na (λ e. let z : true ≡ false = sym s ∙ ap on_way e ∙ b_off in absurd cc) s
@@ -133,7 +133,7 @@ module _ (n : ℕ) (f : ℕ → ℕ) (p : IsPermutationBelow n f) (a b : ℕ) (l
     ]
 
     a_off : on_way a ≡ false
-    a_off = one_on b a b_on stops_b stops_a x.apart
+    a_off = one_on b a b_on stops_b stops_a x.separate
 
     closed : (d : ℕ) → d < n → on_way (g d) ≡ on_way d
     closed = not_lost n g q on_way (λ d l s. elim (cases_eq d b) [

@@ -16,7 +16,7 @@ use Rattle.skeleton_definitions.specs.Skeleton.{Skeleton}
 use Rattle.skeleton_laws.proofs.Sums.{sum_blocks}
 use Rattle.surface_definitions.specs.declared.Coords.{Coords}
 use Rattle.surface_definitions.specs.Pieces.{NormalDisc, discs_of, disc_number, Arc, arcs_around, arc_across, disc_of, Meets, ArcsLead, AreComponents, component_vector, looks_positive, keeps_sides, IsTwoSided}
-use Rattle.surface_laws.specs.PieceLaws.{IsSurface, IsPieceOf, HasComponents, MeetsBack, face_of_arc, turned_if}
+use Rattle.surface_laws.specs.PieceLaws.{IsSurface, IsPieceOf, HasComponents, MeetsBack, face_of_arc, reversed_if}
 use Rattle.surface_laws.proofs.ComponentCounts.{belongs, component_count, component_width}
 use Rattle.surface_laws.proofs.ComponentsFound.{components_found}
 use Rattle.surface_laws.proofs.ArcPieces.{in_width}
@@ -34,7 +34,7 @@ use Rattle.surface_double_laws.proofs.DoublePieces.{turned_low, lift_piece, IsLi
 abbrev of_parallel : ℕ → Bool → Bool
 of_parallel k x = if k == 0 then x else not x
 
-of_parallel_turned : (b : Bool) (k : ℕ) (x y : Bool) → k < 2 → y ≡ (if b then x else not x) → of_parallel (turned_if b k) y ≡ of_parallel k x
+of_parallel_turned : (b : Bool) (k : ℕ) (x y : Bool) → k < 2 → y ≡ (if b then x else not x) → of_parallel (reversed_if b k) y ≡ of_parallel k x
 of_parallel_turned true k x y l e = ap (of_parallel k) e
 of_parallel_turned false zero x y l e = ap not e ∙ twice x
   where
@@ -80,18 +80,18 @@ module _ (rows : List Row) (coords : Coords) (xs : List ℕ) (w : IsSurface rows
       let v : ℕ = image g.perm a.vertex in
       let p : Bool = looks_positive coords xs (arc_at a.tet a.face a.vertex (a.place / 2)) in
       let q : Bool = looks_positive coords xs (arc_across g (arc_at a.tet a.face a.vertex (a.place / 2))) in
-      let k : ℕ = turned_if p i in
-      let here : disc_of coords ys a ≡ lift (disc_of coords xs b) (turned_if p i) =
+      let k : ℕ = reversed_if p i in
+      let here : disc_of coords ys a ≡ lift (disc_of coords xs b) (reversed_if p i) =
       ap (λ z. disc_of coords ys (arc_at a.tet a.face a.vertex z)) (sym e) ∙ lifted rows coords xs w a.tet a.face a.vertex m.in_range x.face m.is_vertex m.off_vertex j i meets.there li in
-      let there : disc_of coords ys (arc_across g a) ≡ lift (disc_of coords xs (arc_across g b)) (turned_if q i) =
+      let there : disc_of coords ys (arc_across g a) ≡ lift (disc_of coords xs (arc_across g b)) (reversed_if q i) =
       ap (λ z. disc_of coords ys (arc_at g.tet f v z)) (sym e)
       ∙ lifted rows coords xs w g.tet f v x.other_tet x.other_face (image_below g.perm a.vertex x.permutes m.is_vertex) (images_apart g.perm a.vertex a.face x.permutes m.is_vertex x.face m.off_vertex) j i (back.meets).there li in
       let low : slice_index components (disc_number xs (disc_of coords xs b)) ≡ 0 = of_first (arc_at a.tet a.face a.vertex (a.place / 2)) g meets in
-      let turn : turned_if q i ≡ turned_if (keeps_sides coords xs b g) (turned_if p i) = again p q i li in
-      ap side there ∙ side_lift (disc_of coords xs (arc_across g b)) (turned_if q i) (turned_low q i li)
+      let turn : reversed_if q i ≡ reversed_if (keeps_sides coords xs b g) (reversed_if p i) = again p q i li in
+      ap side there ∙ side_lift (disc_of coords xs (arc_across g b)) (reversed_if q i) (turned_low q i li)
       ∙ ap (λ z. of_parallel z (sign (disc_of coords xs (arc_across g b)))) turn
-      ∙ of_parallel_turned (keeps_sides coords xs b g) (turned_if p i) (sign (disc_of coords xs b)) (sign (disc_of coords xs (arc_across g b))) (turned_low p i li) (sides.1 b g meets low)
-      ∙ sym (ap side here ∙ side_lift (disc_of coords xs b) (turned_if p i) (turned_low p i li))
+      ∙ of_parallel_turned (keeps_sides coords xs b g) (reversed_if p i) (sign (disc_of coords xs b)) (sign (disc_of coords xs (arc_across g b))) (turned_low p i li) (sides.1 b g meets low)
+      ∙ sym (ap side here ∙ side_lift (disc_of coords xs b) (reversed_if p i) (turned_low p i li))
     where
       of_first : (b : Arc) (g : Gluing) → Meets rows coords xs b g → slice_index components (disc_number xs (disc_of coords xs b)) ≡ 0
       of_first b g m =
@@ -99,7 +99,7 @@ module _ (rows : List Row) (coords : Coords) (xs : List ℕ) (w : IsSurface rows
           let l : slice_index components (disc_number xs (disc_of coords xs b)) < 1 = one.in_range (disc_number xs (disc_of coords xs b)) f.in_range in
           omega arith
 
-      again : (p q : Bool) (i : ℕ) → i < 2 → turned_if q i ≡ turned_if (if p then q else not q) (turned_if p i)
+      again : (p q : Bool) (i : ℕ) → i < 2 → reversed_if q i ≡ reversed_if (if p then q else not q) (reversed_if p i)
       again true q i l = refl
       again false true i l = omega arith
       again false false i l = refl
@@ -119,8 +119,8 @@ module _ (rows : List Row) (coords : Coords) (xs : List ℕ) (w : IsSurface rows
     start_piece = start rows coords xs w components one classes count are
 
     -- parallel discs are in different components
-    apart : (p : NormalDisc) → IsPieceOf xs p → class (lift p 0) ≢ class (lift p 1)
-    apart p h e =
+    separate : (p : NormalDisc) → IsPieceOf xs p → class (lift p 0) ≢ class (lift p 1)
+    separate p h e =
         let a : IsFound ys (lift p 0) = piece_found ys (lift p 0) (lift_piece rows coords xs w p 0 (omega arith) h) in
         let b : IsFound ys (lift p 1) = piece_found ys (lift p 1) (lift_piece rows coords xs w p 1 (omega arith) h) in
         let c = (are.together (disc_number ys (lift p 0)) (disc_number ys (lift p 1)) a.in_range b.in_range).0 e in
@@ -150,7 +150,7 @@ module _ (rows : List Row) (coords : Coords) (xs : List ℕ) (w : IsSurface rows
     two =
         let a = low start_disc 0 (omega arith) start_piece in
         let b = low start_disc 1 (omega arith) start_piece in
-        let ne = apart start_disc start_piece in
+        let ne = separate start_disc start_piece in
         elim (cases_lt 2 count) [
           | inr most ↦ omega arith
           | inl more ↦ absurd (three (member 0 (omega arith)) (member 1 (omega arith)) (member 2 more))
@@ -170,7 +170,7 @@ module _ (rows : List Row) (coords : Coords) (xs : List ℕ) (w : IsSurface rows
         let a = low p 0 (omega arith) h in
         let b = low p 1 (omega arith) h in
         let n = two in
-        let ne = apart p h in
+        let ne = separate p h in
         elim (cases_eq (class (lift p 0)) i) [
           | inl e ↦ (let other : class (lift p 1) ≢ i = λ z. ne (e ∙ sym z) in λ t. chosen (eq-eqb (class (lift p 0)) i e t) + chosen (ne_eqb (class (lift p 1)) i other t))
           | inr e ↦ (let other : class (lift p 1) ≡ i = omega arith in λ t. chosen (ne_eqb (class (lift p 0)) i e t) + chosen (eq-eqb (class (lift p 1)) i other t))

@@ -1,4 +1,5 @@
 pub mod Laws
+pub mod Copies
 pub mod Orientable
 pub mod Maps
 pub mod WorkedPlane

@@ -9,6 +9,7 @@
 #![tactic(auto)]
 
 ghost use Rattle.surface_double_laws.specs.Laws.{DoublesAreSurfaces, DoublesAreConnected, DoublesAreTwoCopies, OrientableSurfacesAreEven, OrientableComponentsAreEven, OrientablePartsAreEven, OneIsOneSided, TwoSidedSurfacesAreEven, TwoSidedComponentsAreEven, TwoSidedPartsAreEven, SpheresDecideEfficiency, SpheresDecideLinks, ListDecidesSpheres, PlanesAndSpheresDecide};
+ghost use Rattle.surface_double_laws.specs.Copies.{CopiesAreSurfaces, TwoSidedCopiesAreCounted, OneSidedCopiesAreCounted};
 ghost use Rattle.surface_double_laws.specs.Orientable.{OrientableTwoSidedAreEven, OrientableTwoSidedComponentsAreEven, OrientableTwoSidedPartsAreEven, OrientableOneIsOneSided, OrientableSpheresDecideEfficiency, OrientableSpheresDecideLinks, OrientableListDecidesSpheres, OrientableListedSpheresDecide};
 ghost use Rattle.surface_double_laws.specs.Maps.{OrientedMapsAreEven};
 ghost use Rattle.surface_double_laws.specs.WorkedOctagon.{OctagonIsOrientable};
@@ -27,6 +28,17 @@ pub fn doubles_are_surfaces()
 pub fn doubles_are_connected_or_two_copies()
     ensures connected { DoublesAreConnected }
     ensures copies { DoublesAreTwoCopies }
+{}
+
+/// Theorem: let x be a connected surface in standard or octagon coordinates, and m a natural number. Then mx is a
+/// surface.
+///
+/// 1. If x is two-sided, mx has exactly m components.
+/// 2. If x is one-sided, mx has exactly (m + 1)/2 components, rounded down.
+pub fn copies_are_counted()
+    ensures surfaces { CopiesAreSurfaces }
+    ensures two_sided { TwoSidedCopiesAreCounted }
+    ensures one_sided { OneSidedCopiesAreCounted }
 {}
 
 /// Example: let T be the triangulation `cMcabbgqw` of projective space, with two tetrahedra, and let x be two triangles
