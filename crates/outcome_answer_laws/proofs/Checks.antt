@@ -21,25 +21,25 @@ not_refused : {P : Type 0} → Refused ≡ Done → P
 not_refused e = absurd cc
 
 module _ (rows : List Row) (moves : List Move) where
-  certified : (told : CheckAnswer) → IsChecked rows moves told → (check_outcome told).status ≡ Done → IsCertificate rows moves
+  certified : (reported : CheckAnswer) → IsChecked rows moves reported → (check_outcome reported).status ≡ Done → IsCertificate rows moves
   certified (Ok u) checked e = checked
   certified (Err fault) checked e = not_refused e
 
-  accepted : (told : CheckAnswer) → IsTable rows → IsChecked rows moves told → IsCertificate rows moves → check_outcome told ≡ done accepted_text
-  accepted told table checked certificate =
+  accepted : (reported : CheckAnswer) → IsTable rows → IsChecked rows moves reported → IsCertificate rows moves → check_outcome reported ≡ done accepted_text
+  accepted reported table checked certificate =
       let yes : CheckAnswer = Ok tt in
-      ap check_outcome (answers_agree_lem rows moves told yes table checked certificate)
+      ap check_outcome (answers_agree_lem rows moves reported yes table checked certificate)
 
   decided : (o : Outcome) → IsTable rows → IsCheckAnswer (rows, moves) o → (o ≡ done accepted_text) ↔ IsCertificate rows moves
   decided o table a = (
-    (λ e. certified a.told a.checked (status_of (check_outcome a.told) (done accepted_text) (sym a.outcome ∙ e))),
-    (λ certificate. a.outcome ∙ accepted a.told table a.checked certificate),
+    (λ e. certified a.reported a.checked (status_of (check_outcome a.reported) (done accepted_text) (sym a.outcome ∙ e))),
+    (λ certificate. a.outcome ∙ accepted a.reported table a.checked certificate),
   )
 
   done_where : (o : Outcome) → IsTable rows → IsCheckAnswer (rows, moves) o → (o.status ≡ Done) ↔ IsCertificate rows moves
   done_where o table a = (
-    (λ e. certified a.told a.checked (sym (status_of o (check_outcome a.told) a.outcome) ∙ e)),
-    (λ certificate. status_of o (done accepted_text) (a.outcome ∙ accepted a.told table a.checked certificate)),
+    (λ e. certified a.reported a.checked (sym (status_of o (check_outcome a.reported) a.outcome) ∙ e)),
+    (λ certificate. status_of o (done accepted_text) (a.outcome ∙ accepted a.reported table a.checked certificate)),
   )
 
 check_answered : (words : List (List ℕ)) (bytes : List ℕ) (o : Outcome) (rows : List Row) (moves : List Move) → IsOutcomeTo Check words bytes o

@@ -14,35 +14,35 @@ use Rattle.outcome_answer_laws.specs.Comparisons.{AreCompared, IsComparison, IsG
 use Rattle.outcome_answer_laws.proofs.Asked.{means_by, status_of}
 
 -- the first letters differ
-apart : {P : Type 0} (by : Relabelling) → done (relabelling_text by) ≡ different_outcome → P
+separate : {P : Type 0} (by : Relabelling) → done (relabelling_text by) ≡ different_outcome → P
 unfolding different_text
-apart by e = letters (slice_index (relabelling_text by) 0) (slice_index different_text 0) refl refl (ap (λ (q : Outcome). slice_index q.text 0) e)
+separate by e = letters (slice_index (relabelling_text by) 0) (slice_index different_text 0) refl refl (ap (λ (q : Outcome). slice_index q.text 0) e)
   where
     letters : {Q : Type 0} (s d : ℕ) → s ≡ 115 → d ≡ 100 → s ≡ d → Q
     letters s d is_s is_d same = absurd (omega arith)
 
 -- the answer is a relabelling, or the tables are not isomorphic
-abbrev pub IsTold : List Row → List Row → Outcome → Type 0
-IsTold first second o =
+abbrev pub IsResult : List Row → List Row → Outcome → Type 0
+IsResult first second o =
     ((by : Relabelling) × Relabels first second by × (o ≡ done (relabelling_text by))) ⊎ ((AreIsomorphic first second → ⊥) × (o ≡ different_outcome))
 
-pub compared_by : (first second : List Row) (o : Outcome) → IsTold first second o → AreCompared first second o
+pub compared_by : (first second : List Row) (o : Outcome) → IsResult first second o → AreCompared first second o
 compared_by first second o (inl h) = record {
   same = ((λ s. (h.0, h.1.0, h.1.1)), (λ r. (h.0, h.2)));
-  different = ((λ e. apart h.0 (sym h.2 ∙ e)), (λ none. absurd (none (h.0, h.1.0, h.1.1))));
-  told = λ r. h;
+  different = ((λ e. separate h.0 (sym h.2 ∙ e)), (λ none. absurd (none (h.0, h.1.0, h.1.1))));
+  reported = λ r. h;
 }
 compared_by first second o (inr h) = record {
-  same = ((λ s. apart s.0 (sym s.1 ∙ h.1)), (λ r. absurd (h.0 r)));
+  same = ((λ s. separate s.0 (sym s.1 ∙ h.1)), (λ r. absurd (h.0 r)));
   different = ((λ e. h.0), (λ none. h.1));
-  told = λ r. absurd (h.0 r);
+  reported = λ r. absurd (h.0 r);
 }
 
-least_told : (first second : List Row) (o : Outcome) → IsCompared first second o → IsTold first second o
+least_told : (first second : List Row) (o : Outcome) → IsCompared first second o → IsResult first second o
 least_told first second o (inl h) = inl (h.0, h.1.relabels, h.2)
 least_told first second o (inr h) = inr h
 
-told_is_done : (first second : List Row) (o : Outcome) → IsTold first second o → o.status ≡ Done
+told_is_done : (first second : List Row) (o : Outcome) → IsResult first second o → o.status ≡ Done
 told_is_done first second o (inl h) = status_of o (done (relabelling_text h.0)) h.2
 told_is_done first second o (inr h) = status_of o different_outcome h.1
 
@@ -69,7 +69,7 @@ connected_compared = means_by Same two_tables_document IsSameAnswer IsComparison
 
 grouping : (tables : List (List Row)) (o : Outcome) → IsGroupAnswer tables o → IsGrouping tables o
 grouping tables o (inl h) = record {
-  is_done = ((λ e. h.connected), (λ all. status_of o (done (census_text h.classes h.signatures)) h.told));
+  is_done = ((λ e. h.connected), (λ all. status_of o (done (census_text h.classes h.signatures)) h.reported));
   classified = λ all. record {
     classes = h.classes;
     signatures = h.signatures;
@@ -78,12 +78,12 @@ grouping tables o (inl h) = record {
     none_empty = h.census.numbering.none_empty;
     together = h.census.numbering.together;
     signed = h.census.signed;
-    outcome = h.told;
+    outcome = h.reported;
   };
 }
 grouping tables o (inr h) = record {
-  is_done = ((λ e. refused h.table (table_in tables h.table) o h.told e), (λ all. not_both h.table (table_in tables h.table) o (all h.table h.in_range) h.told));
-  classified = λ all. not_both h.table (table_in tables h.table) o (all h.table h.in_range) h.told;
+  is_done = ((λ e. refused h.table (table_in tables h.table) o h.reported e), (λ all. not_both h.table (table_in tables h.table) o (all h.table h.in_range) h.reported));
+  classified = λ all. not_both h.table (table_in tables h.table) o (all h.table h.in_range) h.reported;
 }
 
 pub tables_grouped : TablesAreGrouped

@@ -16,18 +16,18 @@ use Rattle.outcome_definitions.specs.Parts.{IsSamePartsAnswer}
 use Rattle.outcome_laws.proofs.ReadPairs.{both_are_tables}
 use Rattle.outcome_answer_laws.specs.Comparisons.{SaysSame, AreCompared, ComponentsMatch, IsComponentComparison, ComponentsAreCompared}
 use Rattle.outcome_answer_laws.proofs.Asked.{means_by}
-use Rattle.outcome_answer_laws.proofs.Comparisons.{IsTold, compared_by}
+use Rattle.outcome_answer_laws.proofs.Comparisons.{IsResult, compared_by}
 
 -- the index of a number in an order of the numbers below m
 module _ (m : ℕ) (order : List ℕ) (p : IsPermutation order (below m)) where
   place : (a : ℕ) → (a < m) ⊎ (m ≤ a) → ℕ
   place a (inl l) = (order_holds m order p a l).0
-  place a (inr past) = 0
+  place a (inr exceeded) = 0
 
   place_is : (a : ℕ) (c : (a < m) ⊎ (m ≤ a)) → a < m → (place a c < m) × (slice_index order (place a c) ≡ a)
   unfolding place
   place_is a (inl l) k = let w = order_holds m order p a l in (w.1, w.2)
-  place_is a (inr past) k = absurd (omega arith)
+  place_is a (inr exceeded) k = absurd (omega arith)
 
   at_place : ℕ → ℕ
   at_place a = place a (cases_lt a m)
@@ -105,7 +105,7 @@ module _ (first second : List Row) (tf : IsTable first) (ts : IsTable second) (c
   there = record {
     to = c.to;
     in_range = c.to_in_range;
-    apart = λ i j li lj e. sym (c.to_and_back i li) ∙ ap c.back e ∙ c.to_and_back j lj;
+    separate = λ i j li lj e. sym (c.to_and_back i li) ∙ ap c.back e ∙ c.to_and_back j lj;
     relabelled = c.relabelled;
   }
 
@@ -120,7 +120,7 @@ module _ (first second : List Row) (tf : IsTable first) (ts : IsTable second) (c
   back_there = record {
     to = c.back;
     in_range = c.back_in_range;
-    apart = λ i j li lj e. sym (c.back_and_to i li) ∙ ap c.to e ∙ c.back_and_to j lj;
+    separate = λ i j li lj e. sym (c.back_and_to i li) ∙ ap c.to e ∙ c.back_and_to j lj;
     relabelled = led_back;
   }
 
@@ -128,8 +128,8 @@ module _ (first second : List Row) (tf : IsTable first) (ts : IsTable second) (c
   matching_relabels = matched_tables first second c.parts c.others tf ts c.are_parts c.are_others there back_there
 
 module _ (pair : List Row × List Row) (o : Outcome) (tf : IsTable pair.0) (ts : IsTable pair.1) where
-  parts_told : IsSamePartsAnswer pair o → IsTold pair.0 pair.1 o
-  parts_told (inl h) = inl (h.by, (h.same.relabelling, same_parts_carry pair.0 pair.1 h.by tf ts h.same), h.told)
+  parts_told : IsSamePartsAnswer pair o → IsResult pair.0 pair.1 o
+  parts_told (inl h) = inl (h.by, (h.same.relabelling, same_parts_carry pair.0 pair.1 h.by tf ts h.same), h.reported)
   parts_told (inr h) = inr h
 
   match_where_same : IsSamePartsAnswer pair o → AreCompared pair.0 pair.1 o → SaysSame o → ComponentsMatch pair.0 pair.1

@@ -73,27 +73,27 @@ module _ (rows : List Row) (table : IsTable rows) (o : Outcome) where
     exchanged = exchange_carries rows table;
   }
 
-  tells : 2 * length rows ≤ max_tets → IsCoverAnswered rows o → IsCoverOutcome rows o
-  tells small t = record {
+  determines : 2 * length rows ≤ max_tets → IsCoverAnswered rows o → IsCoverOutcome rows o
+  determines small t = record {
     is_cover = orientation_cover small;
     connected = t.0;
     outcome = t.2;
     is_connected = t.1;
     orientation = λ joined some. let e = connected_exactly rows table (cover_is_table rows table small) joined some in
-        ((λ told. e.0 (t.1.0 told)), (λ none. t.1.1 (e.1 none)));
+        ((λ reported. e.0 (t.1.0 reported)), (λ none. t.1.1 (e.1 none)));
   }
 
-  apart : {P : Type 0} (connected : Bool) → o ≡ done (cover_text rows connected) → o ≡ large_cover_outcome → P
-  apart connected told e =
-      let z : Done ≡ Refused = sym (status_of o (done (cover_text rows connected)) told) ∙ status_of o large_cover_outcome e in absurd cc
+  separate : {P : Type 0} (connected : Bool) → o ≡ done (cover_text rows connected) → o ≡ large_cover_outcome → P
+  separate connected reported e =
+      let z : Done ≡ Refused = sym (status_of o (done (cover_text rows connected)) reported) ∙ status_of o large_cover_outcome e in absurd cc
 
   by_test : (b : Bool) → nat_lt max_tets (2 * length rows) ≡ b → MatchOption (if b then Some too_large else None) (IsCoverAnswered rows o) (λ _. o ≡ large_cover_outcome) → IsCovering rows o
   by_test true e h =
       let large : max_tets < 2 * length rows = ltb-true max_tets (2 * length rows) e in
-      record { too_many = ((λ same. large), (λ l. h)); told = λ small. absurd (omega arith) }
+      record { too_many = ((λ same. large), (λ l. h)); reported = λ small. absurd (omega arith) }
   by_test false e h =
       let small : 2 * length rows ≤ max_tets = ltb-false max_tets (2 * length rows) e in
-      record { too_many = ((λ same. apart h.0 h.2 same), (λ l. absurd (omega arith))); told = λ l. tells small h }
+      record { too_many = ((λ same. separate h.0 h.2 same), (λ l. absurd (omega arith))); reported = λ l. determines small h }
 
   covering : IsCoverAnswer rows o → IsCovering rows o
   covering h = by_test (nat_lt max_tets (2 * length rows)) refl h

@@ -45,7 +45,7 @@ module _ (s : Skeleton) (k : IsSkeleton s) (links : List Link) (h : HasSphereAnd
   another xs LargeLift t = tt
   another xs (NoLift c) t = never xs c t
 
-  told_another : (vectors : List (List ℕ)) (told : Result (List (List ℕ)) (ℕ × Refusal)) → AreAnswered (IsLifted s equations) vectors told → AreLiftsOrAnotherReason told
+  told_another : (vectors : List (List ℕ)) (reported : Result (List (List ℕ)) (ℕ × Refusal)) → AreAnswered (IsLifted s equations) vectors reported → AreLiftsOrAnotherReason reported
   told_another vectors (Ok lifts) t = tt
   told_another vectors (Err refusal) t = another (slice_index_or vectors refusal.0 []) refusal.1 t.refused
 
@@ -66,8 +66,8 @@ module _ (s : Skeleton) (k : IsSkeleton s) (links : List Link) (h : HasSphereAnd
   lifts_of (x ∷ xs) [] t = t
   lifts_of (x ∷ xs) (y ∷ ys) t = (((t.0).1).1, lifts_of xs ys t.1)
 
-  lifted : (vectors : List (List ℕ)) (told : Result (List (List ℕ)) (ℕ × Refusal)) → All (IsSmallSolution s.rows equations) vectors → AreAnswered (IsLifted s equations) vectors told
-      → (lifts : List (List ℕ)) × AllZip IsLiftTo vectors lifts × (told ≡ Ok lifts)
+  lifted : (vectors : List (List ℕ)) (reported : Result (List (List ℕ)) (ℕ × Refusal)) → All (IsSmallSolution s.rows equations) vectors → AreAnswered (IsLifted s equations) vectors reported
+      → (lifts : List (List ℕ)) × AllZip IsLiftTo vectors lifts × (reported ≡ Ok lifts)
   lifted vectors (Ok lifts) small t = (lifts, lifts_of vectors lifts t, refl)
   lifted vectors (Err refusal) small t =
       absurd (never_refused (slice_index_or vectors refusal.0 []) refusal.1 (small refusal.0 [] t.in_range) t.refused)
@@ -79,15 +79,15 @@ module _ (rows : List Row) (vectors : List (List ℕ)) (o : Outcome) (h : HasSph
   equations_are : AreEquations Quad answer.skeleton.rows answer.equations
   equations_are = subst (λ (r : List Row). AreEquations Quad r answer.equations) (sym answer.of_rows) answer.of_table
 
-  another_reason : AreLiftsOrAnotherReason answer.told
-  another_reason = told_another answer.skeleton answer.is_skeleton h.links links_are answer.equations equations_are vectors answer.told answer.lifted
+  another_reason : AreLiftsOrAnotherReason answer.reported
+  another_reason = told_another answer.skeleton answer.is_skeleton h.links links_are answer.equations equations_are vectors answer.reported answer.lifted
 
   are_lifted : (equations : List EquationRow) → AreEquations Quad rows equations → All (IsSmallSolution rows equations) vectors → AreLifted rows vectors o
   are_lifted equations of_table small =
       let same : equations ≡ answer.equations = one_equations Quad rows equations answer.equations of_table answer.of_table in
       let here : All (IsSmallSolution answer.skeleton.rows answer.equations) vectors =
       subst (λ (r : List Row). All (IsSmallSolution r answer.equations) vectors) (sym answer.of_rows) (subst (λ (es : List EquationRow). All (IsSmallSolution rows es) vectors) same small) in
-      let l = lifted answer.skeleton answer.is_skeleton h.links links_are answer.equations equations_are vectors answer.told here answer.lifted in record {
+      let l = lifted answer.skeleton answer.is_skeleton h.links links_are answer.equations equations_are vectors answer.reported here answer.lifted in record {
         skeleton = answer.skeleton;
         of_rows = answer.of_rows;
         is_skeleton = answer.is_skeleton;

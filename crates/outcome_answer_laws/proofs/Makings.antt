@@ -9,20 +9,20 @@ use Rattle.outcome_answer_laws.specs.Makings.{IsTableWithMoves, IsSummaryWithMov
 use Rattle.outcome_answer_laws.proofs.Asked.{answer_to}
 
 pub made_with_moves : (seed moves : ℕ) (o : Outcome) → moves ≤ 333 → IsMakeAnswer seed moves o → IsTableWithMoves moves o
-made_with_moves seed moves o few a = record {
+made_with_moves seed moves o limited a = record {
   table = a.table;
   certificate = a.certificate;
   certified = made_are_certified_lem seed moves a.table a.certificate a.made;
-  count = certificates_have_most seed moves a.table a.certificate few a.made;
+  count = certificates_have_most seed moves a.table a.certificate limited a.made;
   outcome = a.outcome;
 }
 
 pub all_moves_made : AllMovesAreMade
-all_moves_made words bytes o seed moves h few = made_with_moves seed moves o few (answer_to (Make seed moves) words bytes o h)
+all_moves_made words bytes o seed moves h limited = made_with_moves seed moves o limited (answer_to (Make seed moves) words bytes o h)
 
 pub summed_up_with_moves : (seed moves : ℕ) (o : Outcome) → moves ≤ 333 → IsBulkAnswer seed moves o → IsSummaryWithMoves seed moves o
-summed_up_with_moves seed moves o few a =
-    let count : length a.certificate ≡ moves = certificates_have_most seed moves a.table a.certificate few a.made in record {
+summed_up_with_moves seed moves o limited a =
+    let count : length a.certificate ≡ moves = certificates_have_most seed moves a.table a.certificate limited a.made in record {
       table = a.table;
       certificate = a.certificate;
       certified = a.accepted;
@@ -31,4 +31,4 @@ summed_up_with_moves seed moves o few a =
     }
 
 pub all_moves_summed_up : AllMovesAreSummedUp
-all_moves_summed_up words bytes o seed moves h few = summed_up_with_moves seed moves o few (answer_to (Bulk seed moves) words bytes o h)
+all_moves_summed_up words bytes o seed moves h limited = summed_up_with_moves seed moves o limited (answer_to (Bulk seed moves) words bytes o h)

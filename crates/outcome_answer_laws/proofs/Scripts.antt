@@ -151,14 +151,14 @@ module _ (d : List Row × List Step) (o : Outcome) (h : IsScriptAnswer d o) wher
   moves_are_taken_back before answers session table moves end led at plays e =
       let a = all_done session table moves end at plays in
       let last : Session = played_to a.last session.played in
-      let told : List StepAnswer = answers ++ (map (λ (m : Move). done) moves ++ map (λ (m : Move). undone) moves) in
+      let reported : List StepAnswer = answers ++ (map (λ (m : Move). done) moves ++ map (λ (m : Move). undone) moves) in
       let behind : AreSteps session (map play moves ++ map (λ (m : Move). undo) moves) (map (λ (m : Move). done) moves ++ map (λ (m : Move). undone) moves) last =
       steps_on session (map play moves) (map (λ (m : Move). undo) moves) (map (λ (m : Move). done) moves) (map (λ (m : Move). undone) moves) a.last last a.steps
       (all_undone a.last session.played moves a.played) in
-      let all : AreSteps (begun d.0) (before ++ (map play moves ++ map (λ (m : Move). undo) moves)) told last =
+      let all : AreSteps (begun d.0) (before ++ (map play moves ++ map (λ (m : Move). undo) moves)) reported last =
       steps_on (begun d.0) before (map play moves ++ map (λ (m : Move). undo) moves) answers (map (λ (m : Move). done) moves ++ map (λ (m : Move). undone) moves) session last led behind in
-      let steps : AreSteps (begun d.0) d.1 told last = subst (λ (steps : List Step). AreSteps (begun d.0) steps told last) (sym e) all in
-      one_script d o (script_outcome told table) h (told, last, table, steps, back_at session table moves end a at, refl)
+      let steps : AreSteps (begun d.0) d.1 reported last = subst (λ (steps : List Step). AreSteps (begun d.0) steps reported last) (sym e) all in
+      one_script d o (script_outcome reported table) h (reported, last, table, steps, back_at session table moves end a at, refl)
 
   reached : PlaysAll d.0 (take h.1.played h.1.moves) h.2
   reached = subst (λ (rows : List Row). PlaysAll rows (take h.1.played h.1.moves) h.2) (first_kept (begun d.0) d.1 h.0 h.1 h.3) h.4.reached

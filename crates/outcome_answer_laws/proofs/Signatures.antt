@@ -13,14 +13,14 @@ use Rattle.outcome_definitions.specs.Canonical.{done, IsSigned, IsSignatureAnswe
 use Rattle.outcome_definitions.specs.Parts.{IsComponentSignatureAnswer}
 use Rattle.outcome_laws.proofs.Certified.{table_alone}
 use Rattle.outcome_laws.proofs.Labelled.{not_both}
-use Rattle.outcome_answer_laws.specs.Signatures.{IsTableOutcome, SignaturesTell, ComponentSignaturesTell}
+use Rattle.outcome_answer_laws.specs.Signatures.{IsTableOutcome, SignaturesDetermine, ComponentSignaturesDetermine}
 use Rattle.outcome_answer_laws.proofs.Asked.{answer_to, answer_to_value}
 
 -- lines are equal if and only if their texts are
 same_lines : (text other : List ℕ) (o p : Outcome) → o ≡ done (line text) → p ≡ done (line other) → (o ≡ p) ↔ (text ≡ other)
-same_lines text other o p told tells = (
-  (λ e. append_cancel_right text other (10 ∷ []) (ap (λ (q : Outcome). q.text) (sym told ∙ e ∙ tells))),
-  (λ e. told ∙ ap (λ (xs : List ℕ). done (line xs)) e ∙ sym tells),
+same_lines text other o p reported determines = (
+  (λ e. append_cancel_right text other (10 ∷ []) (ap (λ (q : Outcome). q.text) (sym reported ∙ e ∙ determines))),
+  (λ e. reported ∙ ap (λ (xs : List ℕ). done (line xs)) e ∙ sym determines),
 )
 
 both_ways : {A B C : Type 0} → A ↔ B → B ↔ C → A ↔ C
@@ -34,19 +34,19 @@ signed rows o h connected =
       | inr u ↦ not_both 0 rows o connected u
     ]
 
-pub signatures_tell : SignaturesTell
+pub signatures_tell : SignaturesDetermine
 signatures_tell first second o p h k connected joined =
     let a : IsSigned first o = signed first o h connected in
     let b : IsSigned second p = signed second p k joined in
-    both_ways (same_lines a.text b.text o p a.told b.told)
+    both_ways (same_lines a.text b.text o p a.reported b.reported)
     (tells_tables first second a.text b.text (table_alone h.bytes first h.spelled) (table_alone k.bytes second k.spelled) a.signature b.signature)
 
 component_signed : (rows : List Row) (o : Outcome) → IsTableOutcome Csig rows o → IsComponentSignatureAnswer rows o
 component_signed rows o h = answer_to_value (table_document h.bytes) rows IsComponentSignatureAnswer o h.spelled (answer_to Csig h.words h.bytes o h.asked)
 
-pub component_signatures_tell_lem : ComponentSignaturesTell
+pub component_signatures_tell_lem : ComponentSignaturesDetermine
 component_signatures_tell_lem first second o p h k =
     let a : IsComponentSignatureAnswer first o = component_signed first o h in
     let b : IsComponentSignatureAnswer second p = component_signed second p k in
-    both_ways (same_lines a.text b.text o p a.told b.told)
+    both_ways (same_lines a.text b.text o p a.reported b.reported)
     (component_signatures_tell first second a.text b.text (table_alone h.bytes first h.spelled) (table_alone k.bytes second k.spelled) a.signature b.signature)

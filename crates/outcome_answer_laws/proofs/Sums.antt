@@ -34,7 +34,7 @@ use Rattle.outcome_laws.proofs.Summed.{verdicts_fit, one_addup}
 use Rattle.outcome_laws.proofs.Certified.{table_with_lines}
 use Rattle.surface_equation_laws.specs.Bounds.{number_bound}
 use Rattle.surface_equation_laws.proofs.Bounds.{not_past}
-use Rattle.surface_equation_laws.proofs.Few.{own}
+use Rattle.surface_equation_laws.proofs.BoundedTables.{own}
 use Rattle.surface_equation_laws.proofs.Powers.{most as few_within}
 use Rattle.outcome_answer_laws.specs.Sums.{IsSumOfSurfaces, AreSumsOfVertexSurfaces, AreDecomposed, IsDecomposition, IsTrueSum, IsAddition, VectorsAreDecomposed, TrueSumsAreAccepted}
 use Rattle.outcome_answer_laws.proofs.Asked.{means_by, status_of}
@@ -59,18 +59,18 @@ module _ (coords : Coords) (rows : List Row) (equations : List EquationRow) wher
     sums_of (x ∷ vectors) [] fit s = s
     sums_of (x ∷ vectors) (b ∷ blocks) fit s = (sum_of x b fit.0 s.0, sums_of vectors blocks fit.1 s.1)
 
-    told_sums : (vectors : List (List ℕ)) (o : Outcome) (told : Result (List Block) (ℕ × LargeTurn)) → AllByRecursion (IsFit coords rows equations) vectors
-        → AreAnswered (IsSummed most surfaces) vectors told → o ≡ sums_outcome rows told → AreSumsOfVertexSurfaces coords most rows equations vectors o
+    told_sums : (vectors : List (List ℕ)) (o : Outcome) (reported : Result (List Block) (ℕ × LargeTurn)) → AllByRecursion (IsFit coords rows equations) vectors
+        → AreAnswered (IsSummed most surfaces) vectors reported → o ≡ sums_outcome rows reported → AreSumsOfVertexSurfaces coords most rows equations vectors o
     told_sums vectors o (Ok blocks) fit s e =
-        record { surfaces = surfaces; are_all = are_all; told = inl (record { blocks = blocks; sums = sums_of vectors blocks fit s; outcome = e }) }
+        record { surfaces = surfaces; are_all = are_all; reported = inl (record { blocks = blocks; sums = sums_of vectors blocks fit s; outcome = e }) }
     told_sums vectors o (Err large) fit s e =
-        record { surfaces = surfaces; are_all = are_all; told = inr (record { vector = large.0; large = large.1; first = s; outcome = e }) }
+        record { surfaces = surfaces; are_all = are_all; reported = inr (record { vector = large.0; large = large.1; first = s; outcome = e }) }
 
   decomposed : (most : ℕ) (vectors : List (List ℕ)) (o : Outcome) (checked : Result (List (Unit {0})) (ℕ × VectorFault)) → AreAnswered (IsVerdict coords rows equations) vectors checked
       → IsDecomposed most (table_enumeration coords Given most rows equations) rows vectors checked o → AreDecomposed coords most rows equations vectors o
   decomposed most vectors o (Ok passed) v (inl h) =
       let fit = verdicts_fit coords rows equations vectors passed v in
-      inl (All-from_recursion (IsFit coords rows equations) vectors fit, inl (told_sums most h.list h.listed.surfaces vectors o h.told fit h.sums h.outcome))
+      inl (All-from_recursion (IsFit coords rows equations) vectors fit, inl (told_sums most h.list h.listed.surfaces vectors o h.reported fit h.sums h.outcome))
   decomposed most vectors o (Ok passed) v (inr h) = inl (All-from_recursion (IsFit coords rows equations) vectors (verdicts_fit coords rows equations vectors passed v), inr h)
   decomposed most vectors o (Err unfit) v h = inr (record { vector = unfit.0; fault = unfit.1; first = v; outcome = h })
 
@@ -100,12 +100,12 @@ decomposition : (coords : Coords) (most : ℕ) (bytes : List ℕ) (d : List Row 
 decomposition coords most bytes d o read a = record {
   equations = a.equations;
   of_table = a.of_table;
-  decomposed = decomposed coords d.0 a.equations most d.1 o a.checked a.verdicts a.told;
-  never_past = λ few default past.
-      let bound : number_bound coords (length d.0) ≤ limit = (few_within coords (length d.0)).1 few in
+  decomposed = decomposed coords d.0 a.equations most d.1 o a.checked a.verdicts a.reported;
+  never_exceeded = λ limited default exceeded.
+      let bound : number_bound coords (length d.0) ≤ limit = (few_within coords (length d.0)).1 limited in
       let room : number_bound coords (length d.0) ≤ most = omega arith in
       let own_order = own coords Given most d.0 a.equations (table_with_lines vector_at bytes d read) a.of_table in
-      not_past coords d.0 (table_enumeration coords Given most d.0 a.equations) own_order room past.0 past.1 past.2;
+      not_past coords d.0 (table_enumeration coords Given most d.0 a.equations) own_order room exceeded.0 exceeded.1 exceeded.2;
 }
 
 pub vectors_decomposed : VectorsAreDecomposed
@@ -127,7 +127,7 @@ refusal_apart (NoSum (Large column)) e = absurd cc
 refusal_apart (NoSum (NotEqual column)) e = absurd cc
 
 module _ (coords : Coords) (d : List Row × List Block) (o : Outcome) (a : IsAddupAnswer coords d o) where
-  true_where_done : (told : Result (List (Unit {0})) (ℕ × SumRefusal)) → AreAnswered (IsAddedUp coords d.0 a.equations) d.1 told → (addup_outcome told).status ≡ statuses.Done
+  true_where_done : (reported : Result (List (Unit {0})) (ℕ × SumRefusal)) → AreAnswered (IsAddedUp coords d.0 a.equations) d.1 reported → (addup_outcome reported).status ≡ statuses.Done
       → All (IsTrueSum coords d.0 a.equations) d.1
   true_where_done (Ok accepted) h e = All-from_recursion (IsTrueSum coords d.0 a.equations) d.1 (sums_true coords d.0 a.equations d.1 accepted h)
   true_where_done (Err refusal) h e = refusal_apart refusal.1 e
@@ -136,13 +136,13 @@ module _ (coords : Coords) (d : List Row × List Block) (o : Outcome) (a : IsAdd
   accepted_where_true all = one_addup coords d o accepted_outcome a (record {
     equations = a.equations;
     of_table = a.of_table;
-    told = Ok (map (λ (b : Block). tt) d.1);
+    reported = Ok (map (λ (b : Block). tt) d.1);
     added = all_accepted coords d.0 a.equations d.1 (recursion_from_All (IsTrueSum coords d.0 a.equations) d.1 all);
     outcome = refl;
   })
 
   true_by : o.status ≡ statuses.Done → All (IsTrueSum coords d.0 a.equations) d.1
-  true_by e = true_where_done a.told a.added (sym (status_of o (addup_outcome a.told) a.outcome) ∙ e)
+  true_by e = true_where_done a.reported a.added (sym (status_of o (addup_outcome a.reported) a.outcome) ∙ e)
 
   addition : IsAddition coords d o
   addition = record {

@@ -24,7 +24,7 @@ SaysSame o = (by : Relabelling) × (o ≡ done (relabelling_text by))
 pub record AreCompared (first second : List Row) (o : Outcome) : Type 0 where
   pub same : SaysSame o ↔ AreIsomorphic first second
   pub different : (o ≡ different_outcome) ↔ (¬ AreIsomorphic first second)
-  pub told : AreIsomorphic first second → (by : Relabelling) × Relabels first second by × (o ≡ done (relabelling_text by))
+  pub reported : AreIsomorphic first second → (by : Relabelling) × Relabels first second by × (o ≡ done (relabelling_text by))
 
 -- both tables are connected if and only if the comparison is done
 pub record IsComparison (pair : List Row × List Row) (o : Outcome) : Type 0 where

@@ -39,7 +39,7 @@ pub record IsCoverOutcome (rows : List Row) (o : Outcome) : Type 0 where
 -- the answer is the cover, or a refusal if and only if it has more tetrahedra than the limit
 pub record IsCovering (rows : List Row) (o : Outcome) : Type 0 where
   pub too_many : (o ≡ large_cover_outcome) ↔ (max_tets < 2 * length rows)
-  pub told : 2 * length rows ≤ max_tets → IsCoverOutcome rows o
+  pub reported : 2 * length rows ≤ max_tets → IsCoverOutcome rows o
 
 abbrev pub CoversAreAnswered : Type 0
 CoversAreAnswered = Means Cover table_document IsCovering

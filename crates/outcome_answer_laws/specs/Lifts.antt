@@ -44,7 +44,7 @@ AreLiftsOrAnotherReason (Err refusal) = IsAnotherReason refusal.1
 abbrev pub NoneWithoutLift : Type 0
 NoneWithoutLift =
     (words : List (List ℕ)) (bytes : List ℕ) (o : Outcome) (rows : List Row) (vectors : List (List ℕ)) → IsOutcomeTo Lift words bytes o
-    → vectors_document bytes ≡ Ok (rows, vectors) → HasSphereAndDiscVertices rows → (answer : IsLiftsAnswer (rows, vectors) o) × AreLiftsOrAnotherReason answer.told
+    → vectors_document bytes ≡ Ok (rows, vectors) → HasSphereAndDiscVertices rows → (answer : IsLiftsAnswer (rows, vectors) o) × AreLiftsOrAnotherReason answer.reported
 
 -- an admissible solution of the quad equations, of which no sum exceeds the limit
 pub record IsSmallSolution (rows : List Row) (equations : List EquationRow) (xs : List ℕ) : Type 0 where

@@ -16,10 +16,10 @@ pub record IsTableOutcome (request : Request) (rows : List Row) (o : Outcome) : 
   pub asked : IsOutcomeTo request words bytes o
   pub spelled : table_document bytes ≡ Ok rows
 
-abbrev pub SignaturesTell : Type 0
-SignaturesTell =
+abbrev pub SignaturesDetermine : Type 0
+SignaturesDetermine =
     (first second : List Row) (o p : Outcome) → IsTableOutcome Sig first o → IsTableOutcome Sig second p → IsConnected first → IsConnected second
     → (o ≡ p) ↔ AreIsomorphic first second
 
-abbrev pub ComponentSignaturesTell : Type 0
-ComponentSignaturesTell = (first second : List Row) (o p : Outcome) → IsTableOutcome Csig first o → IsTableOutcome Csig second p → (o ≡ p) ↔ AreIsomorphic first second
+abbrev pub ComponentSignaturesDetermine : Type 0
+ComponentSignaturesDetermine = (first second : List Row) (o p : Outcome) → IsTableOutcome Csig first o → IsTableOutcome Csig second p → (o ≡ p) ↔ AreIsomorphic first second

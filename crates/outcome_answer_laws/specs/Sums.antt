@@ -24,7 +24,7 @@ use Rattle.outcome_definitions.specs.Outcomes.{Outcome}
 use Rattle.outcome_definitions.specs.Canonical.{done}
 use Rattle.outcome_definitions.specs.Enumerations.{IsLargeAnswered}
 use Rattle.outcome_definitions.specs.Sums.{IsFirstRefused, sum_refusal_outcome, IsVerdict, IsSummed, AreFit, accepted_outcome, sums_text}
-use Rattle.surface_equation_laws.specs.Few.{most_tetrahedra}
+use Rattle.surface_equation_laws.specs.BoundedTables.{most_tetrahedra}
 use Rattle.outcome_answer_laws.specs.Requests.{Means}
 
 -- the vector, times its factor, is the sum of the terms: listed surfaces, ascending, each taken at least once
@@ -49,7 +49,7 @@ pub record IsFirstLargeAnswered (surfaces : List (List ℕ)) (most : ℕ) (vecto
 pub record AreSumsOfVertexSurfaces (coords : Coords) (most : ℕ) (rows : List Row) (equations : List EquationRow) (vectors : List (List ℕ)) (o : Outcome) : Type 0 where
   pub surfaces : List (List ℕ)
   pub are_all : IsSurfaceList (columns coords (length rows)) equations (clash_list coords (length rows)) surfaces
-  pub told : AreSumsOfSurfaces surfaces most rows vectors o ⊎ IsFirstLargeAnswered surfaces most vectors o
+  pub reported : AreSumsOfSurfaces surfaces most rows vectors o ⊎ IsFirstLargeAnswered surfaces most vectors o
 
 -- the answer names the first vector that is no admissible solution within the limit, and why
 pub record IsFirstUnfitAnswered (coords : Coords) (rows : List Row) (equations : List EquationRow) (vectors : List (List ℕ)) (o : Outcome) : Type 0 where
@@ -71,7 +71,7 @@ pub record IsDecomposition (coords : Coords) (most : ℕ) (d : List Row × List 
   pub equations : List EquationRow
   pub of_table : AreEquations coords d.0 equations
   pub decomposed : AreDecomposed coords most d.0 equations d.1 o
-  pub never_past : length d.0 ≤ most_tetrahedra coords → limit ≤ most → ¬ IsLargeAnswered (table_enumeration coords Given most d.0 equations) o
+  pub never_exceeded : length d.0 ≤ most_tetrahedra coords → limit ≤ most → ¬ IsLargeAnswered (table_enumeration coords Given most d.0 equations) o
 
 -- the vector and the terms are admissible solutions within the limit, and the vector, times its factor, is the sum of
 -- the terms

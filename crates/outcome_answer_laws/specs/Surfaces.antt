@@ -13,7 +13,7 @@ use Rattle.command_definitions.specs.declared.Request.TheVariants.{Surfaces}
 use Rattle.outcome_definitions.specs.Outcomes.{Outcome}
 use Rattle.outcome_definitions.specs.Enumerations.{list_outcome}
 use Rattle.surface_equation_laws.specs.Bounds.{number_bound}
-use Rattle.surface_equation_laws.specs.Few.{most_tetrahedra}
+use Rattle.surface_equation_laws.specs.BoundedTables.{most_tetrahedra}
 use Rattle.outcome_answer_laws.specs.Requests.{IsOutcomeTo}
 
 -- the list of the vertex surfaces of a table

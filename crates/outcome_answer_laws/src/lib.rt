@@ -11,7 +11,7 @@ ghost use Rattle.outcome_answer_laws.specs.Surfaces.{BoundedTablesAreListed, Sma
 ghost use Rattle.outcome_answer_laws.specs.Lifts.{NoneWithoutLift, SolutionsAreLifted};
 ghost use Rattle.outcome_answer_laws.specs.Makings.{AllMovesAreMade, AllMovesAreSummedUp};
 ghost use Rattle.outcome_answer_laws.specs.Checks.{CertificatesAreAccepted, CertificatesAreDone};
-ghost use Rattle.outcome_answer_laws.specs.Signatures.{SignaturesTell, ComponentSignaturesTell};
+ghost use Rattle.outcome_answer_laws.specs.Signatures.{SignaturesDetermine, ComponentSignaturesDetermine};
 ghost use Rattle.outcome_answer_laws.specs.Comparisons.{ConnectedAreCompared, ComponentsAreCompared, TablesAreGrouped};
 ghost use Rattle.outcome_answer_laws.specs.Sums.{VectorsAreDecomposed, TrueSumsAreAccepted};
 ghost use Rattle.outcome_answer_laws.specs.Covers.{CoversAreAnswered};
@@ -23,9 +23,9 @@ ghost use Rattle.outcome_answer_laws.specs.Scripts.{ScriptsArePlayed};
 ///    the run is done and prints the list of all vertex surfaces of T in its coordinates, whichever order is requested.
 /// 2. It does so at the default limit, 2^127 - 1, if n is at most 31 in standard, or at most 29 in quad or octagon
 ///    coordinates.
-pub fn few_tables_are_listed()
+pub fn small_tables_are_listed()
     ensures bounded { BoundedTablesAreListed }
-    ensures few { SmallTablesAreListed }
+    ensures limited { SmallTablesAreListed }
 {}
 
 /// Theorem (Tollefson 1998): let each vertex link of T be a sphere or a disc, and let a run of `lift` read T and
@@ -64,9 +64,9 @@ pub fn certificates_are_accepted()
 /// 1. Let both be runs of `sig`, and T and T' be connected. The outcomes are equal if and only if T and T' are
 ///    isomorphic.
 /// 2. Let both be runs of `csig`. The outcomes are equal if and only if T and T' are isomorphic.
-pub fn signatures_tell_tables()
-    ensures sig { SignaturesTell }
-    ensures csig { ComponentSignaturesTell }
+pub fn signatures_determine_tables()
+    ensures sig { SignaturesDetermine }
+    ensures csig { ComponentSignaturesDetermine }
 {}
 
 /// Theorem:

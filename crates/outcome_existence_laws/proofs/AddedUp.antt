@@ -64,4 +64,4 @@ pub some_addup : (coords : Coords) (d : List Row × List Block) → IsTable d.0 
 some_addup coords d table =
     let q = some_equations coords d.0 table in
     let t = told_of (IsAddedUp coords d.0 q.0) (λ block. Unit {0}) d.1 (λ block u. added_or_not coords d.0 q.0 block) (any_each d.1) in
-    (addup_outcome t.0, record { equations = q.0; of_table = q.1; told = t.0; added = t.1; outcome = refl })
+    (addup_outcome t.0, record { equations = q.0; of_table = q.1; reported = t.0; added = t.1; outcome = refl })

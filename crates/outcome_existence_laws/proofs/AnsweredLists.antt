@@ -6,17 +6,17 @@ use Rattle.surface_vector_definitions.specs.declared.Refusal.{Refusal}
 use Rattle.surface_vector_definitions.specs.Answers.{AreAnswered as AreVectorsTold}
 use Rattle.outcome_definitions.specs.Sums.{AreAnswered}
 
-module _ {A B E : Type 0} (IsTold : A → Result B E → Type 0) where
-  told_more : (x : A) (xs : List A) (r : Result B E) → IsTold x r → (t : Result (List B) (ℕ × E)) → AreAnswered IsTold xs t → (u : Result (List B) (ℕ × E)) × AreAnswered IsTold (x ∷ xs) u
+module _ {A B E : Type 0} (IsResult : A → Result B E → Type 0) where
+  told_more : (x : A) (xs : List A) (r : Result B E) → IsResult x r → (t : Result (List B) (ℕ × E)) → AreAnswered IsResult xs t → (u : Result (List B) (ℕ × E)) × AreAnswered IsResult (x ∷ xs) u
   told_more x xs (Err f) h t rest = (
     Err (0, f),
     record {
       before = [];
       value = x;
       after = xs;
-      stands = refl;
+      occurs = refl;
       number_is = refl;
-      passed = All-nil (λ y. (answer : B) × IsTold y (Ok answer));
+      passed = All-nil (λ y. (answer : B) × IsResult y (Ok answer));
       fails = h;
     },
   )
@@ -27,14 +27,14 @@ module _ {A B E : Type 0} (IsTold : A → Result B E → Type 0) where
       before = x ∷ rest.before;
       value = rest.value;
       after = rest.after;
-      stands = ap (λ (ys : List A). x ∷ ys) rest.stands;
+      occurs = ap (λ (ys : List A). x ∷ ys) rest.occurs;
       number_is = ap suc rest.number_is;
-      passed = All-cons (λ y. (answer : B) × IsTold y (Ok answer)) x rest.before (b, h) rest.passed;
+      passed = All-cons (λ y. (answer : B) × IsResult y (Ok answer)) x rest.before (b, h) rest.passed;
       fails = rest.fails;
     },
   )
 
-  pub told_of : (P : A → Type 0) (list : List A) → ((x : A) → P x → (r : Result B E) × IsTold x r) → AllByRecursion P list → (t : Result (List B) (ℕ × E)) × AreAnswered IsTold list t
+  pub told_of : (P : A → Type 0) (list : List A) → ((x : A) → P x → (r : Result B E) × IsResult x r) → AllByRecursion P list → (t : Result (List B) (ℕ × E)) × AreAnswered IsResult list t
   told_of P [] each all = (Ok [], tt)
   told_of P (x ∷ xs) each all =
       let here = each x all.0 in
@@ -42,22 +42,22 @@ module _ {A B E : Type 0} (IsTold : A → Result B E → Type 0) where
       told_more x xs here.0 here.1 rest.0 rest.1
 
 -- the result for a list of vectors
-module _ {A : Type 0} (IsTold : List ℕ → Result A Refusal → Type 0) where
-  before_more : (x : List ℕ) (xs : List (List ℕ)) (v : ℕ) (a : A) → IsTold x (Ok a) → ((u : ℕ) → u < v → (b : A) × IsTold (slice_index_or xs u []) (Ok b))
-      → (u : ℕ) → u < suc v → (b : A) × IsTold (slice_index_or (x ∷ xs) u []) (Ok b)
+module _ {A : Type 0} (IsResult : List ℕ → Result A Refusal → Type 0) where
+  before_more : (x : List ℕ) (xs : List (List ℕ)) (v : ℕ) (a : A) → IsResult x (Ok a) → ((u : ℕ) → u < v → (b : A) × IsResult (slice_index_or xs u []) (Ok b))
+      → (u : ℕ) → u < suc v → (b : A) × IsResult (slice_index_or (x ∷ xs) u []) (Ok b)
   before_more x xs v a h before zero l = (a, h)
   before_more x xs v a h before (suc u) l = before u (omega arith)
 
-  vector_more : (x : List ℕ) (xs : List (List ℕ)) (r : Result A Refusal) → IsTold x r → (t : Result (List A) (ℕ × Refusal)) → AreVectorsTold IsTold xs t
-      → (u : Result (List A) (ℕ × Refusal)) × AreVectorsTold IsTold (x ∷ xs) u
+  vector_more : (x : List ℕ) (xs : List (List ℕ)) (r : Result A Refusal) → IsResult x r → (t : Result (List A) (ℕ × Refusal)) → AreVectorsTold IsResult xs t
+      → (u : Result (List A) (ℕ × Refusal)) × AreVectorsTold IsResult (x ∷ xs) u
   vector_more x xs (Err f) h t rest = (Err (0, f), record { in_range = omega arith; refused = h; before = λ u l. absurd (omega arith) })
-  vector_more x xs (Ok a) h (Ok told) rest = (Ok (a ∷ told), (h, rest))
+  vector_more x xs (Ok a) h (Ok reported) rest = (Ok (a ∷ reported), (h, rest))
   vector_more x xs (Ok a) h (Err v) rest = (
     Err (suc v.0, v.1),
     record { in_range = (let l : v.0 < length xs = rest.in_range in omega arith); refused = rest.refused; before = before_more x xs v.0 a h rest.before },
   )
 
-  pub vectors_told : (vectors : List (List ℕ)) → ((x : List ℕ) → (r : Result A Refusal) × IsTold x r) → (t : Result (List A) (ℕ × Refusal)) × AreVectorsTold IsTold vectors t
+  pub vectors_told : (vectors : List (List ℕ)) → ((x : List ℕ) → (r : Result A Refusal) × IsResult x r) → (t : Result (List A) (ℕ × Refusal)) × AreVectorsTold IsResult vectors t
   vectors_told [] each = (Ok [], tt)
   vectors_told (x ∷ xs) each =
       let here = each x in

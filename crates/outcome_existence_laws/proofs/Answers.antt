@@ -19,10 +19,10 @@ relabelled_or_not first second tf ts =
     elim (same_or_not a.0 b.0) [ inl same ↦ inl (tell.0 same) | inr other ↦ inr (λ r. other (tell.1 r)) ]
 
 pub some_signature_answer : (rows : List Row) → IsTable rows → (o : Outcome) × IsComponentSignatureAnswer rows o
-some_signature_answer rows table = let s = some_component_signature rows table in (done (line s.0), record { text = s.0; signature = s.1; told = refl })
+some_signature_answer rows table = let s = some_component_signature rows table in (done (line s.0), record { text = s.0; signature = s.1; reported = refl })
 
 pub some_same_answer : (first second : List Row) → IsTable first → IsTable second → (o : Outcome) × IsSamePartsAnswer (first, second) o
 some_same_answer first second tf ts = elim (relabelled_or_not first second tf ts) [
-  | inl r ↦ let s = some_same_parts first second tf ts r in (done (relabelling_text s.0), inl (record { by = s.0; same = s.1; told = refl }))
+  | inl r ↦ let s = some_same_parts first second tf ts r in (done (relabelling_text s.0), inl (record { by = s.0; same = s.1; reported = refl }))
   | inr never ↦ (different_outcome, inr (never, refl))
 ]

@@ -48,10 +48,10 @@ module _ (coords : Coords) (most : ℕ) (rows : List Row) (equations : List Equa
       → (o : Outcome) × IsDecomposed most enumeration rows vectors checked o
   decomposed vectors (Err unfit) h = (sum_refusal_outcome unfit.0 (Unfit unfit.1), refl)
   decomposed vectors (Ok passed) h = elim (enumeration_ends enumeration (clashes_apart coords (length rows))) [
-    | inr past ↦ (large_outcome past.0 past.1, inr (past.0, past.1, past.2, refl))
+    | inr exceeded ↦ (large_outcome exceeded.0 exceeded.1, inr (exceeded.0, exceeded.1, exceeded.2, refl))
     | inl l ↦
         let t = told_of (IsSummed most l.1) (IsFit coords rows equations) vectors (summed l.1 l.2.surfaces) (verdicts_fit coords rows equations vectors passed h) in
-        (sums_outcome rows t.0, inl (record { taken = l.0; list = l.1; listed = l.2; told = t.0; sums = t.1; outcome = refl }))
+        (sums_outcome rows t.0, inl (record { taken = l.0; list = l.1; listed = l.2; reported = t.0; sums = t.1; outcome = refl }))
   ]
 
 pub some_decompose : (coords : Coords) (most : ℕ) (d : List Row × List (List ℕ)) → IsTable d.0 → (o : Outcome) × IsDecomposeAnswer coords most d o
@@ -59,4 +59,4 @@ some_decompose coords most d table =
     let q = some_equations coords d.0 table in
     let c = verdicts_told coords d.0 q.0 d.1 in
     let t = decomposed coords most d.0 q.0 d.1 c.0 c.1 in
-    (t.0, record { equations = q.0; of_table = q.1; checked = c.0; verdicts = c.1; told = t.1 })
+    (t.0, record { equations = q.0; of_table = q.1; checked = c.0; verdicts = c.1; reported = t.1 })

@@ -17,7 +17,7 @@ use Rattle.outcome_definitions.specs.Enumerations.{list_outcome, large_outcome, 
 use Rattle.outcome_definitions.specs.Answers.{verify_outcome, IsVerdictsAnswer}
 
 some_enumeration : (name : List ℕ) (e : Enumeration) → PairsAreOfTwoColumns e.pairs → (o : Outcome) × IsEnumerationAnswer name e o
-some_enumeration name e apart = elim (enumeration_ends e apart) [
+some_enumeration name e separate = elim (enumeration_ends e separate) [
   | inl h ↦ (list_outcome name h.1, inl (h.0, h.1, h.2, refl))
   | inr h ↦ (large_outcome h.0 h.1, inr (h.0, h.1, h.2, refl))
 ]

@@ -71,4 +71,4 @@ pub some_group_presentation : (rows : List Row) → IsTable rows → (o : Outcom
 some_group_presentation rows table =
     let s = some_skeleton rows table in
     let t = group_told s.0 s.2 in
-    (t.0, record { skeleton = s.0; of_rows = s.1; is_skeleton = s.2; told = t.1 })
+    (t.0, record { skeleton = s.0; of_rows = s.1; is_skeleton = s.2; reported = t.1 })

@@ -14,7 +14,7 @@ use Rattle.table_definitions.proofs.ListLaws.{not_before_itself}
 use Rattle.signature_definitions.specs.Spelling.{spelling, Spells}
 use Rattle.signature_text_laws.proofs.SlotLaws.{ok_same}
 use Rattle.signature_text_laws.proofs.SpelledTables.{spelled_read}
-use Rattle.signature_definitions.specs.Labellings.{Start, IsWalked, Relabels, is_stand_in_before, IsLeastRelabelling}
+use Rattle.signature_definitions.specs.Labellings.{Start, IsWalked, Relabels, is_image_before, IsLeastRelabelling}
 use Rattle.signature_laws.specs.Between.{between}
 use Rattle.signature_laws.specs.Starts.{numbered_start, numbered_start_back, IsNoMatch}
 use Rattle.signature_laws.proofs.Agreeing.{one_walk}
@@ -65,7 +65,7 @@ module _ (second target : List Row) (ts : IsTable second) (cs : IsConnected seco
       | inl never ↦ inl (λ i m. elim (cases_order i k) [
         | inl same ↦ subst (IsNoMatch second target) (sym same) never
         | inr (inl less) ↦ none i less
-        | inr (inr past) ↦ absurd (omega arith)
+        | inr (inr exceeded) ↦ absurd (omega arith)
       ])
     ]
   ]
@@ -94,9 +94,9 @@ module _ (first second : List Row) (tf : IsTable first) (ts : IsTable second) (c
         | inr f ↦ (between (length first) w.0 f.2.0, first_match_is_least first second w.1 w.0 tf ts some equal w.2 f.2.0 (record { found = (f.0, f.1, f.2.1, f.3) }))
       ]
 
-  none_before : (other : Relabelling) → Relabels first second other → length first ≡ 0 → is_stand_in_before (relabelled_place other 0) (relabelled_place r.0 0) ≡ false
+  none_before : (other : Relabelling) → Relabels first second other → length first ≡ 0 → is_image_before (relabelled_place other 0) (relabelled_place r.0 0) ≡ false
   unfolding index
-  none_before other o none = ap₂ is_stand_in_before (no_stand other (subst (λ n. IsRelabelling n other) none o.0)) (no_stand r.0 (subst (λ n. IsRelabelling n r.0) none r.1))
+  none_before other o none = ap₂ is_image_before (no_stand other (subst (λ n. IsRelabelling n other) none o.0)) (no_stand r.0 (subst (λ n. IsRelabelling n r.0) none r.1))
 
   pub least_exists : (by : Relabelling) × IsLeastRelabelling first second by
   least_exists = elim (cases_eq (length first) 0) [

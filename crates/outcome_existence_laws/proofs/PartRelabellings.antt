@@ -41,29 +41,29 @@ module _ (n : ℕ) (P : List Part) (E : List Entry) (Q : List Part) (F : List En
 
   chosen : (i : ℕ) → (i < length E) ⊎ (length E ≤ i) → Relabelling
   chosen i (inl l) = (told_at i l).0
-  chosen i (inr past) = record { images = []; perms = [] }
+  chosen i (inr exceeded) = record { images = []; perms = [] }
 
   chosen_is : (i : ℕ) (c : (i < length E) ⊎ (length E ≤ i)) → i < length E → IsLeastRelabelling (part_in P E i).rows (part_in Q F i).rows (chosen i c)
   unfolding chosen
   chosen_is i (inl l) k = (told_at i l).1
-  chosen_is i (inr past) k = absurd (omega arith)
+  chosen_is i (inr exceeded) k = absurd (omega arith)
 
-  told : ℕ → Relabelling
-  told i = chosen i (cases_lt i (length E))
+  reported : ℕ → Relabelling
+  reported i = chosen i (cases_lt i (length E))
 
-  told_is : (i : ℕ) → i < length E → IsLeastRelabelling (part_in P E i).rows (part_in Q F i).rows (told i)
-  unfolding told
+  told_is : (i : ℕ) → i < length E → IsLeastRelabelling (part_in P E i).rows (part_in Q F i).rows (reported i)
+  unfolding reported
   told_is i l = chosen_is i (cases_lt i (length E)) l
 
   -- the index of a component in the order
   place : (a : ℕ) → (a < length P) ⊎ (length P ≤ a) → ℕ
   place a (inl l) = (order_holds (length P) (numbers_of E) (permutes P E m.in_order) a l).0
-  place a (inr past) = 0
+  place a (inr exceeded) = 0
 
   place_is : (a : ℕ) (c : (a < length P) ⊎ (length P ≤ a)) → a < length P → (place a c < length P) × (slice_index (numbers_of E) (place a c) ≡ a)
   unfolding place
   place_is a (inl l) k = let w = order_holds (length P) (numbers_of E) (permutes P E m.in_order) a l in (w.1, w.2)
-  place_is a (inr past) k = absurd (omega arith)
+  place_is a (inr exceeded) k = absurd (omega arith)
 
   at : ℕ → ℕ
   at a = place a (cases_lt a (length P))
@@ -81,31 +81,31 @@ module _ (n : ℕ) (P : List Part) (E : List Entry) (Q : List Part) (F : List En
   to : ℕ → ℕ
   to a = slice_index (numbers_of F) (at a)
 
-  least_of : (a : ℕ) → a < length P → IsLeastRelabelling (part_at P a).rows (part_at Q (to a)).rows (told (at a))
+  least_of : (a : ℕ) → a < length P → IsLeastRelabelling (part_at P a).rows (part_at Q (to a)).rows (reported (at a))
   unfolding to
   least_of a l = let w = at_is a l in
-      subst (λ b. IsLeastRelabelling (part_at P b).rows (part_at Q (slice_index (numbers_of F) (at a))).rows (told (at a))) w.1 (told_is (at a) (in_entries (at a) w.0))
+      subst (λ b. IsLeastRelabelling (part_at P b).rows (part_at Q (slice_index (numbers_of F) (at a))).rows (reported (at a))) w.1 (told_is (at a) (in_entries (at a) w.0))
 
   matches : Matches P Q
   unfolding to
   matches = record {
     to = to;
     in_range = λ a l. number_below Q F m.others_in_order (at a) (there n P E Q F m (at a) (in_entries (at a) (at_is a l).0));
-    apart = λ a b la lb e. sym (at_is a la).1 ∙ ap (slice_index (numbers_of E)) (order_apart (length Q) (numbers_of F) (permutes Q F m.others_in_order) (at a) (at b) (in_others (at a) (at_is a la).0) (in_others (at b) (at_is b lb).0) e) ∙ (at_is b lb).1;
-    by = λ a. told (at a);
+    separate = λ a b la lb e. sym (at_is a la).1 ∙ ap (slice_index (numbers_of E)) (order_apart (length Q) (numbers_of F) (permutes Q F m.others_in_order) (at a) (at b) (in_others (at a) (at_is a la).0) (in_others (at b) (at_is b lb).0) e) ∙ (at_is b lb).1;
+    by = λ a. reported (at a);
     relabels = λ a l. (least_of a l).relabels.0;
     carries = λ a l. (least_of a l).relabels.1;
   }
 
-  abbrev stands : ℕ → Gluing
-  stands t = stand_for m.first m.second P Q m.first_table m.second_table m.are_parts m.are_others matches t
+  abbrev occurs : ℕ → Gluing
+  occurs t = stand_for m.first m.second P Q m.first_table m.second_table m.are_parts m.are_others matches t
 
   by : Relabelling
-  by = made n stands
+  by = made n occurs
 
   written : AreWritten P (numbers_of E) Q (numbers_of F) (length E) by
   unfolding by matches to
-  written i l = (told i, told_is i l, goes)
+  written i l = (reported i, told_is i l, goes)
     where
       a : ℕ
       a = slice_index (numbers_of E) i
@@ -117,27 +117,27 @@ module _ (n : ℕ) (P : List Part) (E : List Entry) (Q : List Part) (F : List En
       same = let w = at_is (slice_index (numbers_of E) i) la in let e = entries_long P E m.in_order in
           order_apart (length P) (numbers_of E) (permutes P E m.in_order) (at (slice_index (numbers_of E) i)) i w.0 (omega (arith, e, l)) w.1
 
-      goes : GoesBy (made n stands) (part_in P E i) (part_in Q F i) (told i)
+      goes : GoesBy (made n occurs) (part_in P E i) (part_in Q F i) (reported i)
       goes k lk =
           let t : ℕ = slice_index (part_in P E i).numbers k in
           let inside : slice_index (part_in P E i).numbers k < length m.first = member_below m.first m.first_table (part_in P E i) (is_part m.first P E m.first_table m.are_parts m.in_order i l) (slice_index (part_in P E i).numbers k)
           (contains_at (part_in P E i).numbers k (slice_index (part_in P E i).numbers k) lk refl) in
           let s : StandsAt P (slice_index (part_in P E i).numbers k) = record { i = slice_index (numbers_of E) i; in_parts = la; k = k; in_numbers = lk; is = refl } in
-          made_stands n stands (slice_index (part_in P E i).numbers k) (subst (λ j. slice_index (part_in P E i).numbers k < j) m.size inside)
+          made_stands n occurs (slice_index (part_in P E i).numbers k) (subst (λ j. slice_index (part_in P E i).numbers k < j) m.size inside)
           ∙ stand_is m.first m.second P Q m.first_table m.second_table m.are_parts m.are_others matches (slice_index (part_in P E i).numbers k) s inside
-          ∙ ap (λ j. record { tet = slice_index (numbers_at Q (slice_index (numbers_of F) j)) (slice_index (told j).images k); perm = slice_index_or (told j).perms k [] }) same
+          ∙ ap (λ j. record { tet = slice_index (numbers_at Q (slice_index (numbers_of F) j)) (slice_index (reported j).images k); perm = slice_index_or (reported j).perms k [] }) same
 
-  long_images : length (made n stands).images ≡ n
+  long_images : length (made n occurs).images ≡ n
   unfolding made
-  long_images = length-map-range_with_len (λ t. (stands t).tet) 0 n
+  long_images = length-map-range_with_len (λ t. (occurs t).tet) 0 n
 
-  long_perms : length (made n stands).perms ≡ n
+  long_perms : length (made n occurs).perms ≡ n
   unfolding made
-  long_perms = length-map-range_with_len (λ t. (stands t).perm) 0 n
+  long_perms = length-map-range_with_len (λ t. (occurs t).perm) 0 n
 
   pub same_parts_told : (by : Relabelling) × IsSameParts m.first m.second by
   unfolding by
-  same_parts_told = (made n stands, is_same_parts n P E Q F m (made n stands) long_images long_perms written)
+  same_parts_told = (made n occurs, is_same_parts n P E Q F m (made n occurs) long_images long_perms written)
 
 pub some_same_parts : (first second : List Row) → IsTable first → IsTable second → AreIsomorphic first second → (by : Relabelling) × IsSameParts first second by
 some_same_parts first second tf ts r =

@@ -8,7 +8,7 @@ use Rattle.cone_definitions.proofs.Below.{all_or_one, all_or_first}
 use Rattle.table_definitions.specs.Table.{Row, IsTable}
 use Rattle.table_definitions.specs.Places.{IsConnected, IsLeastUnreached}
 use Rattle.signature_definitions.specs.Census.{table_in, signature_in, IsCensus, IsClassed}
-use Rattle.signature_definitions.proofs.CensusLaws.{census_goes_on, empty_census}
+use Rattle.signature_definitions.proofs.CensusLaws.{census_extends, empty_census}
 use Rattle.signature_laws.proofs.Uniqueness.{tells_tables}
 use Rattle.signature_laws.proofs.Connected.{connected_or_unreached_lem}
 use Rattle.signature_laws.proofs.Walks.{signatures_exist_lem}
@@ -20,7 +20,7 @@ use Rattle.outcome_definitions.specs.Canonical.{done, not_connected_outcome, IsS
 
 pub some_signature : (rows : List Row) → IsTable rows → (o : Outcome) × IsSignatureAnswer rows o
 some_signature rows table = elim (connected_or_unreached_lem rows table) [
-  | inl c ↦ (let s = signatures_exist_lem rows table c in (done (line s.0), inl (record { connected = c; text = s.0; signature = s.1; told = refl })))
+  | inl c ↦ (let s = signatures_exist_lem rows table c in (done (line s.0), inl (record { connected = c; text = s.0; signature = s.1; reported = refl })))
   | inr u ↦ (not_connected_outcome 0 u.0, inr (u.0, u.1, refl))
 ]
 
@@ -69,7 +69,7 @@ module _ (tables : List (List Row)) (are : (k : ℕ) → k < length tables → I
       subst (λ m. HasCensus (take m tables)) (add-one n) (subst HasCensus (sym (take_more tables n [] (omega arith))) (
         before.0 ++ p.0 ∷ [],
         p.1,
-        census_goes_on tells_tables (take n tables) (table_in tables n) before.0 before.1 s.0 p.0 p.1
+        census_extends tells_tables (take n tables) (table_in tables n) before.0 before.1 s.0 p.0 p.1
             (record { are_tables = λ k m. front_tables n k (omega arith) m; table = table; census = before.2; signature = s.1; placed = p.2 }),
       ))
 
@@ -85,21 +85,21 @@ module _ (tables : List (List Row)) (are : (k : ℕ) → k < length tables → I
 
   connected_or_loose : (k : ℕ) → Connected k ⊎ Loose k
   connected_or_loose k = elim (cases_lt k (length tables)) [
-    | inr past ↦ inl (λ l. absurd (omega arith))
+    | inr exceeded ↦ inl (λ l. absurd (omega arith))
     | inl l ↦ elim (connected_or_unreached_lem (table_in tables k) (are k l)) [ inl c ↦ inl (λ _. c) | inr u ↦ inr u ]
   ]
 
   grouped : (o : Outcome) × IsGroupAnswer tables o
   grouped = elim (all_or_first Connected Loose connected_or_loose (length tables)) [
     | inl all ↦ (let c = census_exists (λ k l. all k l l) in
-        (done (census_text c.0 c.1), inl (record { connected = λ k l. all k l l; classes = c.0; signatures = c.1; census = c.2; told = refl })))
+        (done (census_text c.0 c.1), inl (record { connected = λ k l. all k l l; classes = c.0; signatures = c.1; census = c.2; reported = refl })))
     | inr w ↦ (
       not_connected_outcome w.0 w.3.0,
       inr (record {
         table = w.0;
         in_range = w.1;
         before = λ k l. w.2 k l (let m : w.0 < length tables = w.1 in omega arith);
-        told = (w.3.0, w.3.1, refl);
+        reported = (w.3.0, w.3.1, refl);
       }),
     )
   ]

@@ -74,18 +74,18 @@ some_greatest (x ∷ list) =
     ]
 
 summed_up : (n : Numbers) (e : Enumeration) → PairsAreOfTwoColumns e.pairs → (o : Outcome) × (AreSummedUp n e o ⊎ IsLargeAnswered e o)
-summed_up n e apart = elim (enumeration_ends e apart) [
+summed_up n e separate = elim (enumeration_ends e separate) [
   | inl l ↦
       let g = some_greatest l.1 in
       (summary_outcome n l.1 g.0, inl (record { taken = l.0; list = l.1; listed = l.2; greatest = g.0; is_greatest = g.1; outcome = refl }))
-  | inr past ↦ (large_outcome past.0 past.1, inr (past.0, past.1, past.2, refl))
+  | inr exceeded ↦ (large_outcome exceeded.0 exceeded.1, inr (exceeded.0, exceeded.1, exceeded.2, refl))
 ]
 
 some_summary : (n : Numbers) (rows : List Row) → IsTable rows → (o : Outcome) × IsSummary n rows o
 some_summary n rows table =
     let q = some_equations Standard rows table in
     let s = summed_up n (table_enumeration Standard Given limit rows q.0) (clashes_apart Standard (length rows)) in
-    (s.0, record { equations = q.0; of_table = q.1; told = s.1 })
+    (s.0, record { equations = q.0; of_table = q.1; reported = s.1 })
 
 pub some_bulk : (seed moves : ℕ) → (o : Outcome) × IsBulkAnswer seed moves o
 some_bulk seed moves =

@@ -45,7 +45,7 @@ pub some_crush : (d : List Row × List ℕ) → IsTable d.0 → (o : Outcome) ×
 some_crush d table =
     let q = some_equations Standard d.0 table in
     let c = crushed_by d.0 q.0 d.1 table (verdict_in Standard d.0 q.0 d.1) refl in
-    (crush_outcome c.0, record { equations = q.0; of_table = q.1; told = c.0; crushed = c.1; outcome = refl })
+    (crush_outcome c.0, record { equations = q.0; of_table = q.1; reported = c.0; crushed = c.1; outcome = refl })
 
 -- a quad vector is lifted, or refused
 module _ (s : Skeleton) (k : IsSkeleton s) (equations : List EquationRow) where
@@ -65,7 +65,7 @@ some_lifts d table =
     let s = some_skeleton d.0 table in
     let q = some_equations Quad d.0 table in
     let t = vectors_told (IsLifted s.0 q.0) d.1 (λ xs. lifted_by s.0 s.2 q.0 xs (verdict_in Quad s.0.rows q.0 xs) refl) in
-    (lift_outcome t.0, record { skeleton = s.0; of_rows = s.1; is_skeleton = s.2; equations = q.0; of_table = q.1; told = t.0; lifted = t.1; outcome = refl })
+    (lift_outcome t.0, record { skeleton = s.0; of_rows = s.1; is_skeleton = s.2; equations = q.0; of_table = q.1; reported = t.0; lifted = t.1; outcome = refl })
 
 -- a vector is described, or refused
 module _ (s : Skeleton) (k : IsSkeleton s) (coords : Coords) (triangles : coords ≢ Quad) (equations : List EquationRow) (of_table : AreEquations coords s.rows equations) where
@@ -104,7 +104,7 @@ module _ (s : Skeleton) (k : IsSkeleton s) (coords : Coords) (triangles : coords
   described : (vectors : List (List ℕ)) → (o : Outcome) × AreDescribed s coords vectors o
   described vectors =
       let t = vectors_told (IsDescription s coords equations) vectors (λ xs. by_verdict xs (verdict_in coords s.rows equations xs) refl) in
-      (describe_outcome s coords t.0, record { equations = equations; of_table = of_table; told = t.0; described = t.1; outcome = refl })
+      (describe_outcome s coords t.0, record { equations = equations; of_table = of_table; reported = t.0; described = t.1; outcome = refl })
 
 by_first : (s : Skeleton) → IsSkeleton s → (coords : Coords) → coords ≢ Quad → (vectors : List (List ℕ)) (first : Option ℕ) → IsFirstInvalid s first
     → (o : Outcome) × (IsInvalidAnswered s o ⊎ (IsFirstInvalid s None × AreDescribed s coords vectors o))
@@ -119,4 +119,4 @@ some_describe coords d triangles table =
     let s = some_skeleton d.0 table in
     let f = some_first_invalid s.0 s.2 in
     let t = by_first s.0 s.2 coords triangles d.1 f.0 f.1 in
-    (t.0, record { skeleton = s.0; of_rows = s.1; is_skeleton = s.2; told = t.1 })
+    (t.0, record { skeleton = s.0; of_rows = s.1; is_skeleton = s.2; reported = t.1 })

@@ -1,14 +1,19 @@
-//! Existence: all words and all bytes have exactly one outcome, and each table has a component signature. Two tables
-//! are isomorphic or not, decidably.
+//! Existence and uniqueness: all words and all bytes have exactly one outcome, and each table has a component
+//! signature. Two tables are isomorphic or not, decidably.
 //!
 //! A *run* of a command is its outcome, a status and a text, for words that request it and an input. The *component
 //! signature* of a table is the list of the signatures of its components in ascending order, joined by full stops.
 #![tactic(auto)]
 
-ghost use Rattle.outcome_existence_laws.specs.Laws.{EachRequestIsAnswered, EachIsAnswered, EachIsAnsweredOnce};
+ghost use Rattle.outcome_existence_laws.specs.Laws.{OutcomesAgree, EachRequestIsAnswered, EachIsAnswered, EachIsAnsweredOnce};
 ghost use Rattle.outcome_existence_laws.specs.Components.{SomeComponentSignature, SomeLeastRelabelling, SomeSameParts, RelabelledOrNot};
 ghost use Rattle.outcome_existence_laws.specs.Answers.{SomeComponentSignatureAnswer, SomeSamePartsAnswer};
 ghost use Rattle.outcome_existence_laws.specs.Splits.{ComponentSignaturesSplit};
+
+/// Theorem: all words, accepted or not, and an input have at most one outcome.
+pub fn outcomes_agree()
+    ensures { OutcomesAgree }
+{}
 
 /// Theorem:
 ///
@@ -40,7 +45,7 @@ pub fn least_relabellings_exist()
 ///    signatures, the least isomorphism.
 pub fn part_relabellings_exist()
     ensures decided { RelabelledOrNot }
-    ensures told { SomeSameParts }
+    ensures reported { SomeSameParts }
 {}
 
 /// Lemma:

@@ -23,18 +23,18 @@ use Rattle.outcome_laws.proofs.ReadPairs.{next_read}
 use Rattle.outcome_definitions.specs.Certificates.{check_outcome, IsCheckAnswer, descend_outcome, IsDescendAnswer}
 
 pub one_check : (d : List Row × List Move) (o p : Outcome) → IsTable d.0 → IsCheckAnswer d o → IsCheckAnswer d p → o ≡ p
-one_check d o p table h k = h.outcome ∙ ap check_outcome (answers_agree_lem d.0 d.1 h.told k.told table h.checked k.checked) ∙ sym k.outcome
+one_check d o p table h k = h.outcome ∙ ap check_outcome (answers_agree_lem d.0 d.1 h.reported k.reported table h.checked k.checked) ∙ sym k.outcome
 
 pub some_check : (d : List Row × List Move) → IsTable d.0 → All (λ (m : Move). IsCore m.core) d.1 → (o : Outcome) × IsCheckAnswer d o
 some_check d table cores =
-    let a = answers_exist_lem d.0 d.1 table cores in (check_outcome a.0, record { told = a.0; checked = a.1; outcome = refl })
+    let a = answers_exist_lem d.0 d.1 table cores in (check_outcome a.0, record { reported = a.0; checked = a.1; outcome = refl })
 
 pub one_descend : (rows : List Row) (o p : Outcome) → IsTable rows → IsDescendAnswer rows o → IsDescendAnswer rows p → o ≡ p
-one_descend rows o p table h k = h.outcome ∙ ap descend_outcome (descent_answers_agree_lem rows h.told k.told table h.descended k.descended) ∙ sym k.outcome
+one_descend rows o p table h k = h.outcome ∙ ap descend_outcome (descent_answers_agree_lem rows h.reported k.reported table h.descended k.descended) ∙ sym k.outcome
 
 pub some_descend : (rows : List Row) → IsTable rows → (o : Outcome) × IsDescendAnswer rows o
 some_descend rows table =
-    let a = descent_answers_exist_lem rows table in (descend_outcome a.0, record { told = a.0; descended = a.1; outcome = refl })
+    let a = descent_answers_exist_lem rows table in (descend_outcome a.0, record { reported = a.0; descended = a.1; outcome = refl })
 
 -- the document holds a table, with moves that have cores
 

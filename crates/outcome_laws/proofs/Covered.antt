@@ -39,7 +39,7 @@ connected_or_not rows table = elim (all_or_one Reached Missed decide (length row
 
     decide : (t : ℕ) → Reached t ⊎ Missed t
     decide t = elim (cases_lt t (length rows)) [
-      | inr past ↦ inl (λ l. absurd (omega arith))
+      | inr exceeded ↦ inl (λ l. absurd (omega arith))
       | inl l ↦ elim (decide_joined rows table 0 t) [ inl j ↦ inl (λ _. j) | inr never ↦ inr (l, never) ]
     ]
 

@@ -59,8 +59,8 @@ links_agree : (s : Skeleton) (n m : ℕ) (links others : List Link) → AreLinks
     slice_index_or links c no_link ≡ slice_index_or others c no_link
 links_agree s n m links others h k c l r = one_link s.rows s.vertices.classes k.0 c one other
     (subst (λ (directions : List ℕ). IsLink s.rows s.vertices.classes directions c one) same
-    (h.3.told c one l (get_or_default links c no_link one (let e = h.3.one_each in omega arith))))
-    (k.3.told c other r (get_or_default others c no_link other (let e = k.3.one_each in omega arith)))
+    (h.3.reported c one l (get_or_default links c no_link one (let e = h.3.one_each in omega arith))))
+    (k.3.reported c other r (get_or_default others c no_link other (let e = k.3.one_each in omega arith)))
   where
     one : Link
     one = slice_index_or links c no_link

@@ -20,7 +20,7 @@ not_both k rows o connected h = absurd (connected_or_not rows h.0 connected h.1)
 
 pub one_signature_answer : (rows : List Row) (o p : Outcome) → IsSignatureAnswer rows o → IsSignatureAnswer rows p → o ≡ p
 one_signature_answer rows o p (inl h) (inl g) =
-    h.told ∙ ap (λ (text : List ℕ). done (line text)) (one_signature rows h.text g.text h.signature g.signature) ∙ sym g.told
+    h.reported ∙ ap (λ (text : List ℕ). done (line text)) (one_signature rows h.text g.text h.signature g.signature) ∙ sym g.reported
 one_signature_answer rows o p (inl h) (inr g) = not_both 0 rows p h.connected g
 one_signature_answer rows o p (inr h) (inl g) = not_both 0 rows o g.connected h
 one_signature_answer rows o p (inr h) (inr g) = one_not_connected 0 rows o p h g
@@ -46,17 +46,17 @@ one_same_answer pair o p table (inr (inr h)) (inr (inr g)) = one_comparison pair
 one_grouping : (tables : List (List Row)) (o p : Outcome) → IsGrouped tables o → IsGrouped tables p → o ≡ p
 one_grouping tables o p h g =
     let e = one_census one_signature tables h.classes g.classes h.signatures g.signatures h.census g.census in
-    h.told ∙ ap₂ (λ (classes : List ℕ) (signatures : List (List ℕ)). done (census_text classes signatures)) e.0 e.1 ∙ sym g.told
+    h.reported ∙ ap₂ (λ (classes : List ℕ) (signatures : List (List ℕ)). done (census_text classes signatures)) e.0 e.1 ∙ sym g.reported
 
 not_grouped : {P : Type 0} (tables : List (List Row)) (o p : Outcome) → IsGrouped tables o → IsFirstNotConnected tables p → P
-not_grouped tables o p h g = not_both g.table (table_in tables g.table) p (h.connected g.table g.in_range) g.told
+not_grouped tables o p h g = not_both g.table (table_in tables g.table) p (h.connected g.table g.in_range) g.reported
 
 not_earlier : {P : Type 0} (tables : List (List Row)) (o p : Outcome) (h : IsFirstNotConnected tables o) (g : IsFirstNotConnected tables p) → h.table < g.table → P
-not_earlier tables o p h g less = not_both h.table (table_in tables h.table) o (g.before h.table less) h.told
+not_earlier tables o p h g less = not_both h.table (table_in tables h.table) o (g.before h.table less) h.reported
 
 one_first : (tables : List (List Row)) (o p : Outcome) → IsFirstNotConnected tables o → IsFirstNotConnected tables p → o ≡ p
 one_first tables o p h g = elim (cases_order h.table g.table) [
-  | inl e ↦ one_not_connected g.table (table_in tables g.table) o p (subst (λ (k : ℕ). IsNotConnected k (table_in tables k) o) e h.told) g.told
+  | inl e ↦ one_not_connected g.table (table_in tables g.table) o p (subst (λ (k : ℕ). IsNotConnected k (table_in tables k) o) e h.reported) g.reported
   | inr (inl less) ↦ not_earlier tables o p h g less
   | inr (inr more) ↦ not_earlier tables p o g h more
 ]

@@ -10,4 +10,4 @@ pub mod Certified
 pub mod Making
 pub mod Parted
 pub mod Vectored
-pub mod Agreement
+pub mod Listed

@@ -50,8 +50,8 @@ one_told n e o p some (inr h) (inr k) = one_past_told e o p some h k
 pub one_summary : (n : Numbers) (table : List Row) (o p : Outcome) → IsSummary n table o → IsSummary n table p → o ≡ p
 one_summary n table o p h k =
     let e : h.equations ≡ k.equations = one_equations Standard table h.equations k.equations h.of_table k.of_table in
-    let there = subst (λ (q : List EquationRow). AreSummedUp n (table_enumeration Standard Given limit table q) p ⊎ IsLargeAnswered (table_enumeration Standard Given limit table q) p) (sym e) k.told in
-    one_told n (table_enumeration Standard Given limit table h.equations) o p (given_named (table_enumeration Standard Given limit table h.equations) refl) h.told there
+    let there = subst (λ (q : List EquationRow). AreSummedUp n (table_enumeration Standard Given limit table q) p ⊎ IsLargeAnswered (table_enumeration Standard Given limit table q) p) (sym e) k.reported in
+    one_told n (table_enumeration Standard Given limit table h.equations) o p (given_named (table_enumeration Standard Given limit table h.equations) refl) h.reported there
 
 pub one_bulk : (seed moves : ℕ) (o p : Outcome) → IsBulkAnswer seed moves o → IsBulkAnswer seed moves p → o ≡ p
 one_bulk seed moves o p h k =

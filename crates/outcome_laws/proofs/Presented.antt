@@ -50,7 +50,7 @@ one_told s o p (inr (inr h)) (inr (inl k)) = never_invalid s p h.0.valid k.1
 one_told s o p (inr (inr h)) (inr (inr k)) = one_presented s o p h.1 k.1
 
 pub one_presentation_answer : (rows : List Row) (o p : Outcome) → IsPresentationAnswer rows o → IsPresentationAnswer rows p → o ≡ p
-one_presentation_answer rows o p h k = one_told k.skeleton o p (subst (λ (s : Skeleton). Told s o) same h.told) k.told
+one_presentation_answer rows o p h k = one_told k.skeleton o p (subst (λ (s : Skeleton). Told s o) same h.reported) k.reported
   where
     same : h.skeleton ≡ k.skeleton
     same = one_skeleton h.skeleton k.skeleton (h.of_rows ∙ sym k.of_rows) h.is_skeleton k.is_skeleton

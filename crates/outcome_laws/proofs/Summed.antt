@@ -36,17 +36,17 @@ verdicts_fit coords rows equations (x ∷ vectors) [] h = absurd h
 verdicts_fit coords rows equations (x ∷ vectors) (u ∷ passed) h = (h.0, verdicts_fit coords rows equations vectors passed h.1)
 
 -- if the result for each item is unique, so is that for the list
-module _ {A B E : Type 0} (IsTold : A → Result B E → Type 0) (one : (x : A) (r s : Result B E) → IsTold x r → IsTold x s → r ≡ s) where
+module _ {A B E : Type 0} (IsResult : A → Result B E → Type 0) (one : (x : A) (r s : Result B E) → IsResult x r → IsResult x s → r ≡ s) where
   ok_same : (a b : B) → (let r : Result B E = Ok a in r ≡ Ok b) → a ≡ b
   ok_same a b e = cc
 
   err_same : (f g : E) → (let r : Result B E = Err f in r ≡ Err g) → f ≡ g
   err_same f g e = cc
 
-  not_both : (x : A) (a : B) (f : E) → IsTold x (Ok a) → IsTold x (Err f) → ⊥
+  not_both : (x : A) (a : B) (f : E) → IsResult x (Ok a) → IsResult x (Err f) → ⊥
   not_both x a f h k = (let e : (let r : Result B E = Ok a in r ≡ Err f) = one x (Ok a) (Err f) h k in absurd cc)
 
-  told_list : (list : List A) (cs ds : List B) → AllZip (λ x a. IsTold x (Ok a)) list cs → AllZip (λ x a. IsTold x (Ok a)) list ds → cs ≡ ds
+  told_list : (list : List A) (cs ds : List B) → AllZip (λ x a. IsResult x (Ok a)) list cs → AllZip (λ x a. IsResult x (Ok a)) list ds → cs ≡ ds
   told_list [] [] [] f g = refl
   told_list [] [] (d ∷ ds) f g = absurd g
   told_list [] (c ∷ cs) ds f g = absurd f
@@ -55,10 +55,10 @@ module _ {A B E : Type 0} (IsTold : A → Result B E → Type 0) (one : (x : A) 
   told_list (x ∷ list) (c ∷ cs) (d ∷ ds) f g = ap₂ (λ (y : B) (ys : List B). y ∷ ys) (ok_same c d (one x (Ok c) (Ok d) f.0 g.0)) (told_list list cs ds f.1 g.1)
 
   abbrev Passes : A → Type 0
-  Passes x = (answer : B) × IsTold x (Ok answer)
+  Passes x = (answer : B) × IsResult x (Ok answer)
 
   -- no item of a list with answers is refused
-  none_refused : (before : List A) (value : A) (after : List A) (cs : List B) (f : E) → AllZip (λ x a. IsTold x (Ok a)) (before ++ value ∷ after) cs → IsTold value (Err f) → ⊥
+  none_refused : (before : List A) (value : A) (after : List A) (cs : List B) (f : E) → AllZip (λ x a. IsResult x (Ok a)) (before ++ value ∷ after) cs → IsResult value (Err f) → ⊥
   none_refused [] value after [] f z h = absurd z
   none_refused [] value after (c ∷ cs) f z h = not_both value c f z.0 h
   none_refused (x ∷ before) value after [] f z h = absurd z
@@ -72,32 +72,32 @@ module _ {A B E : Type 0} (IsTold : A → Result B E → Type 0) (one : (x : A) 
   heads x y xs ys e = (cc, cc)
 
   one_place : (before : List A) (value : A) (after other_before : List A) (other : A) (other_after : List A) (f g : E) → before ++ value ∷ after ≡ other_before ++ other ∷ other_after
-      → All Passes before → IsTold value (Err f) → All Passes other_before → IsTold other (Err g) → SamePlace (length before) (length other_before) f g
+      → All Passes before → IsResult value (Err f) → All Passes other_before → IsResult other (Err g) → SamePlace (length before) (length other_before) f g
   one_place [] value after [] other other_after f g e p h q k =
       let same = heads value other after other_after e in
-      (refl, err_same f g (one value (Err f) (Err g) h (subst (λ (y : A). IsTold y (Err g)) (sym same.0) k)))
+      (refl, err_same f g (one value (Err f) (Err g) h (subst (λ (y : A). IsResult y (Err g)) (sym same.0) k)))
   one_place [] value after (y ∷ ys) other other_after f g e p h q k =
       let same = heads value y after (ys ++ other ∷ other_after) e in
       let passed : Passes y = q 0 y (omega arith) in
-      absurd (not_both y passed.0 f passed.1 (subst (λ (z : A). IsTold z (Err f)) same.0 h))
+      absurd (not_both y passed.0 f passed.1 (subst (λ (z : A). IsResult z (Err f)) same.0 h))
   one_place (x ∷ xs) value after [] other other_after f g e p h q k =
       let same = heads x other (xs ++ value ∷ after) other_after e in
       let passed : Passes x = p 0 x (omega arith) in
-      absurd (not_both x passed.0 g passed.1 (subst (λ (z : A). IsTold z (Err g)) (sym same.0) k))
+      absurd (not_both x passed.0 g passed.1 (subst (λ (z : A). IsResult z (Err g)) (sym same.0) k))
   one_place (x ∷ xs) value after (y ∷ ys) other other_after f g e p h q k =
       let same = heads x y (xs ++ value ∷ after) (ys ++ other ∷ other_after) e in
       let more : SamePlace (length xs) (length ys) f g = one_place xs value after ys other other_after f g same.1 (λ i d l. p (suc i) d (omega arith)) h (λ i d l. q (suc i) d (omega arith)) k in
       (ap suc more.0, more.1)
 
-  one_refused : (list : List A) (v w : ℕ) (f g : E) → IsFirstRefused IsTold list v f → IsFirstRefused IsTold list w g → (v ≡ w) × (f ≡ g)
+  one_refused : (list : List A) (v w : ℕ) (f g : E) → IsFirstRefused IsResult list v f → IsFirstRefused IsResult list w g → (v ≡ w) × (f ≡ g)
   one_refused list v w f g h k =
-      let p : SamePlace (length h.before) (length k.before) f g = one_place h.before h.value h.after k.before k.value k.after f g (sym h.stands ∙ k.stands) h.passed h.fails k.passed k.fails in
+      let p : SamePlace (length h.before) (length k.before) f g = one_place h.before h.value h.after k.before k.value k.after f g (sym h.occurs ∙ k.occurs) h.passed h.fails k.passed k.fails in
       (h.number_is ∙ p.0 ∙ sym k.number_is, p.1)
 
-  pub told_once : (list : List A) (t u : Result (List B) (ℕ × E)) → AreAnswered IsTold list t → AreAnswered IsTold list u → t ≡ u
+  pub told_once : (list : List A) (t u : Result (List B) (ℕ × E)) → AreAnswered IsResult list t → AreAnswered IsResult list u → t ≡ u
   told_once list (Ok cs) (Ok ds) h k = ap Ok (told_list list cs ds h k)
-  told_once list (Ok cs) (Err r) h k = absurd (none_refused k.before k.value k.after cs r.1 (subst (λ (xs : List A). AllZip (λ x a. IsTold x (Ok a)) xs cs) k.stands h) k.fails)
-  told_once list (Err r) (Ok ds) h k = absurd (none_refused h.before h.value h.after ds r.1 (subst (λ (xs : List A). AllZip (λ x a. IsTold x (Ok a)) xs ds) h.stands k) h.fails)
+  told_once list (Ok cs) (Err r) h k = absurd (none_refused k.before k.value k.after cs r.1 (subst (λ (xs : List A). AllZip (λ x a. IsResult x (Ok a)) xs cs) k.occurs h) k.fails)
+  told_once list (Err r) (Ok ds) h k = absurd (none_refused h.before h.value h.after ds r.1 (subst (λ (xs : List A). AllZip (λ x a. IsResult x (Ok a)) xs ds) h.occurs k) h.fails)
   told_once list (Err r) (Err s) h k = (let p = one_refused list r.0 s.0 r.1 s.1 h k in ap₂ (λ (n : ℕ) (f : E). Err (n, f)) p.0 p.1)
 
 one_verdict : (coords : Coords) (rows : List Row) (equations : List EquationRow) (x : List ℕ) (r s : Verdict) → IsVerdict coords rows equations x r → IsVerdict coords rows equations x s → r ≡ s
@@ -129,8 +129,8 @@ one_sum most list x (Err p) (Err q) h k = ap Err (turns_same p q (one_answer mos
 one_list_of_sums : (most : ℕ) (e : Enumeration) (rows : List Row) (vectors : List (List ℕ)) (o p : Outcome) → AreSums most e rows vectors o → AreSums most e rows vectors p → o ≡ p
 one_list_of_sums most e rows vectors o p h k =
     let lists : h.list ≡ k.list = one_surface_list_lem e.system.columns e.system.rows e.system.rows e.pairs h.list k.list (IsPermutation-refl e.system.rows) h.listed.surfaces k.listed.surfaces in
-    let there : AreAnswered (IsSummed most h.list) vectors k.told = subst (λ (list : List (List ℕ)). AreAnswered (IsSummed most list) vectors k.told) (sym lists) k.sums in
-    h.outcome ∙ ap (sums_outcome rows) (told_once (IsSummed most h.list) (one_sum most h.list) vectors h.told k.told h.sums there) ∙ sym k.outcome
+    let there : AreAnswered (IsSummed most h.list) vectors k.reported = subst (λ (list : List (List ℕ)). AreAnswered (IsSummed most list) vectors k.reported) (sym lists) k.sums in
+    h.outcome ∙ ap (sums_outcome rows) (told_once (IsSummed most h.list) (one_sum most h.list) vectors h.reported k.reported h.sums there) ∙ sym k.outcome
 
 one_decomposed : (most : ℕ) (e : Enumeration) (rows : List Row) (vectors : List (List ℕ)) (checked : Result (List (Unit {0})) (ℕ × VectorFault)) (o p : Outcome) → e.order ≢ Free
     → IsDecomposed most e rows vectors checked o → IsDecomposed most e rows vectors checked p → o ≡ p
@@ -149,8 +149,8 @@ one_decompose coords most d o p h k =
     let verdicts : AreAnswered (IsVerdict coords d.0 h.equations) d.1 k.checked = subst (λ (q : List EquationRow). AreAnswered (IsVerdict coords d.0 q) d.1 k.checked) (sym e) k.verdicts in
     let checks : h.checked ≡ k.checked = told_once (IsVerdict coords d.0 h.equations) (one_verdict coords d.0 h.equations) d.1 h.checked k.checked h.verdicts verdicts in
     let there : IsDecomposed most (table_enumeration coords Given most d.0 h.equations) d.0 d.1 h.checked p =
-    subst₂ (λ (q : List EquationRow) (c : Result (List (Unit {0})) (ℕ × VectorFault)). IsDecomposed most (table_enumeration coords Given most d.0 q) d.0 d.1 c p) (sym e) (sym checks) k.told in
-    one_decomposed most (table_enumeration coords Given most d.0 h.equations) d.0 d.1 h.checked o p given_not_free h.told there
+    subst₂ (λ (q : List EquationRow) (c : Result (List (Unit {0})) (ℕ × VectorFault)). IsDecomposed most (table_enumeration coords Given most d.0 q) d.0 d.1 c p) (sym e) (sym checks) k.reported in
+    one_decomposed most (table_enumeration coords Given most d.0 h.equations) d.0 d.1 h.checked o p given_not_free h.reported there
 
 -- given sums
 module _ (coords : Coords) (rows : List Row) (equations : List EquationRow) where
@@ -168,7 +168,7 @@ module _ (coords : Coords) (rows : List Row) (equations : List EquationRow) wher
 
   -- if all terms are solutions, there is no first term that is refused
   no_unfit_term : (terms : List Term) (i : ℕ) (fault : VectorFault) → All (λ (term : Term). verdict_in coords rows equations term.vector ≡ solution) terms → IsFirstRefused (IsTermVerdict coords rows equations) terms i fault → ⊥
-  no_unfit_term terms i fault all h = at_value h.before (subst (λ (ts : List Term). All (λ (term : Term). verdict_in coords rows equations term.vector ≡ solution) ts) h.stands all)
+  no_unfit_term terms i fault all h = at_value h.before (subst (λ (ts : List Term). All (λ (term : Term). verdict_in coords rows equations term.vector ≡ solution) ts) h.occurs all)
     where
       at_value : (before : List Term) → All (λ (term : Term). verdict_in coords rows equations term.vector ≡ solution) (before ++ h.value ∷ h.after) → ⊥
       at_value [] fit = fit_or_not h.value.vector fault (fit 0 h.value (omega arith)) h.fails
@@ -201,5 +201,5 @@ module _ (coords : Coords) (rows : List Row) (equations : List EquationRow) wher
 pub one_addup : (coords : Coords) (d : List Row × List Block) (o p : Outcome) → IsAddupAnswer coords d o → IsAddupAnswer coords d p → o ≡ p
 one_addup coords d o p h k =
     let e : h.equations ≡ k.equations = one_equations coords d.0 h.equations k.equations h.of_table k.of_table in
-    let there : AreAnswered (IsAddedUp coords d.0 h.equations) d.1 k.told = subst (λ (q : List EquationRow). AreAnswered (IsAddedUp coords d.0 q) d.1 k.told) (sym e) k.added in
-    h.outcome ∙ ap addup_outcome (told_once (IsAddedUp coords d.0 h.equations) (one_added coords d.0 h.equations) d.1 h.told k.told h.added there) ∙ sym k.outcome
+    let there : AreAnswered (IsAddedUp coords d.0 h.equations) d.1 k.reported = subst (λ (q : List EquationRow). AreAnswered (IsAddedUp coords d.0 q) d.1 k.reported) (sym e) k.added in
+    h.outcome ∙ ap addup_outcome (told_once (IsAddedUp coords d.0 h.equations) (one_added coords d.0 h.equations) d.1 h.reported k.reported h.added there) ∙ sym k.outcome

@@ -17,22 +17,22 @@ use Rattle.outcome_laws.proofs.Presented.{one_refusal, never_invalid}
 pub one_crush : (d : List Row × List ℕ) (o p : Outcome) → IsTable d.0 → IsCrushAnswer d o → IsCrushAnswer d p → o ≡ p
 one_crush d o p t h k =
     let e : h.equations ≡ k.equations = one_equations Standard d.0 h.equations k.equations h.of_table k.of_table in
-    let there : IsCrushedAlong d.0 h.equations d.1 k.told = subst (λ (q : List EquationRow). IsCrushedAlong d.0 q d.1 k.told) (sym e) k.crushed in
-    h.outcome ∙ ap crush_outcome (crushed_along_once d.0 h.equations d.1 h.told k.told t h.crushed there) ∙ sym k.outcome
+    let there : IsCrushedAlong d.0 h.equations d.1 k.reported = subst (λ (q : List EquationRow). IsCrushedAlong d.0 q d.1 k.reported) (sym e) k.crushed in
+    h.outcome ∙ ap crush_outcome (crushed_along_once d.0 h.equations d.1 h.reported k.reported t h.crushed there) ∙ sym k.outcome
 
 pub one_lifts : (d : List Row × List (List ℕ)) (o p : Outcome) → IsLiftsAnswer d o → IsLiftsAnswer d p → o ≡ p
 one_lifts d o p h k =
     let e : h.equations ≡ k.equations = one_equations Quad d.0 h.equations k.equations h.of_table k.of_table in
     let s : h.skeleton ≡ k.skeleton = one_skeleton h.skeleton k.skeleton (h.of_rows ∙ sym k.of_rows) h.is_skeleton k.is_skeleton in
-    let same_rows : AreAnswered (IsLifted k.skeleton h.equations) d.1 k.told = subst (λ (q : List EquationRow). AreAnswered (IsLifted k.skeleton q) d.1 k.told) (sym e) k.lifted in
-    let there : AreAnswered (IsLifted h.skeleton h.equations) d.1 k.told = subst (λ (t : Skeleton). AreAnswered (IsLifted t h.equations) d.1 k.told) (sym s) same_rows in
-    h.outcome ∙ ap lift_outcome (lifted_each h.skeleton h.equations d.1 h.told k.told h.is_skeleton h.lifted there) ∙ sym k.outcome
+    let same_rows : AreAnswered (IsLifted k.skeleton h.equations) d.1 k.reported = subst (λ (q : List EquationRow). AreAnswered (IsLifted k.skeleton q) d.1 k.reported) (sym e) k.lifted in
+    let there : AreAnswered (IsLifted h.skeleton h.equations) d.1 k.reported = subst (λ (t : Skeleton). AreAnswered (IsLifted t h.equations) d.1 k.reported) (sym s) same_rows in
+    h.outcome ∙ ap lift_outcome (lifted_each h.skeleton h.equations d.1 h.reported k.reported h.is_skeleton h.lifted there) ∙ sym k.outcome
 
 one_described : (s : Skeleton) (coords : Coords) (vectors : List (List ℕ)) (o p : Outcome) → AreDescribed s coords vectors o → AreDescribed s coords vectors p → o ≡ p
 one_described s coords vectors o p h k =
     let e : h.equations ≡ k.equations = one_equations coords s.rows h.equations k.equations h.of_table k.of_table in
-    let there : AreAnswered (IsDescription s coords h.equations) vectors k.told = subst (λ (q : List EquationRow). AreAnswered (IsDescription s coords q) vectors k.told) (sym e) k.described in
-    h.outcome ∙ ap (describe_outcome s coords) (one_description_each s coords h.equations vectors h.told k.told h.described there) ∙ sym k.outcome
+    let there : AreAnswered (IsDescription s coords h.equations) vectors k.reported = subst (λ (q : List EquationRow). AreAnswered (IsDescription s coords q) vectors k.reported) (sym e) k.described in
+    h.outcome ∙ ap (describe_outcome s coords) (one_description_each s coords h.equations vectors h.reported k.reported h.described there) ∙ sym k.outcome
 
 -- the outcome names the least invalid edge class, or describes the vectors
 abbrev Told : Skeleton → Coords → List (List ℕ) → Outcome → Type 0
@@ -47,4 +47,4 @@ one_told s coords vectors o p (inr h) (inr k) = one_described s coords vectors o
 pub one_describe : (coords : Coords) (d : List Row × List (List ℕ)) (o p : Outcome) → IsDescribeAnswer coords d o → IsDescribeAnswer coords d p → o ≡ p
 one_describe coords d o p h k =
     let s : h.skeleton ≡ k.skeleton = one_skeleton h.skeleton k.skeleton (h.of_rows ∙ sym k.of_rows) h.is_skeleton k.is_skeleton in
-    one_told k.skeleton coords d.1 o p (subst (λ (t : Skeleton). Told t coords d.1 o) s h.told) k.told
+    one_told k.skeleton coords d.1 o p (subst (λ (t : Skeleton). Told t coords d.1 o) s h.reported) k.reported

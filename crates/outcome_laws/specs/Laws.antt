@@ -1,8 +1,18 @@
--- A command line and an input have at most one correct outcome.
-use Rattle.std.specs.Prelude.{◌≡◌, ℕ, List}
+-- Answers by enumerations and by equations are unique.
+use Rattle.std.specs.Prelude.{◌≡◌, ◌≢◌, ℕ, List}
+use Rattle.table_definitions.specs.Table.{Row}
+use Rattle.cone_definitions.specs.declared.Order.{Order}
+use Rattle.cone_definitions.specs.declared.Order.TheVariants.{Free}
+use Rattle.surface_definitions.specs.declared.Coords.{Coords}
 use Rattle.outcome_definitions.specs.Outcomes.{Outcome}
-use Rattle.outcome_definitions.specs.Answers.{IsOutcome}
+use Rattle.outcome_definitions.specs.Enumerations.{IsSurfacesAnswer}
+use Rattle.outcome_definitions.specs.Answers.{IsVerdictsAnswer}
 
--- two outcomes of the same words and the same input are equal
-abbrev pub OutcomesAgree : Type 0
-OutcomesAgree = (words : List (List ℕ)) (bytes : List ℕ) (o p : Outcome) → IsOutcome words bytes o → IsOutcome words bytes p → o ≡ p
+-- two answers of `surfaces` to one table, in an order that has a name, are equal
+abbrev pub ListsAgree : Type 0
+ListsAgree = (coords : Coords) (order : Order) (most : ℕ) (rows : List Row) (o p : Outcome) → order ≢ Free →
+    IsSurfacesAnswer coords order most rows o → IsSurfacesAnswer coords order most rows p → o ≡ p
+
+-- two answers of `verify` to one table and vectors are equal
+abbrev pub VerdictsAgree : Type 0
+VerdictsAgree = (coords : Coords) (d : List Row × List (List ℕ)) (o p : Outcome) → IsVerdictsAnswer coords d o → IsVerdictsAnswer coords d p → o ≡ p

@@ -4,4 +4,4 @@ use Rattle.outcome_existence_laws.proofs.Answers.{relabelled_or_not}
 use Rattle.outcome_existence_laws.proofs.part_relabellings_exist.Goals as goal
 
 pub returns : goal.returns
-returns c = record { decided = relabelled_or_not; told = some_same_parts }
+returns c = record { decided = relabelled_or_not; reported = some_same_parts }

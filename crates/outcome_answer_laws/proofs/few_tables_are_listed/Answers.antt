@@ -1,6 +1,0 @@
--- The lemmas are the laws.
-use Rattle.outcome_answer_laws.proofs.Surfaces.{bounded_tables_listed, few_tables_listed}
-use Rattle.outcome_answer_laws.proofs.few_tables_are_listed.Goals as goal
-
-pub returns : goal.returns
-returns c = record { bounded = bounded_tables_listed; few = few_tables_listed }
