@@ -86,7 +86,7 @@ module _ (limit : ℕ) (pairs : List Clash) (rays : List (List ℕ)) (signs : Li
     gives = λ u w taken p. ⊎_elim (λ old. h.gives u w old p)
         (λ new. absurd (none (subst₂ (IsSignedPair pairs rays signs) new.0 new.1 p)))
         (taken_cases i j u w taken);
-    apart = h.apart;
+    separate = h.separate;
   }
 
   -- a pair contributes one combination
@@ -97,10 +97,10 @@ module _ (limit : ℕ) (pairs : List Clash) (rays : List (List ℕ)) (signs : Li
         (All-weaker (ComesFromPlaces limit pairs rays signs i j) (ComesFromPlaces limit pairs rays signs i (j + 1)) (comes_weaker i j i (j + 1) (taken_weaker i j)) made h.comes)
         (record { u = i; w = j; taken = inr (refl, omega arith); pair = p; reduced = reduced });
     gives = λ u w taken q. ⊎_elim
-        (λ old. let g = h.gives u w old q in record { pair = g.pair; x = g.x; stands = Contains-append_left made (x ∷ []) g.x g.stands; reduced = g.reduced })
-        (λ new. subst₂ (GivesFrom limit pairs rays signs (made ++ x ∷ [])) (sym new.0) (sym new.1) (record { pair = p; x = x; stands = Contains-push made x; reduced = reduced }))
+        (λ old. let g = h.gives u w old q in record { pair = g.pair; x = g.x; occurs = Contains-append_left made (x ∷ []) g.x g.occurs; reduced = g.reduced })
+        (λ new. subst₂ (GivesFrom limit pairs rays signs (made ++ x ∷ [])) (sym new.0) (sym new.1) (record { pair = p; x = x; occurs = Contains-push made x; reduced = reduced }))
         (taken_cases i j u w taken);
-    apart = λ step. all_pairs_push (λ y z. y ≢ z) made x (h.apart step)
+    separate = λ step. all_pairs_push (λ y z. y ≢ z) made x (h.separate step)
         (λ k d within same. not_again step (h.comes k d within) same);
   }
     where
@@ -117,7 +117,7 @@ module _ (limit : ℕ) (pairs : List Clash) (rays : List (List ℕ)) (signs : Li
     gives = λ u w taken p. h.gives u w
         (⊎_elim (λ less. ⊎_elim (λ before. inl before) (λ after. inr (let e : u ≡ i = omega arith in e, let f = p.w_in_range in omega arith)) (cases_lt u i))
         (λ same. absurd (let e = same.1 in omega arith)) taken) p;
-    apart = h.apart;
+    separate = h.separate;
   }
 
   -- a ray that is not positive is the first of no pair
@@ -129,5 +129,5 @@ module _ (limit : ℕ) (pairs : List Clash) (rays : List (List ℕ)) (signs : Li
         (⊎_elim (λ less. ⊎_elim (λ before. inl before)
         (λ after. absurd (let e : u ≡ i = omega arith in none p.at_u (sym (ap (λ k. slice_index_or signs k Zero) e) ∙ p.positive))) (cases_lt u i))
         (λ same. absurd (let e = same.1 in omega arith)) taken) p;
-    apart = h.apart;
+    separate = h.separate;
   }

@@ -11,13 +11,13 @@ use Rattle.support_bits.specs.Columns.{support_of, IsInsideUnionOf, Meets}
 use Rattle.support_table.specs.Counts.{columns_in_either}
 use Rattle.support_table.specs.Joins.{AreClashingColumns}
 use Rattle.support_table.specs.Tables.{Table}
-use Rattle.support_table.specs.Residuals.{support_at, IsResidualInside, IsRival, IsMinimal, AreMinimalOf}
+use Rattle.support_table.specs.Residuals.{support_at, IsResidualInside, IsCandidate, IsMinimal, AreMinimalOf}
 use Rattle.support_table.proofs.CandidateLemmas.{inside_union, inside_residual}
 use Rattle.support_table.proofs.SizeLemmas.{size_within}
 use Rattle.ray_steps.specs.declared.signs.Sign.{Sign}
 use Rattle.ray_steps.specs.declared.signs.Sign.TheVariants.{Zero}
-use Rattle.ray_steps.specs.Negatives.{TellNegatives}
-use Rattle.ray_steps.specs.Rivals.{HasAllSupports}
+use Rattle.ray_steps.specs.Negatives.{AreNegativeFlags}
+use Rattle.ray_steps.specs.CompatibleLists.{HasAllSupports}
 use Rattle.ray_steps.specs.Unions.{HaveSmallUnions}
 use Rattle.ray_steps.specs.Signs.{IsNegative, IsAdjacentPair, IsSignedPair, ComesFromPlaces, IsMadeUpTo}
 use Rattle.ray_steps.proofs.CombinationLemmas.{made_next}
@@ -52,9 +52,9 @@ module _ (pairs : List Clash) (rays : List (List ℕ)) (i columns most : ℕ) (j
       (inside_union outer (support_at table.supports k) (support_at table.supports j) inside))))
 
   -- the union with a ray whose residual lies inside that of a candidate has at most `most` columns
-  third_near : (k j : ℕ) → IsRival table.supports outer joined i most j → IsResidualInside outer (support_at table.supports k) (support_at table.supports j) → columns_in_either outer (support_at table.supports k) ≤ most
-  third_near k j rival inside =
-      let near = rival.near in
+  third_near : (k j : ℕ) → IsCandidate table.supports outer joined i most j → IsResidualInside outer (support_at table.supports k) (support_at table.supports j) → columns_in_either outer (support_at table.supports k) ≤ most
+  third_near k j candidate inside =
+      let near = candidate.near in
       let within = size_within outer (support_at table.supports k) (support_at table.supports j) (inside_union outer (support_at table.supports k) (support_at table.supports j) inside) in
       omega (arith, near, within)
 
@@ -66,8 +66,8 @@ module _ (pairs : List Clash) (rays : List (List ℕ)) (i columns most : ℕ) (j
       | inr other ↦ inr (m.minimal k (record {
         in_range = omega (arith, as_many);
         other = other;
-        apart = subst (λ s. ¬ Meets s joined) (sym (support_is k)) (apart_inside pairs (ray_at rays k) (ray_at rays i) (ray_at rays j) joined joins admissible inside);
-        near = third_near k j m.rival (residual_from_inside k j inside);
+        separate = subst (λ s. ¬ Meets s joined) (sym (support_is k)) (apart_inside pairs (ray_at rays k) (ray_at rays i) (ray_at rays j) joined joins admissible inside);
+        near = third_near k j m.candidate (residual_from_inside k j inside);
       }) (residual_from_inside k j inside))
     ];
   }
@@ -75,31 +75,31 @@ module _ (pairs : List Clash) (rays : List (List ℕ)) (i columns most : ℕ) (j
   minimal_if_face : HaveSmallUnions columns most pairs rays → i < length rays → length (ray_at rays i) ≡ columns →
       (j : ℕ) → j < length rays → j ≢ i → IsAdjacentPair pairs rays i j → IsMinimal table.supports outer joined i most j
   minimal_if_face small i_in wide j within other face = record {
-    rival = record {
+    candidate = record {
       in_range = omega (arith, as_many);
       other = other;
-      apart = subst (λ s. ¬ Meets s joined) (sym (support_is j)) (λ meets. not_face_clash pairs rays i j joined joins meets face);
+      separate = subst (λ s. ¬ Meets s joined) (sym (support_is j)) (λ meets. not_face_clash pairs rays i j joined joins meets face);
       near = near_face columns most pairs rays i j outer (support_at table.supports j) small i_in within outer_is (support_is j) wide face;
     };
-    minimal = λ k rival inside. elim (face.no_third k (let l = rival.in_range in omega (arith, as_many)) (inside_from_residual k j inside)) [
-      | inl e ↦ absurd (rival.other e)
+    minimal = λ k candidate inside. elim (face.no_third k (let l = candidate.in_range in omega (arith, as_many)) (inside_from_residual k j inside)) [
+      | inl e ↦ absurd (candidate.other e)
       | inr e ↦ e
     ];
   }
 
-  pub found_in_range : (wanted : List Bool) (places : List ℕ) (k d : ℕ) → AreMinimalOf table.supports outer joined i most wanted places → k < length places → get_or places k d < length rays
-  found_in_range wanted places k d m within = let less = (m.each k d within).0.rival.in_range in omega (arith, as_many)
+  pub found_in_range : (selected : List Bool) (places : List ℕ) (k d : ℕ) → AreMinimalOf table.supports outer joined i most selected places → k < length places → get_or places k d < length rays
+  found_in_range selected places k d m within = let less = (m.each k d within).0.candidate.in_range in omega (arith, as_many)
 
-  pub found_face : (wanted : List Bool) (places : List ℕ) (k d : ℕ) → AreMinimalOf table.supports outer joined i most wanted places → k < length places →
+  pub found_face : (selected : List Bool) (places : List ℕ) (k d : ℕ) → AreMinimalOf table.supports outer joined i most selected places → k < length places →
       IsAdmissibleUnion pairs (ray_at rays i) (ray_at rays (get_or places k d)) → IsAdjacentPair pairs rays i (get_or places k d)
-  found_face wanted places k d m within = face_if_minimal (get_or places k d) (m.each k d within).0
+  found_face selected places k d m within = face_if_minimal (get_or places k d) (m.each k d within).0
 
-  pub pairs_found : HaveSmallUnions columns most pairs rays → i < length rays → length (ray_at rays i) ≡ columns → (signs : List Sign) (wanted : List Bool) → TellNegatives signs (length signs) wanted → (places : List ℕ) → AreMinimalOf table.supports outer joined i most wanted places →
+  pub pairs_found : HaveSmallUnions columns most pairs rays → i < length rays → length (ray_at rays i) ≡ columns → (signs : List Sign) (selected : List Bool) → AreNegativeFlags signs (length signs) selected → (places : List ℕ) → AreMinimalOf table.supports outer joined i most selected places →
       (w : ℕ) → IsSignedPair pairs rays signs i w → Contains places w
-  pairs_found small i_in wide signs wanted tell places m w p = m.complete w (minimal_if_face small i_in wide w p.w_in_range (places_apart pairs rays signs i w p) p.face)
+  pairs_found small i_in wide signs selected tell places m w p = m.complete w (minimal_if_face small i_in wide w p.w_in_range (places_apart pairs rays signs i w p) p.face)
       (elim (cases_lt w (length signs)) [
         | inl less ↦ (tell.each w less).0 (subst IsNegative (sym p.negative) tt)
-        | inr past ↦ absurd (subst IsNegative (sym p.negative ∙ get_or_past signs w Zero past) tt)
+        | inr exceeded ↦ absurd (subst IsNegative (sym p.negative ∙ get_or_past signs w Zero exceeded) tt)
       ])
 
 -- ---- the found indices, one after another
@@ -115,7 +115,7 @@ module _ (limit : ℕ) (pairs : List Clash) (rays : List (List ℕ)) (signs : Li
     gives = λ u w taken p. ⊎_elim (λ less. h.gives u w (inl less) p)
         (λ same. ⊎_elim (λ before. h.gives u w (inr (same.0, before)) p)
         (λ after. absurd (none w after same.1 (subst (λ v. IsSignedPair pairs rays signs v w) same.0 p))) (cases_lt w j)) taken;
-    apart = h.apart;
+    separate = h.separate;
   }
 
   same_at : (k d e : ℕ) → k < length places → get_or places k d ≡ get_or places k e

@@ -3,7 +3,7 @@ use Rattle.std.proofs.Common.{◌≡◌, ℕ, ◌/◌, List, length, subst₂, a
 use Rattle.cone_definitions.specs.Vectors.{multiple, ray_at}
 use Rattle.cone_definitions.specs.Surfaces.{Clash}
 use Rattle.cone_definitions.proofs.Entries.{length-multiple, length-sum_of}
-use Rattle.cone_arithmetic.specs.Combinations.{IsReducedBy, HasFirstPast}
+use Rattle.cone_arithmetic.specs.Combinations.{IsReducedBy, HasFirstExceeding}
 use Rattle.ray_steps.specs.declared.signs.Sign.{Sign}
 use Rattle.ray_steps.specs.declared.rays.StepFault.{StepFault}
 use Rattle.ray_steps.specs.declared.rays.StepFault.TheVariants.{Large, NoMemory}
@@ -23,7 +23,7 @@ first_large limit pairs rays signs i j made h p u w u_is w_is (Large (Pair x y))
   y_is = k.1 ∙ sym w_is;
   pair = p;
   column = k.2.0;
-  large = subst₂ (λ a b. HasFirstPast limit p.at_u p.at_w a b k.2.0) (sym u_is) (sym w_is) k.2.1;
+  large = subst₂ (λ a b. HasFirstExceeding limit p.at_u p.at_w a b k.2.0) (sym u_is) (sym w_is) k.2.1;
   earlier = λ a b taken q. let g = h.gives a b taken q in (g.pair, g.x, g.reduced);
 }
 first_large limit pairs rays signs i j made h p u w u_is w_is NoMemory k = k

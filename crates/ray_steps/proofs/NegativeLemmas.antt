@@ -8,7 +8,7 @@ use Rattle.std.proofs.lemmas.List.Quantifiers.{all_pairs_push}
 use Rattle.support_bits.specs.Words.{AreWordsOf}
 use Rattle.ray_steps.specs.declared.signs.Sign.{Sign}
 use Rattle.ray_steps.specs.declared.signs.Sign.TheVariants.{Zero}
-use Rattle.ray_steps.specs.Negatives.{TellNegatives}
+use Rattle.ray_steps.specs.Negatives.{AreNegativeFlags}
 use Rattle.ray_steps.specs.Signs.{IsNegative, AreNegativePlaces}
 
 pub negative_push : (signs : List Sign) (n : ℕ) (places : List ℕ) → AreNegativePlaces signs n places → AreNegativePlaces signs (n + 1) (places ++ n ∷ [])
@@ -31,15 +31,15 @@ negative_skip signs n places h none = record {
       (cases_lt place n);
 }
 
-pub tell_none : (signs : List Sign) → TellNegatives signs 0 []
+pub tell_none : (signs : List Sign) → AreNegativeFlags signs 0 []
 tell_none signs = record { count = refl; each = λ k less. absurd (omega arith) }
 
-pub tell_push : (signs : List Sign) (n : ℕ) (flags : List Bool) (flag : Bool) → TellNegatives signs n flags → IsNegative (slice_index_or signs n Zero) ↔ (flag ≡ true) → TellNegatives signs (n + 1) (flags ++ flag ∷ [])
+pub tell_push : (signs : List Sign) (n : ℕ) (flags : List Bool) (flag : Bool) → AreNegativeFlags signs n flags → IsNegative (slice_index_or signs n Zero) ↔ (flag ≡ true) → AreNegativeFlags signs (n + 1) (flags ++ flag ∷ [])
 tell_push signs n flags flag h is = record {
   count = length-append flags (flag ∷ []) ∙ ap (λ k. k + 1) h.count;
   each = λ k less. elim (cases_lt k n) [
     | inl old ↦ let same = get_or_append_left flags (flag ∷ []) false k (let c = h.count in omega arith) in subst (λ b. IsNegative (slice_index_or signs k Zero) ↔ (b ≡ true)) (sym same) (h.each k old)
-    | inr past ↦ let e : n ≡ k = omega arith in subst (λ k. IsNegative (slice_index_or signs k Zero) ↔ (slice_index_or (flags ++ flag ∷ []) k false ≡ true)) e
+    | inr exceeded ↦ let e : n ≡ k = omega arith in subst (λ k. IsNegative (slice_index_or signs k Zero) ↔ (slice_index_or (flags ++ flag ∷ []) k false ≡ true)) e
         (subst (λ b. IsNegative (slice_index_or signs n Zero) ↔ (b ≡ true)) (sym (ap (λ m. slice_index_or (flags ++ flag ∷ []) m false) (sym h.count) ∙ get_or-append_seam flags flag [] false)) is)
   ];
 }

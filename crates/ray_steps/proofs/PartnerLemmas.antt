@@ -13,7 +13,7 @@ use Rattle.ray_steps.specs.Partners.{IsInserted, IsClashSetOf, AreClashSets, IsJ
 no_column : (n column : ℕ) → ¬ HasColumn (replicate n false) column
 no_column n column h = ⊎_elim
     (λ less. false≢true (sym (get_or-replicate n column false false less) ∙ h))
-    (λ past. false≢true (sym (get_or_past (replicate n false) column false (omega (arith, length-replicate n false))) ∙ h))
+    (λ exceeded. false≢true (sym (get_or_past (replicate n false) column false (omega (arith, length-replicate n false))) ∙ h))
     (cases_lt column n)
 
 -- without pairs a column clashes with none
@@ -69,7 +69,7 @@ joined_all columns pairs partners support joined p wide h = record {
 }
   where
     within : (column : ℕ) → HasColumn support column → column < length support
-    within column has = ⊎_elim (λ less. less) (λ past. absurd (false≢true (sym (get_or_past support column false past) ∙ has))) (cases_lt column (length support))
+    within column has = ⊎_elim (λ less. less) (λ exceeded. absurd (false≢true (sym (get_or_past support column false exceeded) ∙ has))) (cases_lt column (length support))
 
 -- ---- insertion into the sets of clashing columns
 

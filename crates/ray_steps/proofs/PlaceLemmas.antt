@@ -47,7 +47,7 @@ module _ (limit : ℕ) (pairs : List Clash) (rays : List (List ℕ)) (signs : Li
     gives = λ u w taken p. ⊎_elim (λ less. h.gives u w (inl less) p)
         (λ same. ⊎_elim (λ before. h.gives u w (inr (same.0, before)) p)
         (λ after. absurd (none w after same.1 (subst IsNegative (sym p.negative) tt))) (cases_lt w j)) taken;
-    apart = h.apart;
+    separate = h.separate;
   }
 
   -- all pairs up to the next negative ray are done
@@ -64,7 +64,7 @@ module _ (limit : ℕ) (pairs : List Clash) (rays : List (List ℕ)) (signs : Li
   -- all pairs after the last negative ray are done
   pub made_end : (i m up_to : ℕ) (places : List ℕ) (made : List (List ℕ)) → AreNegativePlaces signs (length signs) places → length places ≤ m → AreReached places m up_to →
       IsMadeUpTo limit pairs rays signs i up_to made → IsMadeUpTo limit pairs rays signs i (up_to + length signs) made
-  made_end i m up_to places made h past r taken =
+  made_end i m up_to places made h exceeded r taken =
       made_skip_to i up_to (up_to + length signs) made (omega arith)
       (λ w low below. ⊎_elim
       (λ within. none_between signs (length signs) places m up_to w h r low within (λ q d more l. absurd (omega arith)))

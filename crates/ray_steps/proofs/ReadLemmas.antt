@@ -7,7 +7,7 @@ use Rattle.ray_steps.specs.declared.signs.Sign.{Sign}
 use Rattle.ray_steps.specs.declared.signs.Sign.TheVariants.{Zero}
 use Rattle.ray_steps.specs.Rays.{AreOfWidth}
 use Rattle.ray_steps.specs.Signs.{AreNegativePlaces, IsBoundedSign}
-use Rattle.ray_steps.specs.Rivals.{HasSupportsOf}
+use Rattle.ray_steps.specs.CompatibleLists.{HasSupportsOf}
 use Rattle.ray_steps.proofs.RivalLemmas.{count_of_rivals}
 
 -- an index from the list of the negative rays is in range

@@ -12,9 +12,9 @@ use Rattle.support_table.specs.Tables.{Table}
 use Rattle.support_table.specs.Joins.{AreClashingColumns}
 use Rattle.ray_steps.specs.declared.rays.RayWithSupport.{RayWithSupport}
 use Rattle.ray_steps.specs.Signs.{IsAdjacentPair}
-use Rattle.ray_steps.specs.declared.rivals.CompatibleRays.{CompatibleRays}
+use Rattle.ray_steps.specs.declared.compatible_list.CompatibleRays.{CompatibleRays}
 use Rattle.ray_steps.specs.Rays.{rays_of}
-use Rattle.ray_steps.specs.Rivals.{IsCompatible, AreCompatible, HasSupportsOf, HaveCompatible, AreCompatibleWith, IsThirdInside}
+use Rattle.ray_steps.specs.CompatibleLists.{IsCompatible, AreCompatible, HasSupportsOf, HaveCompatible, AreCompatibleWith, IsThirdInside}
 use Rattle.ray_steps.proofs.SupportLemmas.{inside_iff, clash_free_iff}
 use Rattle.ray_steps.specs.Clashes.{IsClashFree}
 use Rattle.support_table.proofs.JoinLemmas.{nonzero_from_column}
@@ -42,8 +42,8 @@ meets_from_test v x columns test x_is answers is = subst (λ s. Meets s columns)
 pub apart_push : (rays : List (List ℕ)) (columns : List Bool) (n : ℕ) (places : List ℕ) → AreCompatible rays columns n places → AreCompatible rays columns (n + 1) (places ++ n ∷ [])
 apart_push rays columns n places h = record {
   in_range = All-push (λ k. k < n + 1) places n (λ k d within. let less = h.in_range k d within in omega arith) (omega arith);
-  complete = λ k less apart. ⊎_elim
-      (λ old. Contains-append_left places (n ∷ []) k (h.complete k old apart))
+  complete = λ k less separate. ⊎_elim
+      (λ old. Contains-append_left places (n ∷ []) k (h.complete k old separate))
       (λ last. let e : n ≡ k = omega arith in subst (Contains (places ++ n ∷ [])) e (Contains-push places n))
       (cases_lt k n);
 }
@@ -51,9 +51,9 @@ apart_push rays columns n places h = record {
 pub apart_skip : (rays : List (List ℕ)) (columns : List Bool) (n : ℕ) (places : List ℕ) → AreCompatible rays columns n places → ¬ IsCompatible rays columns n → AreCompatible rays columns (n + 1) places
 apart_skip rays columns n places h none = record {
   in_range = λ k d within. let less = h.in_range k d within in omega arith;
-  complete = λ k less apart. ⊎_elim
-      (λ old. h.complete k old apart)
-      (λ last. let e : k ≡ n = omega arith in absurd (none (subst (IsCompatible rays columns) e apart)))
+  complete = λ k less separate. ⊎_elim
+      (λ old. h.complete k old separate)
+      (λ last. let e : k ≡ n = omega arith in absurd (none (subst (IsCompatible rays columns) e separate)))
       (cases_lt k n);
 }
 
@@ -103,35 +103,35 @@ inside_rival rays i j columns m places table a b h within a_is b_is =
     rw (support_of_rival rays columns places table m h within, a_is, b_is) (inside_iff (ray_at rays (get_or places m 0)) (ray_at rays i) (ray_at rays j))
 
 -- two rays with a third ray inside their union are not adjacent
-pub not_face_third : (pairs : List Clash) (rays : List (List ℕ)) (i j columns m : ℕ) (rivals : CompatibleRays) (a b : List Bool) → AreCompatibleWith pairs rays i columns rivals → a ≡ support_of (ray_at rays i) → b ≡ support_of (ray_at rays j) →
-    m < length rivals.places.items → IsThirdInside rivals.places.items rivals.table.supports i j a b m → ¬ IsAdjacentPair pairs rays i j
-not_face_third pairs rays i j columns m rivals a b h a_is b_is within third face =
-    let k = get_or rivals.places.items m 0 in
+pub not_face_third : (pairs : List Clash) (rays : List (List ℕ)) (i j columns m : ℕ) (compatible_list : CompatibleRays) (a b : List Bool) → AreCompatibleWith pairs rays i columns compatible_list → a ≡ support_of (ray_at rays i) → b ≡ support_of (ray_at rays j) →
+    m < length compatible_list.places.items → IsThirdInside compatible_list.places.items compatible_list.table.supports i j a b m → ¬ IsAdjacentPair pairs rays i j
+not_face_third pairs rays i j columns m compatible_list a b h a_is b_is within third face =
+    let k = get_or compatible_list.places.items m 0 in
     ⊎_elim third.0 third.1
-    (face.no_third k (h.listed.places.in_range m 0 within) ((inside_rival rays i j columns m rivals.places.items rivals.table a b h.listed.table within a_is b_is).0 third.2))
+    (face.no_third k (h.listed.places.in_range m 0 within) ((inside_rival rays i j columns m compatible_list.places.items compatible_list.table a b h.listed.table within a_is b_is).0 third.2))
 
 -- if no third compatible ray lies inside, two rays with an admissible union are adjacent
-pub face_from_rivals : (pairs : List Clash) (rays : List (List ℕ)) (i j columns : ℕ) (rivals : CompatibleRays) (a b : List Bool) → AreCompatibleWith pairs rays i columns rivals → a ≡ support_of (ray_at rays i) → b ≡ support_of (ray_at rays j) →
-    ((m : ℕ) → m < length rivals.places.items → ¬ IsThirdInside rivals.places.items rivals.table.supports i j a b m) →
+pub face_from_rivals : (pairs : List Clash) (rays : List (List ℕ)) (i j columns : ℕ) (compatible_list : CompatibleRays) (a b : List Bool) → AreCompatibleWith pairs rays i columns compatible_list → a ≡ support_of (ray_at rays i) → b ≡ support_of (ray_at rays j) →
+    ((m : ℕ) → m < length compatible_list.places.items → ¬ IsThirdInside compatible_list.places.items compatible_list.table.supports i j a b m) →
     IsAdmissibleUnion pairs (ray_at rays i) (ray_at rays j) → IsAdjacentPair pairs rays i j
-face_from_rivals pairs rays i j columns rivals a b h a_is b_is none admissible = record {
+face_from_rivals pairs rays i j columns compatible_list a b h a_is b_is none admissible = record {
   no_clash = admissible;
   no_third = λ k within inside. ⊎_elim
       (λ first. inl first)
-      (λ other. ⊎_elim (λ second. inr second) (λ third. absurd (not_listed k (h.listed.places.complete k within (apart k inside)) inside other third)) (cases_eq k j))
+      (λ other. ⊎_elim (λ second. inr second) (λ third. absurd (not_listed k (h.listed.places.complete k within (separate k inside)) inside other third)) (cases_eq k j))
       (cases_eq k i);
 }
   where
-    apart : (k : ℕ) → IsInsideUnion (ray_at rays k) (ray_at rays i) (ray_at rays j) → ¬ Meets (support_of (ray_at rays k)) rivals.joined
-    apart k inside = apart_inside pairs (ray_at rays k) (ray_at rays i) (ray_at rays j) rivals.joined h.joined admissible inside
+    separate : (k : ℕ) → IsInsideUnion (ray_at rays k) (ray_at rays i) (ray_at rays j) → ¬ Meets (support_of (ray_at rays k)) compatible_list.joined
+    separate k inside = apart_inside pairs (ray_at rays k) (ray_at rays i) (ray_at rays j) compatible_list.joined h.joined admissible inside
 
-    not_listed : (k : ℕ) → Contains rivals.places.items k → IsInsideUnion (ray_at rays k) (ray_at rays i) (ray_at rays j) → k ≢ i → k ≢ j → ⊥
-    not_listed k stands inside other third =
-        let at : get_or rivals.places.items stands.0 0 ≡ k = get_or_default rivals.places.items stands.0 0 k stands.1 ∙ stands.2 in
-        none stands.0 stands.1 (
+    not_listed : (k : ℕ) → Contains compatible_list.places.items k → IsInsideUnion (ray_at rays k) (ray_at rays i) (ray_at rays j) → k ≢ i → k ≢ j → ⊥
+    not_listed k occurs inside other third =
+        let at : get_or compatible_list.places.items occurs.0 0 ≡ k = get_or_default compatible_list.places.items occurs.0 0 k occurs.1 ∙ occurs.2 in
+        none occurs.0 occurs.1 (
           (λ e. other (sym at ∙ e)),
           (λ e. third (sym at ∙ e)),
-          (inside_rival rays i j columns stands.0 rivals.places.items rivals.table a b h.listed.table stands.1 a_is b_is).1
+          (inside_rival rays i j columns occurs.0 compatible_list.places.items compatible_list.table a b h.listed.table occurs.1 a_is b_is).1
               (subst (λ n. IsInsideUnion (ray_at rays n) (ray_at rays i) (ray_at rays j)) (sym at) inside),
         )
 
@@ -144,6 +144,6 @@ rivals_kept pairs ray_list i columns before v joined read joins same listed = re
 }
 
 pub rivals_made : {E : Type 0} (pairs : List Clash) (ray_list : List RayWithSupport) (i columns : ℕ) (v : RayWithSupport) (joined : List Bool) (made : Result CompatibleRays E) → ray_at (rays_of ray_list) i ≡ v.ray → AreClashingColumns pairs v.support joined →
-    IfOk made (λ rivals. rivals.joined ≡ joined) → IfOk made (HaveCompatible (rays_of ray_list) columns) → IfOk made (AreCompatibleWith pairs (rays_of ray_list) i columns)
-rivals_made pairs ray_list i columns v joined (Ok rivals) read joins same listed = rivals_kept pairs ray_list i columns rivals v joined read joins (sym same) listed
+    IfOk made (λ compatible_list. compatible_list.joined ≡ joined) → IfOk made (HaveCompatible (rays_of ray_list) columns) → IfOk made (AreCompatibleWith pairs (rays_of ray_list) i columns)
+rivals_made pairs ray_list i columns v joined (Ok compatible_list) read joins same listed = rivals_kept pairs ray_list i columns compatible_list v joined read joins (sym same) listed
 rivals_made pairs ray_list i columns v joined (Err fault) read joins same listed = tt

@@ -46,9 +46,9 @@ module _ (columns : ℕ) (rows : List Row) (pairs : List Clash) (rays : List (Li
 
   third_of_two : (i j k : ℕ) → i < length rays → j < length rays → k < length rays → IsSingle (ray_at rays i) ⊎ IsSingle (ray_at rays j) →
       IsInsideUnion (ray_at rays k) (ray_at rays i) (ray_at rays j) → (k ≡ i) ⊎ (k ≡ j)
-  third_of_two i j k i_in j_in k_in (inl single) inside = ⊎_elim (λ e. inl (one_place rays h.apart k i [] k_in i_in e)) (λ e. inr (one_place rays h.apart k j [] k_in j_in e))
+  third_of_two i j k i_in j_in k_in (inl single) inside = ⊎_elim (λ e. inl (one_place rays h.separate k i [] k_in i_in e)) (λ e. inr (one_place rays h.separate k j [] k_in j_in e))
       (no_third_beside_single columns rows (ray_at rays i) (ray_at rays j) (ray_at rays k) (primitive_at i i_in) (primitive_at j j_in) (primitive_at k k_in) single inside)
-  third_of_two i j k i_in j_in k_in (inr single) inside = ⊎_elim (λ e. inr (one_place rays h.apart k j [] k_in j_in e)) (λ e. inl (one_place rays h.apart k i [] k_in i_in e))
+  third_of_two i j k i_in j_in k_in (inr single) inside = ⊎_elim (λ e. inr (one_place rays h.separate k j [] k_in j_in e)) (λ e. inl (one_place rays h.separate k i [] k_in i_in e))
       (no_third_beside_single columns rows (ray_at rays j) (ray_at rays i) (ray_at rays k) (primitive_at j j_in) (primitive_at i i_in) (primitive_at k k_in) single (λ c at_w at_u. inside c at_u at_w))
 
   pub single_pairs : MakeSinglesPairs pairs rays
@@ -75,13 +75,13 @@ nonzero_is_in x j some = rw (lt-ltb 0 (slice_index x j) (omega (arith, some))) r
 
 -- a vector with at most one column in its support
 pub single_from_count : (x : List ℕ) (a : List Bool) → a ≡ support_of x → columns_in_either a a ≤ 1 → IsSingle x
-single_from_count x a is few = ⊎_elim
+single_from_count x a is limited = ⊎_elim
     (λ none. (0, λ other _. none other))
     (λ some. (some.0, λ other differs. ⊎_elim (λ e. e) (λ again. absurd (two some.0 other differs some.1 again)) (cases_eq (slice_index x other) 0)))
     (zero_or_nonzero x)
   where
     count : union_size (length x) x x ≤ 1
-    count = omega (arith, columns_of_vectors a a x x is is, few)
+    count = omega (arith, columns_of_vectors a a x x is is, limited)
 
     two : (j k : ℕ) → k ≢ j → slice_index x j ≢ 0 → slice_index x k ≢ 0 → ⊥
     two j k differs first second =
@@ -92,5 +92,5 @@ single_from_count x a is few = ⊎_elim
         (cases_lt j k)
 
 pub single_of_two : (u w : List ℕ) (a b : List Bool) → a ≡ support_of u → b ≡ support_of w → HasSingle a b → IsSingle u ⊎ IsSingle w
-single_of_two u w a b a_is b_is (inl few) = inl (single_from_count u a a_is few)
-single_of_two u w a b a_is b_is (inr few) = inr (single_from_count w b b_is few)
+single_of_two u w a b a_is b_is (inl limited) = inl (single_from_count u a a_is limited)
+single_of_two u w a b a_is b_is (inr limited) = inr (single_from_count w b b_is limited)

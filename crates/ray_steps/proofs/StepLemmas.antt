@@ -36,22 +36,22 @@ module _ (limit columns : ℕ) (pairs : List Clash) (before : List Row) (row : R
   pub next_list : (next sorted : List (List ℕ)) → IsNextFrom limit pairs rays signs 0 next → IsPermutation next sorted → IsSorted (slice_cmp nat_cmp) sorted →
       All (λ x. length x ≡ columns) sorted → IsNextList (step_of pairs columns before row) rays sorted
   next_list next sorted h permutation up widths = record {
-    ascending = ascending_from_sorted columns sorted widths up (apart_permutation next sorted permutation (h.apart (the_step limit columns pairs before row rays signs unordered signed)));
+    ascending = ascending_from_sorted columns sorted widths up (apart_permutation next sorted permutation (h.separate (the_step limit columns pairs before row rays signs unordered signed)));
     kept_or_made = All-permutation (λ x. (Contains rays x × IsZeroAt row x) ⊎ ComesFromPair (step_of pairs columns before row) x) next sorted permutation
         (All-weaker (λ x. ComesFromZero rays signs 0 x ⊎ ComesFromPlaces limit pairs rays signs (length rays) 0 x)
         (λ x. (Contains rays x × IsZeroAt row x) ⊎ ComesFromPair (step_of pairs columns before row) x) (kept_or_made_read limit columns pairs before row rays signs unordered signed) next h.comes);
-    keeps = λ x stands zero_at.
-        let is = get_or_default rays stands.0 [] x stands.1 ∙ stands.2 in
+    keeps = λ x occurs zero_at.
+        let is = get_or_default rays occurs.0 [] x occurs.1 ∙ occurs.2 in
         Contains-permutation next sorted x permutation (subst (Contains next) is
-        (h.keeps stands.0 (omega arith) stands.1
-        (zero_sign row (ray_at rays stands.0) (slice_index_or signs stands.0 Zero) (sign_at_place limit columns pairs before row rays signs unordered signed stands.0 stands.1) (subst (IsZeroAt row) (sym is) zero_at))));
+        (h.keeps occurs.0 (omega arith) occurs.1
+        (zero_sign row (ray_at rays occurs.0) (slice_index_or signs occurs.0 Zero) (sign_at_place limit columns pairs before row rays signs unordered signed occurs.0 occurs.1) (subst (IsZeroAt row) (sym is) zero_at))));
     makes = λ u w p.
         let i = place_of (step_of pairs columns before row) rays unordered u p.u_ray in
         let j = place_of (step_of pairs columns before row) rays unordered w p.w_ray in
         let q = signed_pair limit columns pairs before row rays signs unordered signed i.0 j.0 i.1 j.1 (subst₂ (IsPair (step_of pairs columns before row)) (sym i.2) (sym j.2) p) in
         let g = h.gives i.0 j.0 q in (
           g.x,
-          Contains-permutation next sorted g.x permutation g.stands,
+          Contains-permutation next sorted g.x permutation g.occurs,
           subst₂ (λ a b. IsReducedCombination row a b g.x) i.2 j.2 (reduced_read limit pairs rays signs (the_step limit columns pairs before row rays signs unordered signed) i.0 j.0 g.x g.pair g.reduced),
         );
   }
@@ -81,7 +81,7 @@ module _ (limit columns : ℕ) (pairs : List Clash) (before : List Row) (row : R
         combines = combination_by_row row h.pair.at_u h.pair.at_w (ray_at rays h.u) (ray_at rays h.w) h.large.combination
             (positive_read limit pairs rays signs row signed h.u h.w h.pair).1 (negative_read limit pairs rays signs row signed h.u h.w h.pair).1 h.large.combines;
         column = h.column;
-        large = h.large.first.past;
+        large = h.large.first.exceeded;
       })
       (λ k l k_in l_in taken p z combines column.
       let e = h.earlier k l taken (signed_pair limit columns pairs before row rays signs unordered signed k l k_in l_in p) in

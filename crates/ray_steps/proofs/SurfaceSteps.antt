@@ -75,7 +75,7 @@ module _ (limit columns : ℕ) (pairs : List Clash) (before : List Row) (row : R
       let union = pair_union (step_of pairs columns before row) c.u c.w c.reduced.combination c.pair c.reduced.combines in
       subst (Contains next) (sym (same_reduced columns row c.u c.w x g.x c.reduced
       (subst₂ (λ a b. IsReducedCombination row a b g.x) i.2 j.2 (reduced_read limit pairs rays signs the_step i.0 j.0 g.x g.pair g.reduced))
-      union.solution.width union.nonzero)) g.stands
+      union.solution.width union.nonzero)) g.occurs
 
   -- a ray at which the row is 0 is in a list that retains all of these
   pub zero_stands : (next : List (List ℕ)) → ((k : ℕ) → 0 ≤ k → k < length rays → slice_index_or signs k Zero ≡ Zero → Contains next (ray_at rays k)) →
@@ -85,10 +85,10 @@ module _ (limit columns : ℕ) (pairs : List Clash) (before : List Row) (row : R
       subst (Contains next) k.2 (keeps k.0 (omega arith) k.1
       (zero_sign row (ray_at rays k.0) (slice_index_or signs k.0 Zero) (sign_at_place k.0 k.1) (subst (IsZeroAt row) (sym k.2) zero_at)))
 
-  stands : (next : List (List ℕ)) → IsNextFrom limit pairs rays signs 0 next → (x : List ℕ) →
+  occurs : (next : List (List ℕ)) → IsNextFrom limit pairs rays signs 0 next → (x : List ℕ) →
       (IsRay (step_of pairs columns before row) x × IsZeroAt row x) ⊎ ComesFromPair (step_of pairs columns before row) x → Contains next x
-  stands next h x (inl kept) = zero_stands next h.keeps x kept.0 kept.1
-  stands next h x (inr made) = pair_stands next h.gives x made
+  occurs next h x (inl kept) = zero_stands next h.keeps x kept.0 kept.1
+  occurs next h x (inr made) = pair_stands next h.gives x made
 
   next_surface : (x : List ℕ) → (Contains rays x × IsZeroAt row x) ⊎ ComesFromPair (step_of pairs columns before row) x → IsVertexSurface columns (before ++ row ∷ []) pairs x
   next_surface x (inl kept) = (step_gives_next_lem (step_of pairs columns before row) x).1 (inl (All-contains (IsVertexSurface columns before pairs) rays x surfaces.vertex_surfaces kept.0, kept.1))
@@ -97,7 +97,7 @@ module _ (limit columns : ℕ) (pairs : List Clash) (before : List Row) (row : R
   -- the rays retained and the combinations are the vertex surfaces of one more row
   pub next_surfaces : (next : List (List ℕ)) → IsNextFrom limit pairs rays signs 0 next → HasSurfaces columns (before ++ row ∷ []) pairs next
   next_surfaces next h = record {
-    apart = h.apart the_step;
+    separate = h.separate the_step;
     vertex_surfaces = λ k d within. next_surface (slice_index_or next k d) (kept_or_made_read (slice_index_or next k d) (h.comes k d within));
-    complete = λ x s. stands next h x ((step_gives_next_lem (step_of pairs columns before row) x).0 s);
+    complete = λ x s. occurs next h x ((step_gives_next_lem (step_of pairs columns before row) x).0 s);
   }

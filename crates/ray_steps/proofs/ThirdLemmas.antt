@@ -1,7 +1,7 @@
 -- The compatible rays, one after another, for plain values.
 use Rattle.std.proofs.Common.{◌≡◌, ◌≢◌, ℕ, ◌+◌, ◌<◌, ◌≤◌, List, [], Bool, length, get_or, slice_index_or, subst, ◌∙◌, ap, arith}
 use Rattle.support_bits.specs.Columns.{IsInsideUnionOf}
-use Rattle.ray_steps.specs.Rivals.{IsThirdInside}
+use Rattle.ray_steps.specs.CompatibleLists.{IsThirdInside}
 
 pub from_zero : (k : ℕ) → 0 ≤ k
 from_zero k = omega arith
@@ -18,7 +18,7 @@ pub next_start : (places read : List ℕ) (m n : ℕ) → read ≡ places → n 
 next_start places read m n same count within = let k = ap length same in omega arith
 
 pub before_end : (places read : List ℕ) (k m : ℕ) → read ≡ places → length read ≤ m → k < length places → k < m
-before_end places read k m same past within = let n = ap length same in omega arith
+before_end places read k m same exceeded within = let n = ap length same in omega arith
 
 pub within_supports : (places read : List ℕ) (m n : ℕ) → read ≡ places → n ≡ length places → m < length read → m < n
 within_supports places read m n same count within = let k = ap length same in omega arith

@@ -27,7 +27,7 @@ module _ (limit : ℕ) (pairs : List Clash) (rays : List (List ℕ)) (signs : Li
         (λ x c. inr c) made h.comes;
     keeps = λ k from less at_zero. absurd (omega arith);
     gives = λ u w p. h.gives u w (inl p.u_in_range) p;
-    apart = h.apart;
+    separate = h.separate;
   }
 
   zero_weaker : (m : ℕ) (x : List ℕ) → ComesFromZero rays signs (m + 1) x ⊎ ComesFromPlaces limit pairs rays signs (length rays) 0 x →
@@ -42,7 +42,7 @@ module _ (limit : ℕ) (pairs : List Clash) (rays : List (List ℕ)) (signs : Li
         (λ x. ComesFromZero rays signs m x ⊎ ComesFromPlaces limit pairs rays signs (length rays) 0 x) (zero_weaker m) next h.comes;
     keeps = λ k from less at_zero. ⊎_elim (λ same. absurd (other (ap (λ i. slice_index_or signs i Zero) (sym same) ∙ at_zero))) (λ differs. h.keeps k (omega (arith, differs)) less at_zero) (cases_eq k m);
     gives = h.gives;
-    apart = h.apart;
+    separate = h.separate;
   }
 
   -- a ray of sign zero is retained
@@ -57,8 +57,8 @@ module _ (limit : ℕ) (pairs : List Clash) (rays : List (List ℕ)) (signs : Li
         (λ same. subst (Contains (next ++ x ∷ [])) (is ∙ ap (ray_at rays) (sym same)) (Contains-push next x))
         (λ differs. Contains-append_left next (x ∷ []) (ray_at rays k) (h.keeps k (omega (arith, differs)) less zero_at))
         (cases_eq k m);
-    gives = λ u w p. let g = h.gives u w p in record { pair = g.pair; x = g.x; stands = Contains-append_left next (x ∷ []) g.x g.stands; reduced = g.reduced };
-    apart = λ step. all_pairs_push (λ y z. y ≢ z) next x (h.apart step) (λ k d less same. not_again step (h.comes k d less) same);
+    gives = λ u w p. let g = h.gives u w p in record { pair = g.pair; x = g.x; occurs = Contains-append_left next (x ∷ []) g.x g.occurs; reduced = g.reduced };
+    separate = λ step. all_pairs_push (λ y z. y ≢ z) next x (h.separate step) (λ k d less same. not_again step (h.comes k d less) same);
   }
     where
       not_again : IsStepAt limit pairs rays signs → {y : List ℕ} → ComesFromZero rays signs (m + 1) y ⊎ ComesFromPlaces limit pairs rays signs (length rays) 0 y → y ≡ x → ⊥
@@ -103,14 +103,14 @@ take_take (suc m) (suc n) (x ∷ xs) h = ap (λ ys. x ∷ ys) (take_take m n xs 
 -- the list without its last element
 pub record Popped {X : Type 0} (xs items new : List X) (x : X) : Type 0 where
   pub left : new ≡ take (length new) xs
-  pub few : length new < length xs
+  pub limited : length new < length xs
   pub at : get_or xs (length new) x ≡ x
   pub count : length items ≡ length new + 1
 
 pub popped : {X : Type 0} (xs items new : List X) (x : X) → items ≡ take (length items) xs → length items ≤ length xs → items ≡ new ++ x ∷ [] → Popped xs items new x
-popped xs items new x front few is = record {
+popped xs items new x front limited is = record {
   left = sym (take-append-le (length new) new (x ∷ []) (omega arith) ∙ take_all (length new) new (omega arith)) ∙ ap (take (length new)) (sym is ∙ front) ∙ shorter;
-  few = omega (arith, count);
+  limited = omega (arith, count);
   at = sym (get_or-take (length items) xs (length new) x (omega (arith, count))) ∙ sym (ap (λ ys. get_or ys (length new) x) front) ∙ ap (λ ys. get_or ys (length new) x) is ∙ get_or_push new x x (length new) refl;
   count = count;
 }

@@ -6,7 +6,7 @@ use Rattle.cone_definitions.specs.Elimination.{Named}
 use Rattle.cone_definitions.specs.declared.LargeKind.TheVariants.{Value, Pair}
 use Rattle.ray_steps.specs.declared.rays.StepFault.{StepFault}
 use Rattle.ray_steps.specs.declared.rays.StepFault.TheVariants.{Large, NoMemory}
-use Rattle.cone_arithmetic.specs.Combinations.{HasFirstPast}
+use Rattle.cone_arithmetic.specs.Combinations.{HasFirstExceeding}
 use Rattle.ray_steps.specs.declared.signs.Sign.{Sign}
 use Rattle.ray_steps.specs.Signs.{IsFirstLargeRay, IsFirstLargePair}
 
@@ -23,7 +23,7 @@ IsFirstLargeValue limit row rays (Pair u w) = ⊥
 -- the error names the pair u, w, and an entry of its combination exceeds the limit
 abbrev pub IsLargeSumOf : ℕ → ℕ → ℕ → List ℕ → List ℕ → Named → Type 0
 IsLargeSumOf limit at_u at_w u w (Value x) = ⊥
-IsLargeSumOf limit at_u at_w u w (Pair x y) = (x ≡ u) × (y ≡ w) × ((column : ℕ) × HasFirstPast limit at_u at_w u w column)
+IsLargeSumOf limit at_u at_w u w (Pair x y) = (x ≡ u) × (y ≡ w) × ((column : ℕ) × HasFirstExceeding limit at_u at_w u w column)
 
 -- the error names the first pair of which an entry exceeds the limit
 abbrev pub IsFirstLargeSum : ℕ → List Clash → List (List ℕ) → List Sign → Named → Type 0

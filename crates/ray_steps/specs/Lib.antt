@@ -1,9 +1,9 @@
 pub mod Clashes
 pub mod Rays
 pub mod Signs
-pub mod Turned
+pub mod Negated
 pub mod Faults
-pub mod Rivals
+pub mod CompatibleLists
 pub mod Negatives
 pub mod Unions
 pub mod Next

@@ -6,7 +6,7 @@ use Rattle.ray_steps.specs.declared.negatives.Negatives.{Negatives}
 use Rattle.ray_steps.specs.declared.signs.Sign.{Sign}
 use Rattle.ray_steps.specs.declared.signs.Sign.TheVariants.{Zero}
 use Rattle.ray_steps.specs.Signs.{AreNegativePlaces, IsNegative}
-use Rattle.ray_steps.specs.Rivals.{HasSupportsOf}
+use Rattle.ray_steps.specs.CompatibleLists.{HasSupportsOf}
 
 -- the indices of all negative rays, ascending, with their supports
 pub record AreNegatives (rays : List (List ℕ)) (signs : List Sign) (columns : ℕ) (negatives : Negatives) : Type 0 where
@@ -14,7 +14,7 @@ pub record AreNegatives (rays : List (List ℕ)) (signs : List Sign) (columns : 
   pub table : HasSupportsOf rays columns negatives.places.items negatives.table
 
 -- which of the first n signs are negative
-pub record TellNegatives (signs : List Sign) (n : ℕ) (flags : List Bool) : Type 0 where
+pub record AreNegativeFlags (signs : List Sign) (n : ℕ) (flags : List Bool) : Type 0 where
   pub count : length flags ≡ n
   pub each : (k : ℕ) → k < n → IsNegative (slice_index_or signs k Zero) ↔ (slice_index_or flags k false ≡ true)
 

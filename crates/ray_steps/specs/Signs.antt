@@ -5,7 +5,7 @@ use Rattle.cone_definitions.specs.Vectors.{IsInsideUnion, ray_at}
 use Rattle.cone_definitions.specs.Rows.{Row, IsZeroAt, IsPositiveAt, IsNegativeAt, value_at, magnitude_at}
 use Rattle.cone_definitions.specs.Surfaces.{Clash, IsAdmissibleUnion}
 use Rattle.cone_definitions.specs.Elimination.{HasPartsWithin, HasLargePart}
-use Rattle.cone_arithmetic.specs.Combinations.{IsReducedBy, HasFirstPast}
+use Rattle.cone_arithmetic.specs.Combinations.{IsReducedBy, HasFirstExceeding}
 use Rattle.cone_definitions.specs.Unordered.{HasSurfaces}
 use Rattle.ray_steps.specs.declared.signs.Sign.{Sign}
 use Rattle.ray_steps.specs.declared.signs.Sign.TheVariants.{Zero, Positive, Negative}
@@ -79,7 +79,7 @@ pub record ComesFromPlaces (limit : ℕ) (pairs : List Clash) (rays : List (List
 pub record GivesFrom (limit : ℕ) (pairs : List Clash) (rays : List (List ℕ)) (signs : List Sign) (made : List (List ℕ)) (u w : ℕ) : Type 0 where
   pub pair : IsSignedPair pairs rays signs u w
   pub x : List ℕ
-  pub stands : Contains made x
+  pub occurs : Contains made x
   pub reduced : IsReducedBy limit pair.at_u pair.at_w (ray_at rays u) (ray_at rays w) x
 
 -- the rays are the vertex surfaces of some rows, in any order, and the signs are those of a further row
@@ -94,7 +94,7 @@ pub record IsStepAt (limit : ℕ) (pairs : List Clash) (rays : List (List ℕ)) 
 pub record IsMadeUpTo (limit : ℕ) (pairs : List Clash) (rays : List (List ℕ)) (signs : List Sign) (i j : ℕ) (made : List (List ℕ)) : Type 0 where
   pub comes : All (ComesFromPlaces limit pairs rays signs i j) made
   pub gives : (u w : ℕ) → IsDoneBefore u w i j → IsSignedPair pairs rays signs u w → GivesFrom limit pairs rays signs made u w
-  pub apart : IsStepAt limit pairs rays signs → AllPairs (λ x y. x ≢ y) made
+  pub separate : IsStepAt limit pairs rays signs → AllPairs (λ x y. x ≢ y) made
 
 -- x, y is the first pair of which an entry exceeds the limit
 pub record IsFirstLargePair (limit : ℕ) (pairs : List Clash) (rays : List (List ℕ)) (signs : List Sign) (x y : List ℕ) : Type 0 where
@@ -104,7 +104,7 @@ pub record IsFirstLargePair (limit : ℕ) (pairs : List Clash) (rays : List (Lis
   pub y_is : y ≡ ray_at rays w
   pub pair : IsSignedPair pairs rays signs u w
   pub column : ℕ
-  pub large : HasFirstPast limit pair.at_u pair.at_w (ray_at rays u) (ray_at rays w) column
+  pub large : HasFirstExceeding limit pair.at_u pair.at_w (ray_at rays u) (ray_at rays w) column
   pub earlier : (k l : ℕ) → IsDoneBefore k l u w → IsSignedPair pairs rays signs k l →
       (p : IsSignedPair pairs rays signs k l) × (z : List ℕ) × IsReducedBy limit p.at_u p.at_w (ray_at rays k) (ray_at rays l) z
 
@@ -121,4 +121,4 @@ pub record IsNextFrom (limit : ℕ) (pairs : List Clash) (rays : List (List ℕ)
   pub comes : All (λ x. ComesFromZero rays signs m x ⊎ ComesFromPlaces limit pairs rays signs (length rays) 0 x) next
   pub keeps : (k : ℕ) → m ≤ k → k < length rays → slice_index_or signs k Zero ≡ Zero → Contains next (ray_at rays k)
   pub gives : (u w : ℕ) → IsSignedPair pairs rays signs u w → GivesFrom limit pairs rays signs next u w
-  pub apart : IsStepAt limit pairs rays signs → AllPairs (λ x y. x ≢ y) next
+  pub separate : IsStepAt limit pairs rays signs → AllPairs (λ x y. x ≢ y) next

@@ -6,14 +6,14 @@ use Rattle.ray_steps.specs.declared.rays.RayWithSupport.{RayWithSupport}
 use Rattle.ray_steps.specs.declared.signs.Sign.{Sign}
 use Rattle.ray_steps.specs.Rays.{rays_of, AreOfWidth}
 use Rattle.ray_steps.specs.Signs.{IsBoundedSign, IsAdjacentPair, IsMadeUpTo, AreSigns}
-use Rattle.ray_steps.specs.Rivals.{HaveCompatible}
+use Rattle.ray_steps.specs.CompatibleLists.{HaveCompatible}
 use Rattle.ray_steps.specs.Faults.{IsFirstLargeSum}
 use Rattle.cone_definitions.specs.Elimination.{Named}
 use Rattle.cone_definitions.specs.Rows.{Row}
 use Rattle.cone_definitions.specs.Vectors.{ray_at}
 use Rattle.support_bits.specs.Columns.{support_of}
 use Rattle.support_table.specs.Joins.{AreClashingColumns}
-use Rattle.ray_steps.specs.Turned.{turned_sign}
+use Rattle.ray_steps.specs.Negated.{negated_sign}
 use Rattle.ray_steps.specs.declared.combinations.Combinations.{Combinations}
 use Rattle.ray_steps.specs.declared.combinations.CombinationsSoFar.{CombinationsSoFar}
 use Rattle.ray_steps.specs.declared.combinations.ThirdRaySearch.{ThirdRaySearch}
@@ -41,12 +41,12 @@ pub record IsStep (columns : ℕ) (pairs : List Clash) (ray_list : List RayWithS
   pub count : length signs ≡ length ray_list
   pub bounded : All (IsBoundedSign limit) signs
 
--- the list consists of the combinations of the pairs whose first ray has an index below i; `rivals`, if given, are
--- compatible rays
+-- the list consists of the combinations of the pairs whose first ray has an index below i; `compatible_list`, if given,
+-- are compatible rays
 pub record AreMadeBelow (step : StepData) (i : ℕ) (made : CombinationsSoFar) : Type 0 where
   pub so_far : IsMadeUpTo step.limit step.pairs step.rays step.signs i 0 (rays_of made.ray_list.items)
   pub widths : AreOfWidth step.columns made.ray_list.items
-  pub rivals : IfSome made.rivals (HaveCompatible step.rays step.columns)
+  pub compatible_list : IfSome made.compatible_list (HaveCompatible step.rays step.columns)
 
 -- the list consists of the combinations of the pairs before i, j
 pub record AreMadeTo (step : StepData) (i j : ℕ) (ray_list : List RayWithSupport) : Type 0 where
@@ -61,7 +61,7 @@ IsAdjacentIfAdmissible step i j = IsAdmissibleUnion step.pairs (ray_at step.rays
 pub record IsSearchAt (step : StepData) (i : ℕ) (search : ThirdRaySearch) : Type 0 where
   pub in_range : i < length step.rays
   pub joined : AreClashingColumns step.pairs (support_of (ray_at step.rays i)) search.joined
-  pub rivals : IfSome search.rivals (HaveCompatible step.rays step.columns)
+  pub compatible_list : IfSome search.compatible_list (HaveCompatible step.rays step.columns)
 
 -- the list consists of the combinations of all pairs of the step
 pub record AreMadeOf (step : StepData) (ray_list : List RayWithSupport) : Type 0 where
@@ -81,12 +81,12 @@ pub record IsStepOf (limit : ℕ) (clashes : ClashData) (row : Row) (rays : List
   pub signed : AreSigns limit row rays step.signs
 
 -- the step of the negated row
-abbrev pub turned_step : StepData → StepData
-turned_step step = record { columns = step.columns; pairs = step.pairs; rays = step.rays; signs = map turned_sign step.signs; limit = step.limit }
+abbrev pub negated_step : StepData → StepData
+negated_step step = record { columns = step.columns; pairs = step.pairs; rays = step.rays; signs = map negated_sign step.signs; limit = step.limit }
 
 -- the error names the first pair of which an entry exceeds the limit, of the step or of the step of the negated row
 abbrev pub IsFirstLargeEitherWay : StepData → Named → Type 0
-IsFirstLargeEitherWay step kind = IsFirstLargeOf step kind ⊎ IsFirstLargeOf (turned_step step) kind
+IsFirstLargeEitherWay step kind = IsFirstLargeOf step kind ⊎ IsFirstLargeOf (negated_step step) kind
 
 -- the rays and signs of the step, and the combinations of all its pairs
 pub record AreCombinedOf (step : StepData) (parts : Combinations) : Type 0 where

@@ -1,7 +1,7 @@
 //! The combinations found so far in a step, and the state of a search for third rays.
 
+use crate::compatible_list::CompatibleRays;
 use crate::rays::RayWithSupport;
-use crate::rivals::CompatibleRays;
 use crate::signs::Sign;
 use support_bits::Support;
 
@@ -9,7 +9,7 @@ use support_bits::Support;
 #[derive(Drop)]
 pub struct CombinationsSoFar {
     pub ray_list: Vec<RayWithSupport>,
-    pub rivals: Option<CompatibleRays>,
+    pub compatible_list: Option<CompatibleRays>,
 }
 
 /// The search for third rays for one positive ray: the columns that clash with its support, its compatible rays once
@@ -17,7 +17,7 @@ pub struct CombinationsSoFar {
 #[derive(Drop)]
 pub struct ThirdRaySearch {
     pub joined: Support,
-    pub rivals: Option<CompatibleRays>,
+    pub compatible_list: Option<CompatibleRays>,
     pub hint: usize,
 }
 

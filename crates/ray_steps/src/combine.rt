@@ -9,13 +9,13 @@ ghost use Rattle.ray_steps.specs.Steps.{AreMadeBelow, AreMadeTo, AreMadeOf, IsAd
 use crate::combinations::CombinationsSoFar;
 use crate::compatible::Compatible;
 use crate::found::FoundPair;
+use crate::negated::has_positive;
 use crate::negatives::{NegativeSearch, Negatives, first_not_excluded, negatives_of};
 use crate::pairs::{SignedPair, combine_pair};
 use crate::ray_list::RayList;
 use crate::rays::{RayWithSupport, StepFault};
 use crate::signs::Sign;
 use crate::step::Step;
-use crate::turned::has_positive;
 use std::alloc::Global;
 use support_table::Found;
 
@@ -67,7 +67,7 @@ impl<'a, C: Compatible> Step<'a, C> {
             return Ok(());
         };
         let u = &self.ray_list[i];
-        let mut search = self.search_at(alloc, i, made.rivals.take())?;
+        let mut search = self.search_at(alloc, i, made.compatible_list.take())?;
         let places = negatives.places.as_slice();
         let table = &negatives.table;
         let near = NegativeSearch {
@@ -95,7 +95,7 @@ impl<'a, C: Compatible> Step<'a, C> {
             };
             m = first_not_excluded(next, m + 1);
         }
-        made.rivals = search.rivals;
+        made.compatible_list = search.compatible_list;
         Ok(())
     }
 
@@ -168,7 +168,7 @@ impl<'a, C: Compatible> Step<'a, C> {
     {
         let mut made = CombinationsSoFar {
             ray_list: Vec::with_capacity(alloc, self.ray_list.len())?,
-            rivals: None,
+            compatible_list: None,
         };
         for i in 0..self.ray_list.len() {
             self.combine_one(alloc, i, negatives, found, &mut made)?;

@@ -5,21 +5,21 @@
 mod combinations;
 mod combine;
 mod compatible;
+mod compatible_list;
 mod found;
 mod input;
 mod lists;
+mod negated;
 mod negatives;
 mod no_clash;
 mod pairs;
 mod partners;
 mod ray_list;
 mod rays;
-mod rivals;
 mod search;
 mod signs;
 mod step;
 mod thirds;
-mod turned;
 mod zeros;
 
 pub use combinations::Combinations;

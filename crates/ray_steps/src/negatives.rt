@@ -3,10 +3,10 @@
 ghost use Rattle.std.specs.Prelude.{◌≡◌, ◌<◌, ◌≤◌, ◌↔◌, [], length, IsTrue, IfOk, slice_index_or};
 ghost use Rattle.ray_steps.specs.Rays.{rays_of};
 ghost use Rattle.ray_steps.specs.Signs.{AreNegativePlaces};
-ghost use Rattle.ray_steps.specs.Negatives.{AreNegatives, TellNegatives, IsRuledOut, IsFirstNotRuledOut};
+ghost use Rattle.ray_steps.specs.Negatives.{AreNegatives, AreNegativeFlags, IsRuledOut, IsFirstNotRuledOut};
 
+use crate::compatible_list::supports_at;
 use crate::ray_list::RayList;
-use crate::rivals::supports_at;
 use crate::signs::{Sign, is_negative};
 use out_of_memory::NoMemory;
 use std::alloc::Global;
@@ -35,7 +35,7 @@ fn negative_places(alloc: Global, signs: &[Sign]) -> Result<Vec<usize>, NoMemory
 
 /// For each sign of `signs` whether it is negative.
 pub fn are_negative(alloc: Global, signs: &[Sign]) -> Result<Vec<bool>, NoMemory>
-    ensures { IfOk result (λ flags. TellNegatives signs.now (length signs.now) flags.items) }
+    ensures { IfOk result (λ flags. AreNegativeFlags signs.now (length signs.now) flags.items) }
 {
     let mut flags = Vec::with_capacity(alloc, signs.len())?;
     for sign in signs {

@@ -3,19 +3,19 @@
 ghost use Rattle.std.specs.Prelude.{◌≡◌, ◌<◌, ◌↔◌, length, IsTrue, IfOk, IfSome, OnOk};
 ghost use Rattle.std.specs.List.{All};
 ghost use Rattle.ray_steps.specs.Adjacent.{AreAdjacentLists, IsOuterOf, IsOuterAt};
-ghost use Rattle.ray_steps.specs.Rivals.{HaveCompatible};
+ghost use Rattle.ray_steps.specs.CompatibleLists.{HaveCompatible};
 ghost use Rattle.ray_steps.specs.Signs.{IsAdjacentPair};
 ghost use Rattle.ray_steps.specs.Steps.{IsSearchAt};
 
 use crate::combinations::ThirdRaySearch;
 use crate::compatible::Compatible;
+use crate::compatible_list::{CompatibleRays, all_supports, compatible_rays};
+use crate::negated::positive_count;
 use crate::negatives::are_negative;
 use crate::ray_list::RayList;
-use crate::rivals::{CompatibleRays, all_supports, compatible_rays};
 use crate::signs::Sign;
 use crate::step::Step;
 use crate::thirds::{PairAmong, has_single, is_single, third_inside};
-use crate::turned::positive_count;
 use out_of_memory::NoMemory;
 use std::alloc::Global;
 use support_bits::Support;
@@ -30,17 +30,17 @@ impl<'a, C: Compatible> Step<'a, C> {
         &self,
         alloc: Global,
         i: usize,
-        rivals: Option<CompatibleRays>,
+        compatible_list: Option<CompatibleRays>,
     ) -> Result<ThirdRaySearch, NoMemory>
         requires in_range { i < length self.now.rays }
-        requires rivals { IfSome rivals (HaveCompatible self.now.rays self.now.columns) }
+        requires compatible_list { IfSome compatible_list (HaveCompatible self.now.rays self.now.columns) }
         ensures { IfOk result (IsSearchAt self.now i) }
     {
         let clashes = self.clashes;
         let joined = clashes.joined(alloc, &self.ray_list[i].support)?;
         Ok(ThirdRaySearch {
             joined,
-            rivals,
+            compatible_list,
             hint: 0,
         })
     }
@@ -55,12 +55,12 @@ impl<'a, C: Compatible> Step<'a, C> {
     ) -> Result<CompatibleRays, NoMemory>
         requires count { length joined.now ≡ self.now.columns }
         requires before { IfSome before (HaveCompatible self.now.rays self.now.columns) }
-        ensures joined { IfOk result (λ rivals. rivals.joined ≡ joined.now) }
-        ensures rivals { IfOk result (HaveCompatible self.now.rays self.now.columns) }
+        ensures joined { IfOk result (λ compatible_list. compatible_list.joined ≡ joined.now) }
+        ensures compatible_list { IfOk result (HaveCompatible self.now.rays self.now.columns) }
     {
-        if let Some(rivals) = before {
-            if rivals.joined.same(joined) {
-                return Ok(rivals);
+        if let Some(compatible_list) = before {
+            if compatible_list.joined.same(joined) {
+                return Ok(compatible_list);
             }
         }
         let clashes = self.clashes;
@@ -93,16 +93,16 @@ impl<'a, C: Compatible> Step<'a, C> {
         if has_single(&u.support, &w.support) {
             return Ok(clashes.allows(&u.support, &w.support));
         }
-        let rivals = self.gather(alloc, &search.joined, search.rivals.take())?;
+        let compatible_list = self.gather(alloc, &search.joined, search.compatible_list.take())?;
         let pair = PairAmong {
-            rivals: &rivals,
+            compatible_list: &compatible_list,
             i,
             j,
             a: &u.support,
             b: &w.support,
         };
         let third = third_inside(pair, search.hint);
-        search.rivals = Some(rivals);
+        search.compatible_list = Some(compatible_list);
         match third {
             Some(m) => {
                 search.hint = m;
@@ -172,7 +172,7 @@ impl<'a, C: Compatible> Step<'a, C> {
         let outers = self.outers(alloc)?;
         let search = PartSearch {
             rays: &table,
-            wanted: &negative,
+            selected: &negative,
             outers: &outers,
             most: self.most,
         };

@@ -4,14 +4,14 @@ ghost use Rattle.std.specs.Prelude.{◌≡◌, ◌<◌, IfOk, IfErr};
 ghost use Rattle.ray_steps.specs.Faults.{IfLarge, IsFirstLargeValue};
 ghost use Rattle.ray_steps.specs.Rays.{rays_of, AreOfWidth};
 ghost use Rattle.ray_steps.specs.Signs.{IsNextFrom};
-ghost use Rattle.ray_steps.specs.Steps.{AreStepRays, IsStepOf, AreCombinedOf, IsFirstLargeOf, IsFirstLargeEitherWay, turned_step};
+ghost use Rattle.ray_steps.specs.Steps.{AreStepRays, IsStepOf, AreCombinedOf, IsFirstLargeOf, IsFirstLargeEitherWay, negated_step};
 
 use crate::combinations::Combinations;
 use crate::compatible::{Clashes, Compatible};
 use crate::input::StepInput;
+use crate::negated::{has_more_positives, negated_signs};
 use crate::rays::{RayWithSupport, StepFault};
 use crate::signs::{RowAndRays, Sign, signs_at};
-use crate::turned::{has_more_positives, negated_signs};
 use crate::zeros::keep_zeros;
 use cone_arithmetic::Limit;
 use out_of_memory::NoMemory;
@@ -67,19 +67,19 @@ impl<'a, C: Compatible> Step<'a, C> {
     }
 
     /// The step for the negated row, and the former signs.
-    pub fn turned(self, alloc: Global) -> Result<(Step<'a, C>, Vec<Sign>), NoMemory>
-        ensures step { IfOk result (λ both. both.0 ≡ turned_step self.entry) }
+    pub fn negated(self, alloc: Global) -> Result<(Step<'a, C>, Vec<Sign>), NoMemory>
+        ensures step { IfOk result (λ both. both.0 ≡ negated_step self.entry) }
         ensures signs { IfOk result (λ both. both.1.items ≡ self.entry.signs) }
     {
         let signs = negated_signs(alloc, &self.signs)?;
-        let turned = Step {
+        let negated = Step {
             clashes: self.clashes,
             ray_list: self.ray_list,
             signs,
             most: self.most,
             limit: self.limit,
         };
-        Ok((turned, self.signs))
+        Ok((negated, self.signs))
     }
 
     /// The combinations of all adjacent pairs in any order, with the rays and signs of the step. Iterates over the rays
@@ -90,7 +90,7 @@ impl<'a, C: Compatible> Step<'a, C> {
         ensures err { IfErr result (IfLarge (IsFirstLargeEitherWay self.entry)) }
     {
         if has_more_positives(&self.signs) {
-            let (step, signs) = self.turned(alloc)?;
+            let (step, signs) = self.negated(alloc)?;
             let made = step.combine_all(alloc)?;
             return Ok(Combinations {
                 ray_list: step.ray_list,

@@ -1,11 +1,11 @@
 //! The search for a third ray, whose support lies in the union of a pair's.
 
 ghost use Rattle.std.specs.Prelude.{◌≡◌, ◌≢◌, ℕ, ◌<◌, ◌≤◌, ◌↔◌, length, IsTrue, IfSome, IfNone};
-ghost use Rattle.ray_steps.specs.Rivals.{IsThirdInside};
+ghost use Rattle.ray_steps.specs.CompatibleLists.{IsThirdInside};
 ghost use Rattle.ray_steps.specs.Unions.{HasSingle};
 ghost use Rattle.support_table.specs.Counts.{columns_in_either};
 
-use crate::rivals::CompatibleRays;
+use crate::compatible_list::CompatibleRays;
 use support_bits::Support;
 use support_table::union_count;
 
@@ -32,28 +32,34 @@ fn is_third(place: usize, i: usize, j: usize) -> bool
 }
 
 /// Rays `i` and `j` with the supports `a` and `b`, and the rays among which a third ray is looked for. Invariant: all
-/// supports have as many columns, and `rivals` has a support for each index.
+/// supports have as many columns, and `compatible_list` has a support for each index.
 #[derive(Clone, Copy)]
 pub struct PairAmong<'a> {
-    pub rivals: &'a CompatibleRays,
+    pub compatible_list: &'a CompatibleRays,
     pub i: usize,
     pub j: usize,
     pub a: &'a Support,
     pub b: &'a Support,
-    pub ghost count: { length rivals.now.table.supports ≡ length rivals.now.places.items },
-    pub ghost first: { length a.now ≡ rivals.now.table.columns },
-    pub ghost second: { length b.now ≡ rivals.now.table.columns },
+    pub ghost count: { length compatible_list.now.table.supports ≡ length compatible_list.now.places.items },
+    pub ghost first: { length a.now ≡ compatible_list.now.table.columns },
+    pub ghost second: { length b.now ≡ compatible_list.now.table.columns },
 }
 
-/// The index in `pair.rivals` of a third ray, whose support lies in the union of those of the pair: `hint` if that is
-/// one, or else the first; `None` if there is none.
+/// The index in `pair.compatible_list` of a third ray, whose support lies in the union of those of the pair: `hint` if
+/// that is one, or else the first; `None` if there is none.
 pub fn third_inside(pair: PairAmong, hint: usize) -> Option<usize>
-    ensures some { IfSome result (λ m. (m < length pair.entry.rivals.now.places.items) × IsThirdInside pair.entry.rivals.now.places.items pair.entry.rivals.now.table.supports pair.entry.i pair.entry.j pair.entry.a.now pair.entry.b.now m) }
-    ensures none { IfNone result ((m : ℕ) → m < length pair.entry.rivals.now.places.items → ¬ IsThirdInside pair.entry.rivals.now.places.items pair.entry.rivals.now.table.supports pair.entry.i pair.entry.j pair.entry.a.now pair.entry.b.now m) }
+    ensures some { IfSome result (λ m. (m < length pair.entry.compatible_list.now.places.items) × IsThirdInside pair.entry.compatible_list.now.places.items pair.entry.compatible_list.now.table.supports pair.entry.i pair.entry.j pair.entry.a.now pair.entry.b.now m) }
+    ensures none { IfNone result ((m : ℕ) → m < length pair.entry.compatible_list.now.places.items → ¬ IsThirdInside pair.entry.compatible_list.now.places.items pair.entry.compatible_list.now.table.supports pair.entry.i pair.entry.j pair.entry.a.now pair.entry.b.now m) }
 {
-    let PairAmong { rivals, i, j, a, b } = pair;
-    let places = rivals.places.as_slice();
-    let table = &rivals.table;
+    let PairAmong {
+        compatible_list,
+        i,
+        j,
+        a,
+        b,
+    } = pair;
+    let places = compatible_list.places.as_slice();
+    let table = &compatible_list.table;
     if hint < places.len() && is_third(places[hint], i, j) && table.is_covered(hint, a, b) {
         return Some(hint);
     }

@@ -49,14 +49,14 @@ either_from_all k a b words h a_all b_all = record {
   where
     whole : (j : ℕ) → get_or words j 0 ≡ bit_or (get_or a j 0) (get_or b j 0)
     whole j = ⊎_elim (λ less. h.below j less)
-        (λ past. h.above j past ∙ get_or_past a j 0 (omega arith) ∙ sym (ap (λ n. bit_or n (get_or b j 0)) (get_or_past a j 0 (omega arith)) ∙ ap (bit_or 0) (get_or_past b j 0 (omega arith))))
+        (λ exceeded. h.above j exceeded ∙ get_or_past a j 0 (omega arith) ∙ sym (ap (λ n. bit_or n (get_or b j 0)) (get_or_past a j 0 (omega arith)) ∙ ap (bit_or 0) (get_or_past b j 0 (omega arith))))
         (cases_lt j k)
 
 -- ---- supports
 
 zero_word : (n j : ℕ) → get_or {A = ℕ} (replicate n 0) j 0 ≡ 0
 zero_word n j = let nothing : ℕ = 0 in ⊎_elim (λ less. get_or-replicate n j nothing nothing less)
-    (λ past. get_or_past (replicate n nothing) j nothing (let e = length-replicate n nothing in omega (arith, e))) (cases_lt j n)
+    (λ exceeded. get_or_past (replicate n nothing) j nothing (let e = length-replicate n nothing in omega (arith, e))) (cases_lt j n)
 
 -- words in which no bit is set spell the empty support
 pub none_spelled : (columns n : ℕ) (words : List ℕ) → words ≡ replicate n 0 → spelled columns words ≡ replicate columns false
@@ -71,7 +71,7 @@ module _ (m n : ℕ) (a b words : List ℕ) (same : m ≡ n) (a_padded : IsPadde
   pub either_padded : IsPadded m words
   either_padded = record {
     count = either.count ∙ a_padded.count;
-    unused = λ column past. either.bits column ∙ ap₂ (λ x y. x || y) (a_padded.unused column past) (b_padded.unused column (omega arith));
+    unused = λ column exceeded. either.bits column ∙ ap₂ (λ x y. x || y) (a_padded.unused column exceeded) (b_padded.unused column (omega arith));
   }
 
   pub union_spelled : IsUnion (spelled m a) (spelled n b) (spelled m words)

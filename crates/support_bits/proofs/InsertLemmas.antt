@@ -10,7 +10,7 @@ module _ (columns column : ℕ) (words after : List ℕ) (within : column < colu
   pub inserted_padded : IsPadded columns after
   inserted_padded = record {
     count = count ∙ padded.count;
-    unused = λ k past. others k (λ same. omega (arith, within, past, same)) ∙ padded.unused k past;
+    unused = λ k exceeded. others k (λ same. omega (arith, within, exceeded, same)) ∙ padded.unused k exceeded;
   }
 
   pub inserted_spelled : spelled columns after ≡ set (spelled columns words) column true

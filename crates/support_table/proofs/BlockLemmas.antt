@@ -33,8 +33,8 @@ pub common_first : (width first : ℕ) (words old new : List ℕ) → new ≡ ol
 common_first width first words old new is within = record {
   count = ap length is ∙ omega (arith, length-append old part, length_of_part width (first * width) words within);
   before = λ j less. ap (λ ws. get_or ws j 0) is ∙ get_or_append_left old part 0 j less;
-  common = λ k less j few i one. let e : first ≡ first + k = omega arith in
-      let same : get_or new (length old + j) 0 ≡ get_or words (first * width + j) 0 = ap (λ ws. get_or ws (length old + j) 0) is ∙ get_or-append-add old part j 0 ∙ word_of_part width (first * width) j words few in
+  common = λ k less j limited i one. let e : first ≡ first + k = omega arith in
+      let same : get_or new (length old + j) 0 ≡ get_or words (first * width + j) 0 = ap (λ ws. get_or ws (length old + j) 0) is ∙ get_or-append-add old part j 0 ∙ word_of_part width (first * width) j words limited in
       sym (ap (λ n. bit_at (get_or words (n * width + j) 0) i) e) ∙ sym (ap (λ n. bit_at n i) same) ∙ one;
 }
   where
@@ -46,13 +46,13 @@ pub common_more : (width first k start : ℕ) (words old mid new : List ℕ) (ad
 common_more width first k start words old mid new added h starts keeps is within = record {
   count = keeps.count ∙ h.count;
   before = λ j less. keeps.before j (omega arith) ∙ h.before j less;
-  common = λ p less j few i one.
+  common = λ p less j limited i one.
       let all : length added ≡ width = ap length is ∙ length_of_part width ((first + k) * width) words within in
       let both = common_bits _ _ _ i (ap (λ n. get_or new (n + j) 0) (sym starts) ∙ keeps.kept j (omega (arith, all)) ∙ ap (λ n. bit_and (get_or mid (n + j) 0) (get_or added j 0)) starts) one in
-      ⊎_elim (λ earlier. h.common p earlier j few i both.0)
+      ⊎_elim (λ earlier. h.common p earlier j limited i both.0)
       (λ last. let e : k ≡ p = omega arith in
       subst (λ n. bit_at (get_or words ((first + n) * width + j) 0) i ≡ 1) e
-      (sym (ap (λ n. bit_at n i) (ap (λ ws. get_or ws j 0) is ∙ word_of_part width ((first + k) * width) j words few)) ∙ both.1))
+      (sym (ap (λ n. bit_at n i) (ap (λ ws. get_or ws j 0) is ∙ word_of_part width ((first + k) * width) j words limited)) ∙ both.1))
       (cases_lt p k);
 }
 
@@ -65,9 +65,9 @@ pub blocks_push : (width count closed : ℕ) (words blocks more : List ℕ) → 
 blocks_push width count closed words blocks more h total = record {
   most = omega (arith, h.most);
   total = h.total;
-  common = λ place less j few i one.
+  common = λ place less j limited i one.
       let within = part_within place count width (omega (arith, h.most)) in
-      ap (λ n. bit_at n i) (get_or_append_left words more 0 (place * width + j) (omega arith)) ∙ h.common place less j few i one;
+      ap (λ n. bit_at n i) (get_or_append_left words more 0 (place * width + j) (omega arith)) ∙ h.common place less j limited i one;
 }
 
 pub blocks_close : (width count closed first : ℕ) (words blocks new : List ℕ) → AreBlocks width count closed words blocks → first ≡ block_size * closed → first + block_size ≤ count → IsBlockPushed width first words blocks new →
@@ -82,17 +82,17 @@ blocks_close width count closed first words blocks new h is within pushed = reco
     one_more = omega arith
 
     before : (place : ℕ) → place < block_size * closed → AreWithin width new (place / block_size * width) words (place * width)
-    before place less j few i one =
+    before place less j limited i one =
         let inside = part_within (place / block_size) closed width (omega arith) in
-        h.common place less j few i (sym (ap (λ n. bit_at n i) (pushed.before (place / block_size * width + j) (omega (arith, h.total)))) ∙ one)
+        h.common place less j limited i (sym (ap (λ n. bit_at n i) (pushed.before (place / block_size * width + j) (omega (arith, h.total)))) ∙ one)
 
     last : (place : ℕ) → place < block_size * (closed + 1) → block_size * closed ≤ place → AreWithin width new (place / block_size * width) words (place * width)
-    last place less more j few i one =
+    last place less more j limited i one =
         let e : place / block_size ≡ closed = omega arith in
         let f : first + (place % block_size) ≡ place = omega arith in
         let start : length blocks ≡ place / block_size * width = h.total ∙ ap (λ n. n * width) (sym e) in
         subst (λ n. bit_at (get_or words (n * width + j) 0) i ≡ 1) f
-        (pushed.common (place % block_size) (omega arith) j few i (ap (λ n. bit_at (get_or new (n + j) 0) i) start ∙ one))
+        (pushed.common (place % block_size) (omega arith) j limited i (ap (λ n. bit_at (get_or new (n + j) 0) i) start ∙ one))
 
 -- ---- a block is skipped
 
@@ -112,9 +112,9 @@ common_of_block columns width count closed words blocks table place h is whole l
   padded = record {
     count = length_of_part width (place / block_size * width) blocks (let w = part_within (place / block_size) closed width less in omega (arith, w, h.common.total)) ∙ h.spelled.needed ∙
         ap (λ (t : Table). (t.columns + 63) / 64) is;
-    unused = λ column past. elim (cases_Bool (bit_of common column)) [
-      | inl set ↦ absurd (let few = column_within _ column (each place column (omega arith) (omega arith) set) in
-          let wide = width_of_place columns width count words table place is (omega (arith, h.common.most)) in omega (arith, few, wide, past))
+    unused = λ column exceeded. elim (cases_Bool (bit_of common column)) [
+      | inl set ↦ absurd (let limited = column_within _ column (each place column (omega arith) (omega arith) set) in
+          let wide = width_of_place columns width count words table place is (omega (arith, h.common.most)) in omega (arith, limited, wide, exceeded))
       | inr e ↦ e
     ];
   };

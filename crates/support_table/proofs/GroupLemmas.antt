@@ -15,10 +15,10 @@ use Rattle.support_bits.specs.Words.{AreWordsOf}
 use Rattle.support_bits.proofs.WordLemmas.{bit_of-column}
 use Rattle.support_table.specs.declared.groups.Grouped.{Grouped}
 use Rattle.support_table.specs.declared.groups.Ranges.{Ranges}
-use Rattle.support_table.specs.declared.rivals.Candidate.{Candidate}
+use Rattle.support_table.specs.declared.compatible_list.Candidate.{Candidate}
 use Rattle.support_table.specs.Residuals.{support_at}
-use Rattle.support_table.specs.Rivals.{HasPlace}
-use Rattle.support_table.specs.Groups.{IsColumnBeside, IsGroup, IsGrouped, AreGrouped, grouped_at, AreRanges}
+use Rattle.support_table.specs.Candidates.{HasPlace}
+use Rattle.support_table.specs.Groups.{IsColumnOutside, IsGroup, IsGrouped, AreGrouped, grouped_at, AreRanges}
 use Rattle.support_table.proofs.SizeLemmas.{column_within}
 
 -- ---- the last bit of a word
@@ -45,7 +45,7 @@ beside_bits b c i fits within is = two_bits (bit_at b i) (bit_at c i) (bit_at-lt
     (sym (bit_at_and b (bit_not w64 c) i ∙ ap (min (bit_at b i)) (bit_at_not w64 c i fits within)) ∙ is)
 
 pub column_beside : (words outer : List ℕ) (k n group : ℕ) → get_or outer k 0 < 2 ^ 64 → get_or words k 0 < 2 ^ 64 → n ≡ bit_and (get_or words k 0) (bit_not w64 (get_or outer k 0)) → 0 < n →
-    group ≡ 64 * k + (64 - leading_zeros w64 n) → IsColumnBeside words outer group
+    group ≡ 64 * k + (64 - leading_zeros w64 n) → IsColumnOutside words outer group
 column_beside words outer k n group outer_fits words_fit n_is some is =
     let least = and_le_l (get_or words k 0) (bit_not w64 (get_or outer k 0)) in
     let t = top_bit n some (omega (arith, n_is, least, words_fit)) in
@@ -54,7 +54,7 @@ column_beside words outer k n group outer_fits words_fit n_is some is =
     let both = beside_bits (get_or words k 0) (get_or outer k 0) i outer_fits less (ap (λ m. bit_at m i) (sym n_is) ∙ t.1) in
     inr (64 * k + i, (let l = t.0 in omega (arith, is)), bit_of-column words k i less ∙ eq-eqb _ 1 both.0, bit_of-column outer k i less ∙ ap (λ b. eqb b 1) both.1)
 
-pub group_from_words : (outer s : List Bool) (words outer_words : List ℕ) (group : ℕ) → AreWordsOf s words → AreWordsOf outer outer_words → IsColumnBeside words outer_words group → IsGroup outer s group
+pub group_from_words : (outer s : List Bool) (words outer_words : List ℕ) (group : ℕ) → AreWordsOf s words → AreWordsOf outer outer_words → IsColumnOutside words outer_words group → IsGroup outer s group
 group_from_words outer s words outer_words group of_s of_outer h column is = elim h [
   | inl e ↦ absurd (omega arith)
   | inr t ↦ let same : t.0 ≡ column = (let e = t.1 in omega arith) in
@@ -78,7 +78,7 @@ grouped_push supports outer candidates n list it h within is sized = record {
       (let z : Candidate = record { place = 0; size = 0 } in (get_or candidates n z, Contains-get_or candidates n z within, is z));
   complete = λ k d less inside. elim (cases_lt k n) [
     | inl old ↦ let e = h.complete k d old inside in (e.0, Contains-append_left list (it ∷ []) e.0 e.1, e.2)
-    | inr past ↦ let e : k ≡ n = omega arith in (it, Contains-push list it, sym (is d) ∙ ap (λ j. (get_or candidates j d).place) (sym e))
+    | inr exceeded ↦ let e : k ≡ n = omega arith in (it, Contains-push list it, sym (is d) ∙ ap (λ j. (get_or candidates j d).place) (sym e))
   ];
 }
 
@@ -94,7 +94,7 @@ grouped_moved supports outer candidates n before after moves h = record {
 zero_at : (n j : ℕ) (entries : List ℕ) → entries ≡ replicate n 0 → get_or entries j 0 ≡ 0
 zero_at n j entries are = let nothing : ℕ = 0 in ap (λ (xs : List ℕ). get_or xs j nothing) are ∙ elim (cases_lt j n) [
   | inl less ↦ get_or-replicate n j nothing nothing less
-  | inr past ↦ get_or_past (replicate n nothing) j nothing (let e = length-replicate n nothing in omega (arith, e))
+  | inr exceeded ↦ get_or_past (replicate n nothing) j nothing (let e = length-replicate n nothing in omega (arith, e))
 ]
 
 pub ranges_none : (list : List Grouped) (groups : ℕ) (ranges : Ranges) → ranges.starts.items ≡ replicate groups 0 → ranges.ends.items ≡ replicate groups 0 → AreRanges list groups 0 ranges
@@ -164,11 +164,11 @@ module _ (list : List Grouped) (groups k : ℕ) (old new : Ranges) (h : AreRange
     ];
     from = λ j less. elim (cases_lt j k) [
       | inl before ↦ old_from j before
-      | inr past ↦ let e : j ≡ k = omega arith in let g = ap (λ n. (grouped_at list n).group) e ∙ is in let s = ap (λ n. get_or new.starts.items n 0) g in let l = start_low in omega (arith, s, l)
+      | inr exceeded ↦ let e : j ≡ k = omega arith in let g = ap (λ n. (grouped_at list n).group) e ∙ is in let s = ap (λ n. get_or new.starts.items n 0) g in let l = start_low in omega (arith, s, l)
     ];
     to = λ j less. elim (cases_lt j k) [
       | inl before ↦ old_to j before
-      | inr past ↦ let e : j ≡ k = omega arith in let g = ap (λ n. (grouped_at list n).group) e ∙ is in let s = ap (λ n. get_or new.ends.items n 0) g in let same = end_same in omega (arith, s, same)
+      | inr exceeded ↦ let e : j ≡ k = omega arith in let g = ap (λ n. (grouped_at list n).group) e ∙ is in let s = ap (λ n. get_or new.ends.items n 0) g in let same = end_same in omega (arith, s, same)
     ];
   }
 

@@ -10,9 +10,9 @@ use Rattle.std.proofs.lemmas.Nat.Bits.{bit_at-lt, bit_at-zero, bit_at_and, bit_a
 use Rattle.support_bits.specs.Columns.{HasColumn}
 use Rattle.support_bits.specs.Words.{bit_of, AreWordsOf, HaveCommon}
 use Rattle.support_bits.proofs.WordLemmas.{is_one}
-use Rattle.support_table.specs.declared.rivals.Candidate.{Candidate}
+use Rattle.support_table.specs.declared.compatible_list.Candidate.{Candidate}
 use Rattle.support_table.specs.Residuals.{support_at}
-use Rattle.support_table.specs.Rivals.{AddsBeside, IsMarked, IsHit, AreUnhit}
+use Rattle.support_table.specs.Candidates.{AddsOutside, IsMarked, IsHit, AreUnhit}
 
 -- ---- word by word
 
@@ -63,19 +63,19 @@ no_bit n column is = false≢true (sym (ap (λ m. eqb (bit_at m (column % 64)) 1
   where
     zero_word : get_or {A = ℕ} (replicate n 0) (column / 64) 0 ≡ 0
     zero_word = let nothing : ℕ = 0 in ⊎_elim (λ less. get_or-replicate n (column / 64) nothing nothing less)
-        (λ past. get_or_past (replicate n nothing) (column / 64) nothing (let e = length-replicate n nothing in omega (arith, e))) (cases_lt (column / 64) n)
+        (λ exceeded. get_or_past (replicate n nothing) (column / 64) nothing (let e = length-replicate n nothing in omega (arith, e))) (cases_lt (column / 64) n)
 
-pub marked_more : (supports : List (List Bool)) (outer : List Bool) (single : ℕ) (rivals : List Candidate) (r : Candidate) (words outer_words old new : List ℕ) →
-    Contains rivals r → r.size ≤ single → AreWordsOf (support_at supports r.place) words → AreWordsOf outer outer_words → AddsBeside words outer_words old new →
-    ((column : ℕ) → bit_of old column ≡ true → IsMarked supports outer single rivals column) → (column : ℕ) → bit_of new column ≡ true → IsMarked supports outer single rivals column
-marked_more supports outer single rivals r words outer_words old new listed few of_words of_outer adds so_far column is = ⊎_elim
+pub marked_more : (supports : List (List Bool)) (outer : List Bool) (single : ℕ) (compatible_list : List Candidate) (r : Candidate) (words outer_words old new : List ℕ) →
+    Contains compatible_list r → r.size ≤ single → AreWordsOf (support_at supports r.place) words → AreWordsOf outer outer_words → AddsOutside words outer_words old new →
+    ((column : ℕ) → bit_of old column ≡ true → IsMarked supports outer single compatible_list column) → (column : ℕ) → bit_of new column ≡ true → IsMarked supports outer single compatible_list column
+marked_more supports outer single compatible_list r words outer_words old new listed limited of_words of_outer adds so_far column is = ⊎_elim
     (λ before. so_far column before)
     (λ now. record {
-      rival = r;
+      candidate = r;
       listed = listed;
-      few = few;
+      limited = limited;
       has = sym (of_words.bits column) ∙ now.0;
-      beside = λ has. false≢true (sym now.1 ∙ of_outer.bits column ∙ has);
+      outside = λ has. false≢true (sym now.1 ∙ of_outer.bits column ∙ has);
     })
     (adds.each column is)
 
@@ -87,35 +87,35 @@ common_marks s words marks of_s = (
   λ h. (h.0, of_s.bits h.0 ∙ h.1, h.2),
 )
 
-module _ (supports : List (List Bool)) (marks : List ℕ) (single : ℕ) (rivals : List Candidate) where
+module _ (supports : List (List Bool)) (marks : List ℕ) (single : ℕ) (compatible_list : List Candidate) where
   abbrev IsFree : Candidate → Type 0
   IsFree r = ¬ IsHit supports marks single r
 
   -- the first n candidates without those that are hit
   pub record AreUnhitBelow (n : ℕ) (left : List Candidate) : Type 0 where
-    pub each : All (λ r. ((k : ℕ) × (k < n) × (k < length rivals) × (get_or rivals k r ≡ r)) × IsFree r) left
-    pub ascending : AllPairs (λ (r s : Candidate). r.place < s.place) rivals → AllPairs (λ (r s : Candidate). r.place < s.place) left
-    pub complete : (k : ℕ) (r : Candidate) → k < n → k < length rivals → get_or rivals k r ≡ r → IsFree r → Contains left r
+    pub each : All (λ r. ((k : ℕ) × (k < n) × (k < length compatible_list) × (get_or compatible_list k r ≡ r)) × IsFree r) left
+    pub ascending : AllPairs (λ (r s : Candidate). r.place < s.place) compatible_list → AllPairs (λ (r s : Candidate). r.place < s.place) left
+    pub complete : (k : ℕ) (r : Candidate) → k < n → k < length compatible_list → get_or compatible_list k r ≡ r → IsFree r → Contains left r
 
-  still_each : (n : ℕ) (left : List Candidate) → AreUnhitBelow n left → All (λ r. ((k : ℕ) × (k < n + 1) × (k < length rivals) × (get_or rivals k r ≡ r)) × IsFree r) left
+  still_each : (n : ℕ) (left : List Candidate) → AreUnhitBelow n left → All (λ r. ((k : ℕ) × (k < n + 1) × (k < length compatible_list) × (get_or compatible_list k r ≡ r)) × IsFree r) left
   still_each n left h k d within = let s = h.each k d within in ((s.0.0, omega (arith, s.0.1), s.0.2, s.0.3), s.1)
 
-  same_rival : (n k : ℕ) (r s : Candidate) → n < length rivals → get_or rivals n r ≡ r → get_or rivals k s ≡ s → k ≡ n → r ≡ s
-  same_rival n k r s within r_is s_is e = sym r_is ∙ get_or_default rivals n r s within ∙ ap (λ i. get_or rivals i s) (sym e) ∙ s_is
+  same_rival : (n k : ℕ) (r s : Candidate) → n < length compatible_list → get_or compatible_list n r ≡ r → get_or compatible_list k s ≡ s → k ≡ n → r ≡ s
+  same_rival n k r s within r_is s_is e = sym r_is ∙ get_or_default compatible_list n r s within ∙ ap (λ i. get_or compatible_list i s) (sym e) ∙ s_is
 
-  pub unhit_push : (n : ℕ) (left : List Candidate) (r : Candidate) → AreUnhitBelow n left → n < length rivals → get_or rivals n r ≡ r → IsFree r → AreUnhitBelow (n + 1) (left ++ r ∷ [])
+  pub unhit_push : (n : ℕ) (left : List Candidate) (r : Candidate) → AreUnhitBelow n left → n < length compatible_list → get_or compatible_list n r ≡ r → IsFree r → AreUnhitBelow (n + 1) (left ++ r ∷ [])
   unhit_push n left r h within is free = record {
-    each = All-push (λ r. ((k : ℕ) × (k < n + 1) × (k < length rivals) × (get_or rivals k r ≡ r)) × IsFree r) left r (still_each n left h) ((n, omega arith, within, is), free);
+    each = All-push (λ r. ((k : ℕ) × (k < n + 1) × (k < length compatible_list) × (get_or compatible_list k r ≡ r)) × IsFree r) left r (still_each n left h) ((n, omega arith, within, is), free);
     ascending = λ up. all_pairs_push (λ (r s : Candidate). r.place < s.place) left r (h.ascending up)
         (λ k d inside. let q = get_or left k d in let s = h.each k d inside in
-        subst₂ (λ (a b : Candidate). a.place < b.place) s.0.3 (get_or_default rivals n q r within ∙ is) (up s.0.0 n q s.0.1 within));
+        subst₂ (λ (a b : Candidate). a.place < b.place) s.0.3 (get_or_default compatible_list n q r within ∙ is) (up s.0.0 n q s.0.1 within));
     complete = λ k s less inside at unhit. ⊎_elim
         (λ old. Contains-append_left left (r ∷ []) s (h.complete k s old inside at unhit))
         (λ last. subst (Contains (left ++ r ∷ [])) (same_rival n k r s within is at (omega arith)) (Contains-push left r))
         (cases_lt k n);
   }
 
-  pub unhit_skip : (n : ℕ) (left : List Candidate) (r : Candidate) → AreUnhitBelow n left → n < length rivals → get_or rivals n r ≡ r → IsHit supports marks single r → AreUnhitBelow (n + 1) left
+  pub unhit_skip : (n : ℕ) (left : List Candidate) (r : Candidate) → AreUnhitBelow n left → n < length compatible_list → get_or compatible_list n r ≡ r → IsHit supports marks single r → AreUnhitBelow (n + 1) left
   unhit_skip n left r h within is hit = record {
     each = still_each n left h;
     ascending = h.ascending;
@@ -125,7 +125,7 @@ module _ (supports : List (List Bool)) (marks : List ℕ) (single : ℕ) (rivals
         (cases_lt k n);
   }
 
-  pub unhit_all : (n : ℕ) (left : List Candidate) → AreUnhitBelow n left → length rivals ≤ n → AreUnhit supports marks single rivals left
+  pub unhit_all : (n : ℕ) (left : List Candidate) → AreUnhitBelow n left → length compatible_list ≤ n → AreUnhit supports marks single compatible_list left
   unhit_all n left h all = record {
     each = λ k d within. let s = h.each k d within in ((s.0.0, s.0.2, s.0.3), s.1);
     ascending = h.ascending;

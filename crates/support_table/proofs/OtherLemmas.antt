@@ -12,19 +12,19 @@ use Rattle.support_bits.specs.Words.{bit_of, AreWordsOf}
 use Rattle.support_bits.proofs.WordLemmas.{bit_after, is_one, within_words}
 use Rattle.support_table.specs.declared.groups.Grouped.{Grouped}
 use Rattle.support_table.specs.declared.groups.Ranges.{Ranges}
-use Rattle.support_table.specs.declared.rivals.Candidate.{Candidate}
-use Rattle.support_table.specs.Residuals.{support_at, IsRival, IsMinimal, AreMinimalOf}
-use Rattle.support_table.specs.Rivals.{HasPlace, IsSized, AreCandidates}
-use Rattle.support_table.specs.Groups.{HasEntry, AreGrouped, grouped_at, AreFamily, IsOtherInside, HasOtherInside, HasNoneOfGroup, IsWantedAlone, AreWantedAlone}
+use Rattle.support_table.specs.declared.compatible_list.Candidate.{Candidate}
+use Rattle.support_table.specs.Residuals.{support_at, IsCandidate, IsMinimal, AreMinimalOf}
+use Rattle.support_table.specs.Candidates.{HasPlace, IsSized, AreCandidates}
+use Rattle.support_table.specs.Groups.{HasEntry, AreGrouped, grouped_at, AreFamily, IsOtherInside, HasOtherInside, HasNoneOfGroup, IsSelectedAlone, AreSelectedAlone}
 use Rattle.support_table.proofs.CandidateLemmas.{inside_union, inside_residual}
 
 module _ (supports : List (List Bool)) (outer : List Bool) (list : List Grouped) (place : ℕ) where
   -- a group above all has no entry
   pub none_above : (ranges : Ranges) (group : ℕ) → AreFamily supports outer list ranges → length ranges.ends.items ≤ group → HasNoneOfGroup supports outer list place group
-  none_above ranges group f past k is other =
+  none_above ranges group f exceeded k is other =
       let b = f.below k (record { place = 0; group = 0; size = 0 }) other.in_range in
       let n = f.hold.ends in
-      omega (arith, b, n, is, past)
+      omega (arith, b, n, is, exceeded)
 
   -- all entries of a group are in its range
   pub none_in_range : (ranges : Ranges) (group end : ℕ) → AreFamily supports outer list ranges → get_or ranges.ends.items group 0 ≤ end →
@@ -58,7 +58,7 @@ module _ (supports : List (List Bool)) (outer : List Bool) (list : List Grouped)
     left = λ j. bit_after rest (trailing_zeros w64 rest) j ∙ h.left (trailing_zeros w64 rest + suc j) ∙ ap (bit_at word) (let l = h.low in omega arith);
     done = λ i one less. elim (cases_lt (first + i) column) [
       | inl before ↦ h.done i one before
-      | inr past ↦ elim (cases_lt (first + i - column) (trailing_zeros w64 rest)) [
+      | inr exceeded ↦ elim (cases_lt (first + i - column) (trailing_zeros w64 rest)) [
         | inl skipped ↦ absurd (let z = (bit_at-trailing_zeros w64 rest some fits).2 (first + i - column) skipped in
             let e = h.left (first + i - column) ∙ ap (bit_at word) {x = column - first + (first + i - column)} {y = i} (let l = h.low in omega arith) in
             omega (arith, z, e, one))
@@ -70,7 +70,7 @@ module _ (supports : List (List Bool)) (outer : List Bool) (list : List Grouped)
   pub done_all : (first word column : ℕ) → AreDoneBits first word column 0 → (i : ℕ) → bit_at word i ≡ 1 → HasNoneOfGroup supports outer list place (first + i + 1)
   done_all first word column h i one = elim (cases_lt (first + i) column) [
     | inl before ↦ h.done i one before
-    | inr past ↦ absurd (let z = bit_at-zero (first + i - column) in
+    | inr exceeded ↦ absurd (let z = bit_at-zero (first + i - column) in
         let e = h.left (first + i - column) ∙ ap (bit_at word) {x = column - first + (first + i - column)} {y = i} (let l = h.low in omega arith) in
         omega (arith, z, e, one))
   ]
@@ -79,20 +79,20 @@ module _ (supports : List (List Bool)) (outer : List Bool) (list : List Grouped)
 
   -- for each column below n that is set in the first words and not in the second, no entry of its group is such a ray
   abbrev pub HasNoneBelow : ℕ → List ℕ → List ℕ → Type 0
-  HasNoneBelow n words beside = (column : ℕ) → column < n → bit_of words column ≡ true → bit_of beside column ≡ false → HasNoneOfGroup supports outer list place (column + 1)
+  HasNoneBelow n words outside = (column : ℕ) → column < n → bit_of words column ≡ true → bit_of outside column ≡ false → HasNoneOfGroup supports outer list place (column + 1)
 
-  pub none_below_more : (k : ℕ) (words beside : List ℕ) → HasNoneBelow (64 * k) words beside → get_or beside k 0 < 2 ^ 64 →
-      ((i : ℕ) → bit_at (bit_and (get_or words k 0) (bit_not w64 (get_or beside k 0))) i ≡ 1 → HasNoneOfGroup supports outer list place (64 * k + i + 1)) → HasNoneBelow (64 * (k + 1)) words beside
-  none_below_more k words beside h fits none column less is out = elim (cases_lt column (64 * k)) [
+  pub none_below_more : (k : ℕ) (words outside : List ℕ) → HasNoneBelow (64 * k) words outside → get_or outside k 0 < 2 ^ 64 →
+      ((i : ℕ) → bit_at (bit_and (get_or words k 0) (bit_not w64 (get_or outside k 0))) i ≡ 1 → HasNoneOfGroup supports outer list place (64 * k + i + 1)) → HasNoneBelow (64 * (k + 1)) words outside
+  none_below_more k words outside h fits none column less is out = elim (cases_lt column (64 * k)) [
     | inl old ↦ h column old is out
-    | inr past ↦
+    | inr exceeded ↦
         let e : column / 64 ≡ k = omega arith in
         let c : 64 * k + column % 64 + 1 ≡ column + 1 = omega arith in
         let one = is_one (get_or words k 0) (column % 64) (ap (λ j. eqb (bit_at (get_or words j 0) (column % 64)) 1) (sym e) ∙ is) in
-        let zero_is = not_one (get_or beside k 0) (column % 64) (ap (λ j. eqb (bit_at (get_or beside j 0) (column % 64)) 1) (sym e) ∙ out) in
+        let zero_is = not_one (get_or outside k 0) (column % 64) (ap (λ j. eqb (bit_at (get_or outside j 0) (column % 64)) 1) (sym e) ∙ out) in
         subst (HasNoneOfGroup supports outer list place) c (none (column % 64)
-        (bit_at_and (get_or words k 0) (bit_not w64 (get_or beside k 0)) (column % 64) ∙ both (bit_at (get_or words k 0) (column % 64)) _ one
-        (bit_at_not w64 (get_or beside k 0) (column % 64) fits (omega arith) ∙ ap (λ n. 1 - n) zero_is)))
+        (bit_at_and (get_or words k 0) (bit_not w64 (get_or outside k 0)) (column % 64) ∙ both (bit_at (get_or words k 0) (column % 64)) _ one
+        (bit_at_not w64 (get_or outside k 0) (column % 64) fits (omega arith) ∙ ap (λ n. 1 - n) zero_is)))
   ]
     where
       not_one : (n i : ℕ) → eqb (bit_at n i) 1 ≡ false → bit_at n i ≡ 0
@@ -105,9 +105,9 @@ module _ (supports : List (List Bool)) (outer : List Bool) (list : List Grouped)
       both a b one other = omega arith
 
   -- so no other has a residual inside
-  pub none_inside : (ranges : Ranges) (words beside : List ℕ) (n : ℕ) → AreFamily supports outer list ranges → AreWordsOf (support_at supports place) words → AreWordsOf outer beside → length words ≤ n →
-      HasNoneOfGroup supports outer list place 0 → HasNoneBelow (64 * n) words beside → ¬ HasOtherInside supports outer list place
-  none_inside ranges words beside n f of_s of_outer all first none t =
+  pub none_inside : (ranges : Ranges) (words outside : List ℕ) (n : ℕ) → AreFamily supports outer list ranges → AreWordsOf (support_at supports place) words → AreWordsOf outer outside → length words ≤ n →
+      HasNoneOfGroup supports outer list place 0 → HasNoneBelow (64 * n) words outside → ¬ HasOtherInside supports outer list place
+  none_inside ranges words outside n f of_s of_outer all first none t =
       let z : Grouped = record { place = 0; group = 0; size = 0 } in
       let group : ℕ = (grouped_at list t.0).group in
       elim (cases_eq group 0) [
@@ -128,11 +128,11 @@ module _ (supports : List (List Bool)) (outer : List Bool) (list : List Grouped)
 
 -- ---- those with the flag `true`, candidate by candidate
 
-module _ (supports : List (List Bool)) (outer : List Bool) (list : List Grouped) (wanted : List Bool) (candidates : List Candidate) where
+module _ (supports : List (List Bool)) (outer : List Bool) (list : List Grouped) (selected : List Bool) (candidates : List Candidate) where
   abbrev From : ℕ → ℕ → Type 0
   From n place = (k : ℕ) × (k < n) × (k < length candidates) × ((d : Candidate) → (get_or candidates k d).place ≡ place)
 
-  pub wanted_none : AreWantedAlone supports outer list wanted candidates 0 []
+  pub wanted_none : AreSelectedAlone supports outer list selected candidates 0 []
   wanted_none = record {
     each = λ k d within. absurd (omega arith);
     from = λ k d within. absurd (omega arith);
@@ -140,31 +140,31 @@ module _ (supports : List (List Bool)) (outer : List Bool) (list : List Grouped)
     complete = λ k d less. absurd (omega arith);
   }
 
-  module _ (n : ℕ) (places : List ℕ) (h : AreWantedAlone supports outer list wanted candidates n places) where
+  module _ (n : ℕ) (places : List ℕ) (h : AreSelectedAlone supports outer list selected candidates n places) where
     still_from : All (From (n + 1)) places
     still_from k d within = let s = h.from k d within in (s.0, omega (arith, s.1), s.2, s.3)
 
-    pub wanted_push : (place : ℕ) → n < length candidates → ((d : Candidate) → (get_or candidates n d).place ≡ place) → IsWantedAlone supports outer list wanted place → AreWantedAlone supports outer list wanted candidates (n + 1) (places ++ place ∷ [])
+    pub wanted_push : (place : ℕ) → n < length candidates → ((d : Candidate) → (get_or candidates n d).place ≡ place) → IsSelectedAlone supports outer list selected place → AreSelectedAlone supports outer list selected candidates (n + 1) (places ++ place ∷ [])
     wanted_push place within is alone = record {
-      each = All-push (IsWantedAlone supports outer list wanted) places place h.each alone;
+      each = All-push (IsSelectedAlone supports outer list selected) places place h.each alone;
       from = All-push (From (n + 1)) places place still_from (n, omega arith, within, is);
       ascending = λ up. all_pairs_push (λ p q. p < q) places place (h.ascending up) (λ k d inside.
           let s = h.from k d inside in let z : Candidate = record { place = 0; size = 0 } in
           let before = up s.0 n z s.1 within in let one = s.3 z in let other = is z in omega (arith, before, one, other));
       complete = λ k d less inside fine. elim (cases_lt k n) [
         | inl old ↦ Contains-append_left places (place ∷ []) (get_or candidates k d).place (h.complete k d old inside fine)
-        | inr past ↦ let e : n ≡ k = omega arith in subst (Contains (places ++ place ∷ [])) (sym (is d) ∙ ap (λ j. (get_or candidates j d).place) e) (Contains-push places place)
+        | inr exceeded ↦ let e : n ≡ k = omega arith in subst (Contains (places ++ place ∷ [])) (sym (is d) ∙ ap (λ j. (get_or candidates j d).place) e) (Contains-push places place)
       ];
     }
 
-    pub wanted_skip : (place : ℕ) → ((d : Candidate) → (get_or candidates n d).place ≡ place) → ¬ IsWantedAlone supports outer list wanted place → AreWantedAlone supports outer list wanted candidates (n + 1) places
+    pub wanted_skip : (place : ℕ) → ((d : Candidate) → (get_or candidates n d).place ≡ place) → ¬ IsSelectedAlone supports outer list selected place → AreSelectedAlone supports outer list selected candidates (n + 1) places
     wanted_skip place is none = record {
       each = h.each;
       from = still_from;
       ascending = h.ascending;
       complete = λ k d less inside fine. elim (cases_lt k n) [
         | inl old ↦ h.complete k d old inside fine
-        | inr past ↦ let e : k ≡ n = omega arith in absurd (none (subst (IsWantedAlone supports outer list wanted) (ap (λ j. (get_or candidates j d).place) e ∙ is d) fine))
+        | inr exceeded ↦ let e : k ≡ n = omega arith in absurd (none (subst (IsSelectedAlone supports outer list selected) (ap (λ j. (get_or candidates j d).place) e ∙ is d) fine))
       ];
     }
 
@@ -172,12 +172,12 @@ module _ (supports : List (List Bool)) (outer : List Bool) (list : List Grouped)
 
 module _ (supports : List (List Bool)) (outer joined : List Bool) (own most : ℕ) (candidates : List Candidate) (c : AreCandidates supports outer joined own most candidates) where
   -- if no candidate has the flag `true`, no minimal one has it
-  pub none_wanted : (wanted : List Bool) → All (λ (r : Candidate). get_or wanted r.place false ≡ false) candidates → AreMinimalOf supports outer joined own most wanted []
-  none_wanted wanted none = record {
+  pub none_wanted : (selected : List Bool) → All (λ (r : Candidate). get_or selected r.place false ≡ false) candidates → AreMinimalOf supports outer joined own most selected []
+  none_wanted selected none = record {
     each = λ k d within. absurd (omega arith);
     ascending = λ i j d less within. absurd (omega arith);
     complete = λ place minimal is. absurd (let t = c.complete place minimal in
-        false≢true (sym (All-contains (λ (r : Candidate). get_or wanted r.place false ≡ false) candidates t.0 none t.1) ∙ ap (λ k. get_or wanted k false) t.2 ∙ is));
+        false≢true (sym (All-contains (λ (r : Candidate). get_or selected r.place false ≡ false) candidates t.0 none t.1) ∙ ap (λ k. get_or selected k false) t.2 ∙ is));
   }
 
   module _ (list : List Grouped) (g : AreGrouped supports outer candidates (length candidates) list) where
@@ -189,11 +189,11 @@ module _ (supports : List (List Bool)) (outer joined : List Bool) (own most : �
 
     minimal_from_alone : (place : ℕ) → HasPlace candidates place → ¬ HasOtherInside supports outer list place → IsMinimal supports outer joined own most place
     minimal_from_alone place t alone = record {
-      rival = subst (λ k. IsRival supports outer joined own most k) t.2 (All-contains (IsSized supports outer joined own most) candidates t.0 c.each t.1).rival;
-      minimal = λ k rival inside. elim (cases_eq k place) [
+      candidate = subst (λ k. IsCandidate supports outer joined own most k) t.2 (All-contains (IsSized supports outer joined own most) candidates t.0 c.each t.1).candidate;
+      minimal = λ k candidate inside. elim (cases_eq k place) [
         | inl e ↦ e
         | inr differ ↦ absurd (let covered = inside_union outer (support_at supports k) (support_at supports place) inside in
-            let e = has_entry k (c.closed t.0 k t.1 rival (subst (λ j. IsInsideUnionOf (support_at supports k) outer (support_at supports j)) (sym t.2) covered)) in
+            let e = has_entry k (c.closed t.0 k t.1 candidate (subst (λ j. IsInsideUnionOf (support_at supports k) outer (support_at supports j)) (sym t.2) covered)) in
             let at = ap (λ (it : Grouped). it.place) (entry_at e.0 e.1) ∙ e.2 in
             alone (
               e.1.0,
@@ -211,16 +211,16 @@ module _ (supports : List (List Bool)) (outer joined : List Bool) (own most : �
         let z : Grouped = record { place = 0; group = 0; size = 0 } in
         let t = g.from other.0 z other.1.in_range in
         other.1.other (minimal.minimal (grouped_at list other.0).place
-        (subst (λ k. IsRival supports outer joined own most k) t.2 (All-contains (IsSized supports outer joined own most) candidates t.0 c.each t.1).rival)
+        (subst (λ k. IsCandidate supports outer joined own most k) t.2 (All-contains (IsSized supports outer joined own most) candidates t.0 c.each t.1).candidate)
         (inside_residual outer (support_at supports (grouped_at list other.0).place) (support_at supports place) other.1.inside))
 
-    pub minimal_of : (wanted : List Bool) (places : List ℕ) → AreWantedAlone supports outer list wanted candidates (length candidates) places → AreMinimalOf supports outer joined own most wanted places
-    minimal_of wanted places h = record {
+    pub minimal_of : (selected : List Bool) (places : List ℕ) → AreSelectedAlone supports outer list selected candidates (length candidates) places → AreMinimalOf supports outer joined own most selected places
+    minimal_of selected places h = record {
       each = λ k d within. let s = h.each k d within in let f = h.from k d within in let z : Candidate = record { place = 0; size = 0 } in
-          (minimal_from_alone (get_or places k d) (get_or candidates f.0 z, Contains-get_or candidates f.0 z f.2, f.3 z) s.alone, s.is_wanted);
+          (minimal_from_alone (get_or places k d) (get_or candidates f.0 z, Contains-get_or candidates f.0 z f.2, f.3 z) s.alone, s.is_selected);
       ascending = h.ascending c.ascending;
       complete = λ place minimal is. let t = c.complete place minimal in
           let at = ap (λ (r : Candidate). r.place) t.1.2 ∙ t.2 in
           subst (Contains places) at (h.complete t.1.0 t.0 t.1.1 t.1.1
-          (subst (IsWantedAlone supports outer list wanted) (sym at) (record { is_wanted = is; alone = alone_if_minimal place minimal })));
+          (subst (IsSelectedAlone supports outer list selected) (sym at) (record { is_selected = is; alone = alone_if_minimal place minimal })));
     }

@@ -13,12 +13,14 @@ use Rattle.support_bits.specs.Columns.{HasColumn, Meets}
 use Rattle.support_bits.specs.Words.{bit_of, AreWordsOf}
 use Rattle.support_bits.proofs.WordLemmas.{is_one}
 use Rattle.support_table.specs.Blocks.{KeepsCommon}
-use Rattle.support_table.specs.Parts.{outer_at, AreAllBelow, AreNear, HasAllApart, IsPart, AreColumnsOf, AreCommonColumns, HasOneOf, AreLeft, IsFoundFor, AreFoundFor}
-use Rattle.support_table.specs.Residuals.{support_at, IsRival, AreMinimalOf}
-use Rattle.support_table.specs.Rivals.{AreRivals}
+use Rattle.support_table.specs.Parts.{outer_at, AreAllBelow, AreNear, AreCopied, HasAllAvoiding, ArePartRays, AreColumnsOf, AreCommonColumns, HasOneOf, AreLeft, IsPart, IsWithout, IsFoundFor, AreFoundFor}
+use Rattle.support_table.specs.Residuals.{support_at, IsCandidate, AreMinimalOf}
+use Rattle.support_table.specs.Candidates.{ListCandidates}
 use Rattle.support_table.specs.declared.outer.Outer.{Outer}
+use Rattle.support_table.specs.declared.part.Part.{Part}
 use Rattle.support_table.specs.declared.parts.Found.{Found}
-use Rattle.support_table.specs.declared.rivals.Candidate.{Candidate}
+use Rattle.support_table.specs.declared.compatible_list.Candidate.{Candidate}
+use Rattle.support_table.specs.Tables.{Table}
 use Rattle.support_table.proofs.BlockLemmas.{common_bits}
 use Rattle.support_table.proofs.HolderLemmas.{rivals_past, rivals_all}
 use Rattle.support_table.proofs.RivalLemmas.{rival_skip}
@@ -29,15 +31,15 @@ same_at places k m d e is within = ap (λ j. get_or places j d) is ∙ get_or_de
 -- ---- candidates among some rays
 
 -- the candidates among the first m of the rays
-pub record AreRivalsTo (supports : List (List Bool)) (outer joined : List Bool) (own most : ℕ) (places : List ℕ) (m : ℕ) (rivals : List Candidate) : Type 0 where
+pub record AreRivalsTo (supports : List (List Bool)) (outer joined : List Bool) (own most : ℕ) (places : List ℕ) (m : ℕ) (compatible_list : List Candidate) : Type 0 where
   pub up_to : ℕ
   pub before : (k d : ℕ) → k < m → k < length places → get_or places k d < up_to
   pub after : (k d : ℕ) → m ≤ k → k < length places → up_to ≤ get_or places k d
-  pub so_far : AreRivals supports outer joined own most up_to rivals
+  pub so_far : ListCandidates supports outer joined own most up_to compatible_list
 
 module _ (supports : List (List Bool)) (outer joined : List Bool) (own most : ℕ) (places : List ℕ) where
-  pub among_none : (rivals : List Candidate) → rivals ≡ [] → AreRivalsTo supports outer joined own most places 0 rivals
-  among_none rivals none = let empty : length rivals ≡ 0 = ap length none in record {
+  pub among_none : (compatible_list : List Candidate) → compatible_list ≡ [] → AreRivalsTo supports outer joined own most places 0 compatible_list
+  among_none compatible_list none = let empty : length compatible_list ≡ 0 = ap length none in record {
     up_to = 0;
     before = λ k d less. absurd (omega arith);
     after = λ k d _ within. omega arith;
@@ -51,31 +53,31 @@ module _ (supports : List (List Bool)) (outer joined : List Bool) (own most : �
 
   module _ (near : AreNear supports joined places) where
     -- a candidate from up_to on is one of the rays from m on
-    rival_from : (m : ℕ) (rivals : List Candidate) → (t : AreRivalsTo supports outer joined own most places m rivals) → (place : ℕ) → t.up_to ≤ place → IsRival supports outer joined own most place →
+    rival_from : (m : ℕ) (compatible_list : List Candidate) → (t : AreRivalsTo supports outer joined own most places m compatible_list) → (place : ℕ) → t.up_to ≤ place → IsCandidate supports outer joined own most place →
         (k : ℕ) × (m ≤ k) × (k < length places) × (get_or places k place ≡ place)
-    rival_from m rivals t place from rival =
-        let c = near.complete place rival.in_range rival.apart in
+    rival_from m compatible_list t place from candidate =
+        let c = near.complete place candidate.in_range candidate.separate in
         elim (cases_lt c.0 m) [
           | inl early ↦ let b = t.before c.0 place early c.1 in let e = c.2 in absurd (omega arith)
           | inr late ↦ (c.0, omega arith, c.1, c.2)
         ]
 
-    none_between : (m : ℕ) (rivals : List Candidate) → (t : AreRivalsTo supports outer joined own most places m rivals) → m < length places → (place : ℕ) → t.up_to ≤ place → place < get_or places m 0 → ¬ IsRival supports outer joined own most place
-    none_between m rivals t within place from less rival =
-        let c = rival_from m rivals t place from rival in
+    none_between : (m : ℕ) (compatible_list : List Candidate) → (t : AreRivalsTo supports outer joined own most places m compatible_list) → m < length places → (place : ℕ) → t.up_to ≤ place → place < get_or places m 0 → ¬ IsCandidate supports outer joined own most place
+    none_between m compatible_list t within place from less candidate =
+        let c = rival_from m compatible_list t place from candidate in
         elim (cases_eq c.0 m) [
           | inl e ↦ let same = same_at places c.0 m place 0 e within in let is = c.3 in omega arith
           | inr other ↦ let low = c.1 in let b = near.ascending m c.0 0 (omega arith) c.2 in let same = get_or_default places c.0 place 0 c.2 in let is = c.3 in omega arith
         ]
 
-    pub among_reach : (m : ℕ) (rivals : List Candidate) → AreRivalsTo supports outer joined own most places m rivals → m < length places → AreRivals supports outer joined own most (get_or places m 0) rivals
-    among_reach m rivals t within =
+    pub among_reach : (m : ℕ) (compatible_list : List Candidate) → AreRivalsTo supports outer joined own most places m compatible_list → m < length places → ListCandidates supports outer joined own most (get_or places m 0) compatible_list
+    among_reach m compatible_list t within =
         let low = t.after m 0 (omega arith) within in
-        subst (λ n. AreRivals supports outer joined own most n rivals) {x = t.up_to + (get_or places m 0 - t.up_to)} {y = get_or places m 0} (omega (arith, low))
-        (rivals_past supports outer joined own most t.up_to (get_or places m 0 - t.up_to) rivals (λ i less. none_between m rivals t within (t.up_to + i) (omega arith) (omega arith)) t.so_far)
+        subst (λ n. ListCandidates supports outer joined own most n compatible_list) {x = t.up_to + (get_or places m 0 - t.up_to)} {y = get_or places m 0} (omega (arith, low))
+        (rivals_past supports outer joined own most t.up_to (get_or places m 0 - t.up_to) compatible_list (λ i less. none_between m compatible_list t within (t.up_to + i) (omega arith) (omega arith)) t.so_far)
 
-    pub among_next : (m : ℕ) (rivals : List Candidate) → m < length places → AreRivals supports outer joined own most (get_or places m 0 + 1) rivals → AreRivalsTo supports outer joined own most places (m + 1) rivals
-    among_next m rivals within h = record {
+    pub among_next : (m : ℕ) (compatible_list : List Candidate) → m < length places → ListCandidates supports outer joined own most (get_or places m 0 + 1) compatible_list → AreRivalsTo supports outer joined own most places (m + 1) compatible_list
+    among_next m compatible_list within h = record {
       up_to = get_or places m 0 + 1;
       before = λ k d less l. elim (cases_eq k m) [
         | inl e ↦ let same = same_at places k m d 0 e within in omega arith
@@ -85,14 +87,14 @@ module _ (supports : List (List Bool)) (outer joined : List Bool) (own most : �
       so_far = h;
     }
 
-    pub among_skip : (m : ℕ) (rivals : List Candidate) → AreRivalsTo supports outer joined own most places m rivals → m < length places → Meets (support_at supports (get_or places m 0)) joined →
-        AreRivalsTo supports outer joined own most places (m + 1) rivals
-    among_skip m rivals t within meets = among_next m rivals within (rival_skip supports outer joined own most (get_or places m 0) rivals (among_reach m rivals t within) (λ r. r.apart meets))
+    pub among_skip : (m : ℕ) (compatible_list : List Candidate) → AreRivalsTo supports outer joined own most places m compatible_list → m < length places → Meets (support_at supports (get_or places m 0)) joined →
+        AreRivalsTo supports outer joined own most places (m + 1) compatible_list
+    among_skip m compatible_list t within meets = among_next m compatible_list within (rival_skip supports outer joined own most (get_or places m 0) compatible_list (among_reach m compatible_list t within) (λ r. r.separate meets))
 
-    pub among_all : (m : ℕ) (rivals : List Candidate) → AreRivalsTo supports outer joined own most places m rivals → length places ≤ m → AreRivals supports outer joined own most (length supports) rivals
-    among_all m rivals t all = rivals_all supports outer joined own most (t.up_to + length supports) rivals (omega arith)
-        (rivals_past supports outer joined own most t.up_to (length supports) rivals
-        (λ i less rival. let c = rival_from m rivals t (t.up_to + i) (omega arith) rival in let low = c.1 in let l = c.2 in omega arith) t.so_far)
+    pub among_all : (m : ℕ) (compatible_list : List Candidate) → AreRivalsTo supports outer joined own most places m compatible_list → length places ≤ m → ListCandidates supports outer joined own most (length supports) compatible_list
+    among_all m compatible_list t all = rivals_all supports outer joined own most (t.up_to + length supports) compatible_list (omega arith)
+        (rivals_past supports outer joined own most t.up_to (length supports) compatible_list
+        (λ i less candidate. let c = rival_from m compatible_list t (t.up_to + i) (omega arith) candidate in let low = c.1 in let l = c.2 in omega arith) t.so_far)
 
 -- ---- columns that several outer rays clash with
 
@@ -105,7 +107,7 @@ kept_bits words old new keeps long column is =
     let i = column % 64 in
     elim (cases_lt j (length words)) [
       | inl less ↦ let both = common_bits (get_or old j 0) (get_or words j 0) (get_or new j 0) i (kept_at words old new j keeps less) (is_one _ _ is) in (eq-eqb _ 1 both.0, eq-eqb _ 1 both.1)
-      | inr past ↦ let count = keeps.count in
+      | inr exceeded ↦ let count = keeps.count in
           let nothing : get_or new j 0 ≡ 0 = get_or_past new j 0 (omega (arith, count, long)) in
           absurd (false≢true (sym (ap (λ m. eqb (bit_at m i) 1) nothing ∙ ap (λ m. eqb m 1) (bit_at-zero i)) ∙ is))
     ]
@@ -165,6 +167,35 @@ module _ (supports : List (List Bool)) (words places : List ℕ) where
     ];
   }
 
+-- ---- copies of supports
+
+pub copied_none : (rays : Table) (places : List ℕ) (table : Table) → places ≡ [] → table ≡ record { columns = rays.columns; supports = [] } → AreCopied rays places table
+copied_none rays places table none is = record {
+  columns = ap (λ (t : Table). t.columns) is;
+  count = ap (λ (t : Table). length t.supports) is ∙ sym (ap length none);
+  each = λ k d within. let empty : length places ≡ 0 = ap length none in absurd (omega (arith, empty));
+}
+
+pub copied_push : (rays : Table) (places more : List ℕ) (table new : Table) (place : ℕ) (support : List Bool) → AreCopied rays places table → more ≡ places ++ place ∷ [] →
+    new ≡ record { columns = table.columns; supports = table.supports ++ support ∷ [] } → support ≡ support_at rays.supports place → AreCopied rays more new
+copied_push rays places more table new place support h more_is new_is support_is =
+    let supports = table.supports in
+    let all = supports ++ support ∷ [] in
+    let n = length places in
+    let count = h.count in
+    let at_new : new.supports ≡ all = ap (λ (t : Table). t.supports) new_is in
+    let longer : length more ≡ n + 1 = ap length more_is ∙ length-append places (place ∷ []) in record {
+      columns = ap (λ (t : Table). t.columns) new_is ∙ h.columns;
+      count = ap length at_new ∙ length-append supports (support ∷ []) ∙ ap (λ m. m + 1) count ∙ sym longer;
+      each = λ k d within. ap (λ ss. support_at ss k) at_new ∙ elim (cases_lt k n) [
+        | inl old ↦ get_or_append_left supports (support ∷ []) [] k (omega (arith, count)) ∙ h.each k d old ∙
+            ap (support_at rays.supports) (sym (ap (λ ps. get_or ps k d) more_is ∙ get_or_append_left places (place ∷ []) d k old))
+        | inr exceeded ↦ let at : k ≡ length supports + 0 = omega (arith, longer, count) in let at_place : k ≡ n + 0 = omega (arith, longer) in
+            ap (λ j. get_or all j []) at ∙ get_or-append-add supports (support ∷ []) 0 [] ∙ support_is ∙
+            ap (support_at rays.supports) (sym (ap (λ ps. get_or ps k d) more_is ∙ ap (λ j. get_or (places ++ place ∷ []) j d) at_place ∙ get_or-append-add places (place ∷ []) 0 d))
+      ];
+    }
+
 -- ---- parts
 
 pub chosen_push : (chosen part : List ℕ) (n p : ℕ) → All (Contains chosen) part → n < length chosen → ((d : ℕ) → get_or chosen n d ≡ p) → All (Contains chosen) (part ++ p ∷ [])
@@ -172,56 +203,70 @@ chosen_push chosen part n p h within is = All-push (Contains chosen) part p h (n
 
 module _ (supports : List (List Bool)) (outers : List Outer) where
   -- some of the outer rays
-  pub part_of : (chosen some places : List ℕ) → IsPart supports outers chosen places → All (Contains chosen) some → IsPart supports outers some places
+  pub part_of : (chosen some places : List ℕ) → ArePartRays supports outers chosen places → All (Contains chosen) some → ArePartRays supports outers some places
   part_of chosen some places h from = record {
     are_outers = λ k d within. All-contains (λ j. j < length outers) chosen (get_or some k d) h.are_outers (from k d within);
     in_range = h.in_range;
     ascending = h.ascending;
-    complete = λ k d within. All-contains (λ j. HasAllApart supports (outer_at outers j).joined places) chosen (get_or some k d) h.complete (from k d within);
+    complete = λ k d within. All-contains (λ j. HasAllAvoiding supports (outer_at outers j).joined places) chosen (get_or some k d) h.complete (from k d within);
   }
 
   -- Theorem: rays that contain a column with which all outer rays clash may be left out
-  pub part_left : (chosen places left words : List ℕ) (columns n : ℕ) → IsPart supports outers chosen places → AreCommonColumns outers chosen columns words → length places ≤ n → AreLeft supports words places n left → IsPart supports outers chosen left
+  pub part_left : (chosen places left words : List ℕ) (columns n : ℕ) → ArePartRays supports outers chosen places → AreCommonColumns outers chosen columns words → length places ≤ n → AreLeft supports words places n left → ArePartRays supports outers chosen left
   part_left chosen places left words columns n h common all l = record {
     are_outers = h.are_outers;
     in_range = λ k d within. let s = l.from k d within in subst (λ p. p < length supports) (s.3 0) (h.in_range s.0 0 s.2);
     ascending = l.ascending h.ascending;
-    complete = λ k d within place inside apart.
-        let c = h.complete k d within place inside apart in
-        let free : ¬ HasOneOf (support_at supports place) words = (λ has. apart (has.0, has.1, common.each k d within has.0 has.2)) in
+    complete = λ k d within place inside separate.
+        let c = h.complete k d within place inside separate in
+        let free : ¬ HasOneOf (support_at supports place) words = (λ has. separate (has.0, has.1, common.each k d within has.0 has.2)) in
         subst (Contains left) c.2 (l.complete c.0 place (let less = c.1 in omega arith) c.1 (subst (λ p. ¬ HasOneOf (support_at supports p) words) (sym c.2) free));
   }
 
-  pub near_of : (chosen places : List ℕ) (n : ℕ) (it : Outer) → IsPart supports outers chosen places → n < length chosen → outer_at outers (get_or chosen n 0) ≡ it → AreNear supports it.joined places
+  pub near_of : (chosen places : List ℕ) (n : ℕ) (it : Outer) → ArePartRays supports outers chosen places → n < length chosen → outer_at outers (get_or chosen n 0) ≡ it → AreNear supports it.joined places
   near_of chosen places n it h within is = record {
     in_range = h.in_range;
     ascending = h.ascending;
-    complete = subst (λ (o : Outer). HasAllApart supports o.joined places) is (h.complete n 0 within);
+    complete = subst (λ (o : Outer). HasAllAvoiding supports o.joined places) is (h.complete n 0 within);
+  }
+
+module _ (rays : Table) (outers : List Outer) where
+  pub part_of_some : (chosen some : List ℕ) (part : Part) → IsPart rays outers chosen part → All (Contains chosen) some → IsPart rays outers some part
+  part_of_some chosen some part h from = record {
+    separate = part_of rays.supports outers chosen some part.places.items h.separate from;
+    copied = h.copied;
+  }
+
+  -- Theorem: rays of a part that contain a column with which all outer rays clash may be left out
+  pub part_without : (chosen words : List ℕ) (part left : Part) → IsPart rays outers chosen part → AreCommonColumns outers chosen rays.columns words → IsWithout rays words part.places.items (length part.places.items) left → IsPart rays outers chosen left
+  part_without chosen words part left h common l = record {
+    separate = part_left rays.supports outers chosen part.places.items left.places.items words rays.columns (length part.places.items) h.separate common (omega arith) l.left;
+    copied = l.copied;
   }
 
 -- ---- what was found
 
-module _ (supports : List (List Bool)) (outers : List Outer) (wanted : List Bool) (most : ℕ) where
-  pub found_set : (found new : List Found) (k : ℕ) (it : Outer) (entry : Found) → AreFoundFor supports outers wanted most found → k < length outers → outer_at outers k ≡ it → it.place < length supports →
-      IfSome entry.places (λ list. AreMinimalOf supports it.support it.joined it.place most wanted list.items) → new ≡ set found it.place entry → AreFoundFor supports outers wanted most new
+module _ (supports : List (List Bool)) (outers : List Outer) (selected : List Bool) (most : ℕ) where
+  pub found_set : (found new : List Found) (k : ℕ) (it : Outer) (entry : Found) → AreFoundFor supports outers selected most found → k < length outers → outer_at outers k ≡ it → it.place < length supports →
+      IfSome entry.places (λ list. AreMinimalOf supports it.support it.joined it.place most selected list.items) → new ≡ set found it.place entry → AreFoundFor supports outers selected most new
   found_set found new k it entry h within it_is inside minimal is = record {
     count = ap length is ∙ length-set found it.place entry ∙ h.count;
     each = λ place d less. elim (cases_eq place it.place) [
-      | inl e ↦ subst (IsFoundFor supports outers wanted most place) (sym (ap (λ fs. get_or fs place d) is ∙ ap (λ p. get_or (set found it.place entry) p d) e ∙ get_or-set_same found it.place entry d (omega (arith, inside, h.count)))) (rest place e)
-      | inr other ↦ subst (IsFoundFor supports outers wanted most place) (sym (ap (λ fs. get_or fs place d) is ∙ get_or-set_other found it.place place entry d other))
+      | inl e ↦ subst (IsFoundFor supports outers selected most place) (sym (ap (λ fs. get_or fs place d) is ∙ ap (λ p. get_or (set found it.place entry) p d) e ∙ get_or-set_same found it.place entry d (omega (arith, inside, h.count)))) (rest place e)
+      | inr other ↦ subst (IsFoundFor supports outers selected most place) (sym (ap (λ fs. get_or fs place d) is ∙ get_or-set_other found it.place place entry d other))
           (h.each place d (let n = ap length is ∙ length-set found it.place entry in omega arith))
     ];
   }
     where
-      rest : (place : ℕ) → place ≡ it.place → IsFoundFor supports outers wanted most place entry
-      rest place e = subst (λ p. IsFoundFor supports outers wanted most p entry) (sym e) (IfSome_then entry.places minimal
-          (λ list m. (k, within, ap (λ (o : Outer). o.place) it_is, subst (λ (o : Outer). AreMinimalOf supports o.support o.joined it.place most wanted list.items) (sym it_is) m)))
+      rest : (place : ℕ) → place ≡ it.place → IsFoundFor supports outers selected most place entry
+      rest place e = subst (λ p. IsFoundFor supports outers selected most p entry) (sym e) (IfSome_then entry.places minimal
+          (λ list m. (k, within, ap (λ (o : Outer). o.place) it_is, subst (λ (o : Outer). AreMinimalOf supports o.support o.joined it.place most selected list.items) (sym it_is) m)))
 
 -- nothing was found yet
-pub found_none : (supports : List (List Bool)) (outers : List Outer) (wanted : List Bool) (most : ℕ) (found : List Found) → length found ≡ length supports → All (λ (it : Found). it.places ≡ None) found → AreFoundFor supports outers wanted most found
-found_none supports outers wanted most found count none = record {
+pub found_none : (supports : List (List Bool)) (outers : List Outer) (selected : List Bool) (most : ℕ) (found : List Found) → length found ≡ length supports → All (λ (it : Found). it.places ≡ None) found → AreFoundFor supports outers selected most found
+found_none supports outers selected most found count none = record {
   count = count;
-  each = λ place d less. subst (λ o. IfSome o (λ list. (k : ℕ) × (k < length outers) × ((outer_at outers k).place ≡ place) × AreMinimalOf supports (outer_at outers k).support (outer_at outers k).joined place most wanted list.items))
+  each = λ place d less. subst (λ o. IfSome o (λ list. (k : ℕ) × (k < length outers) × ((outer_at outers k).place ≡ place) × AreMinimalOf supports (outer_at outers k).support (outer_at outers k).joined place most selected list.items))
       (sym (none place d less)) tt;
 }
 
@@ -235,15 +280,15 @@ below_push n places h = record {
   count_is = omega (arith, h.count_is, length-append places (n ∷ []));
   each = λ k d less. elim (cases_lt k n) [
     | inl old ↦ get_or_append_left places (n ∷ []) d k (omega (arith, h.count_is)) ∙ h.each k d old
-    | inr past ↦ let at : k ≡ length places + 0 = omega (arith, h.count_is) in let e : n ≡ k = omega arith in
+    | inr exceeded ↦ let at : k ≡ length places + 0 = omega (arith, h.count_is) in let e : n ≡ k = omega arith in
         ap (λ j. get_or (places ++ n ∷ []) j d) at ∙ get_or-append-add places (n ∷ []) 0 d ∙ e
   ];
 }
 
-pub part_of_all : (supports : List (List Bool)) (outers : List Outer) (chosen places : List ℕ) → AreAllBelow (length outers) chosen → AreAllBelow (length supports) places → IsPart supports outers chosen places
+pub part_of_all : (supports : List (List Bool)) (outers : List Outer) (chosen places : List ℕ) → AreAllBelow (length outers) chosen → AreAllBelow (length supports) places → ArePartRays supports outers chosen places
 part_of_all supports outers chosen places c p = record {
   are_outers = λ k d within. let n = c.count_is in let is = c.each k d (omega (arith, n)) in omega (arith, is, n);
   in_range = λ k d within. let n = p.count_is in let is = p.each k d (omega (arith, n)) in omega (arith, is, n);
   ascending = λ k l d less within. let n = p.count_is in let one = p.each k d (omega (arith, n)) in let other = p.each l d (omega (arith, n)) in omega (arith, one, other);
-  complete = λ k d within place inside apart. (place, (let n = p.count_is in omega (arith, n)), p.each place place inside);
+  complete = λ k d within place inside separate. (place, (let n = p.count_is in omega (arith, n)), p.each place place inside);
 }

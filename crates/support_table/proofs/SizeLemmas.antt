@@ -22,7 +22,7 @@ or_weaker false y z h is = elim (h is) [ inl none ↦ absurd (false≢true none)
 pub column_within : (s : List Bool) (column : ℕ) → HasColumn s column → column < length s
 column_within s column has = elim (cases_lt column (length s)) [
   | inl less ↦ less
-  | inr past ↦ absurd (false≢true (sym (get_or_past s column false past) ∙ has))
+  | inr exceeded ↦ absurd (false≢true (sym (get_or_past s column false exceeded) ∙ has))
 ]
 
 -- a residual inside another has at most as many columns
@@ -32,14 +32,14 @@ size_within outer s t inside = count_weaker (λ k. get_or outer k false || get_o
 
 -- if the outer one has at most as many, the two are equal
 pub same_size : (outer s t : List Bool) → length t ≡ length outer → IsInsideUnionOf s outer t → columns_in_either outer t ≤ columns_in_either outer s → IsInsideUnionOf t outer s
-same_size outer s t wide inside few column has = elim (cases_Bool (get_or outer column false)) [
+same_size outer s t wide inside limited column has = elim (cases_Bool (get_or outer column false)) [
   | inl e ↦ inl e
   | inr out ↦ elim (cases_Bool (get_or s column false)) [
     | inl e ↦ inr e
     | inr none ↦ absurd (let less = column_within t column has in
         let more = count_stronger (λ k. get_or outer k false || get_or s k false) (λ k. get_or outer k false || get_or t k false) 0 (length outer) column
         (λ k is. or_weaker (get_or outer k false) (get_or s k false) (get_or t k false) (inside k) is) (omega arith) (omega (arith, wide))
-        (ap₂ (λ x y. x || y) out none) (or_right (get_or outer column false) (get_or t column false) has) in omega (arith, few, more))
+        (ap₂ (λ x y. x || y) out none) (or_right (get_or outer column false) (get_or t column false) has) in omega (arith, limited, more))
   ]
 ]
 
@@ -49,11 +49,11 @@ one_more x y is = or_left (x || x) y is
 -- a residual of a single column lies inside each that contains it
 pub single_inside : (outer s t : List Bool) (column : ℕ) → length s ≡ length outer → columns_in_either outer s ≤ columns_in_either outer outer + 1 →
     HasColumn s column → ¬ HasColumn outer column → HasColumn t column → IsInsideUnionOf s outer t
-single_inside outer s t column wide few has beside in_t other other_has = elim (cases_Bool (get_or outer other false)) [
+single_inside outer s t column wide limited has outside in_t other other_has = elim (cases_Bool (get_or outer other false)) [
   | inl e ↦ inl e
   | inr out ↦ elim (cases_eq other column) [
     | inl e ↦ inr (ap (λ k. get_or t k false) e ∙ in_t)
-    | inr apart ↦ absurd (two out apart)
+    | inr separate ↦ absurd (two out separate)
   ]
 ]
   where
@@ -67,7 +67,7 @@ single_inside outer s t column wide few has beside in_t other other_has = elim (
     r k = get_or outer k false || get_or s k false
 
     without : get_or outer column false ≡ false
-    without = elim (cases_Bool (get_or outer column false)) [ inl e ↦ absurd (beside e) | inr e ↦ e ]
+    without = elim (cases_Bool (get_or outer column false)) [ inl e ↦ absurd (outside e) | inr e ↦ e ]
 
     to_r : (k : ℕ) → q k ≡ true → r k ≡ true
     to_r k is = elim (cases_Bool (get_or outer k false)) [
@@ -83,12 +83,12 @@ single_inside outer s t column wide few has beside in_t other other_has = elim (
     not_equal false none = refl
 
     two : get_or outer other false ≡ false → other ≢ column → ⊥
-    two out apart =
+    two out separate =
         let first = count_stronger p q 0 (length outer) column (λ k is. or_left (p k) (eqb k column) is) (omega arith) (let less = column_within s column has in omega (arith, wide))
         (ap (λ x. x || x) without) (or_right (p column) (eqb column column) (eq-eqb column column refl)) in
         let second = count_stronger q r 0 (length outer) other to_r (omega arith) (let less = column_within s other other_has in omega (arith, wide))
-        (ap₂ (λ x y. (x || x) || y) out (not_equal (eqb other column) (λ e. apart (eqb-true other column e)))) (or_right (get_or outer other false) (get_or s other false) other_has) in
-        omega (arith, few, first, second)
+        (ap₂ (λ x y. (x || x) || y) out (not_equal (eqb other column) (λ e. separate (eqb-true other column e)))) (or_right (get_or outer other false) (get_or s other false) other_has) in
+        omega (arith, limited, first, second)
 
 pub columns_within : (a b : List Bool) → columns_in_either a b ≤ length a
 columns_within a b = omega (arith, count_by-le-length (λ k. get_or a k false || get_or b k false) (range_with_len 0 (length a)), length-range_with_len 0 (length a))

@@ -26,7 +26,7 @@ pub record KeepsCommon (start n : ℕ) (words old new : List ℕ) : Type 0 where
   pub count : length new ≡ length old
   pub before : (j : ℕ) → j < start → slice_index new j ≡ slice_index old j
   pub kept : (j : ℕ) → j < n → slice_index new (start + j) ≡ bit_and (slice_index old (start + j)) (slice_index words j)
-  pub behind : (j : ℕ) → n ≤ j → slice_index new (start + j) ≡ slice_index old (start + j)
+  pub after : (j : ℕ) → n ≤ j → slice_index new (start + j) ≡ slice_index old (start + j)
 
 -- `width` words are appended to `old`: a bit that is set in them is set for each of the n supports from `first` on
 pub record AreCommonOf (width first n : ℕ) (words old new : List ℕ) : Type 0 where

@@ -5,13 +5,13 @@ use Rattle.support_bits.specs.Columns.{HasColumn, IsInsideUnionOf}
 use Rattle.support_bits.specs.Words.{bit_of}
 use Rattle.support_table.specs.declared.groups.Grouped.{Grouped}
 use Rattle.support_table.specs.declared.groups.Ranges.{Ranges}
-use Rattle.support_table.specs.declared.rivals.Candidate.{Candidate}
+use Rattle.support_table.specs.declared.compatible_list.Candidate.{Candidate}
 use Rattle.support_table.specs.Residuals.{support_at}
-use Rattle.support_table.specs.Rivals.{HasPlace}
+use Rattle.support_table.specs.Candidates.{HasPlace}
 
 -- the number is 0, or one more than a column that is set in words and not in outer
-abbrev pub IsColumnBeside : List ℕ → List ℕ → ℕ → Type 0
-IsColumnBeside words outer group = (group ≡ 0) ⊎ ((column : ℕ) × (group ≡ column + 1) × (bit_of words column ≡ true) × (bit_of outer column ≡ false))
+abbrev pub IsColumnOutside : List ℕ → List ℕ → ℕ → Type 0
+IsColumnOutside words outer group = (group ≡ 0) ⊎ ((column : ℕ) × (group ≡ column + 1) × (bit_of words column ≡ true) × (bit_of outer column ≡ false))
 
 -- the group of a ray: 0, or one more than a column of its residual
 abbrev pub IsGroup : List Bool → List Bool → ℕ → Type 0
@@ -67,14 +67,14 @@ abbrev pub HasNoneOfGroup : List (List Bool) → List Bool → List Grouped → 
 HasNoneOfGroup supports outer list place group = (k : ℕ) → (grouped_at list k).group ≡ group → ¬ IsOtherInside supports outer list place k
 
 -- the ray with index place has the flag `true`, and its residual contains that of no other entry
-pub record IsWantedAlone (supports : List (List Bool)) (outer : List Bool) (list : List Grouped) (wanted : List Bool) (place : ℕ) : Type 0 where
-  pub is_wanted : slice_index_or wanted place false ≡ true
+pub record IsSelectedAlone (supports : List (List Bool)) (outer : List Bool) (list : List Grouped) (selected : List Bool) (place : ℕ) : Type 0 where
+  pub is_selected : slice_index_or selected place false ≡ true
   pub alone : ¬ HasOtherInside supports outer list place
 
 -- the indices of those of the first n candidates, in order
-pub record AreWantedAlone (supports : List (List Bool)) (outer : List Bool) (list : List Grouped) (wanted : List Bool) (candidates : List Candidate) (n : ℕ) (places : List ℕ) : Type 0 where
-  pub each : All (IsWantedAlone supports outer list wanted) places
+pub record AreSelectedAlone (supports : List (List Bool)) (outer : List Bool) (list : List Grouped) (selected : List Bool) (candidates : List Candidate) (n : ℕ) (places : List ℕ) : Type 0 where
+  pub each : All (IsSelectedAlone supports outer list selected) places
   pub from : All (λ place. (k : ℕ) × (k < n) × (k < length candidates) × ((d : Candidate) → (slice_index_or candidates k d).place ≡ place)) places
   pub ascending : AllPairs (λ r s. r.place < s.place) candidates → AllPairs (λ one other. one < other) places
-  pub complete : (k : ℕ) (d : Candidate) → k < n → k < length candidates → IsWantedAlone supports outer list wanted (slice_index_or candidates k d).place →
+  pub complete : (k : ℕ) (d : Candidate) → k < n → k < length candidates → IsSelectedAlone supports outer list selected (slice_index_or candidates k d).place →
       Contains places (slice_index_or candidates k d).place

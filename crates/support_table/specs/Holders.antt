@@ -34,6 +34,6 @@ pub record IsMeeting (supports : List (List Bool)) (columns places : List Bool) 
   pub complete : (place : ℕ) → Meets (support_at supports place) columns → HasColumn places place
 
 -- of the 64 indices from first on, the set bits are those of rays that contain one of the columns
-pub record TellsMeeting (supports : List (List Bool)) (columns : List Bool) (first word : ℕ) : Type 0 where
+pub record MarksMeeting (supports : List (List Bool)) (columns : List Bool) (first word : ℕ) : Type 0 where
   pub set : (i : ℕ) → i < 64 → bit_at word i ≡ 1 → Meets (support_at supports (first + i)) columns
   pub unset : (i : ℕ) → i < 64 → bit_at word i ≡ 0 → ¬ Meets (support_at supports (first + i)) columns

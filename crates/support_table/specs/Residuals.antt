@@ -14,19 +14,19 @@ IsResidualInside outer s t = (column : ℕ) → HasColumn s column → ¬ HasCol
 
 -- a candidate: a ray other than the one with index own that contains none of joined and whose union with the outer ray
 -- has at most most columns
-pub record IsRival (supports : List (List Bool)) (outer joined : List Bool) (own most place : ℕ) : Type 0 where
+pub record IsCandidate (supports : List (List Bool)) (outer joined : List Bool) (own most place : ℕ) : Type 0 where
   pub in_range : place < length supports
   pub other : place ≢ own
-  pub apart : ¬ Meets (support_at supports place) joined
+  pub separate : ¬ Meets (support_at supports place) joined
   pub near : columns_in_either outer (support_at supports place) ≤ most
 
 -- a candidate whose residual contains that of no other candidate
 pub record IsMinimal (supports : List (List Bool)) (outer joined : List Bool) (own most place : ℕ) : Type 0 where
-  pub rival : IsRival supports outer joined own most place
-  pub minimal : (k : ℕ) → IsRival supports outer joined own most k → IsResidualInside outer (support_at supports k) (support_at supports place) → k ≡ place
+  pub candidate : IsCandidate supports outer joined own most place
+  pub minimal : (k : ℕ) → IsCandidate supports outer joined own most k → IsResidualInside outer (support_at supports k) (support_at supports place) → k ≡ place
 
 -- the indices of all minimal candidates with the flag `true`, ascending
-pub record AreMinimalOf (supports : List (List Bool)) (outer joined : List Bool) (own most : ℕ) (wanted : List Bool) (places : List ℕ) : Type 0 where
-  pub each : All (λ place. IsMinimal supports outer joined own most place × (slice_index_or wanted place false ≡ true)) places
+pub record AreMinimalOf (supports : List (List Bool)) (outer joined : List Bool) (own most : ℕ) (selected : List Bool) (places : List ℕ) : Type 0 where
+  pub each : All (λ place. IsMinimal supports outer joined own most place × (slice_index_or selected place false ≡ true)) places
   pub ascending : AllPairs (λ one other. one < other) places
-  pub complete : (place : ℕ) → IsMinimal supports outer joined own most place → slice_index_or wanted place false ≡ true → Contains places place
+  pub complete : (place : ℕ) → IsMinimal supports outer joined own most place → slice_index_or selected place false ≡ true → Contains places place

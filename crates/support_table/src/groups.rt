@@ -2,7 +2,7 @@
 
 ghost use Rattle.std.specs.Prelude.{◌≡◌, ◌+◌, ◌<◌, ◌^◌, length, IfOk};
 ghost use Rattle.std.specs.List.Sorted.{IsPermutation};
-ghost use Rattle.support_table.specs.Groups.{IsColumnBeside, AreGrouped, AreRanges};
+ghost use Rattle.support_table.specs.Groups.{IsColumnOutside, AreGrouped, AreRanges};
 
 use crate::lists::{FoundCandidates, GroupedList};
 use out_of_memory::NoMemory;
@@ -28,13 +28,13 @@ pub struct Ranges {
 fn group_of(words: &[u64], outer: &[u64]) -> usize
     requires lengths { length outer.now ≡ length words.now }
     requires short { length words.now < 2 ^ 32 }
-    ensures { IsColumnBeside words.now outer.now result }
+    ensures { IsColumnOutside words.now outer.now result }
 {
     let mut group = 0usize;
     for (k, word) in words.iter().enumerate() {
-        let beside = *word & !outer[k];
-        if beside != 0 {
-            group = 64 * k + (64 - beside.leading_zeros()) as usize;
+        let outside = *word & !outer[k];
+        if outside != 0 {
+            group = 64 * k + (64 - outside.leading_zeros()) as usize;
         }
     }
     group
@@ -48,10 +48,10 @@ fn with_groups(alloc: Global, found: FoundCandidates) -> Result<Vec<Grouped>, No
     let _columns = outer.columns();
     let words = outer.words();
     let mut grouped = Vec::with_capacity(alloc, list.len())?;
-    for rival in list {
-        let place = rival.place;
+    for candidate in list {
+        let place = candidate.place;
         let group = group_of(table.words_at(place), words);
-        let size = rival.size;
+        let size = candidate.size;
         grouped.push(Grouped { place, group, size })?;
     }
     Ok(grouped)

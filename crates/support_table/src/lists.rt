@@ -3,10 +3,10 @@
 ghost use Rattle.std.specs.Prelude.{◌≡◌, ◌+◌, ◌/◌, ◌<◌, length};
 ghost use Rattle.std.specs.List.{All};
 ghost use Rattle.support_table.specs.Groups.{AreFamily};
-ghost use Rattle.support_table.specs.Rivals.{AreFound};
+ghost use Rattle.support_table.specs.Candidates.{AreFound};
 
+use crate::compatible_list::Candidate;
 use crate::groups::{Grouped, Ranges};
-use crate::rivals::Candidate;
 use crate::table::SupportTable;
 use support_bits::Support;
 

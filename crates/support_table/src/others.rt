@@ -65,10 +65,10 @@ pub fn has_other(family: Family, place: usize) -> bool
     }
     let outer = family.outer;
     let _columns = outer.columns();
-    let beside = outer.words();
+    let outside = outer.words();
     let table = family.table;
     for (k, word) in table.words_at(place).iter().enumerate() {
-        if has_of_word(family, place, 64 * k, *word & !beside[k]) {
+        if has_of_word(family, place, 64 * k, *word & !outside[k]) {
             return true;
         }
     }

@@ -1,6 +1,7 @@
 //! The rays whose adjacent rays are looked for.
 
 ghost use Rattle.std.specs.Prelude.{◌≡◌, length};
+ghost use Rattle.support_table.specs.Parts.{AreOuters};
 
 use crate::ray_table::RayTable;
 use support_bits::Support;
@@ -25,4 +26,17 @@ pub struct Outer {
     pub place: usize,
     pub support: Support,
     pub joined: Support,
+}
+
+/// Outer rays among the rays of a table. Of the rays adjacent to one, those that are `true` in `selected` are looked
+/// for. The union of the supports of an adjacent pair has at most `most` columns. Invariant: `selected` has a flag for
+/// each ray, and each outer ray is one of the table, with its columns.
+#[derive(Clone, Copy)]
+pub struct PartSearch<'a> {
+    pub rays: &'a RayTable,
+    pub selected: &'a [bool],
+    pub outers: &'a [Outer],
+    pub most: u64,
+    pub ghost flags: { length selected.now ≡ length rays.now.supports },
+    pub ghost are_outers: { AreOuters rays.now.columns (length rays.now.supports) outers.now },
 }

@@ -1,49 +1,29 @@
-//! The rays adjacent to each of many rays. Those that clash with one column are handled together: none of them is
-//! adjacent to a ray that contains it, so such rays are left out once for all of them.
+//! The rays adjacent to each of many rays. Those that contain one column are handled together: all of them clash with
+//! the same columns, so rays that contain one of these are left out once for all of them.
 
 ghost use Rattle.std.specs.Prelude.{◌≡◌, ◌+◌, ◌/◌, ◌<◌, None, length, IfOk, OnOk, Contains};
 ghost use Rattle.std.specs.List.{All};
-ghost use Rattle.support_table.specs.Parts.{AreAllBelow, AreNear, AreOuters, AreCommonColumns, AreLeft, IsPart, AreFoundFor};
+ghost use Rattle.support_table.specs.Parts.{AreAllBelow, AreNear, AreCopied, AreCommonColumns, IsPart, AreFoundFor};
 ghost use Rattle.support_table.specs.Residuals.{AreMinimalOf};
 
 use crate::blocks::keep_common;
+use crate::columns::{Parting, clashing_columns, common_column};
 use crate::minimal::{minimal_among, minimal_places};
-use crate::outer::{Outer, OuterRay};
-use crate::ray_table::RayTable;
-use crate::table::SupportTable;
+use crate::outer::{Outer, OuterRay, PartSearch};
+use crate::part::Part;
 use out_of_memory::NoMemory;
 use std::alloc::Global;
-use support_bits::have_common;
-
-/// At most so many outer rays are not parted further. Affects speed alone.
-const FEW_OUTERS: usize = 8;
-
-/// Among at most so many rays outer rays are not parted further. Affects speed alone.
-const FEW_RAYS: usize = 64;
 
 /// Outer rays are parted at most so many times, since each time takes some of the stack. Affects speed alone.
-const MOST_PARTINGS: u32 = 20;
+const MOST_PARTINGS: u32 = 12;
 
 /// If a part has more than all rays divided by this, all are looked through, by words of 64 rays. Affects speed alone.
-const WORDS_SHARE: usize = 16;
+const WORDS_SHARE: usize = 2;
 
 /// The rays adjacent to one ray, if they were looked for.
 #[derive(Drop)]
 pub struct Found {
     pub places: Option<Vec<usize>>,
-}
-
-/// Outer rays among the rays of a table. Of the rays adjacent to one, those that are `true` in `wanted` are looked
-/// for. The union of the supports of an adjacent pair has at most `most` columns. Invariant: `wanted` has a flag for
-/// each ray, and each outer ray is one of the table, with its columns.
-#[derive(Clone, Copy)]
-pub struct PartSearch<'a> {
-    pub rays: &'a RayTable,
-    pub wanted: &'a [bool],
-    pub outers: &'a [Outer],
-    pub most: u64,
-    pub ghost flags: { length wanted.now ≡ length rays.now.supports },
-    pub ghost are_outers: { AreOuters rays.now.columns (length rays.now.supports) outers.now },
 }
 
 /// The words of the columns that each outer ray of `chosen` clashes with.
@@ -63,33 +43,13 @@ fn common_columns(alloc: Global, search: PartSearch, chosen: &[usize]) -> Result
     Ok(common)
 }
 
-/// Those of the rays `places` that contain none of the columns whose bits are set in `words`.
-fn rays_without(
-    alloc: Global,
-    table: &SupportTable,
-    places: &[usize],
-    words: &[u64],
-) -> Result<Vec<usize>, NoMemory>
-    requires places { All (λ place. place < length table.now.supports) places.now }
-    requires words { length words.now ≡ (table.now.columns + 63) / 64 }
-    ensures { IfOk result (λ left. AreLeft table.now.supports words.now places.now (length places.now) left.items) }
-{
-    let mut left = Vec::new(alloc);
-    for place in places {
-        if !have_common(table.words_at(*place), words) {
-            left.push(*place)?;
-        }
-    }
-    Ok(left)
-}
-
-/// Those outer rays of `chosen` that clash with `column`, or those that do not, as `clashing` says.
+/// Those outer rays of `chosen` that contain `column`, or those that do not, as `having` says.
 fn chosen_by(
     alloc: Global,
     search: PartSearch,
     chosen: &[usize],
     column: u32,
-    clashing: bool,
+    having: bool,
 ) -> Result<Vec<usize>, NoMemory>
     requires chosen { All (λ k. k < length search.outers.now) chosen.now }
     requires column { column < search.rays.now.columns }
@@ -98,34 +58,35 @@ fn chosen_by(
     let mut part = Vec::new(alloc);
     for k in chosen {
         let outer = &search.outers[*k];
-        let joined = &outer.joined;
-        if joined.contains(column) == clashing {
+        let support = &outer.support;
+        if support.contains(column) == having {
             part.push(*k)?;
         }
     }
     Ok(part)
 }
 
-/// The rays adjacent to `outer` that are `true` in `search.wanted`, if among the rays `places` are all that do not clash
-/// with it. If `places` are many, all are looked through, by words.
+/// The rays adjacent to `outer` that are `true` in `search.selected`, if among the rays of `part` are all that do not
+/// clash with it. If these are many, all rays are looked through, by words.
 fn find_one(
     alloc: Global,
     search: PartSearch,
     outer: &Outer,
-    places: &[usize],
+    part: &Part,
 ) -> Result<Vec<usize>, NoMemory>
     requires support { length outer.now.support ≡ search.rays.now.columns }
     requires joined { length outer.now.joined ≡ search.rays.now.columns }
-    requires near { AreNear search.rays.now.supports outer.now.joined places.now }
-    ensures { IfOk result (λ found. AreMinimalOf search.entry.rays.now.supports outer.now.support outer.now.joined outer.now.place search.entry.most search.entry.wanted.now found.items) }
+    requires near { AreNear search.rays.now.supports outer.now.joined part.now.places.items }
+    requires copied { AreCopied search.rays.now part.now.places.items part.now.table }
+    ensures { IfOk result (λ found. AreMinimalOf search.entry.rays.now.supports outer.now.support outer.now.joined outer.now.place search.entry.most search.entry.selected.now found.items) }
 {
     let rays = search.rays;
     let table = rays.table();
-    if places.len() > table.len() / WORDS_SHARE {
+    if part.places.len() > table.len() / WORDS_SHARE {
         return minimal_places(
             alloc,
             rays,
-            search.wanted,
+            search.selected,
             &outer.support,
             &outer.joined,
             outer.place,
@@ -139,7 +100,7 @@ fn find_one(
         own: outer.place,
         most: search.most,
     };
-    minimal_among(alloc, ray, search.wanted, places)
+    minimal_among(alloc, ray, search.selected, part)
 }
 
 /// Finds the rays adjacent to each outer ray of `chosen`.
@@ -147,51 +108,49 @@ fn find_each(
     alloc: Global,
     search: PartSearch,
     chosen: &[usize],
-    places: &[usize],
+    part: &Part,
     found: &mut Vec<Found>,
 ) -> Result<(), NoMemory>
-    requires part { IsPart search.rays.now.supports search.outers.now chosen.now places.now }
-    requires found { AreFoundFor search.rays.now.supports search.outers.now search.wanted.now search.most found.old.items }
-    ensures { OnOk result (AreFoundFor search.entry.rays.now.supports search.entry.outers.now search.entry.wanted.now search.entry.most found.new.items) }
+    requires part { IsPart search.rays.now search.outers.now chosen.now part.now }
+    requires found { AreFoundFor search.rays.now.supports search.outers.now search.selected.now search.most found.old.items }
+    ensures { OnOk result (AreFoundFor search.entry.rays.now.supports search.entry.outers.now search.entry.selected.now search.entry.most found.new.items) }
 {
     for k in chosen {
         let outer = &search.outers[*k];
-        let list = find_one(alloc, search, outer, places)?;
+        let list = find_one(alloc, search, outer, part)?;
         found[outer.place] = Found { places: Some(list) };
     }
     Ok(())
 }
 
-/// Finds the rays adjacent to the outer rays of `chosen`. These are parted at most `depth` times, by the columns from
-/// `first` on that some of them clash with.
+/// Finds the rays adjacent to the outer rays of `chosen`. These are parted at most `depth` times.
 fn find_parts(
     alloc: Global,
-    search: PartSearch,
+    parting: Parting,
     mut chosen: Vec<usize>,
-    places: &[usize],
-    first: u32,
+    part: &Part,
     depth: u32,
     found: &mut Vec<Found>,
 ) -> Result<(), NoMemory>
-    requires part { IsPart search.rays.now.supports search.outers.now chosen.items places.now }
-    requires found { AreFoundFor search.rays.now.supports search.outers.now search.wanted.now search.most found.old.items }
-    ensures { OnOk result (AreFoundFor search.entry.rays.now.supports search.entry.outers.now search.entry.wanted.now search.entry.most found.new.items) }
+    requires part { IsPart parting.search.rays.now parting.search.outers.now chosen.items part.now }
+    requires found { AreFoundFor parting.search.rays.now.supports parting.search.outers.now parting.search.selected.now parting.search.most found.old.items }
+    ensures { OnOk result (AreFoundFor parting.entry.search.rays.now.supports parting.entry.search.outers.now parting.entry.search.selected.now parting.entry.search.most found.new.items) }
 {
-    let rays = search.rays;
-    let table = rays.table();
-    if depth == 0 || chosen.len() <= FEW_OUTERS || places.len() <= FEW_RAYS {
-        return find_each(alloc, search, &chosen, places, found);
+    let search = parting.search;
+    if depth == 0 || part.is_small() {
+        return find_each(alloc, search, &chosen, part, found);
     }
-    for column in first..table.columns() {
-        let clashing = chosen_by(alloc, search, &chosen, column, true)?;
-        if !clashing.is_empty() && clashing.len() < chosen.len() {
-            let common = common_columns(alloc, search, &clashing)?;
-            let left = rays_without(alloc, table, places, &common)?;
-            find_parts(alloc, search, clashing, &left, column + 1, depth - 1, found)?;
-            chosen = chosen_by(alloc, search, &chosen, column, false)?;
-        }
+    for _ in 0..parting.clashing.columns() {
+        let Some(column) = common_column(alloc, parting, &chosen)? else {
+            return find_each(alloc, search, &chosen, part, found);
+        };
+        let having = chosen_by(alloc, search, &chosen, column, true)?;
+        let common = common_columns(alloc, search, &having)?;
+        let left = part.without(alloc, &common)?;
+        find_parts(alloc, parting, having, &left, depth - 1, found)?;
+        chosen = chosen_by(alloc, search, &chosen, column, false)?;
     }
-    find_each(alloc, search, &chosen, places, found)
+    find_each(alloc, search, &chosen, part, found)
 }
 
 /// The numbers below `count`.
@@ -218,15 +177,20 @@ fn none_found(alloc: Global, count: usize) -> Result<Vec<Found>, NoMemory>
 }
 
 /// For each ray of `search.rays`, if it is one of `search.outers`, the rays adjacent to it that are `true` in
-/// `search.wanted`. The contract says only that each list is right, and not which rays have one.
+/// `search.selected`. The contract says only that each list is right, and not which rays have one.
 pub fn find_adjacent(alloc: Global, search: PartSearch) -> Result<Vec<Found>, NoMemory>
-    ensures { IfOk result (λ found. AreFoundFor search.entry.rays.now.supports search.entry.outers.now search.entry.wanted.now search.entry.most found.items) }
+    ensures { IfOk result (λ found. AreFoundFor search.entry.rays.now.supports search.entry.outers.now search.entry.selected.now search.entry.most found.items) }
 {
     let rays = search.rays;
     let table = rays.table();
-    let places = all_below(alloc, table.len())?;
+    let clashing = clashing_columns(alloc, search)?;
     let chosen = all_below(alloc, search.outers.len())?;
+    let part = Part::whole(alloc, table)?;
     let mut found = none_found(alloc, table.len())?;
-    find_parts(alloc, search, chosen, &places, 0, MOST_PARTINGS, &mut found)?;
+    let parting = Parting {
+        search,
+        clashing: &clashing,
+    };
+    find_parts(alloc, parting, chosen, &part, MOST_PARTINGS, &mut found)?;
     Ok(found)
 }

@@ -6,7 +6,7 @@ use Rattle.ray_steps.proofs.thirds.third_inside.Goals as goal
 
 pub loop-m-preserved : goal.loop-m-preserved
 loop-m-preserved c =
-    let places = c.args.pair.rivals.now.places.items in
+    let places = c.args.pair.compatible_list.now.places.items in
     let m = c.loop-m.m in
     let next = c.first_covered-m-in-loop-m.ensures in
     let is : get_or c.as_slice-places.result.now m 0 ≡ get_or places m 0 = ap (λ ps. get_or ps m 0) c.as_slice-places.ensures.value in
@@ -24,7 +24,7 @@ loop-m-preserved c =
     }
 
 pub is_covered-requires-clause-in_range : goal.is_covered-requires-clause-in_range
-is_covered-requires-clause-in_range c = within_supports c.args.pair.rivals.now.places.items c.as_slice-places.result.now c.args.hint _ c.as_slice-places.ensures.value c.args.pair.count c.if-hint-places.true
+is_covered-requires-clause-in_range c = within_supports c.args.pair.compatible_list.now.places.items c.as_slice-places.result.now c.args.hint _ c.as_slice-places.ensures.value c.args.pair.count c.if-hint-places.true
 
 pub is_covered-requires-clause-first : goal.is_covered-requires-clause-first
 is_covered-requires-clause-first c = c.args.pair.first
@@ -55,7 +55,7 @@ bounds-places-m c = c.loop-m-test.true
 
 pub returns-then-is_third-2-clause-some : goal.returns-then-is_third-2-clause-some
 returns-then-is_third-2-clause-some c =
-    third_found c.args.pair.rivals.now.places.items c.as_slice-places.result.now c.args.pair.rivals.now.table.supports c.args.pair.i c.args.pair.j c.loop-m.m c.args.pair.a.now c.args.pair.b.now
+    third_found c.args.pair.compatible_list.now.places.items c.as_slice-places.result.now c.args.pair.compatible_list.now.table.supports c.args.pair.i c.args.pair.j c.loop-m.m c.args.pair.a.now c.args.pair.b.now
     c.as_slice-places.ensures.value c.loop-m-test.true c.loop-m.invariant.inside (c.is_third-in-loop-m.ensures.0 c.if-is_third-2.true)
 
 pub returns-then-is_third-2-clause-none : goal.returns-then-is_third-2-clause-none
@@ -63,7 +63,7 @@ returns-then-is_third-2-clause-none c = tt
 
 pub first_covered-m-requires-in-loop-m-clause-start : goal.first_covered-m-requires-in-loop-m-clause-start
 first_covered-m-requires-in-loop-m-clause-start c =
-    next_start c.args.pair.rivals.now.places.items c.as_slice-places.result.now c.loop-m.m _ c.as_slice-places.ensures.value c.args.pair.count c.loop-m-test.true
+    next_start c.args.pair.compatible_list.now.places.items c.as_slice-places.result.now c.loop-m.m _ c.as_slice-places.ensures.value c.args.pair.count c.loop-m-test.true
 
 pub first_covered-m-requires-in-loop-m-clause-first : goal.first_covered-m-requires-in-loop-m-clause-first
 first_covered-m-requires-in-loop-m-clause-first c = c.args.pair.first
@@ -72,7 +72,7 @@ pub first_covered-m-requires-in-loop-m-clause-second : goal.first_covered-m-requ
 first_covered-m-requires-in-loop-m-clause-second c = c.args.pair.second
 
 pub loop-m-smaller : goal.loop-m-smaller
-loop-m-smaller c = fewer_left c.args.pair.rivals.now.places.items c.as_slice-places.result.now c.loop-m.m c.first_covered-m-in-loop-m.result c.as_slice-places.ensures.value c.loop-m-test.true c.first_covered-m-in-loop-m.ensures.least
+loop-m-smaller c = fewer_left c.args.pair.compatible_list.now.places.items c.as_slice-places.result.now c.loop-m.m c.first_covered-m-in-loop-m.result c.as_slice-places.ensures.value c.loop-m-test.true c.first_covered-m-in-loop-m.ensures.least
 
 pub returns-then-is_covered-clause-none : goal.returns-then-is_covered-clause-none
 returns-then-is_covered-clause-none c = tt
@@ -82,12 +82,12 @@ returns-clause-some c = tt
 
 pub returns-clause-none : goal.returns-clause-none
 returns-clause-none c =
-    λ k less. c.loop-m.invariant.earlier k (before_end c.args.pair.rivals.now.places.items c.as_slice-places.result.now k c.loop-m.m c.as_slice-places.ensures.value c.loop-m-test.false less)
+    λ k less. c.loop-m.invariant.earlier k (before_end c.args.pair.compatible_list.now.places.items c.as_slice-places.result.now k c.loop-m.m c.as_slice-places.ensures.value c.loop-m-test.false less)
 
 pub bounds-places-hint : goal.bounds-places-hint
 bounds-places-hint c = c.if-hint-places.true
 
 pub returns-then-is_covered-clause-some : goal.returns-then-is_covered-clause-some
 returns-then-is_covered-clause-some c =
-    third_found c.args.pair.rivals.now.places.items c.as_slice-places.result.now c.args.pair.rivals.now.table.supports c.args.pair.i c.args.pair.j c.args.hint c.args.pair.a.now c.args.pair.b.now
+    third_found c.args.pair.compatible_list.now.places.items c.as_slice-places.result.now c.args.pair.compatible_list.now.table.supports c.args.pair.i c.args.pair.j c.args.hint c.args.pair.a.now c.args.pair.b.now
     c.as_slice-places.ensures.value c.if-hint-places.true (λ less. c.is_covered.ensures.0 c.if-is_covered.true) (c.is_third.ensures.0 c.if-is_third.true)

@@ -11,7 +11,7 @@ use Rattle.ray_steps.proofs.zeros.keep_zeros.Goals as goal
 pub loop-kept-init : goal.loop-kept-init
 loop-kept-init c = record {
   left = sym (take_all (length c.args.ray_list.items) c.args.ray_list.items (omega arith));
-  few = omega arith;
+  limited = omega arith;
   keeps = λ limit pairs made.
       let n = length-rays_of c.args.ray_list.items in
       subst (λ m. IsNextFrom limit pairs (rays_of c.args.ray_list.items) c.args.signs.now m (rays_of c.args.next.now.items)) n
@@ -25,21 +25,21 @@ loop-kept-preserved c =
     let xs = c.args.ray_list.items in
     let signs = c.args.signs.now in
     let kept = c.in-Some.kept in
-    let p = popped xs c.loop-kept.ray_list.items c.pop.new.self.items kept c.loop-kept.invariant.left c.loop-kept.invariant.few c.in-Some.ensures.items in
+    let p = popped xs c.loop-kept.ray_list.items c.pop.new.self.items kept c.loop-kept.invariant.left c.loop-kept.invariant.limited c.in-Some.ensures.items in
     let m = length c.pop.new.self.items in
     let n = length-rays_of xs in
-    let read = ray_at-rays_of xs m kept p.few ∙ ap (λ k. k.ray) p.at in
+    let read = ray_at-rays_of xs m kept p.limited ∙ ap (λ k. k.ray) p.at in
     let appends = subst (λ k. AppendsIfZero (get_or signs k Zero) kept c.loop-kept.next.items c.keep_if_zero.new.next.items) (let e : c.len.result ≡ m = search rules in e) c.in_ok-keep_if_zero.ensures.ok in
     record {
       left = p.left;
-      few = omega (arith, p.few);
+      limited = omega (arith, p.limited);
       keeps = λ limit pairs made.
           next_one limit pairs (rays_of xs) signs m (get_or signs m Zero) kept c.loop-kept.next.items c.keep_if_zero.new.next.items
-          (omega (arith, p.few)) refl (sym read) appends
+          (omega (arith, p.limited)) refl (sym read) appends
           (subst (λ k. IsNextFrom limit pairs (rays_of xs) signs k (rays_of c.loop-kept.next.items)) p.count (c.loop-kept.invariant.keeps limit pairs made));
       widths = λ columns own others.
           widths_one columns (get_or signs m Zero) kept c.loop-kept.next.items c.keep_if_zero.new.next.items appends
-          (ap length (sym read) ∙ ray_width xs m columns p.few own) (c.loop-kept.invariant.widths columns own others);
+          (ap length (sym read) ∙ ray_width xs m columns p.limited own) (c.loop-kept.invariant.widths columns own others);
     }
 
 pub returns-clause-keeps : goal.returns-clause-keeps

@@ -10,10 +10,10 @@ use Rattle.support_table.proofs.counts.union_count.Goals as goal
 pub overflow_add-count : goal.overflow_add-count
 overflow_add-count c = let a = c.args.a.now in let b = c.args.b.now in let k = c.loop-k.k in
     let fits : bit_or (get_or a k 0) (get_or b k 0) < 2 ^ 64 = or_lt 64 _ _ (Fits-lt-pow (c.type_inv.a k)) (Fits-lt-pow (c.type_inv.b k)) in
-    let few : ones (bit_or (get_or a k 0) (get_or b k 0)) ≤ 64 = ones-le 64 _ fits in
+    let limited : ones (bit_or (get_or a k 0) (get_or b k 0)) ≤ 64 = ones-le 64 _ fits in
     let so_far : bits_in_either (64 * k) a b ≤ 64 * k = bits_within (64 * k) a b in
     let i = c.loop-k.invariant in
-    let e = c.from-count.ensures in grind (arith, few, so_far, i, e, c.requires.short)
+    let e = c.from-count.ensures in grind (arith, limited, so_far, i, e, c.requires.short)
 
 pub loop-k-preserved : goal.loop-k-preserved
 loop-k-preserved c = let a = c.args.a.now in let b = c.args.b.now in let k = c.loop-k.k in

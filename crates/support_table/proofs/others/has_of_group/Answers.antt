@@ -12,7 +12,7 @@ loop-k-preserved c k low less is =
     let family = c.args.family in
     elim (cases_lt k c.loop-k.k) [
       | inl old ↦ c.loop-k.invariant k low old is
-      | inr past ↦
+      | inr exceeded ↦
           let e : k ≡ c.loop-k.k = omega arith in
           let other = subst (IsOtherInside family.table.now.supports family.outer.now family.list.now c.args.place) e is in
           elim c.else-other-place.branch [

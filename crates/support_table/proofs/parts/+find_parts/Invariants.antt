@@ -4,6 +4,6 @@ use Rattle.support_table.proofs.parts.+find_parts.Given as goal
 abbrev pub decreases-find_parts : goal.decreases-find_parts
 decreases-find_parts l = l.depth
 
--- what is left of the outer rays is a part, and each list so far is right
-abbrev pub invariant-loop-column : goal.invariant-loop-column
-invariant-loop-column l = IsPart l.search.rays.now.supports l.search.outers.now l.chosen.items l.places × AreFoundFor l.search.rays.now.supports l.search.outers.now l.search.wanted.now l.search.most l.found.items
+-- what is left of the outer rays has this part, and each list so far is right
+abbrev pub invariant-loop : goal.invariant-loop
+invariant-loop l = IsPart l.parting.search.rays.now l.parting.search.outers.now l.chosen.items l.part × AreFoundFor l.parting.search.rays.now.supports l.parting.search.outers.now l.parting.search.selected.now l.parting.search.most l.found.items

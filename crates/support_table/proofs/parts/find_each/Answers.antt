@@ -9,15 +9,15 @@ find_one-requires-clause-near c =
     let search = c.args.search in
     let chosen = c.args.chosen.now in
     let n = c.loop-k.k-index in
-    let within = c.requires.part.are_outers n 0 c.loop-k-test.true in
-    near_of search.rays.now.supports search.outers.now chosen c.args.places.now n _ c.requires.part c.loop-k-test.true (get_or_default search.outers.now (get_or chosen n 0) _ _ within)
+    let within = c.requires.part.separate.are_outers n 0 c.loop-k-test.true in
+    near_of search.rays.now.supports search.outers.now chosen c.args.part.now.places.items n _ c.requires.part.separate c.loop-k-test.true (get_or_default search.outers.now (get_or chosen n 0) _ _ within)
 
 pub loop-k-preserved : goal.loop-k-preserved
 loop-k-preserved c =
     let search = c.args.search in
     let outers = search.outers.now in
     let k = get_or c.args.chosen.now c.loop-k.k-index 0 in
-    let within = c.requires.part.are_outers c.loop-k.k-index 0 c.loop-k-test.true in
+    let within = c.requires.part.separate.are_outers c.loop-k.k-index 0 c.loop-k-test.true in
     let read = c.index-search-k.result in
-    found_set search.rays.now.supports outers search.wanted.now search.most c.loop-k.found.items _ k (get_or outers k read) (record { places = Some c.in_ok-list.list }) c.loop-k.invariant within
+    found_set search.rays.now.supports outers search.selected.now search.most c.loop-k.found.items _ k (get_or outers k read) (record { places = Some c.in_ok-list.list }) c.loop-k.invariant within
     (get_or_default outers k _ read within) (search.are_outers.places k read within) c.in_ok-list.ensures refl

@@ -4,9 +4,9 @@ use Rattle.std.proofs.lemmas.List.{length-map}
 use Rattle.cone_definitions.specs.Vectors.{ray_at}
 use Rattle.support_bits.specs.Columns.{support_of}
 use Rattle.ray_steps.specs.Adjacent.{IsOuterOf}
-use Rattle.ray_steps.specs.Negatives.{TellNegatives}
+use Rattle.ray_steps.specs.Negatives.{AreNegativeFlags}
 use Rattle.ray_steps.specs.Rays.{rays_of}
-use Rattle.ray_steps.specs.Rivals.{HasAllSupports}
+use Rattle.ray_steps.specs.CompatibleLists.{HasAllSupports}
 use Rattle.ray_steps.specs.Steps.{StepData}
 use Rattle.ray_steps.specs.Unions.{HaveSmallUnions}
 use Rattle.ray_steps.proofs.AdjacentLemmas.{adjacent_lists, outers_in}
@@ -24,8 +24,8 @@ invariant_of-search g c =
     let supports = subst (λ (d : StepData). HasAllSupports d.rays d.columns table) c.self.view_is
     (subst (HasAllSupports (rays_of s.ray_list.items) s.clashes.now.columns) (sym c.in_ok-table.ensures)
     (subst₂ (λ rs n. HasAllSupports (rays_of rs) n c.in_ok-supports.supports) c.deref.ensures.value c.columns.ensures c.in_ok-supports.ensures)) in
-    let tell = subst (λ (d : StepData). TellNegatives d.signs (length d.signs) flags) c.self.view_is
-    (subst₂ (λ ss fs. TellNegatives ss (length ss) fs) c.deref-2.ensures.value (sym c.deref-3.ensures.value) c.in_ok-negative.ensures) in
+    let tell = subst (λ (d : StepData). AreNegativeFlags d.signs (length d.signs) flags) c.self.view_is
+    (subst₂ (λ ss fs. AreNegativeFlags ss (length ss) fs) c.deref-2.ensures.value (sym c.deref-3.ensures.value) c.in_ok-negative.ensures) in
     let small = subst (λ (d : StepData). HaveSmallUnions d.columns s.most d.pairs d.rays) c.self.view_is c.self.invariant.rays.small in
     let wide = subst (λ (d : StepData). (i : ℕ) → i < length d.rays → length (ray_at d.rays i) ≡ d.columns) c.self.view_is
     (λ i less. ray_width s.ray_list.items i s.clashes.now.columns (place_of_rays s.ray_list.items (rays_of s.ray_list.items) i refl less) c.self.invariant.rays.widths) in
@@ -34,10 +34,10 @@ invariant_of-search g c =
     let as_many_rays = ap (λ (d : StepData). length d.rays) c.self.view_is in
     let signs = c.self.invariant.count in
     let rays = length-rays_of s.ray_list.items in
-    let told = tell.count in
+    let reported = tell.count in
     let all = ap length supports.supports ∙ length-map d.rays support_of in
     record {
-      flags = omega (arith, as_many_signs, as_many_rays, signs, rays, told, all);
+      flags = omega (arith, as_many_signs, as_many_rays, signs, rays, reported, all);
       are_outers = outers_in d s.most table flags supports tell small wide outers are;
     }
 
@@ -51,8 +51,8 @@ returns g c =
     let supports = subst (λ (d : StepData). HasAllSupports d.rays d.columns table) c.self.view_is
     (subst (HasAllSupports (rays_of s.ray_list.items) s.clashes.now.columns) (sym c.in_ok-table.ensures)
     (subst₂ (λ rs n. HasAllSupports (rays_of rs) n c.in_ok-supports.supports) c.deref.ensures.value c.columns.ensures c.in_ok-supports.ensures)) in
-    let tell = subst (λ (d : StepData). TellNegatives d.signs (length d.signs) flags) c.self.view_is
-    (subst₂ (λ ss fs. TellNegatives ss (length ss) fs) c.deref-2.ensures.value (sym c.deref-3.ensures.value) c.in_ok-negative.ensures) in
+    let tell = subst (λ (d : StepData). AreNegativeFlags d.signs (length d.signs) flags) c.self.view_is
+    (subst₂ (λ ss fs. AreNegativeFlags ss (length ss) fs) c.deref-2.ensures.value (sym c.deref-3.ensures.value) c.in_ok-negative.ensures) in
     let small = subst (λ (d : StepData). HaveSmallUnions d.columns s.most d.pairs d.rays) c.self.view_is c.self.invariant.rays.small in
     let wide = subst (λ (d : StepData). (i : ℕ) → i < length d.rays → length (ray_at d.rays i) ≡ d.columns) c.self.view_is
     (λ i less. ray_width s.ray_list.items i s.clashes.now.columns (place_of_rays s.ray_list.items (rays_of s.ray_list.items) i refl less) c.self.invariant.rays.widths) in

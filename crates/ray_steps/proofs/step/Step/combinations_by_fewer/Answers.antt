@@ -2,7 +2,7 @@
 use Rattle.std.proofs.Common.{◌≡◌, length, subst, sym, ap, ◌∙◌}
 use Rattle.ray_steps.specs.Rays.{rays_of, AreOfWidth}
 use Rattle.ray_steps.proofs.RayLemmas.{length-rays_of}
-use Rattle.ray_steps.proofs.TurnedLemmas.{made-turned}
+use Rattle.ray_steps.proofs.TurnedLemmas.{made-negated}
 use Rattle.ray_steps.specs.Steps.{StepData, AreMadeOf}
 use Rattle.ray_steps.proofs.step.Step.combinations_by_fewer.Goals as goal
 
@@ -11,16 +11,16 @@ returns-then-has_more_positives-clause-ok g c =
     let d = c.args.self in
     let ray_list = c.step.inside.ray_list.items in
     let made = c.in_ok-made.made.items in
-    let turned = c.in_ok-step.ensures.step in
+    let negated = c.in_ok-step.ensures.step in
     let count : length d.signs ≡ length d.rays =
     subst (λ (s : StepData). length s.signs ≡ length s.rays) c.self.view_is (c.self.invariant.count ∙ sym (length-rays_of c.self.inside.ray_list.items)) in
-    let all = subst (λ (s : StepData). AreMadeOf s made) turned c.in_ok-made.ensures.ok in
-    let rays : rays_of ray_list ≡ d.rays = ap (λ (s : StepData). s.rays) c.step.view_is ∙ ap (λ (s : StepData). s.rays) turned in
+    let all = subst (λ (s : StepData). AreMadeOf s made) negated c.in_ok-made.ensures.ok in
+    let rays : rays_of ray_list ≡ d.rays = ap (λ (s : StepData). s.rays) c.step.view_is ∙ ap (λ (s : StepData). s.rays) negated in
     record {
       rays_are = rays;
       signs_are = c.in_ok-step.ensures.signs;
-      widths = subst (λ n. AreOfWidth n ray_list) (ap (λ (s : StepData). s.columns) c.step.view_is ∙ ap (λ (s : StepData). s.columns) turned) c.step.invariant.rays.widths;
-      made = record { made = made-turned d.limit d.pairs d.rays d.signs (rays_of made) count all.made; widths = all.widths };
+      widths = subst (λ n. AreOfWidth n ray_list) (ap (λ (s : StepData). s.columns) c.step.view_is ∙ ap (λ (s : StepData). s.columns) negated) c.step.invariant.rays.widths;
+      made = record { made = made-negated d.limit d.pairs d.rays d.signs (rays_of made) count all.made; widths = all.widths };
       count = ap length c.in_ok-step.ensures.signs ∙ count ∙ ap length (sym rays) ∙ length-rays_of ray_list;
     }
 

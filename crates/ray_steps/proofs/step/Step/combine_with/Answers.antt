@@ -38,7 +38,7 @@ returns-in_default g c =
         so_far = made_skip_all s.limit.number s.clashes.now.pairs (rays_of s.ray_list.items) signs i (rays_of made.ray_list.items)
             (λ at_u p. c.in_default.not-Positive at_u (c.index.ensures ∙ get_or_default signs i c.index.result.now Zero within ∙ p)) so_far.so_far;
         widths = so_far.widths;
-        rivals = so_far.rivals;
+        compatible_list = so_far.compatible_list;
       });
       err = tt;
     }
@@ -205,12 +205,12 @@ returns-clause-ok g c =
     let facts = c.self.invariant in
     let taken = c.loop-m.invariant.taken in
     let made = c.loop-m.made.ray_list.items in
-    let result : CombinationsSoFar = record { ray_list = c.loop-m.made.ray_list; rivals = c.loop-m.search.rivals } in
+    let result : CombinationsSoFar = record { ray_list = c.loop-m.made.ray_list; compatible_list = c.loop-m.search.compatible_list } in
     subst (λ (d : StepData). AreMadeBelow d (c.args.i + 1) result) c.self.view_is (record {
       so_far = made_next s.limit.number s.clashes.now.pairs (rays_of ray_list) signs c.args.i (taken.up_to + length signs) (rays_of made)
           (let n = length-rays_of ray_list in omega (arith, facts.count))
           (made_end s.limit.number s.clashes.now.pairs (rays_of ray_list) signs c.args.i c.loop-m.m taken.up_to c.args.negatives.now.places.items (rays_of made)
           (negatives_read _ _ c.self.view_is _ c.requires.negatives).places (let n = ap length c.as_slice-places.ensures.value in omega arith) taken.reached taken.so_far);
       widths = c.loop-m.invariant.widths;
-      rivals = (subst (λ (d : StepData). IsSearchAt d c.args.i c.loop-m.search) (sym c.self.view_is) c.loop-m.invariant.search).rivals;
+      compatible_list = (subst (λ (d : StepData). IsSearchAt d c.args.i c.loop-m.search) (sym c.self.view_is) c.loop-m.invariant.search).compatible_list;
     })

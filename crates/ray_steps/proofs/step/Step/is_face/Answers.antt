@@ -27,7 +27,7 @@ invariant_of-pair g c =
     let j_in = place_of_rays ray_list c.args.self.now.rays j same c.requires.second in
     let a = c.index-u.result.now in
     let b = c.index-w.result.now in
-    let listed = c.in_ok-rivals.ensures.rivals in
+    let listed = c.in_ok-compatible_list.ensures.compatible_list in
     let wide = listed.table.width ∙ sym (ap (λ (d : StepData). d.columns) c.self.view_is) in
     record {
       count = count_of_rivals _ _ _ _ listed.table;
@@ -68,10 +68,10 @@ returns-in-Some-clause-face g c =
     let u = ap (λ rays. ray_at rays i) (sym same) ∙ ray_read ray_list i a (place_of_rays ray_list d.rays i same c.requires.search.in_range) c.index-u.ensures in
     let w = ap (λ rays. ray_at rays j) (sym same) ∙ ray_read ray_list j b (place_of_rays ray_list d.rays j same c.requires.second) c.index-w.ensures in
     let found = c.in-Some.ensures.some in
-    let joined = subst (AreClashingColumns d.pairs (support_of (ray_at d.rays i))) (sym c.in_ok-rivals.ensures.joined) c.requires.search.joined in (
+    let joined = subst (AreClashingColumns d.pairs (support_of (ray_at d.rays i))) (sym c.in_ok-compatible_list.ensures.joined) c.requires.search.joined in (
       λ h. absurd (false≢true h),
-      λ face. absurd (not_face_third d.pairs d.rays i j d.columns c.in-Some.m c.in_ok-rivals.rivals a.support b.support
-          (record { joined = joined; listed = c.in_ok-rivals.ensures.rivals }) (support_read a _ u) (support_read b _ w) found.0 found.1 face),
+      λ face. absurd (not_face_third d.pairs d.rays i j d.columns c.in-Some.m c.in_ok-compatible_list.compatible_list a.support b.support
+          (record { joined = joined; listed = c.in_ok-compatible_list.ensures.compatible_list }) (support_read a _ u) (support_read b _ w) found.0 found.1 face),
     )
 
 pub returns-in-None-clause-face : goal.returns-in-None-clause-face
@@ -87,9 +87,9 @@ returns-in-None-clause-face g c =
     let u = ap (λ rays. ray_at rays i) (sym same) ∙ ray_read ray_list i a (place_of_rays ray_list d.rays i same c.requires.search.in_range) c.index-u.ensures in
     let w = ap (λ rays. ray_at rays j) (sym same) ∙ ray_read ray_list j b (place_of_rays ray_list d.rays j same c.requires.second) c.index-w.ensures in
     let read = clash_read c.self.inside.clashes.now.pairs a b _ _ u w in
-    let joined = subst (AreClashingColumns d.pairs (support_of (ray_at d.rays i))) (sym c.in_ok-rivals.ensures.joined) c.requires.search.joined in (
-      λ h. face_from_rivals d.pairs d.rays i j d.columns c.in_ok-rivals.rivals a.support b.support
-          (record { joined = joined; listed = c.in_ok-rivals.ensures.rivals }) (support_read a _ u) (support_read b _ w) c.in-None.ensures.none
+    let joined = subst (AreClashingColumns d.pairs (support_of (ray_at d.rays i))) (sym c.in_ok-compatible_list.ensures.joined) c.requires.search.joined in (
+      λ h. face_from_rivals d.pairs d.rays i j d.columns c.in_ok-compatible_list.compatible_list a.support b.support
+          (record { joined = joined; listed = c.in_ok-compatible_list.ensures.compatible_list }) (support_read a _ u) (support_read b _ w) c.in-None.ensures.none
           (subst (λ pairs. IsAdmissibleUnion pairs (ray_at d.rays i) (ray_at d.rays j)) clashing (read.0 (c.allows-in-None.ensures.0 h))),
       λ face. c.allows-in-None.ensures.1 (read.1 (subst (λ pairs. IsAdmissibleUnion pairs (ray_at d.rays i) (ray_at d.rays j)) (sym clashing) face.no_clash)),
     )
