@@ -31,10 +31,10 @@ split_at (suc i) (x ∷ xs) h = ap (λ (ys : List ℕ). x ∷ ys) (split_at i xs
 
 -- in a list of different items each is at one index
 pub one_place : {A : Type 0} (xs : List A) → AllPairs (λ x y. x ≢ y) xs → (i j : ℕ) (d : A) → i < length xs → j < length xs → get_or xs i d ≡ get_or xs j d → i ≡ j
-one_place xs apart i j d i_in j_in same = elim (cases_order i j) [
+one_place xs separate i j d i_in j_in same = elim (cases_order i j) [
   | inl e ↦ e
-  | inr (inl less) ↦ absurd (apart i j d less j_in same)
-  | inr (inr more) ↦ absurd (apart j i d more i_in (sym same))
+  | inr (inl less) ↦ absurd (separate i j d less j_in same)
+  | inr (inr more) ↦ absurd (separate j i d more i_in (sym same))
 ]
 
 -- the first i + 1 entries and the first i entries agree except at index i

@@ -24,8 +24,8 @@ compared_back a b ne = elim (cases_order a b) [
 
 -- a number that is one of two different numbers equals exactly one of them
 pub equals_one_of_two : (a b first : ℕ) → (a ≡ b → ⊥) → (first ≡ a) ⊎ (first ≡ b) → (b == first) ≡ not (a == first)
-equals_one_of_two a b first apart (inl e) = ne_eqb b first (λ f. apart (sym e ∙ sym f)) ∙ sym (ap not (eq-eqb a first (sym e)))
-equals_one_of_two a b first apart (inr e) = eq-eqb b first (sym e) ∙ sym (ap not (ne_eqb a first (λ f. apart (f ∙ e))))
+equals_one_of_two a b first separate (inl e) = ne_eqb b first (λ f. separate (sym e ∙ sym f)) ∙ sym (ap not (eq-eqb a first (sym e)))
+equals_one_of_two a b first separate (inr e) = eq-eqb b first (sym e) ∙ sym (ap not (ne_eqb a first (λ f. separate (f ∙ e))))
 
 -- one more number of a range
 pub range_more : (a n : ℕ) → range_with_len a (suc n) ≡ range_with_len a n ++ (a + n) ∷ []

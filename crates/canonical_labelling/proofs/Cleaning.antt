@@ -14,23 +14,23 @@ pub marks_begun : (start : Start) (marks : List Bool) → start.tet < length mar
 marks_begun start marks l none t = ⊎_elim
     (λ (same : t ≡ start.tet).
     ap (λ k. slice_index_or (slice_set marks start.tet true) k false) same ∙ get_or-set_same marks start.tet true false l ∙ sym (met_from (start ∷ []) t 0 (omega arith) (sym same)))
-    (λ (apart : t ≡ start.tet → ⊥).
-    get_or-set_other marks start.tet t true false apart ∙ none t ∙ sym (or_from (start.tet == t) (is_visited [] t) (ne_eqb start.tet t (λ e. apart (sym e))) refl))
+    (λ (separate : t ≡ start.tet → ⊥).
+    get_or-set_other marks start.tet t true false separate ∙ none t ∙ sym (or_from (start.tet == t) (is_visited [] t) (ne_eqb start.tet t (λ e. separate (sym e))) refl))
     (cases_eq t start.tet)
 
 -- the state with the first tetrahedron alone
 abbrev pub begun : Start → ComparisonView → ComparisonView
-begun start s = record s { order = start ∷ []; met = slice_set s.met start.tet true; numbers = slice_set s.numbers start.tet 0 }
+begun start s = record s { order = start ∷ []; visited = slice_set s.visited start.tet true; numbers = slice_set s.numbers start.tet 0 }
 
 pub begun_holds : (start : Start) (s : ComparisonView) → IsClean s → start.tet < length s.numbers → IsComparison 0 (begun start s)
 begun_holds start s h l = record {
-  few = let f = h.few in omega (arith, f, size);
-  marks = length-set s.met start.tet true ∙ h.marks ∙ sym size;
-  met = marks_begun start s.met (let m = h.marks in omega (arith, m, l)) h.met;
+  limited = let f = h.limited in omega (arith, f, size);
+  marks = length-set s.visited start.tet true ∙ h.marks ∙ sym size;
+  visited = marks_begun start s.visited (let m = h.marks in omega (arith, m, l)) h.visited;
   numbers = first;
   crossed = h.faces ∙ ap (λ n. 4 * n) (sym size);
   small = rw h.types (λ i d m. absurd (omega arith));
-  few_types = let t = ap (λ (ts : List ℕ). length ts) h.types in omega (arith, t);
+  bounded_types = let t = ap (λ (ts : List ℕ). length ts) h.types in omega (arith, t);
   marked = λ p e. absurd (false≢true (sym (h.crossed p) ∙ e));
 }
   where
@@ -52,14 +52,14 @@ pub left_next : (order : List Start) (marks : List Bool) (i tet : ℕ) → tet �
 left_next order marks i tet is inside h t e = ⊎_elim
     (λ (same : t ≡ tet).
     absurd (false≢true (sym (ap (λ k. slice_index_or (slice_set marks tet false) k false) same ∙ get_or-set_same marks tet false false inside) ∙ e)))
-    (λ (apart : t ≡ tet → ⊥).
-    let r = h t (sym (get_or-set_other marks tet t false false apart) ∙ e) in
-    let later : r.0 ≡ i → ⊥ = λ q. apart (sym r.3 ∙ ap (λ k. (start_at order k).tet) q ∙ sym is) in
+    (λ (separate : t ≡ tet → ⊥).
+    let r = h t (sym (get_or-set_other marks tet t false false separate) ∙ e) in
+    let later : r.0 ≡ i → ⊥ = λ q. separate (sym r.3 ∙ ap (λ k. (start_at order k).tet) q ∙ sym is) in
     (r.0, beyond i r.0 r.1 later, r.2, r.3))
     (cases_eq t tet)
   where
     beyond : (i j : ℕ) → i ≤ j → (j ≡ i → ⊥) → i + 1 ≤ j
-    beyond i j l apart = ⊎_elim (λ (e : j ≡ i). absurd (apart e)) (λ (d : j ≡ i → ⊥). omega arith) (cases_eq j i)
+    beyond i j l separate = ⊎_elim (λ (e : j ≡ i). absurd (separate e)) (λ (d : j ≡ i → ⊥). omega arith) (cases_eq j i)
 
 pub left_ends : (order : List Start) (marks : List Bool) (i : ℕ) → length order ≤ i → AreLeft order i marks → AreUnmarked marks
 left_ends order marks i l h t = by_test (slice_index_or marks t false) refl
@@ -76,8 +76,8 @@ pub between_next : (i limit : ℕ) (marks : List Bool) → i < length marks → 
 between_next i limit marks inside h p e = ⊎_elim
     (λ (same : p ≡ i).
     absurd (false≢true (sym (ap (λ k. slice_index_or (slice_set marks i false) k false) same ∙ get_or-set_same marks i false false inside) ∙ e)))
-    (λ (apart : p ≡ i → ⊥).
-    let r = h p (sym (get_or-set_other marks i p false false apart) ∙ e) in
+    (λ (separate : p ≡ i → ⊥).
+    let r = h p (sym (get_or-set_other marks i p false false separate) ∙ e) in
     let low = r.0 in
     (omega arith, r.1))
     (cases_eq p i)

@@ -10,7 +10,7 @@ use Rattle.table_definitions.specs.Table.{Row}
 use Rattle.table_definitions.specs.Relabelling.{Relabelling}
 use Rattle.signature_definitions.specs.Spelling.{character, head_values, packed, Spells}
 use Rattle.signature_definitions.specs.Labellings.{Start, IsWalked}
-use Rattle.canonical_labelling.specs.Comparisons.{told, compare_by, compare_full_character, compare_last_character, type_character, head_text, IsFirstDifference, IsDecided}
+use Rattle.canonical_labelling.specs.Comparisons.{reported, compare_by, compare_full_character, compare_last_character, type_character, head_text, IsFirstDifference, IsDecided}
 use Rattle.canonical_labelling.proofs.Telling.{told_here, told_is, differs_by, differs_behind}
 use Rattle.canonical_labelling.proofs.Packing.{value_at, packed_last, packed_short}
 
@@ -20,7 +20,7 @@ begun_text n types = head_text n ++ map character (packed types)
 
 -- the characters of three types each agree with the bound
 abbrev pub Agrees : ℕ → List ℕ → List ℕ → Type 0
-Agrees n bound types = (m : ℕ) → 3 * m ≤ length types → told (begun_text n (take (3 * m) types)) bound ≡ None
+Agrees n bound types = (m : ℕ) → 3 * m ≤ length types → reported (begun_text n (take (3 * m) types)) bound ≡ None
 
 pub long_begun : (n m : ℕ) (types : List ℕ) → 3 * m ≤ length types → length (head_text n) + m ≡ length (begun_text n (take (3 * m) types))
 long_begun n m types l =
@@ -40,13 +40,13 @@ begun_next n m types l h =
 record Tells (n m : ℕ) (types bound : List ℕ) (b : Bool) : Type 0 where
   low : 3 * m < length types
   high : length types ≤ 3 * m + 3
-  agreed : told (begun_text n (take (3 * m) types)) bound ≡ None
+  agreed : reported (begun_text n (take (3 * m) types)) bound ≡ None
   told_now : compare_by (slice_get bound (length (head_text n) + m)) (type_character types (3 * m)) ≡ Some b
 
-told_whole : (n m : ℕ) (types bound : List ℕ) (b : Bool) → Tells n m types bound b → told (begun_text n types) bound ≡ Some b
+told_whole : (n m : ℕ) (types bound : List ℕ) (b : Bool) → Tells n m types bound b → reported (begun_text n types) bound ≡ Some b
 told_whole n m types bound b h =
     let low = h.low in
-    ap (λ t. told t bound) (begun_next n m types h.low h.high)
+    ap (λ t. reported t bound) (begun_next n m types h.low h.high)
     ∙ told_here (begun_text n (take (3 * m) types)) (type_character types (3 * m)) [] bound b (length (head_text n) + m) (long_begun n m types (omega (arith, low))) h.agreed h.told_now
 
 differs_at : (n m i : ℕ) (types bound rest : List ℕ) (b : Bool) → Tells n m types bound b → IsFirstDifference (begun_text n types ++ rest) bound i → i ≡ length (head_text n) + m
@@ -67,17 +67,17 @@ abbrev pub BeginsWith : List Row → Start → List ℕ → Type 0
 BeginsWith rows start types = (by : Relabelling) (new : List Row) (text : List ℕ) → IsWalked rows start by new → Spells text new → (rest : List ℕ) × (text ≡ begun_text (length rows) types ++ rest)
 
 told_of : (rows : List Row) (start : Start) (m reads : ℕ) (types bound : List ℕ) (b : Bool) → Tells (length rows) m types bound b → reads ≤ length types → BeginsWith rows start types → IsDecided rows start bound reads b
-told_of rows start m reads types bound b h few begins = record {
+told_of rows start m reads types bound b h limited begins = record {
   value = λ by new text w s.
       let r = begins by new text w s in
       sym (ap (λ t. is_list_before t bound) r.1 ∙ told_is (begun_text (length rows) types) r.0 bound b (told_whole (length rows) m types bound b h));
-  few = λ e by new text i w s d l.
+  limited = λ e by new text i w s d l.
       let r = begins by new text w s in
       let at : i ≡ length (head_text (length rows)) + m = differs_at (length rows) m i types bound r.0 b h (subst (λ t. IsFirstDifference t bound i) r.1 d) in
       let long = length-map (head_values (length rows)) character in
       let same : length (head_values (length new)) ≡ length (head_values (length rows)) = ap (λ n. length (head_values n)) w.relabels.1.same_length in
       let high = h.high in
-      omega (arith, at, long, same, high, few);
+      omega (arith, at, long, same, high, limited);
 }
 
 -- if the last three types decide
@@ -87,7 +87,7 @@ cond_some false x o p e = refl
 
 -- for each whole character of types, the characters before it agree with the bound
 abbrev pub AgreesShort : ℕ → List ℕ → List ℕ → Type 0
-AgreesShort n bound types = (m : ℕ) → 3 * m + 3 ≤ length types → told (begun_text n (take (3 * m) types)) bound ≡ None
+AgreesShort n bound types = (m : ℕ) → 3 * m + 3 ≤ length types → reported (begun_text n (take (3 * m) types)) bound ≡ None
 
 three_tells : (n head : ℕ) (types bound : List ℕ) (b : Bool) → head ≡ length (head_text n) → AgreesShort n bound types → compare_full_character types bound head ≡ Some b → (m : ℕ) × Tells n m types bound b × (length types ≡ 3 * (m + 1))
 three_tells n head types bound b long agrees e =
@@ -131,12 +131,12 @@ rest_tells n head types bound b long agrees e =
 
 pub told_by_three_is : (rows : List Row) (start : Start) (head reads : ℕ) (types bound : List ℕ) (o : Option Bool) → head ≡ length (head_text (length rows)) → AgreesShort (length rows) bound types → o ≡ compare_full_character types bound head
     → reads ≤ length types → ((m : ℕ) → length types ≡ 3 * m → BeginsWith rows start types) → IfSome o (IsDecided rows start bound reads)
-told_by_three_is rows start head reads types bound None long agrees e few begins = tt
-told_by_three_is rows start head reads types bound (Some b) long agrees e few begins =
-    let t = three_tells (length rows) head types bound b long agrees (sym e) in told_of rows start t.0 reads types bound b t.1 few (begins (t.0 + 1) t.2)
+told_by_three_is rows start head reads types bound None long agrees e limited begins = tt
+told_by_three_is rows start head reads types bound (Some b) long agrees e limited begins =
+    let t = three_tells (length rows) head types bound b long agrees (sym e) in told_of rows start t.0 reads types bound b t.1 limited (begins (t.0 + 1) t.2)
 
 pub told_by_rest_is : (rows : List Row) (start : Start) (head reads : ℕ) (types bound : List ℕ) (o : Option Bool) → head ≡ length (head_text (length rows)) → Agrees (length rows) bound types → o ≡ compare_last_character types bound head
     → reads ≤ length types → BeginsWith rows start types → IfSome o (IsDecided rows start bound reads)
-told_by_rest_is rows start head reads types bound None long agrees e few begins = tt
-told_by_rest_is rows start head reads types bound (Some b) long agrees e few begins =
-    let t = rest_tells (length rows) head types bound b long agrees (sym e) in told_of rows start t.0 reads types bound b t.1 few begins
+told_by_rest_is rows start head reads types bound None long agrees e limited begins = tt
+told_by_rest_is rows start head reads types bound (Some b) long agrees e limited begins =
+    let t = rest_tells (length rows) head types bound b long agrees (sym e) in told_of rows start t.0 reads types bound b t.1 limited begins

@@ -63,8 +63,8 @@ module _ (rows new : List Row) (by : Relabelling) (r : Relabels rows new by) whe
   inside : (k : ℕ) → k < 4 * n → face_there k < 4 * n
   inside k l = let a = image_in_range n by r.0 (k / 4) (omega arith) in let b = small k l in omega (arith, a, b)
 
-  apart : (j k : ℕ) → j < 4 * n → k < 4 * n → face_there j ≡ face_there k → j ≡ k
-  apart j k l m e =
+  separate : (j k : ℕ) → j < 4 * n → k < 4 * n → face_there j ≡ face_there k → j ≡ k
+  separate j k l m e =
       let a = small j l in
       let b = small k m in
       let tets : slice_index by.images (j / 4) ≡ slice_index by.images (k / 4) = omega (arith, e, a, b) in
@@ -89,7 +89,7 @@ module _ (rows new : List Row) (by : Relabelling) (r : Relabels rows new by) whe
       twice i j l m e =
           let lj : j < 4 * n = omega (arith, m, long) in
           let li : i < 4 * n = omega (arith, l, lj) in
-          let same : i ≡ j = apart i j li lj (sym (at i li) ∙ e ∙ at j lj) in
+          let same : i ≡ j = separate i j li lj (sym (at i li) ∙ e ∙ at j lj) in
           omega (arith, same, l)
 
   -- the face of index k is a boundary face if and only if its image is

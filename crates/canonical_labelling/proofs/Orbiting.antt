@@ -6,7 +6,7 @@ use Rattle.std.proofs.lemmas.Bool.{cases_lt}
 use Rattle.std.proofs.lemmas.List.{get_or_past}
 use Rattle.std.proofs.lemmas.List.Elements.{All-get_or}
 use Rattle.table_definitions.specs.Relabelling.{Relabelling}
-use Rattle.signature_automorphism_laws.specs.Automorphisms.{IsAutomorphism, carried_number, MarkedHaveNoLesserText}
+use Rattle.signature_automorphism_laws.specs.Automorphisms.{IsAutomorphism, carried_number, MarkedHaveNoSmallerText}
 use Rattle.signature_automorphism_laws.proofs.Marks.{carried_has_no_lesser, marked_more}
 use Rattle.canonical_labelling.specs.Marks.{MarksFollow}
 
@@ -29,7 +29,7 @@ image_follows automorphisms marks new by j number image l is m carried e = λ ro
     let auto : IsAutomorphism rows by = subst (IsAutomorphism rows) (sym is) (All-get_or (IsAutomorphism rows) automorphisms j by l autos) in
     let below = marked_below marks number m in
     let low : number < 24 * length rows = omega (arith, below, size) in
-    subst (MarkedHaveNoLesserText rows text) (sym (e ∙ ap (λ i. slice_set marks i true) carried))
+    subst (MarkedHaveNoSmallerText rows text) (sym (e ∙ ap (λ i. slice_set marks i true) carried))
     (marked_more rows text marks (carried_number by number) (carried_has_no_lesser rows by auto number low text table (h number m)) h)
 
 pub follows_refl : (automorphisms : List Relabelling) (marks : List Bool) → MarksFollow automorphisms marks marks

@@ -17,11 +17,11 @@ pub item_below : (n : ℕ) (order : List Start) (i t : ℕ) (s : Start) → IsWh
 item_below n order i t s h l e is = subst (λ m. m < n) (sym (is ∙ ap (λ (r : Start). r.tet) (start_is order i s l e))) (h.in_range i l)
 
 -- one more entry is filled
-pub placed_more : {V : Type 0} (n : ℕ) (order : List Start) (vals : List V) (d v : V) (wanted : ℕ → V) (i t : ℕ) (s : Start) → IsWholeOrder n order → i < length order → s ≡ get_or order i s → t ≡ s.tet → v ≡ wanted i
-    → length vals ≡ n → ((k : ℕ) → k < i → get_or vals (start_at order k).tet d ≡ wanted k) → (k : ℕ) → k < i + 1 → get_or (slice_set vals t v) (start_at order k).tet d ≡ wanted k
-placed_more n order vals d v wanted i t s h l e is made size before =
-    below_more (λ k. get_or (slice_set vals t v) (start_at order k).tet d ≡ wanted k) i
-    (λ k m. get_or-set_other vals t (start_at order k).tet v d (λ same. h.apart k i m l (same ∙ here)) ∙ before k m)
+pub placed_more : {V : Type 0} (n : ℕ) (order : List Start) (vals : List V) (d v : V) (expected : ℕ → V) (i t : ℕ) (s : Start) → IsWholeOrder n order → i < length order → s ≡ get_or order i s → t ≡ s.tet → v ≡ expected i
+    → length vals ≡ n → ((k : ℕ) → k < i → get_or vals (start_at order k).tet d ≡ expected k) → (k : ℕ) → k < i + 1 → get_or (slice_set vals t v) (start_at order k).tet d ≡ expected k
+placed_more n order vals d v expected i t s h l e is made size before =
+    below_more (λ k. get_or (slice_set vals t v) (start_at order k).tet d ≡ expected k) i
+    (λ k m. get_or-set_other vals t (start_at order k).tet v d (λ same. h.separate k i m l (same ∙ here)) ∙ before k m)
     (ap (λ u. get_or (slice_set vals t v) u d) (sym here) ∙ get_or-set_same vals t v d (let b = item_below n order i t s h l e is in omega arith) ∙ made)
   where
     here : t ≡ (start_at order i).tet
@@ -30,13 +30,13 @@ placed_more n order vals d v wanted i t s h l e is made size before =
 -- images that are the indices in a whole order are a bijection
 pub are_numbered : (n : ℕ) (order : List Start) (images : List ℕ) → IsWholeOrder n order → length order ≤ n → length images ≡ n
     → ((i : ℕ) → i < length order → get_or images (start_at order i).tet 0 ≡ i) → IsPermutation images (below n)
-are_numbered n order images h few size each = onto n images size (λ t l. omega (arith, (h.all t l).1, image t l)) (IsDistinct-from_before images apart)
+are_numbered n order images h limited size each = onto n images size (λ t l. omega (arith, (h.all t l).1, image t l)) (IsDistinct-from_before images separate)
   where
     image : (t : ℕ) (l : t < n) → get_or images t 0 ≡ (h.all t l).0
     image t l = ap (λ u. get_or images u 0) (sym (h.all t l).2) ∙ each (h.all t l).0 (h.all t l).1
 
-    apart : (i j : ℕ) → i < j → j < length images → get_or images i 0 ≢ get_or images j 0
-    apart i j d l e =
+    separate : (i j : ℕ) → i < j → j < length images → get_or images i 0 ≢ get_or images j 0
+    separate i j d l e =
         let li : i < n = omega arith in
         let lj : j < n = omega arith in
         let same : (h.all i li).0 ≡ (h.all j lj).0 = sym (image i li) ∙ e ∙ image j lj in

@@ -20,7 +20,7 @@ whole_order_known rows start table connected low permutes =
     let h : IsOrder rows start (whole_order rows start) = order_holds rows start (4 * length rows) table low permutes in
     record {
       in_range = h.in_range;
-      apart = h.apart;
+      separate = h.separate;
       all = λ t l. met_at (whole_order rows start) t (visited t l);
     }
   where
@@ -30,7 +30,7 @@ whole_order_known rows start table connected low permutes =
 -- what is known of the order of a traversal
 pub record IsTraversed (n : ℕ) (order : List Start) : Type 0 where
   pub whole : IsWholeOrder n order
-  pub few : length order ≤ n
+  pub limited : length order ≤ n
   pub permute : (i : ℕ) → i < length order → IsPermutationOfFour (start_at order i).perm
 
 pub traversed : (rows : List Row) (start : Start) (order : List Start) → IsTable rows → ∥ IsConnected rows ∥₁ → start.tet < length rows → IsPermutationOfFour start.perm → order ≡ whole_order rows start → IsTraversed (length rows) order
@@ -38,6 +38,6 @@ traversed rows start order table connected low permutes is =
     let h : IsOrder rows start (whole_order rows start) = order_holds rows start (4 * length rows) table low permutes in
     subst (IsTraversed (length rows)) (sym is) (record {
       whole = whole_order_known rows start table connected low permutes;
-      few = order_few rows start (whole_order rows start) h;
+      limited = order_few rows start (whole_order rows start) h;
       permute = h.permutes;
     })

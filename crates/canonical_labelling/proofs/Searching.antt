@@ -13,9 +13,9 @@ use Rattle.table_definitions.proofs.Carried.{length-images, carried_is_table}
 use Rattle.signature_definitions.specs.Spelling.{Spells, spelling}
 use Rattle.signature_definitions.specs.Labellings.{Start, IsWalked}
 use Rattle.signature_laws.specs.Between.{between}
-use Rattle.signature_laws.specs.Starts.{numbered_start, IsTextFrom, IsLesserFrom}
+use Rattle.signature_laws.specs.Starts.{numbered_start, IsTextFrom, IsSmallerFrom}
 use Rattle.signature_laws.proofs.Least.{one_text, least_begun, least_better}
-use Rattle.signature_automorphism_laws.specs.Automorphisms.{IsAutomorphism, HasNoLesserText, MarkedHaveNoLesserText}
+use Rattle.signature_automorphism_laws.specs.Automorphisms.{IsAutomorphism, HasNoSmallerText, MarkedHaveNoSmallerText}
 use Rattle.signature_automorphism_laws.proofs.Ties.{one_spelled, between_is_automorphism}
 use Rattle.signature_automorphism_laws.proofs.Marks.{marked_more, no_walk, lesser_has_none}
 use Rattle.table_walk_laws.proofs.SearchLemmas.{none_marked}
@@ -44,14 +44,14 @@ tie_is rows start first second new text table found w equal =
     between_is_automorphism rows t.0 found.0 start first second table t.1 (subst (λ (r : List Row). IsWalked rows start second r) one w)
 
 -- no text of the start is less than the smaller of the two
-pub lesser_here : (rows : List Row) (start : Start) (best new : List ℕ) → IsTable rows → start.tet < length rows → IsLesserFrom rows start best new → HasNoLesserText rows new start
+pub lesser_here : (rows : List Row) (start : Start) (best new : List ℕ) → IsTable rows → start.tet < length rows → IsSmallerFrom rows start best new → HasNoSmallerText rows new start
 lesser_here rows start best new table l (inl (t, b)) = λ other f. ap (λ xs. is_list_before xs new) (one_text rows start other new table l f t) ∙ not_before_itself new
 lesser_here rows start best new table l (inr (e, none)) = λ other f. ap (is_list_before other) e ∙ none other f
 
 -- no text of a marked start is less than the smaller of the two
-pub lesser_marks : (rows : List Row) (start : Start) (best new : List ℕ) (marks : List Bool) → IsLesserFrom rows start best new → MarkedHaveNoLesserText rows best marks → MarkedHaveNoLesserText rows new marks
+pub lesser_marks : (rows : List Row) (start : Start) (best new : List ℕ) (marks : List Bool) → IsSmallerFrom rows start best new → MarkedHaveNoSmallerText rows best marks → MarkedHaveNoSmallerText rows new marks
 lesser_marks rows start best new marks (inl (t, b)) h = λ i m. lesser_has_none rows best new (numbered_start i) b (h i m)
-lesser_marks rows start best new marks (inr (e, none)) h = subst (λ (text : List ℕ). MarkedHaveNoLesserText rows text marks) (sym e) h
+lesser_marks rows start best new marks (inr (e, none)) h = subst (λ (text : List ℕ). MarkedHaveNoSmallerText rows text marks) (sym e) h
 
 -- a marked start is skipped
 pub search_passes : (rows : List Row) (k : ℕ) (by : Relabelling) (text : List ℕ) (orbits : Orbits) → IsSearch rows k by text orbits → slice_index_or orbits.marked.items k false ≡ true → IsSearch rows (k + 1) by text orbits
@@ -59,7 +59,7 @@ search_passes rows k by text orbits h m = record { least = no_walk rows text k (
 
 -- a start is traversed and marked
 pub search_walks : (rows : List Row) (k : ℕ) (by by' : Relabelling) (text text' : List ℕ) (orbits between last : Orbits) → IsTable rows → k < 24 * length rows → IsSearch rows k by text orbits
-    → IsLesserFrom rows (numbered_start k) text text' → IsFound rows by' text' → AreOrbitsOf rows between → SparesFollow rows orbits.marked.items between.marked.items
+    → IsSmallerFrom rows (numbered_start k) text text' → IsFound rows by' text' → AreOrbitsOf rows between → SparesFollow rows orbits.marked.items between.marked.items
     → AreOrbitsOf rows last → MarksFollow between.automorphisms.items (slice_set between.marked.items k true) last.marked.items → IsSearch rows (k + 1) by' text' last
 search_walks rows k by by' text text' orbits between last table low h lesser found are kept now follow =
     let tet : k / 24 < length rows = omega (arith, low) in
@@ -91,14 +91,14 @@ orbits_added rows by orbits last h auto long same = record {
 }
 
 -- the report of a comparison decides which text is less
-pub lesser_equal : (rows : List Row) (start : Start) (best : List ℕ) → ((text : List ℕ) → IsTextFrom rows start text → text ≡ best) → IsLesserFrom rows start best best
+pub lesser_equal : (rows : List Row) (start : Start) (best : List ℕ) → ((text : List ℕ) → IsTextFrom rows start text → text ≡ best) → IsSmallerFrom rows start best best
 lesser_equal rows start best equal = inr (refl, λ other f. ap (λ xs. is_list_before xs best) (equal other f) ∙ not_before_itself best)
 
 pub lesser_before : (rows : List Row) (start : Start) (best text : List ℕ) (by : Relabelling) (before : Bool) → before ≡ true → ((text : List ℕ) → IsTextFrom rows start text → before ≡ is_list_before text best)
-    → IsTextBy rows start by text → IsLesserFrom rows start best text
+    → IsTextBy rows start by text → IsSmallerFrom rows start best text
 lesser_before rows start best text by before e value h = let t = text_is_from rows start by text h in inl (t, sym (value text t) ∙ e)
 
-pub lesser_behind : (rows : List Row) (start : Start) (best : List ℕ) (before : Bool) → before ≡ false → ((text : List ℕ) → IsTextFrom rows start text → before ≡ is_list_before text best) → IsLesserFrom rows start best best
+pub lesser_behind : (rows : List Row) (start : Start) (best : List ℕ) (before : Bool) → before ≡ false → ((text : List ℕ) → IsTextFrom rows start text → before ≡ is_list_before text best) → IsSmallerFrom rows start best best
 lesser_behind rows start best before e value = inr (refl, λ other f. sym (value other f) ∙ e)
 
 -- the reports, for equal arguments
@@ -118,8 +118,8 @@ search_begins rows by text first last table some h blank none long same follow =
     let t = text_is_from rows (numbered_start 0) by text h in
     let size : length first.marked.items ≡ 24 * length rows = ap length blank ∙ length-replicate (24 * length rows) false in
     let no_autos : All (IsAutomorphism rows) first.automorphisms.items = subst (All (IsAutomorphism rows)) (sym none) (λ k d l. absurd (omega arith)) in
-    let here : HasNoLesserText rows text (numbered_start 0) = λ other f. ap (λ xs. is_list_before xs text) (one_text rows (numbered_start 0) other text table some f t) ∙ not_before_itself text in
-    let before : MarkedHaveNoLesserText rows text first.marked.items = λ i m. absurd (let z = sym (none_marked (24 * length rows) i) ∙ ap (λ (xs : List Bool). slice_index_or xs i false) (sym blank) ∙ m in cc) in
+    let here : HasNoSmallerText rows text (numbered_start 0) = λ other f. ap (λ xs. is_list_before xs text) (one_text rows (numbered_start 0) other text table some f t) ∙ not_before_itself text in
+    let before : MarkedHaveNoSmallerText rows text first.marked.items = λ i m. absurd (let z = sym (none_marked (24 * length rows) i) ∙ ap (λ (xs : List Bool). slice_index_or xs i false) (sym blank) ∙ m in cc) in
     record {
       least = least_begun rows text table some t;
       found = (numbered_start 0, h);

@@ -19,7 +19,7 @@ use Rattle.canonical_labelling.specs.declared.comparison.WorkSpace.{WorkSpace}
 -- their other sides, the types of the faces read, and the new gluings of those of type 2
 pub record ComparisonView : Type 0 where
   pub order : List Start
-  pub met : List Bool
+  pub visited : List Bool
   pub numbers : List ℕ
   pub crossed : List Bool
   pub types : List ℕ
@@ -27,10 +27,10 @@ pub record ComparisonView : Type 0 where
 
 -- the state once the tetrahedron across the gluing has a number
 abbrev pub numbered : Bool → Start → Gluing → ComparisonView → ComparisonView
-numbered met from g s = record s {
-  order = follow met from g s.order;
-  met = slice_set s.met g.tet true;
-  numbers = if met then s.numbers else slice_set s.numbers g.tet (length s.order);
+numbered visited from g s = record s {
+  order = follow visited from g s.order;
+  visited = slice_set s.visited g.tet true;
+  numbers = if visited then s.numbers else slice_set s.numbers g.tet (length s.order);
 }
 
 -- the gluing in the new labels
@@ -43,18 +43,18 @@ new_gluing from g s = record {
 -- the state once the face with new index k is recorded: of type 2 if the tetrahedron across it was visited before, and
 -- else of type 1
 abbrev pub crossed : Bool → ℕ → Gluing → ComparisonView → ComparisonView
-crossed met k g s = record s {
+crossed visited k g s = record s {
   crossed = slice_set s.crossed (face_number (other_side (face_of k) g)) true;
-  types = s.types ++ (if met then 2 else 1) ∷ [];
-  gluings = if met then s.gluings ++ g ∷ [] else s.gluings;
+  types = s.types ++ (if visited then 2 else 1) ∷ [];
+  gluings = if visited then s.gluings ++ g ∷ [] else s.gluings;
 }
 
 -- the state after the face with new index k, which is glued
 abbrev pub take_glued : ℕ → Start → Gluing → ComparisonView → ComparisonView
 take_glued k from g s =
-    let met : Bool = slice_index_or s.met g.tet false in
-    let t : ComparisonView = numbered met from g s in
-    crossed met k (new_gluing from g t) t
+    let visited : Bool = slice_index_or s.visited g.tet false in
+    let t : ComparisonView = numbered visited from g s in
+    crossed visited k (new_gluing from g t) t
 
 -- the state after the face with new index k, given its gluing; a boundary face has type 0
 abbrev pub take_entry : ℕ → Start → Option Gluing → ComparisonView → ComparisonView
@@ -75,10 +75,10 @@ compare_by None c = Some false
 compare_by (Some b) c = if c == b then None else Some (nat_lt c b)
 
 -- whether each text that begins with the first list is less than the bound; None if the list is a prefix of the bound
-abbrev pub told : List ℕ → List ℕ → Option Bool
-told [] bound = None
-told (c ∷ cs) [] = Some false
-told (c ∷ cs) (b ∷ bound) = if c == b then told cs bound else Some (nat_lt c b)
+abbrev pub reported : List ℕ → List ℕ → Option Bool
+reported [] bound = None
+reported (c ∷ cs) [] = Some false
+reported (c ∷ cs) (b ∷ bound) = if c == b then reported cs bound else Some (nat_lt c b)
 
 -- the character that packs the three types from index i on
 abbrev pub type_character : List ℕ → ℕ → ℕ
@@ -103,7 +103,7 @@ head_text n = map character (head_values n)
 -- the least index at which two texts differ; a text that has ended differs from one that has not
 pub record IsFirstDifference (text bound : List ℕ) (i : ℕ) : Type 0 where
   pub same : (k : ℕ) → k < i → slice_get text k ≡ slice_get bound k
-  pub apart : slice_get text i ≢ slice_get bound i
+  pub separate : slice_get text i ≢ slice_get bound i
 
 -- the index at which the destinations begin in the text of the table
 abbrev pub destinations_at : List Row → ℕ
@@ -115,25 +115,25 @@ type_characters rows i = suc i - length (head_values (length rows))
 
 -- if the text first differs from the bound at index i, before its destinations, at most three faces were read for each
 -- type character up to i
-abbrev pub ReadsFew : List Row → Start → List ℕ → ℕ → Type 0
-ReadsFew rows start bound reads =
+abbrev pub ReadsAtMost : List Row → Start → List ℕ → ℕ → Type 0
+ReadsAtMost rows start bound reads =
     (by : Relabelling) (new : List Row) (text : List ℕ) (i : ℕ) → IsWalked rows start by new → Spells text new → IsFirstDifference text bound i
     → i < destinations_at new → reads ≤ 3 * type_characters new i
 
 -- the state that the code keeps, as the definitions see it
 abbrev pub comparison_view : Comparison → ComparisonView
-comparison_view t = record { order = t.walking.order.items; met = t.walking.met.items; numbers = t.numbers.items; crossed = t.crossed.items; types = t.types.items; gluings = t.gluings.items }
+comparison_view t = record { order = t.walking.order.items; visited = t.walking.visited.items; numbers = t.numbers.items; crossed = t.crossed.items; types = t.types.items; gluings = t.gluings.items }
 
 -- what holds before the face with new index k is taken; in particular the tetrahedron at index i of the order has the
 -- number i
 pub record IsComparison (k : ℕ) (s : ComparisonView) : Type 0 where
-  pub few : length s.numbers ≤ max_tets
-  pub marks : length s.met ≡ length s.numbers
-  pub met : AreVisited s.order s.met
+  pub limited : length s.numbers ≤ max_tets
+  pub marks : length s.visited ≡ length s.numbers
+  pub visited : AreVisited s.order s.visited
   pub numbers : (i : ℕ) → i < length s.order → slice_index s.numbers (start_at s.order i).tet ≡ i
   pub crossed : length s.crossed ≡ 4 * length s.numbers
   pub small : All (λ t. t < 3) s.types
-  pub few_types : length s.types ≤ k
+  pub bounded_types : length s.types ≤ k
   pub marked : (p : ℕ) → slice_index_or s.crossed p false ≡ true → p < 4 * length s.order
 
 -- no mark is set
@@ -142,13 +142,13 @@ AreUnmarked marks = (p : ℕ) → slice_index_or marks p false ≡ false
 
 -- nothing is visited, crossed or found; numbers may be left from an earlier traversal
 pub record IsClean (s : ComparisonView) : Type 0 where
-  pub few : length s.numbers ≤ max_tets
-  pub marks : length s.met ≡ length s.numbers
+  pub limited : length s.numbers ≤ max_tets
+  pub marks : length s.visited ≡ length s.numbers
   pub faces : length s.crossed ≡ 4 * length s.numbers
   pub order : s.order ≡ []
   pub types : s.types ≡ []
   pub gluings : s.gluings ≡ []
-  pub met : AreUnmarked s.met
+  pub visited : AreUnmarked s.visited
   pub crossed : AreUnmarked s.crossed
 
 -- whether the face is glued to one of an index below k
@@ -160,23 +160,23 @@ leads_before k y (Some g) = nat_lt (face_number (other_side y g)) k
 -- if and only if it is glued to one before k
 pub record Follows (by : Relabelling) (new : List Row) (k : ℕ) (s : ComparisonView) : Type 0 where
   pub walk : IsWalkTo new k (record { seen = length s.order; types = s.types; gluings = s.gluings })
-  pub stands : Numbers s.order by
+  pub occurs : Numbers s.order by
   pub crossed : (p : ℕ) → k ≤ p → p < 4 * length new → slice_index_or s.crossed p false ≡ leads_before k (face_of p) (glue new (face_of p))
 
 -- Follows, for each table that results from a traversal from the start
 abbrev pub FollowsWalks : List Row → Start → ℕ → ComparisonView → Type 0
 FollowsWalks rows start k s = (by : Relabelling) (new : List Row) → IsWalked rows start by new → Follows by new k s
 
--- whether the text of the traversal is less than the bound; if it is not, ReadsFew holds of the number of faces read
+-- whether the text of the traversal is less than the bound; if it is not, ReadsAtMost holds of the number of faces read
 pub record IsDecided (rows : List Row) (start : Start) (bound : List ℕ) (reads : ℕ) (before : Bool) : Type 0 where
   pub value : (by : Relabelling) (new : List Row) (text : List ℕ) → IsWalked rows start by new → Spells text new → before ≡ is_list_before text bound
-  pub few : before ≡ false → ReadsFew rows start bound reads
+  pub limited : before ≡ false → ReadsAtMost rows start bound reads
 
 -- all types and gluings are found, and the text agrees with the bound up to the end of its types
 pub record IsUndecided (rows : List Row) (start : Start) (bound : List ℕ) (s : ComparisonView) : Type 0 where
   pub types : (by : Relabelling) (new : List Row) → IsWalked rows start by new → s.types ≡ face_types new
   pub gluings : (by : Relabelling) (new : List Row) → IsWalked rows start by new → s.gluings ≡ seen_gluings new
-  pub agreed : told (head_text (length rows) ++ map character (packed s.types)) bound ≡ None
+  pub agreed : reported (head_text (length rows) ++ map character (packed s.types)) bound ≡ None
 
 -- the work space is for tables of n tetrahedra, and no traversal is under way
 pub record IsWorkSpace (n : ℕ) (w : WorkSpace) : Type 0 where

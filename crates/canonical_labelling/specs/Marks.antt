@@ -3,7 +3,7 @@ use Rattle.std.specs.Prelude.{◌≡◌, ℕ, ◌*◌, ◌<◌, Bool, true, fals
 use Rattle.std.specs.List.{slice_index_or}
 use Rattle.table_definitions.specs.Table.{Row, IsTable}
 use Rattle.table_definitions.specs.Relabelling.{Relabelling}
-use Rattle.signature_automorphism_laws.specs.Automorphisms.{IsAutomorphism, MarkedHaveNoLesserText}
+use Rattle.signature_automorphism_laws.specs.Automorphisms.{IsAutomorphism, MarkedHaveNoSmallerText}
 
 -- the listed starts are marked
 abbrev pub AreListed : List ℕ → List Bool → Type 0
@@ -18,4 +18,4 @@ AreOfSize starts relabellings = All (λ (by : Relabelling). 24 * length by.image
 abbrev pub MarksFollow : List Relabelling → List Bool → List Bool → Type 0
 MarksFollow automorphisms marks new =
     (rows : List Row) (text : List ℕ) → IsTable rows → All (IsAutomorphism rows) automorphisms → 24 * length rows ≡ length marks
-    → MarkedHaveNoLesserText rows text marks → MarkedHaveNoLesserText rows text new
+    → MarkedHaveNoSmallerText rows text marks → MarkedHaveNoSmallerText rows text new

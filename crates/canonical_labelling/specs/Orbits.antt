@@ -5,7 +5,7 @@ use Rattle.table_definitions.specs.Relabelling.{Relabelling}
 use Rattle.signature_definitions.specs.Spelling.{Spells}
 use Rattle.signature_laws.specs.Starts.{IsLeastText}
 use Rattle.signature_definitions.specs.Labellings.{Start, IsWalked}
-use Rattle.signature_automorphism_laws.specs.Automorphisms.{IsAutomorphism, MarkedHaveNoLesserText}
+use Rattle.signature_automorphism_laws.specs.Automorphisms.{IsAutomorphism, MarkedHaveNoSmallerText}
 use Rattle.canonical_labelling.specs.declared.orbits.Orbits.{Orbits}
 
 -- by is the relabelling of the traversal from the start to the table that text spells
@@ -23,11 +23,11 @@ pub record AreOrbitsOf (rows : List Row) (o : Orbits) : Type 0 where
 
 -- for each text: if no text of a start with a mark is before it, no text of a start with a new mark is
 abbrev pub SparesFollow : List Row → List Bool → List Bool → Type 0
-SparesFollow rows marks new = (text : List ℕ) → MarkedHaveNoLesserText rows text marks → MarkedHaveNoLesserText rows text new
+SparesFollow rows marks new = (text : List ℕ) → MarkedHaveNoSmallerText rows text marks → MarkedHaveNoSmallerText rows text new
 
 -- the text is the least of the first k starts and of the marked ones
 pub record IsSearch (rows : List Row) (k : ℕ) (by : Relabelling) (text : List ℕ) (o : Orbits) : Type 0 where
   pub least : IsLeastText rows k text
   pub found : IsFound rows by text
   pub orbits : AreOrbitsOf rows o
-  pub marks : MarkedHaveNoLesserText rows text o.marked.items
+  pub marks : MarkedHaveNoSmallerText rows text o.marked.items

@@ -15,18 +15,18 @@ abbrev pub IsVisited : List Start → ℕ → Type 0
 IsVisited order t = (i : ℕ) × (i < length order) × ((start_at order i).tet ≡ t)
 
 -- a relabelling of n tetrahedra maps each start of the order to its index, and a gluing of the tetrahedron of from to
--- `wanted`
-pub record Becomes (n : ℕ) (order : List Start) (from : Start) (g wanted : Gluing) (by : Relabelling) : Type 0 where
+-- `expected`
+pub record Becomes (n : ℕ) (order : List Start) (from : Start) (g expected : Gluing) (by : Relabelling) : Type 0 where
   pub in_range : g.tet < n
   pub from_permutes : IsPermutationOfFour from.perm
   pub permutes : IsPermutationOfFour g.perm
   pub bijection : IsRelabelling n by
   pub numbers : Numbers order by
-  pub becomes : gluing_under (record { tet = 0; perm = from.perm }) (relabelled_place by g.tet) g ≡ wanted
+  pub becomes : gluing_under (record { tet = 0; perm = from.perm }) (relabelled_place by g.tet) g ≡ expected
 
--- each relabelling that maps the gluing to `wanted` agrees, and maps each start of the new order to its index
+-- each relabelling that maps the gluing to `expected` agrees, and maps each start of the new order to its index
 abbrev pub AgreesGlued : ℕ → List Start → List Start → Start → Gluing → Gluing → Bool → Type 0
-AgreesGlued n order after from g wanted agrees = (by : Relabelling) → Becomes n order from g wanted by → (agrees ≡ true) × Numbers after by
+AgreesGlued n order after from g expected agrees = (by : Relabelling) → Becomes n order from g expected by → (agrees ≡ true) × Numbers after by
 
 -- each relabelling that carries the rows to the target, and maps each start of the order to its index, agrees, and maps
 -- the new order so too

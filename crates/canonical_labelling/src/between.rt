@@ -15,7 +15,7 @@ use std::alloc::{AllocError, Global};
 pub struct RelabellingPair<'a> {
     pub first: &'a Relabelling,
     pub second: &'a Relabelling,
-    pub ghost few: { length first.now.images < 2 ^ 32 },
+    pub ghost limited: { length first.now.images < 2 ^ 32 },
     pub ghost equal: { length second.now.images ≡ length first.now.images },
 }
 

@@ -11,7 +11,7 @@ ghost use Rattle.signature_definitions.specs.Spelling.{character, packed};
 ghost use Rattle.signature_text_laws.specs.Texts.{destinations_text, indices_text};
 ghost use Rattle.signature_laws.specs.Starts.{IsTextFrom};
 ghost use Rattle.canonical_labelling.specs.Comparisons as comparisons;
-ghost use Rattle.canonical_labelling.specs.Comparisons.{IsComparison, AreUnmarked, IsClean, IsWorkSpace, ReadsFew, IsDecided, IsUndecided, head_text, compare_by, comparison_view};
+ghost use Rattle.canonical_labelling.specs.Comparisons.{IsComparison, AreUnmarked, IsClean, IsWorkSpace, ReadsAtMost, IsDecided, IsUndecided, head_text, compare_by, comparison_view};
 
 use crate::Start;
 use crate::comparison::{Comparison, FoundTypes, TableSize, WorkSpace};
@@ -53,13 +53,13 @@ fn compare_at(bound: &[u8], place: usize, character: u8) -> Option<bool>
 
 /// Whether every text that begins with `text` comes before `bound`; `None` if `text` is a prefix of `bound`.
 fn compare_head(text: &[u8], bound: &[u8]) -> Option<bool>
-    ensures { result ≡ comparisons.told text.now bound.now }
+    ensures { result ≡ comparisons.reported text.now bound.now }
 {
     let mut i = 0;
     while i < text.len() {
-        let told = compare_at(bound, i, text[i]);
-        if told.is_some() {
-            return told;
+        let reported = compare_at(bound, i, text[i]);
+        if reported.is_some() {
+            return reported;
         }
         i += 1;
     }
@@ -70,10 +70,10 @@ fn compare_head(text: &[u8], bound: &[u8]) -> Option<bool>
 /// before.
 fn assign_number(comparison: &mut Comparison, from: Start, glue: Glue) -> Result<(), AllocError>
     requires in_range { glue.tet < length comparison.old.numbers.items }
-    requires few { length comparison.old.walking.order.items < 2 ^ 32 }
-    ensures { OnOk result (comparison_view comparison.new ≡ comparisons.numbered (slice_index_or comparison.old.walking.met.items glue.tet false) from glue (comparison_view comparison.old)) }
+    requires limited { length comparison.old.walking.order.items < 2 ^ 32 }
+    ensures { OnOk result (comparison_view comparison.new ≡ comparisons.numbered (slice_index_or comparison.old.walking.visited.items glue.tet false) from glue (comparison_view comparison.old)) }
 {
-    if !comparison.walking.met[glue.tet as usize] {
+    if !comparison.walking.visited[glue.tet as usize] {
         comparison.numbers[glue.tet as usize] = comparison.walking.order.len() as u32;
     }
     follow(&mut comparison.walking, from, glue)
@@ -94,16 +94,16 @@ fn new_gluing(comparison: &Comparison, from: Start, glue: Glue) -> Glue
 }
 
 /// Records the gluing `glue` of the new face with index `place` (4 times tetrahedron plus face). The face on its other
-/// side is marked as crossed; the type is 2 if the target was visited before (`met`), and then `glue` is recorded too,
-/// and 1 otherwise.
+/// side is marked as crossed; the type is 2 if the target was visited before (`visited`), and then `glue` is recorded
+/// too, and 1 otherwise.
 fn record_crossing(
     comparison: &mut Comparison,
     place: u32,
     glue: Glue,
-    met: bool,
+    visited: bool,
 ) -> Result<(), AllocError>
     requires { glue.tet < length comparison.old.numbers.items }
-    ensures crossed { OnOk result (comparison_view comparison.new ≡ comparisons.crossed met place glue (comparison_view comparison.old)) }
+    ensures crossed { OnOk result (comparison_view comparison.new ≡ comparisons.crossed visited place glue (comparison_view comparison.old)) }
     ensures other { face_number (other_side (face_of place) glue) < 4 * glue.tet + 4 }
 {
     let other = glue.other_side(Face {
@@ -111,7 +111,7 @@ fn record_crossing(
         face: (place % 4) as u8,
     });
     comparison.crossed[(4 * other.tet + u32::from(other.face)) as usize] = true;
-    if !met {
+    if !visited {
         comparison.types.push(1)?;
         return Ok(());
     }
@@ -133,10 +133,10 @@ fn take_glued(
     ensures comparison { OnOk result (IsComparison (place + 1) (comparison_view comparison.new)) }
     ensures size { OnOk result (length comparison.new.numbers.items ≡ length comparison.old.numbers.items) }
 {
-    let met = comparison.walking.met[glue.tet as usize];
+    let visited = comparison.walking.visited[glue.tet as usize];
     assign_number(comparison, from, glue)?;
     let there = new_gluing(comparison, from, glue);
-    record_crossing(comparison, place, there, met)?;
+    record_crossing(comparison, place, there, visited)?;
     Ok(())
 }
 
@@ -213,11 +213,11 @@ fn blank(alloc: Global, size: TableSize) -> Result<Comparison, AllocError>
 {
     let count = size.count as usize;
     let order = Vec::with_capacity(alloc, count)?;
-    let met = vec![in alloc; false; count]?;
+    let visited = vec![in alloc; false; count]?;
     let numbers = vec![in alloc; 0u32; count]?;
     let crossed = vec![in alloc; false; 4 * count]?;
     Ok(Comparison {
-        walking: Walking { order, met },
+        walking: Walking { order, visited },
         numbers,
         crossed,
         types: Vec::new(alloc),
@@ -248,7 +248,7 @@ fn begin(comparison: &mut Comparison, start: Start) -> Result<(), AllocError>
     ensures size { OnOk result (length comparison.new.numbers.items ≡ length comparison.old.numbers.items) }
 {
     comparison.walking.order.push(start)?;
-    comparison.walking.met[start.tet as usize] = true;
+    comparison.walking.visited[start.tet as usize] = true;
     comparison.numbers[start.tet as usize] = 0;
     Ok(())
 }
@@ -265,8 +265,8 @@ fn compare_types(
     requires table { IsTable probe.old.rows }
     requires in_range { start.tet < length probe.old.rows }
     requires space { IsWorkSpace (length probe.old.rows) space.old }
-    requires agreed { comparisons.told (head_text (length probe.old.rows)) bound.now ≡ None }
-    ensures told { IfOk result (λ r. IfSome r (IsDecided probe.old.rows start bound.now (probe.new.taken - probe.old.taken))) }
+    requires agreed { comparisons.reported (head_text (length probe.old.rows)) bound.now ≡ None }
+    ensures reported { IfOk result (λ r. IfSome r (IsDecided probe.old.rows start bound.now (probe.new.taken - probe.old.taken))) }
     ensures untold { IfOk result (λ r. IfNone r (IsUndecided probe.old.rows start bound.now (comparison_view space.new.comparison))) }
     ensures comparison { OnOk result (IsComparison (4 * length probe.old.rows) (comparison_view space.new.comparison)) }
     ensures size { OnOk result (length space.new.comparison.numbers.items ≡ length probe.old.rows) }
@@ -277,13 +277,13 @@ fn compare_types(
     begin(&mut space.comparison, start)?;
     for place in 0..4 * probe.len() {
         take(&mut space.comparison, probe, place)?;
-        let told = compare_full_character(FoundTypes {
+        let reported = compare_full_character(FoundTypes {
             types: &space.comparison.types,
             bound,
             head,
         });
-        if told.is_some() {
-            return Ok(told);
+        if reported.is_some() {
+            return Ok(reported);
         }
     }
     Ok(compare_last_character(FoundTypes {
@@ -359,7 +359,7 @@ pub fn compare(
     requires space { IsWorkSpace (length probe.old.rows) space.old }
     ensures value { IfOk result (λ r. IfSome r (λ before. (text : List ℕ) → IsTextFrom probe.old.rows start text → before ≡ is_list_before text bound.now)) }
     ensures equal { IfOk result (λ r. IfNone r ((text : List ℕ) → IsTextFrom probe.old.rows start text → text ≡ bound.now)) }
-    ensures few { IfOk result (λ r. r ≢ Some true → ReadsFew probe.old.rows start bound.now (probe.new.taken - probe.old.taken)) }
+    ensures limited { IfOk result (λ r. r ≢ Some true → ReadsAtMost probe.old.rows start bound.now (probe.new.taken - probe.old.taken)) }
     ensures space { OnOk result (IsWorkSpace (length probe.old.rows) space.new) }
     ensures rows { probe.new.rows ≡ probe.old.rows }
 {
@@ -387,7 +387,7 @@ pub fn lesser(
     requires table { IsTable probe.old.rows }
     requires in_range { start.tet < length probe.old.rows }
     ensures value { IfOk result (λ before. (text : List ℕ) → IsTextFrom probe.old.rows start text → before ≡ is_list_before text bound.now) }
-    ensures few { IfOk result (λ before. before ≡ false → ReadsFew probe.old.rows start bound.now (probe.new.taken - probe.old.taken)) }
+    ensures limited { IfOk result (λ before. before ≡ false → ReadsAtMost probe.old.rows start bound.now (probe.new.taken - probe.old.taken)) }
     ensures rows { probe.new.rows ≡ probe.old.rows }
 {
     let size = TableSize { count: probe.len() };

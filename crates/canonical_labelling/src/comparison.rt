@@ -10,7 +10,7 @@ use gluing_table::Glue;
 #[derive(Clone, Copy)]
 pub struct TableSize {
     pub count: u32,
-    pub ghost few: { count ≤ max_tets },
+    pub ghost limited: { count ≤ max_tets },
 }
 
 /// The state of a traversal: `numbers[t]` is the new number of a visited tetrahedron `t`; `crossed[k]` says whether the
@@ -23,8 +23,8 @@ pub struct Comparison {
     pub crossed: Vec<bool>,
     pub types: Vec<u8>,
     pub gluings: Vec<Glue>,
-    pub ghost few: { length numbers.items ≤ max_tets },
-    pub ghost marks: { length walking.met.items ≡ length numbers.items },
+    pub ghost limited: { length numbers.items ≤ max_tets },
+    pub ghost marks: { length walking.visited.items ≡ length numbers.items },
     pub ghost faces: { length crossed.items ≡ 4 * length numbers.items },
     pub ghost small: { All (λ t. t < 3) types.items },
 }
@@ -46,6 +46,6 @@ pub struct FoundTypes<'a> {
     pub bound: &'a [u8],
     pub head: usize,
     pub ghost small: { All (λ t. t < 3) types.now },
-    pub ghost few: { length types.now ≤ 4000 },
-    pub ghost few_before: { head ≤ 4000 },
+    pub ghost limited: { length types.now ≤ 4000 },
+    pub ghost bounded_before: { head ≤ 4000 },
 }

@@ -18,7 +18,7 @@ pub struct Orbits {
     pub marked: Vec<bool>,
     pub numbers: Vec<u32>,
     pub automorphisms: Vec<Relabelling>,
-    pub ghost few: { length marked.items ≤ 24 * max_tets },
+    pub ghost limited: { length marked.items ≤ 24 * max_tets },
     pub ghost listed: { AreListed numbers.items marked.items },
     pub ghost sizes: { AreOfSize (length marked.items) automorphisms.items },
 }
@@ -39,7 +39,7 @@ pub fn no_orbits(alloc: Global, size: TableSize) -> Result<Orbits, AllocError>
 /// The number of the start to which `by` carries the start with number `number`.
 fn carried_number(by: &Relabelling, number: u32) -> u32
     requires in_range { number < 24 * length by.now.images }
-    requires few { length by.now.images ≤ max_tets }
+    requires limited { length by.now.images ≤ max_tets }
     ensures value { result ≡ automorphisms.carried_number by.now number }
     ensures in_range { result < 24 * length by.now.images }
 {

@@ -9,7 +9,7 @@ ghost use Rattle.signature_laws.specs.Orders as orders;
 ghost use Rattle.canonical_labelling.specs.Traces.{AreBelow, IsVisited, AgreesGlued, Agrees};
 
 use crate::Start;
-use crate::order::{face_from, start_behind};
+use crate::order::{face_from, start_across};
 use crate::traversals::Traversal;
 use gluing_table::{Face, Glue, Table};
 use out_of_memory::NoMemory;
@@ -47,42 +47,42 @@ fn is_visited(trace: &Trace, tet: u32) -> bool
     trace.order[number].tet == tet
 }
 
-/// Whether the gluing `glue` of the tetrahedron of `from` is mapped to `wanted`, which reaches the tetrahedron of
+/// Whether the gluing `glue` of the tetrahedron of `from` is mapped to `expected`, which reaches the tetrahedron of
 /// `there`.
-fn maps_to(from: Start, there: Start, glue: Glue, wanted: Glue) -> bool
-    ensures { glue.tet ≡ there.tet → permutations.compose there.perm (permutations.compose glue.perm (permutations.inverse from.perm)) ≡ wanted.perm → result ≡ true }
+fn maps_to(from: Start, there: Start, glue: Glue, expected: Glue) -> bool
+    ensures { glue.tet ≡ there.tet → permutations.compose there.perm (permutations.compose glue.perm (permutations.inverse from.perm)) ≡ expected.perm → result ≡ true }
 {
     if there.tet != glue.tet {
         return false;
     }
-    there.perm.compose(glue.perm.compose(from.perm.inverse())) == wanted.perm
+    there.perm.compose(glue.perm.compose(from.perm.inverse())) == expected.perm
 }
 
-/// Whether the gluing `glue` of the tetrahedron of `from` agrees with `wanted`. A gluing to the next tetrahedron visits
-/// it, with the new number `wanted.tet`, and agrees if it was not visited before.
+/// Whether the gluing `glue` of the tetrahedron of `from` agrees with `expected`. A gluing to the next tetrahedron
+/// visits it, with the new number `expected.tet`, and agrees if it was not visited before.
 fn agrees_glued(
     trace: &mut Trace,
     from: Start,
     glue: Glue,
-    wanted: Glue,
+    expected: Glue,
 ) -> Result<bool, AllocError>
     requires { glue.tet < length trace.old.numbers.items }
     ensures size { length trace.new.numbers.items ≡ length trace.old.numbers.items }
-    ensures agrees { IfOk result (AgreesGlued (length trace.old.numbers.items) trace.old.order.items trace.new.order.items from glue wanted) }
+    ensures agrees { IfOk result (AgreesGlued (length trace.old.numbers.items) trace.old.order.items trace.new.order.items from glue expected) }
 {
-    let number = wanted.tet as usize;
+    let number = expected.tet as usize;
     if number < trace.order.len() {
-        return Ok(maps_to(from, trace.order[number], glue, wanted));
+        return Ok(maps_to(from, trace.order[number], glue, expected));
     }
     // a walk-ordered table has no such gluing
-    if number > trace.order.len() || wanted.perm != Perm4::identity() {
+    if number > trace.order.len() || expected.perm != Perm4::identity() {
         return Ok(true);
     }
     if is_visited(trace, glue.tet) {
         return Ok(false);
     }
-    trace.numbers[glue.tet as usize] = wanted.tet;
-    trace.order.push(start_behind(from, glue))?;
+    trace.numbers[glue.tet as usize] = expected.tet;
+    trace.order.push(start_across(from, glue))?;
     Ok(true)
 }
 
@@ -105,17 +105,17 @@ fn agrees_at(
         return Ok(true);
     }
     let from = trace.order[number];
-    let wanted = target.glue(Face {
+    let expected = target.glue(Face {
         tet: place / 4,
         face: (place % 4) as u8,
     });
     let Some(glue) = table.glue(face_from(from, place)) else {
-        return Ok(wanted.is_none());
+        return Ok(expected.is_none());
     };
-    let Some(wanted) = wanted else {
+    let Some(expected) = expected else {
         return Ok(false);
     };
-    agrees_glued(trace, from, glue, wanted)
+    agrees_glued(trace, from, glue, expected)
 }
 
 /// Whether `traversal` may result in `target`. Returns `false` at the first face that differs. Reads each face of the

@@ -38,11 +38,11 @@ summary_lines n list greatest t0 t1 t2 t3 t4 t5 t6 t7 seed moves tetrahedra link
 -- the surfaces are listed
 pub listed_told : (n : Numbers) (rows : List Row) (list : List (List ℕ)) (greatest : ℕ) (o : Outcome) → AreTableSurfaces limit Standard rows Given list → IsGreatestEntry list greatest → o ≡ summary_outcome n list greatest → IsSummary n rows o
 listed_told n rows list greatest o a g same =
-    record { equations = a.0; of_table = a.1; told = inl (record { taken = (a.2).taken; list = list; listed = (a.2).listed; greatest = greatest; is_greatest = g; outcome = same }) }
+    record { equations = a.0; of_table = a.1; reported = inl (record { taken = (a.2).taken; list = list; listed = (a.2).listed; greatest = greatest; is_greatest = g; outcome = same }) }
 
 -- a number exceeds the limit
 pub large_told : (n : Numbers) (rows : List Row) (large : LargeStep) (o : Outcome) → IsTableRefused limit Standard rows Given (Fault large) → o ≡ large_outcome large.order.items large.kind → IsSummary n rows o
-large_told n rows large o a same = record { equations = a.0; of_table = a.1; told = inr (large.order.items, large.kind, a.2, same) }
+large_told n rows large o a same = record { equations = a.0; of_table = a.1; reported = inr (large.order.items, large.kind, a.2, same) }
 
 -- the summary of the table that was made is the answer of `bulk`
 pub bulk_told : (seed moves : ℕ) (table : List Row) (certificate : List Move) (n : Numbers) (o : Outcome) → IsMade seed moves table certificate → IsCertificate table certificate

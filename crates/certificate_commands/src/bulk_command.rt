@@ -18,7 +18,7 @@ use tri_build::Made;
 
 /// Checks the certificate of `made`, which is one.
 fn accept(alloc: Global, made: &Made) -> Result<(), NoMemory>
-    requires few { length made.now.certificate.items < 2 ^ 32 - 1 }
+    requires limited { length made.now.certificate.items < 2 ^ 32 - 1 }
     requires certified { IsCertificate made.now.table made.now.certificate.items }
 {
     match check(alloc, &made.table, &made.certificate) {

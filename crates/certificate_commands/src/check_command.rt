@@ -16,7 +16,7 @@ use std::alloc::Global;
 
 /// The outcome for `table` and `moves`.
 fn run_check(alloc: Global, table: Table, moves: &[Move]) -> Result<Outcome, NoMemory>
-    requires few { length moves.now < 2 ^ 32 - 1 }
+    requires limited { length moves.now < 2 ^ 32 - 1 }
     ensures { IfOk result (IsCheckAnswer (table, moves.now)) }
 {
     match check_owned(alloc, table, moves) {

@@ -2,7 +2,7 @@
 ghost use Rattle.std.specs.Prelude.{◌≡◌, Err, IfOk};
 ghost use Rattle.certificate_definitions.specs.declared.CheckFault.TheVariants as check_faults;
 ghost use Rattle.outcome_definitions.specs.Certificates.{check_line, check_outcome};
-ghost use Rattle.sphere_certificate.specs.Checks.{told};
+ghost use Rattle.sphere_certificate.specs.Checks.{reported};
 
 use command_answers::{Outcome, not_connected_outcome};
 use move_undo::append_move_fault;
@@ -41,7 +41,7 @@ fn not_standard_outcome(alloc: Global, signature: &[u8]) -> Result<Outcome, NoMe
 
 /// The outcome if the last table is disconnected; `tet` is its least tetrahedron not reached from tetrahedron 0.
 #[tactic(auto, unfolding(outcome_definitions::specs::Certificates::check_line))]
-fn loose_outcome(alloc: Global, tet: u32) -> Result<Outcome, NoMemory>
+fn disconnected_outcome(alloc: Global, tet: u32) -> Result<Outcome, NoMemory>
     ensures { IfOk result (λ o. o ≡ check_outcome (Err (check_faults.NotConnected tet))) }
 {
     not_connected_outcome(alloc, 0, tet)
@@ -49,11 +49,11 @@ fn loose_outcome(alloc: Global, tet: u32) -> Result<Outcome, NoMemory>
 
 /// The outcome if moves are no certificate, by `fault`.
 pub fn refused_outcome(alloc: Global, fault: CheckFault) -> Result<Outcome, NoMemory>
-    ensures { IfOk result (λ o. o ≡ check_outcome (Err (told fault))) }
+    ensures { IfOk result (λ o. o ≡ check_outcome (Err (reported fault))) }
 {
     match fault {
         CheckFault::Illegal { step, fault } => illegal_outcome(alloc, step, fault),
-        CheckFault::NotConnected { tet } => loose_outcome(alloc, tet),
+        CheckFault::NotConnected { tet } => disconnected_outcome(alloc, tet),
         CheckFault::NotStandard { signature } => not_standard_outcome(alloc, &signature),
     }
 }

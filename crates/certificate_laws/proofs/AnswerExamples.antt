@@ -13,7 +13,7 @@ use Rattle.certificate_definitions.specs.Answers.{IsChecked, sphere_text, IsDesc
 use Rattle.certificate_definitions.specs.declared.CheckFault.TheVariants.{NotConnected, NotStandard}
 use Rattle.certificate_definitions.proofs.Computed.{computed}
 use Rattle.table_definitions.proofs.ListFacts.{same_list-refl}
-use Rattle.certificate_laws.proofs.OneTetrahedron.{turned, carried_test, least_test, one_tet_signature}
+use Rattle.certificate_laws.proofs.OneTetrahedron.{backwards, carried_test, least_test, one_tet_signature}
 use Rattle.certificate_laws.proofs.Checked.{standard_text}
 
 gb_table : IsTable table_gb
@@ -21,7 +21,7 @@ unfolding computed
 gb_table = table_from table_gb refl refl refl
 
 gb_signature : IsSignature table_gb (codes "bkaagb")
-unfolding computed carried_test least_test turned
+unfolding computed carried_test least_test backwards
 gb_signature = one_tet_signature table_gb (codes "bkaagb") gb_table refl refl refl (record { table = gb_table; ordered = refl; spelled = refl })
 
 other_text : codes "bkaagb" ≡ sphere_text → ⊥

@@ -128,8 +128,8 @@ descent_table rows moves last table d = all_led_table rows moves last table (des
 pub descents_exist_lem : DescentsExist
 descents_exist_lem rows table =
     let d = descent_by (length rows) rows table (omega arith) in
-    told d.0 d.1 d.2 (standard_or_not_lem d.1 (descent_table rows d.0 d.1 table d.2))
+    reported d.0 d.1 d.2 (standard_or_not_lem d.1 (descent_table rows d.0 d.1 table d.2))
   where
-    told : (moves : List Move) (last : List Row) → IsDescent rows moves last → IsStandard last ⊎ (IsStandard last → ⊥) → (d : Descended) × IsDescended rows d
-    told moves last d (inl s) = (record { reached = true; moves = moves; table = last }, record { descent = d; reached = (λ e. s, λ s. refl) })
-    told moves last d (inr n) = (record { reached = false; moves = moves; table = last }, record { descent = d; reached = (λ e. absurd (false≢true e), λ s. absurd (n s)) })
+    reported : (moves : List Move) (last : List Row) → IsDescent rows moves last → IsStandard last ⊎ (IsStandard last → ⊥) → (d : Descended) × IsDescended rows d
+    reported moves last d (inl s) = (record { reached = true; moves = moves; table = last }, record { descent = d; reached = (λ e. s, λ s. refl) })
+    reported moves last d (inr n) = (record { reached = false; moves = moves; table = last }, record { descent = d; reached = (λ e. absurd (false≢true e), λ s. absurd (n s)) })

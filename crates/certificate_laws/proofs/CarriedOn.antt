@@ -31,7 +31,7 @@ carried_on by old other m new next h moved moved' = record {
     long = omega (arith, kept_same by old other m h, other_size by old other m h)
 
     glued_at : (y : Face) → y.face < 4 → StandsForOld old m y ⊎ IsInner old m y → glue next (face_under (relabelled_place R y.tet) y) ≡ option_map (λ g. gluing_under (relabelled_place R y.tet) (relabelled_place R g.tet) g) (glue new y)
-    glued_at y lf (inl o) = subst (λ (z : Face). glue next (face_under (relabelled_place R z.tet) z) ≡ option_map (λ g. gluing_under (relabelled_place R z.tet) (relabelled_place R g.tet) g) (glue new z)) o.is (outer_on by old other m new next h moved moved' o.old o.by o.tet o.face o.stands)
+    glued_at y lf (inl o) = subst (λ (z : Face). glue next (face_under (relabelled_place R z.tet) z) ≡ option_map (λ g. gluing_under (relabelled_place R z.tet) (relabelled_place R g.tet) g) (glue new z)) o.is (outer_on by old other m new next h moved moved' o.old o.by o.tet o.face o.occurs)
     glued_at y lf (inr n) = inner_on by old other m new next h moved moved' y n
 
 pub is_carried : (by : Relabelling) (old other : List Row) (m : Move) (new : List Row) → IsTable old → IsRelabelling (length old) by → Carries by old other → IsMoved old m new → IsCarried by old other m

@@ -105,7 +105,7 @@ plays_go_on_lem by old other m new p relabels carries =
     let h : IsCarried by old other m = is_carried by old other m new p.table relabels carries p.moved in
     let led = legal_moves_lead_on_lem other (move_under by m) (other_table by old other m h) (other_core by old other m h) (carried_legal by old other m h) in
     let same : new_length other (move_under by m) ≡ new_length old m = omega (arith, kept_same by old other m h, other_size by old other m h) in
-    let fits : length new ≤ max_tets = (played_table old m new p).few in
+    let fits : length new ≤ max_tets = (played_table old m new p).limited in
     (led.0, record { table = other_table by old other m h; moved = led.1; accepted = no_limit other (move_under by m) (carried_legal by old other m h) (omega (arith, same, p.moved.length_is)) })
 
 pub steps_go_back_lem : StepsGoBack

@@ -11,7 +11,7 @@ use Rattle.certificate_definitions.specs.Answers.{IsRefusedAt, sphere_text}
 use Rattle.certificate_definitions.specs.declared.CheckFault.TheVariants.{Illegal, NotConnected, NotStandard}
 use Rattle.signature_laws.proofs.Invariance.{relabels_back, relabels_connected}
 use Rattle.signature_laws.proofs.Uniqueness.{one_signature, tells_tables}
-use Rattle.certificate_laws.specs.Laws.{TextsTellStandard, AnswersAgree}
+use Rattle.certificate_laws.specs.Laws.{TextsDetermineStandard, AnswersAgree}
 use Rattle.certificate_laws.proofs.Sphere.{sphere_table, sphere_signature}
 use Rattle.move_laws.proofs.ListedFacets.{same_some}
 use Rattle.move_laws.proofs.Played.{all_led_table, played_same, all_played_same}
@@ -76,7 +76,7 @@ standard_text rows text table s h = (tells_tables rows standard_sphere text sphe
 pub text_standard : (rows : List Row) (text : List ℕ) → IsTable rows → IsSignature rows text → text ≡ sphere_text → IsStandard rows
 text_standard rows text table h e = (tells_tables rows standard_sphere text sphere_text table sphere_table h sphere_signature).0 e
 
-pub texts_tell_standard_lem : TextsTellStandard
+pub texts_tell_standard_lem : TextsDetermineStandard
 texts_tell_standard_lem rows text table h = (text_standard rows text table h, λ s. standard_text rows text table s h)
 
 -- any two answers are equal

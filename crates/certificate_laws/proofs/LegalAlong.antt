@@ -41,13 +41,13 @@ module _ (by : Relabelling) (old other : List Row) (m : Move) (table : IsTable o
   abbrev back : Relabelling
   back = inverted (length old) by
 
-  stands : relabelled_place back (relabelled_place by m.tet).tet ≡ record { tet = m.tet; perm = inverse (relabelled_place by m.tet).perm }
-  stands = inverted_stands (length old) by relabels m.tet low
+  occurs : relabelled_place back (relabelled_place by m.tet).tet ≡ record { tet = m.tet; perm = inverse (relabelled_place by m.tet).perm }
+  occurs = inverted_stands (length old) by relabels m.tet low
 
   move_back_again : move_under back (move_under by m) ≡ m
   move_back_again = λ i. record {
-    tet = (stands i).tet;
-    core = (ap (λ (g : Gluing). core_under g.perm (core_under (relabelled_place by m.tet).perm m.core)) stands ∙ core_back (relabelled_place by m.tet).perm m.core (perm_permutes (length old) by relabels m.tet low) core) i;
+    tet = (occurs i).tet;
+    core = (ap (λ (g : Gluing). core_under g.perm (core_under (relabelled_place by m.tet).perm m.core)) occurs ∙ core_back (relabelled_place by m.tet).perm m.core (perm_permutes (length old) by relabels m.tet low) core) i;
   }
 
   legal_goes_back : move_fault other (move_under by m) ≡ None → move_fault old m ≡ None

@@ -7,7 +7,7 @@ use Rattle.move_definitions.specs.Moves.{Move, Plays, PlaysAll}
 use Rattle.move_definitions.specs.Certificates.{IsStandard, descent_move, candidates, IsMaking}
 use Rattle.certificate_definitions.specs.CarriedBack.{move_back, AreCarriedBack}
 use Rattle.certificate_definitions.specs.SoFar.{Descends, Stage, Makes}
-use Rattle.certificate_laws.specs.LoopLaws.{ChecksGoOn, ChecksRefuse, DescentsGoOn, DescentsAreDone, MakingsGoOn, MakingsAreDone, WaysBackGoOn}
+use Rattle.certificate_laws.specs.LoopLaws.{ChecksGoOn, ChecksRefuse, DescentsGoOn, DescentsAreDone, MakingsGoOn, MakingsAreDone, InversesExtend}
 use Rattle.basic_lemmas.proofs.Numbers.{one_on}
 
 -- lists, before and after an index
@@ -67,13 +67,13 @@ pub makings_go_on_lem : MakingsGoOn
 makings_go_on_lem first moves now m next so_far d = FoldsTo-push Makes first moves now m next so_far d
 
 pub makings_are_done_lem : MakingsAreDone
-makings_are_done_lem most first [] now e few ends = (ap (λ (s : Stage). s.table) e, done ends)
+makings_are_done_lem most first [] now e limited ends = (ap (λ (s : Stage). s.table) e, done ends)
   where
     done : (0 ≡ most) ⊎ (candidates now.table ≡ []) → (most ≡ 0) ⊎ (candidates first.table ≡ [])
     done (inl z) = inl (sym z)
     done (inr n) = inr (ap (λ (s : Stage). candidates s.table) e ∙ n)
-makings_are_done_lem zero first (m ∷ ms) now so_far few ends = absurd (omega arith)
-makings_are_done_lem (suc most) first (m ∷ ms) now (next, d, rest) few ends =
+makings_are_done_lem zero first (m ∷ ms) now so_far limited ends = absurd (omega arith)
+makings_are_done_lem (suc most) first (m ∷ ms) now (next, d, rest) limited ends =
     let later : IsMaking most next.state next.table ms now.table = makings_are_done_lem most next ms now rest (omega arith) (fewer ends) in
     (most, omega arith, d.draws, (next.table, d.plays, subst (λ x. IsMaking most x next.table ms now.table) d.state later))
   where
@@ -81,6 +81,6 @@ makings_are_done_lem (suc most) first (m ∷ ms) now (next, d, rest) few ends =
     fewer (inl e) = inl (omega arith)
     fewer (inr n) = inr n
 
-pub ways_back_go_on_lem : WaysBackGoOn
+pub ways_back_go_on_lem : InversesExtend
 ways_back_go_on_lem rows next moves k m last back now on end by l e first are leads carried =
     subst (λ (ms : List Move). AreCarriedBack rows ms last (back ++ move_back rows m on ∷ []) end by) (sym (drop_at moves k m l e)) (next, first, (back, now, on, are, refl, leads, carried))

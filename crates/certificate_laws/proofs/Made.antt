@@ -16,18 +16,18 @@ use Rattle.signature_laws.proofs.Invariance.{relabels_back}
 use Rattle.move_laws.proofs.Cores.{drawn_core, these_or, drawn_among}
 use Rattle.move_laws.proofs.Played.{makings_agree_lem, played_table, all_led_table}
 use Rattle.move_laws.proofs.LedOn.{legal_moves_lead_on_lem}
-use Rattle.certificate_laws.specs.Laws.{WaysLeadBack, WaysBackLead, WaysBackAgree, TablesAreMade, OneIsMade, MadeAreCertified}
+use Rattle.certificate_laws.specs.Laws.{InversesReturn, InversesCarry, InversesAgree, TablesAreMade, OneIsMade, MadeAreCertified}
 use Rattle.certificate_laws.proofs.CarriedWays.{IsWayBack, way_back_of}
 use Rattle.certificate_laws.proofs.OneWay.{IsThere, carried_leads, carried_long, IsOneWay, carried_agree}
 use Rattle.certificate_laws.proofs.Sphere.{sphere_table}
 
-pub ways_lead_back_lem : WaysLeadBack
+pub ways_lead_back_lem : InversesReturn
 ways_lead_back_lem rows moves last table led = let w : IsWayBack rows moves last = way_back_of rows moves last table led in (w.back, w.end, w.by, w.are)
 
-pub ways_back_lead_lem : WaysBackLead
+pub ways_back_lead_lem : InversesCarry
 ways_back_lead_lem rows moves last back end by table are = let t : IsThere rows last back end by = carried_leads rows moves last back end by table are in (t.leads, t.relabels, t.carries, carried_long rows moves last back end by are)
 
-pub ways_back_agree_lem : WaysBackAgree
+pub ways_back_agree_lem : InversesAgree
 ways_back_agree_lem rows moves last last' back back' end end' by by' table a b =
     let w : IsOneWay last last' back back' end end' by by' = carried_agree rows moves last last' back back' end end' by by' table a b in (w.back_is, w.end_is, w.by_is)
 

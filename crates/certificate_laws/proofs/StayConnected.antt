@@ -15,11 +15,11 @@ use Rattle.signature_laws.proofs.Connected.{connected_or_unreached_lem}
 use Rattle.table_definitions.proofs.Permutations.{image_below}
 use Rattle.table_definitions.proofs.Faces.{face_at}
 use Rattle.move_definitions.proofs.CoreTests.{core_size}
-use Rattle.move_definitions.proofs.StandIns.{facet_stand_in-new, stand_in-kept}
+use Rattle.move_definitions.proofs.StandIns.{facet_image_after-new, image_after-kept}
 use Rattle.move_laws.proofs.Labels.{HasLabel, label_at}
 use Rattle.move_laws.proofs.ListedFacets.{same_some, has_tet}
 use Rattle.move_laws.proofs.Legal.{IsFacet, facet_is, facet-four, HasNoFault, no_fault, old_facet, old_label, OldFacet, old_tet_facet}
-use Rattle.move_laws.proofs.Covered.{stand_in-old}
+use Rattle.move_laws.proofs.Covered.{image_after-old}
 use Rattle.move_laws.proofs.Matched.{AreGlued, old_glued}
 use Rattle.move_laws.proofs.SecondStand.{other_stands}
 use Rattle.move_laws.proofs.Shapes.{shape}
@@ -64,7 +64,7 @@ new_joined old m new h (suc j) l =
 
 -- the replacement of a face is joined to the tetrahedron for the one of the face
 stands_then : (old : List Row) (m : Move) (new : List Row) → IsStep old m new → (x : Face) (s : Gluing) → x.tet < length old → x.face < 4 → place_after old m x ≡ Some s → SameComponent new s.tet (where_then old m x.tet)
-stands_then old m new h x s lt lf stands = elim (shape old m h.table h.fine h.core x s lt lf stands) [
+stands_then old m new h x s lt lf occurs = elim (shape old m h.table h.fine h.core x s lt lf occurs) [
   | inl k ↦ same_place new s.tet (where_then old m x.tet) (ap (λ (g : Gluing). g.tet) k.by ∙ sym (then_kept old m x.tet k.stays))
   | inr f ↦ (let at : s.tet ≡ kept old m + f.j = ap (λ (g : Gluing). g.tet) f.by in
       let tet : f.facet_of.tet ≡ x.tet = ap (λ (y : Face). y.tet) f.old_is in
@@ -91,17 +91,17 @@ both_taken old m new h x g lt lf e none = by_test (has (old_tets old m) x.tet) r
       where
         by_size : (f : Facet) (l : ℕ) → l < 5 → l ≢ o.label → IsFacet old o.label f → face_at f.tet x.face ≡ x → opposite f l ≡ x → image f.labels x.face ≡ l → (l < length m.core) ⊎ (length m.core ≤ l) → facet old m o.label ≡ Some f
             → (has (old_tets old m) x.tet ≡ true) × (has (old_tets old m) g.tet ≡ true)
-        by_size f l small apart is face at label (inl less) found =
-            absurd (never (place_after old m x) (facet_gluing old m f l) (ap (place_after old m) (sym face) ∙ stand_in-old old m o.label f x.face h.fine h.core o.low o.high found ∙ ap (facet_place_after old m f) label ∙ facet_stand_in-new old m f l less) none)
-        by_size f l small apart is face at label (inr more) found =
+        by_size f l small separate is face at label (inl less) found =
+            absurd (never (place_after old m x) (facet_gluing old m f l) (ap (place_after old m) (sym face) ∙ image_after-old old m o.label f x.face h.fine h.core o.low o.high found ∙ ap (facet_place_after old m f) label ∙ facet_image_after-new old m f l less) none)
+        by_size f l small separate is face at label (inr more) found =
             let other = old_facet old m l h.fine h.core more small in
-            let a : AreGlued old o.label l f other.0 = old_glued old m o.label l f other.0 h.table h.fine h.core o.low o.high more small (λ e. apart (sym e)) found other.1 in
+            let a : AreGlued old o.label l f other.0 = old_glued old m o.label l f other.0 h.table h.fine h.core o.low o.high more small (λ e. separate (sym e)) found other.1 in
             let same : a.by ≡ g = same_some (glue old x) a.by g (ap (glue old) (sym at) ∙ a.glued) e in
             let tet : other.0.tet ≡ g.tet = sym a.tet ∙ ap (λ (k : Gluing). k.tet) same in
             (taken, ap (has (old_tets old m)) (sym tet) ∙ has_tet (facet old m) (old_labels m) l other.0 (old_label (length m.core) l (core_size m.core h.core).1 more small) other.1)
 
     by_test : (b : Bool) → has (old_tets old m) x.tet ≡ b → (has (old_tets old m) x.tet ≡ true) × (has (old_tets old m) g.tet ≡ true)
-    by_test false s = absurd (never (place_after old m x) _ (stand_in-kept old m x s) none)
+    by_test false s = absurd (never (place_after old m x) _ (image_after-kept old m x s) none)
     by_test true s = by_facet (old_tet_facet old m x.tet h.core s) s
 
 -- the tetrahedra for the two sides of a gluing are joined
@@ -118,11 +118,11 @@ step_then old m new h x g e = by_stand (place_after old m x) refl
     by_stand None none =
         let both = both_taken old m new h x g lt lf e none in
         same_place new (where_then old m x.tet) (where_then old m g.tet) (then_taken old m x.tet both.0 ∙ sym (then_taken old m g.tet both.1))
-    by_stand (Some s) stands =
-        let reached = other_stands old m h.table h.fine h.core x s g lf stands e in
+    by_stand (Some s) occurs =
+        let reached = other_stands old m h.table h.fine h.core x s g lf occurs e in
         let r : Gluing = reached.0 in
-        let glued : glue new (face_under s x) ≡ Some _ = h.moved.outer x s lt lf stands ∙ ap (option_and_then (moved_gluing old m x s)) e ∙ ap (option_map (λ (r : Gluing). gluing_under s r g)) reached.1 in
-        let near : SameComponent new s.tet (where_then old m x.tet) = stands_then old m new h x s lt lf stands in
+        let glued : glue new (face_under s x) ≡ Some _ = h.moved.outer x s lt lf occurs ∙ ap (option_and_then (moved_gluing old m x s)) e ∙ ap (option_map (λ (r : Gluing). gluing_under s r g)) reached.1 in
+        let near : SameComponent new s.tet (where_then old m x.tet) = stands_then old m new h x s lt lf occurs in
         let far : SameComponent new r.tet (where_then old m g.tet) = stands_then old m new h (other_side x g) r (h.table.in_range x g e) (image_below g.perm (h.table.permutes x g e) x.face lf) reached.1 in
         go_on new (where_then old m x.tet) s.tet (where_then old m g.tet) (joins_back new s.tet (where_then old m x.tet) h.new_table near) (go_on new s.tet r.tet (where_then old m g.tet) (gluing_joins new (face_under s x) (gluing_under s r g) glued) far)
 
@@ -141,7 +141,7 @@ chain_then old m new h t u j = (kept_along old (Then old m new t) step j.0 (whol
 from_old : (old : List Row) (m : Move) (new : List Row) → IsStep old m new → (u : ℕ) → IsKeptNumber old m u ⊎ IsNewNumber old m u → (t : ℕ) × (t < length old) × SameComponent new u (where_then old m t)
 from_old old m new h u (inl k) = (k.tet, k.in_range, same_place new u (where_then old m k.tet) (sym k.is ∙ sym (then_kept old m k.tet k.stays)))
 from_old old m new h u (inr n) =
-    let taken : has (old_tets old m) m.tet ≡ true = has_tet (facet old m) (old_labels m) 4 (own_facet m) (old_label (length m.core) 4 (core_size m.core h.core).1 (let few = (core_size m.core h.core).1 in omega arith) (omega arith)) (facet-four old m) in
+    let taken : has (old_tets old m) m.tet ≡ true = has_tet (facet old m) (old_labels m) 4 (own_facet m) (old_label (length m.core) 4 (core_size m.core h.core).1 (let limited = (core_size m.core h.core).1 in omega arith) (omega arith)) (facet-four old m) in
     (m.tet, h.fine.in_range, go_on new u (kept old m) (where_then old m m.tet) (go_on new u (kept old m + n.label) (kept old m) (same_place new u (kept old m + n.label) (sym n.is)) (new_joined old m new h n.label n.small)) (same_place new (kept old m) (where_then old m m.tet) (sym (then_taken old m m.tet taken))))
 
 pub moves_keep_connected_lem : MovesKeepConnected

@@ -20,7 +20,7 @@ use Rattle.move_laws.proofs.Legal.{IsFacet, facet_is, HasNoFault, no_fault, old_
 use Rattle.move_laws.proofs.Matched.{same_four, image-composed, length-composed}
 use Rattle.move_laws.proofs.Renamed.{renamed, renamed-old, renamed_below, renamed_apart}
 use Rattle.move_laws.proofs.InverseFacets.{inverse_of}
-use Rattle.move_laws.proofs.Placed.{moved_perm, place, facet_place, place-kept, place-old, relabelling, stand_in-placed, is_relabelling, led_back, carries_back, closed_up_small}
+use Rattle.move_laws.proofs.Placed.{moved_perm, place, facet_place, place-kept, place-old, relabelling, image_after-placed, is_relabelling, led_back, carries_back, closed_up_small}
 use Rattle.move_laws.proofs.SecondStand.{kept-inverse}
 use Rattle.move_laws.proofs.LedBack.{led_back_moved}
 use Rattle.move_laws.proofs.LedOn.{legal_moves_lead_on_lem}
@@ -42,7 +42,7 @@ back_stands : (old : List Row) (m : Move) (new now : List Row) (on : Relabelling
 back_stands old m new now on t l s e =
     let r : Relabelling = carried_by on new now (inverse_of old m) in
     after_stands (length old) r (relabelling old m) t l
-    ∙ ap (λ (g : Gluing). gluing_to (relabelled_place r g.tet).tet (compose (relabelled_place r g.tet).perm g.perm)) (stand_in-placed old m t l ∙ e)
+    ∙ ap (λ (g : Gluing). gluing_to (relabelled_place r g.tet).tet (compose (relabelled_place r g.tet).perm g.perm)) (image_after-placed old m t l ∙ e)
 
 kept_back : (old : List Row) (m : Move) (new now : List Row) (on : Relabelling) → IsSteppedOn old m new now on → (t : ℕ) → t < length old → is_removed_by old m t ≡ false
     → relabelled_place (back_by old m new now on) t ≡ record { tet = number_then now (move_back old m on) (relabelled_place on (number_then old m t)).tet; perm = (relabelled_place on (number_then old m t)).perm }
@@ -107,7 +107,7 @@ replaced_back : (old : List Row) (m : Move) (new now : List Row) (on : Relabelli
     → (f : Facet) × (facet old m i ≡ Some f) × (relabelled_place (back_by old m new now on) f.tet ≡ by_labels (slice_index (back_labels old m on)) f (new_facet now (move_back old m on) (slice_index (back_labels old m on) i)))
 replaced_back old m new now on h i low high =
     let o : (f : Facet) × (facet old m i ≡ Some f) = old_facet old m i (no_fault old m h.played.moved.legal) h.played.core low high in
-    (o.0, o.1, stands o.0 o.1)
+    (o.0, o.1, occurs o.0 o.1)
   where
     s : ℕ
     s = length m.core
@@ -124,18 +124,18 @@ replaced_back old m new now on h i low high =
     label : (l : ℕ) → l < 5 → slice_index (back_labels old m on) l ≡ named p (renamed s l)
     label l small = at_label (back_label old m on) l small
 
-    stands : (f : Facet) → facet old m i ≡ Some f → relabelled_place (back_by old m new now on) f.tet ≡ by_labels (slice_index (back_labels old m on)) f (new_facet now (move_back old m on) (slice_index (back_labels old m on) i))
-    stands f e =
+    occurs : (f : Facet) → facet old m i ≡ Some f → relabelled_place (back_by old m new now on) f.tet ≡ by_labels (slice_index (back_labels old m on)) f (new_facet now (move_back old m on) (slice_index (back_labels old m on) i))
+    occurs f e =
         let fine : HasNoFault old m = no_fault old m h.played.moved.legal in
         let is : IsFacet old i f = facet_is old m i f h.played.table h.played.core fine.in_range high e in
-        let inside : kept old m + (i - s) < new_length new (inv old m) = (let few = h.played.few in let some = h.played.some in omega (arith, kept-inverse old m new h.played, h.played.inverse_core.size)) in
+        let inside : kept old m + (i - s) < new_length new (inv old m) = (let limited = h.played.limited in let some = h.played.some in omega (arith, kept-inverse old m new h.played, h.played.inverse_core.size)) in
         let at : relabelled_place r (kept old m + (i - s)) ≡ new_over on now (inv old m) (i - s) =
         on_stands on new now (inv old m) (kept old m + (i - s)) inside ∙ ap (λ z. over on new now (inv old m) (z + (i - s))) (sym (kept-inverse old m new h.played)) ∙ over_new on new now (inv old m) (i - s) in
         let tet : named p (i - s) ≡ slice_index (back_labels old m on) i = ap (named p) (sym (renamed-old s i low)) ∙ sym (label i high) in
         back_stands old m new now on f.tet is.in_range (facet_place old m i f.labels) (place-old old m i f h.played.table fine h.played.core low high e)
         ∙ ap (λ (g : Gluing). gluing_to g.tet (compose g.perm (moved_perm s i f.labels))) at
         ∙ ap (λ x. gluing_to (kept now (move_back old m on) + x) (compose (named_perm p (i - s)) (moved_perm s i f.labels))) tet
-        ∙ ap (gluing_to (kept now (move_back old m on) + slice_index (back_labels old m on) i)) (moved_named p (naming_fine on new now (inv old m) k) s i f.labels (slice_index (back_labels old m on)) h.played.few low is.labels label)
+        ∙ ap (gluing_to (kept now (move_back old m on) + slice_index (back_labels old m on) i)) (moved_named p (naming_fine on new now (inv old m) k) s i f.labels (slice_index (back_labels old m on)) h.played.limited low is.labels label)
 
 -- the step has an inverse on the relabelled table
 pub record IsLedBack (old : List Row) (m : Move) (new now : List Row) (on : Relabelling) : Type 0 where
@@ -155,7 +155,7 @@ led_back_by old m new now on h = record {
   leads = record { table = other_table on new now (inv old m) k; moved = led.1; accepted = no_limit now (move_back old m on) (carried_legal on new now (inv old m) k) fits };
   carried = record {
     labels = back_labels old m on;
-    correspond = record { each_once = each_once (length m.core) p h.played.few (naming_fine on new now (inv old m) k); held = λ j l. held old m new now on h j l };
+    correspond = record { each_once = each_once (length m.core) p h.played.limited (naming_fine on new now (inv old m) k); held = λ j l. held old m new now on h j l };
     relabels = after_relabelling (length old) r (relabelling old m) r_is first_is;
     kept = λ t l e. kept_back old m new now on h t l e;
     replaced = λ i low high. replaced_back old m new now on h i low high;
@@ -185,10 +185,10 @@ led_back_by old m new now on h = record {
     led = legal_moves_lead_on_lem now (move_back old m on) (other_table on new now (inv old m) k) (other_core on new now (inv old m) k) (carried_legal on new now (inv old m) k)
 
     long : new_length new (inv old m) ≡ length old
-    long = let few = h.played.few in let some = h.played.some in let fits = h.played.fits in omega (arith, h.played.moved.length_is, h.played.inverse_core.size)
+    long = let limited = h.played.limited in let some = h.played.some in let fits = h.played.fits in omega (arith, h.played.moved.length_is, h.played.inverse_core.size)
 
     fits : new_length now (move_back old m on) ≤ max_tets
-    fits = let same : kept now (move_back old m on) ≡ kept new (inv old m) = kept_same on new now (inv old m) k in let few : length old ≤ max_tets = h.played.table.few in omega (arith, long, other_size on new now (inv old m) k)
+    fits = let same : kept now (move_back old m on) ≡ kept new (inv old m) = kept_same on new now (inv old m) k in let limited : length old ≤ max_tets = h.played.table.limited in omega (arith, long, other_size on new now (inv old m) k)
 
     r_is : IsRelabelling (length old) r
     r_is = subst (λ n. IsRelabelling n r) long (on_relabelling on new now (inv old m) k)

@@ -50,18 +50,18 @@ StepsGoBack =
     → (end : List Row) × (by : Relabelling) × Plays now (move_back old m on) end × IsCarriedBack old m now (move_back old m on) on by × Carries by old end
 
 -- the inverses of moves that were played lead back, in exactly one way, to a relabelling of the first table
-abbrev pub WaysLeadBack : Type 0
-WaysLeadBack =
+abbrev pub InversesReturn : Type 0
+InversesReturn =
     (rows : List Row) (moves : List Move) (last : List Row) → IsTable rows → PlaysAll rows moves last
     → (back : List Move) × (end : List Row) × (by : Relabelling) × AreCarriedBack rows moves last back end by
 
-abbrev pub WaysBackLead : Type 0
-WaysBackLead =
+abbrev pub InversesCarry : Type 0
+InversesCarry =
     (rows : List Row) (moves : List Move) (last : List Row) (back : List Move) (end : List Row) (by : Relabelling) → IsTable rows → AreCarriedBack rows moves last back end by
     → PlaysAll last back end × IsRelabelling (length rows) by × Carries by rows end × (length back ≡ length moves)
 
-abbrev pub WaysBackAgree : Type 0
-WaysBackAgree =
+abbrev pub InversesAgree : Type 0
+InversesAgree =
     (rows : List Row) (moves : List Move) (last last' : List Row) (back back' : List Move) (end end' : List Row) (by by' : Relabelling) → IsTable rows
     → AreCarriedBack rows moves last back end by → AreCarriedBack rows moves last' back' end' by' → (back ≡ back') × (end ≡ end') × (by ≡ by')
 
@@ -85,8 +85,8 @@ abbrev pub SphereHasSignature : Type 0
 SphereHasSignature = IsSignature standard_sphere sphere_text
 
 -- Theorem: a table is isomorphic to the standard sphere if and only if its signature is this one
-abbrev pub TextsTellStandard : Type 0
-TextsTellStandard = (rows : List Row) (text : List ℕ) → IsTable rows → IsSignature rows text → (text ≡ sphere_text) ↔ IsStandard rows
+abbrev pub TextsDetermineStandard : Type 0
+TextsDetermineStandard = (rows : List Row) (text : List ℕ) → IsTable rows → IsSignature rows text → (text ≡ sphere_text) ↔ IsStandard rows
 
 -- a table and moves have at most one answer, and there is one if each move has a core
 abbrev pub AnswersAgree : Type 0

@@ -38,8 +38,8 @@ MakingsAreDone =
     → IsMaking most first.state first.table moves now.table
 
 -- a list of inverse moves, from the last move to the first
-abbrev pub WaysBackGoOn : Type 0
-WaysBackGoOn =
+abbrev pub InversesExtend : Type 0
+InversesExtend =
     (rows next : List Row) (moves : List Move) (k : ℕ) (m : Move) (last : List Row) (back : List Move) (now : List Row) (on : Relabelling) (end : List Row) (by : Relabelling)
     → k < length moves → m ≡ slice_index_or moves k m → Plays rows m next → AreCarriedBack next (drop (k + 1) moves) last back now on
     → Plays now (move_back rows m on) end → IsCarriedBack rows m now (move_back rows m on) on by → AreCarriedBack rows (drop k moves) last (back ++ move_back rows m on ∷ []) end by

@@ -15,8 +15,8 @@ abbrev pub CandidatesAreThere : Type 0
 CandidatesAreThere = (rows : List Row) → 0 < length rows → length rows + 3 ≤ max_tets → candidates rows ≢ []
 
 -- each move adds at most three tetrahedra
-abbrev pub PlaysAddFew : Type 0
-PlaysAddFew = (rows : List Row) (moves : List Move) (last : List Row) → 0 < length rows → PlaysAll rows moves last → (0 < length last) × (length last ≤ length rows + 3 * length moves)
+abbrev pub PlaysAddAtMostThree : Type 0
+PlaysAddAtMostThree = (rows : List Row) (moves : List Move) (last : List Row) → 0 < length rows → PlaysAll rows moves last → (0 < length last) × (length last ≤ length rows + 3 * length moves)
 
 -- a making has as many moves as requested, or ends with a table to which three tetrahedra cannot be added within the
 -- limit

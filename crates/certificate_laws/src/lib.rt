@@ -8,9 +8,9 @@
 //! tetrahedra.
 #![tactic(auto)]
 
-ghost use Rattle.certificate_laws.specs.LoopLaws.{ChecksGoOn, ChecksRefuse, DescentsGoOn, DescentsAreDone, MakingsGoOn, MakingsAreDone, WaysBackGoOn};
-ghost use Rattle.certificate_laws.specs.Laws.{LegalMovesGoAlong, SignaturesKeepLegalMoves, MovesGoOn, MovesGoOnOnce, PlaysGoOn, MovesKeepConnected, WaysKeepConnected, StepsGoBack, WaysLeadBack, WaysBackLead, WaysBackAgree, TablesAreMade, OneIsMade, MadeAreCertified, SphereIsTable, SphereHasSignature, TextsTellStandard, AnswersAgree, AnswersExist, DescentsLessen, DescentsEnd, DescentsCertify, StandardOrNot, DescentsExist, OneDescent, DescentAnswersExist, DescentAnswersAgree};
-ghost use Rattle.certificate_laws.specs.Makings.{OneFoursAreAccepted, CandidatesAreThere, PlaysAddFew, MakingsEndAtLimit, MakingsHaveMost, CertificatesHaveMost, TablesAreMadeWithMost};
+ghost use Rattle.certificate_laws.specs.LoopLaws.{ChecksGoOn, ChecksRefuse, DescentsGoOn, DescentsAreDone, MakingsGoOn, MakingsAreDone, InversesExtend};
+ghost use Rattle.certificate_laws.specs.Laws.{LegalMovesGoAlong, SignaturesKeepLegalMoves, MovesGoOn, MovesGoOnOnce, PlaysGoOn, MovesKeepConnected, WaysKeepConnected, StepsGoBack, InversesReturn, InversesCarry, InversesAgree, TablesAreMade, OneIsMade, MadeAreCertified, SphereIsTable, SphereHasSignature, TextsDetermineStandard, AnswersAgree, AnswersExist, DescentsLessen, DescentsEnd, DescentsCertify, StandardOrNot, DescentsExist, OneDescent, DescentAnswersExist, DescentAnswersAgree};
+ghost use Rattle.certificate_laws.specs.Makings.{OneFoursAreAccepted, CandidatesAreThere, PlaysAddAtMostThree, MakingsEndAtLimit, MakingsHaveMost, CertificatesHaveMost, TablesAreMadeWithMost};
 
 /// Theorem: let a relabelling f carry a triangulation S to T, and let a legal move m carry S to S'.
 ///
@@ -51,11 +51,11 @@ pub fn moves_keep_connected()
 /// 2. The inverses of the moves, last move first, each carried along such relabellings, are a transport of the list.
 /// 3. A transport is a list of as many moves, and leads from T' to a table to which its relabelling carries T.
 /// 4. There is at most one transport, with one last table and one relabelling.
-pub fn ways_lead_back()
+pub fn inverses_return()
     ensures steps { StepsGoBack }
-    ensures there { WaysLeadBack }
-    ensures leads { WaysBackLead }
-    ensures one { WaysBackAgree }
+    ensures there { InversesReturn }
+    ensures leads { InversesCarry }
+    ensures one { InversesAgree }
 {}
 
 /// Theorem: let a seed and a number of moves be given.
@@ -78,7 +78,7 @@ pub fn tables_are_made()
 pub fn sphere_has_signature()
     ensures table { SphereIsTable }
     ensures signature { SphereHasSignature }
-    ensures tells { TextsTellStandard }
+    ensures determines { TextsDetermineStandard }
 {}
 
 /// Lemma: let T be a triangulation, and a list of moves given.
@@ -161,8 +161,8 @@ pub fn makings_go_on()
 /// Let a transport of the moves after m carry their last table to U, and let a relabelling f carry T' to U. Let the
 /// inverse of m, carried along f, be legal on U, within the limit, and result in U', and let a relabelling of T arise
 /// from f. Then the transport with this move appended is a transport of the moves from m on, and results in U'.
-pub fn ways_back_go_on()
-    ensures { WaysBackGoOn }
+pub fn inverses_extend()
+    ensures { InversesExtend }
 {}
 
 /// Theorem: let T be a table with n >= 1 tetrahedra.
@@ -177,7 +177,7 @@ pub fn ways_back_go_on()
 pub fn makings_have_most()
     ensures accepted { OneFoursAreAccepted }
     ensures there { CandidatesAreThere }
-    ensures few { PlaysAddFew }
+    ensures limited { PlaysAddAtMostThree }
     ensures limit { MakingsEndAtLimit }
     ensures moves { MakingsHaveMost }
     ensures certificates { CertificatesHaveMost }

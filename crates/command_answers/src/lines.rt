@@ -22,7 +22,7 @@ pub fn yes_or_no(value: bool) -> &'static [u8]
 
 /// Appends a line of `name` and `yes` or `no`.
 pub fn append_flag(text: &mut Vec<u8>, name: &[u8], value: bool) -> Result<(), NoMemory>
-    ensures { OnOk result (text.new.items ≡ text.old.items ++ information.told name.now value) }
+    ensures { OnOk result (text.new.items ≡ text.old.items ++ information.reported name.now value) }
 {
     append(text, name)?;
     append(text, yes_or_no(value))?;

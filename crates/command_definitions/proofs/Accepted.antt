@@ -52,7 +52,7 @@ needed_within max None = tt
 needed_within max (Some w) = decimals_within max w
 
 positive_if : (n : ℕ) (b : Bool) → nat_lt 0 n ≡ b → n ≤ limit → Holds IsLimit (if b then Some n else None)
-positive_if n true e h = record { some = ltb-true 0 n e; few = h }
+positive_if n true e h = record { some = ltb-true 0 n e; limited = h }
 positive_if n false e h = tt
 
 and_positive : (x : Option ℕ) → Holds (λ (m : ℕ). m ≤ limit) x → Holds IsLimit (option_and_then positive x)
@@ -60,7 +60,7 @@ and_positive None h = tt
 and_positive (Some n) h = positive_if n (nat_lt 0 n) refl h
 
 limit_holds : (x : Option (List ℕ)) → Holds IsLimit (or_default limit limit_named x)
-limit_holds None = record { some = omega arith; few = omega arith }
+limit_holds None = record { some = omega arith; limited = omega arith }
 limit_holds (Some w) = and_positive (decimal_up_to limit w) (decimals_within limit w)
 
 -- a word names an order
@@ -145,9 +145,9 @@ each_holds = (
   (
     tt,
     (
-      (λ coords u order named most h. record { named = named; some = h.some; few = h.few }),
+      (λ coords u order named most h. record { named = named; some = h.some; limited = h.limited }),
       (
-        (λ order named most h. record { named = named; some = h.some; few = h.few }),
+        (λ order named most h. record { named = named; some = h.some; limited = h.limited }),
         (
           (λ coords pieces. pieces),
           (
@@ -167,9 +167,9 @@ each_holds = (
                         (
                           tt,
                           (
-                            (λ seed short moves few. (short, few)),
+                            (λ seed short moves limited. (short, limited)),
                             (
-                              (λ seed short moves few. (short, few)),
+                              (λ seed short moves limited. (short, limited)),
                               (
                                 (λ coords u most h. h),
                                 (

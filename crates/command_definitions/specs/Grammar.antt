@@ -58,7 +58,7 @@ pub record IsRequest (words : List (List ℕ)) (r : Request) : Type 0 where
   pub command : Contains commands (name, (kinds, request))
   pub options : List Given
   pub known : All (λ option. Contains (map option_name kinds) option.0) options
-  pub apart : AllPairs (λ one other. one.0 ≢ other.0) options
+  pub separate : AllPairs (λ one other. one.0 ≢ other.0) options
   pub spellings : List (List (List ℕ))
   pub spelled : AllZip IsSpelled options spellings
   pub whole : words ≡ name ∷ flat_map (λ spelling. spelling) spellings

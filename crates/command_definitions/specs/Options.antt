@@ -42,13 +42,13 @@ abbrev pub with_value : List ℕ → List ℕ → List Given → Next → Option
 with_value name value seen next = if is_named seen name then None else next (seen ++ (name, value) ∷ []) None
 
 -- an option of the command, with its value in the same word or in the next one
-abbrev pub option_met : List ℕ → Option (List ℕ) → List Given → Next → Option (List Given)
-option_met name (Some value) seen next = with_value name value seen next
-option_met name None seen next = next seen (Some name)
+abbrev pub option_found : List ℕ → Option (List ℕ) → List Given → Next → Option (List Given)
+option_found name (Some value) seen next = with_value name value seen next
+option_found name None seen next = next seen (Some name)
 
 abbrev pub option_read : List (List ℕ) → Option (List ℕ × Option (List ℕ)) → List Given → Next → Option (List Given)
 option_read names None seen next = None
-option_read names (Some p) seen next = if is_known names p.0 then option_met p.0 p.1 seen next else None
+option_read names (Some p) seen next = if is_known names p.0 then option_found p.0 p.1 seen next else None
 
 -- one word: the value of the option that waits for it, or an option
 abbrev pub word_read : List (List ℕ) → List ℕ → List Given → Option (List ℕ) → Next → Option (List Given)

@@ -22,13 +22,13 @@ most_bulk_moves = 5
 -- a limit on the numbers of an enumeration
 pub record IsLimit (most : ℕ) : Type 0 where
   pub some : 1 ≤ most
-  pub few : most ≤ limit
+  pub limited : most ≤ limit
 
 -- an order that has a name, and a limit on the numbers of an enumeration
 pub record IsInRange (order : Order) (most : ℕ) : Type 0 where
   pub named : order ≢ Free
   pub some : 1 ≤ most
-  pub few : most ≤ limit
+  pub limited : most ≤ limit
 
 -- what a request holds is in range
 abbrev pub HoldsRange : Request → Type 0

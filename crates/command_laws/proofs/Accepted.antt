@@ -37,7 +37,7 @@ module _ (r : Request) where
       → IsRequest (w ∷ ws) r
   in_grammar w ws c given found read asked =
       let row = row_found w commands c found in
-      let reads : Reads (option_names c.1) ws [] given = read_right (option_names c.1) ws [] None (λ i j d less few. absurd (omega arith)) given read in
+      let reads : Reads (option_names c.1) ws [] given = read_right (option_names c.1) ws [] None (λ i j d less limited. absurd (omega arith)) given read in
       record {
         name = c.0;
         kinds = c.1.0;
@@ -45,7 +45,7 @@ module _ (r : Request) where
         command = contains_of commands c row.0;
         options = reads.given;
         known = All-from_recursion (λ (option : Given). Contains (option_names c.1) option.0) reads.given reads.known;
-        apart = subst AreApart reads.whole reads.apart;
+        separate = subst AreApart reads.whole reads.separate;
         spellings = reads.spellings;
         spelled = reads.spelled;
         whole = λ i. sym row.1 i ∷ reads.words_are i;
@@ -74,11 +74,11 @@ module _ (r : Request) where
       let ws : List Text = joined is.spellings in
       let found : command_named is.name ≡ Some command = found_row commands command commands_apart (member_of commands command is.command) in
       let read : options_of names ws ≡ Some is.options =
-      spelled_right names (plain_names command is.command) is.options is.spellings [] is.spelled (recursion_from_All (λ (option : Given). Contains names option.0) is.options is.known) is.apart in
+      spelled_right names (plain_names command is.command) is.options is.spellings [] is.spelled (recursion_from_All (λ (option : Given). Contains names option.0) is.options is.known) is.separate in
       ap accepted_request is.whole
       ∙ ap (λ (o : Option Command). o >>= λ c. options_of (option_names c.1) ws >>= λ given. request_given c given) found
       ∙ ap (λ (o : Option (List Given)). o >>= λ given. request_given command given) read
-      ∙ values_right is.options is.kinds is.request r (apart_of is.options is.apart) is.values
+      ∙ values_right is.options is.kinds is.request r (apart_of is.options is.separate) is.values
 
 -- ---- refused words spell no request, and words spell at most one request
 

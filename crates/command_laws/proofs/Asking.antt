@@ -25,9 +25,9 @@ use Rattle.command_laws.proofs.Decimals.{decimal_read, limit_read}
 use Rattle.command_laws.proofs.Accepted.{spelled_accept}
 
 pairs_of : (options : List Given) → Apart options → AreApart options
-pairs_of [] apart = λ i j d less few. absurd (omega arith)
-pairs_of (option ∷ options) apart =
-    AllPairs-cons (λ (one other : Given). one.0 ≢ other.0) option options (All-from_recursion (λ (other : Given). option.0 ≢ other.0) options apart.0) (pairs_of options apart.1)
+pairs_of [] separate = λ i j d less limited. absurd (omega arith)
+pairs_of (option ∷ options) separate =
+    AllPairs-cons (λ (one other : Given). one.0 ≢ other.0) option options (All-from_recursion (λ (other : Given). option.0 ≢ other.0) options separate.0) (pairs_of options separate.1)
 
 -- an option as one word
 abbrev in_one_word : Given → List Text
@@ -98,13 +98,13 @@ order_meant : (order : Order) → order ≢ orders.Free → Meant RowOrder order
 order_meant order named = (order_word order, order_read order named)
 
 limit_meant : (most : ℕ) → 1 ≤ most → most ≤ limit → Meant Limit most
-limit_meant most some few = (decimal most, limit_read most some few)
+limit_meant most some limited = (decimal most, limit_read most some limited)
 
 seed_meant : (seed : ℕ) → seed ≤ most_seed → Meant Seed seed
-seed_meant seed few = (decimal seed, decimal_read most_seed seed refl few)
+seed_meant seed limited = (decimal seed, decimal_read most_seed seed refl limited)
 
 moves_meant : (most moves : ℕ) → nat_lt most (10 ^ 45) ≡ true → moves ≤ most → Meant (Moves most) moves
-moves_meant most moves less few = (decimal moves, decimal_read most moves less few)
+moves_meant most moves less limited = (decimal moves, decimal_read most moves less limited)
 
 -- ---- words for a request
 
@@ -146,7 +146,7 @@ module _ (name : Text) (found : row_of name commands ≡ Some (command_of name))
   takes = (command_of name).1
 
   asking : (values : ValuesOf takes.0) → are_apart (options_for takes.0 values) ≡ true → Words (request_for takes.0 takes.1 values)
-  asking values apart =
+  asking values separate =
       let options : List Given = options_for takes.0 values in (
         (command_of name).0 ∷ joined (map in_one_word options),
         record {
@@ -156,7 +156,7 @@ module _ (name : Text) (found : row_of name commands ≡ Some (command_of name))
           command = contains_of commands (command_of name) (row_found name commands (command_of name) found).0;
           options = options;
           known = All-from_recursion (λ (option : Given). Contains (option_names takes) option.0) options (each_known takes.0 values (option_names takes) (λ name m. m));
-          apart = pairs_of options (apart_by_test options apart);
+          separate = pairs_of options (apart_by_test options separate);
           spellings = map in_one_word options;
           spelled = all_spelled options;
           whole = refl;
@@ -164,33 +164,51 @@ module _ (name : Text) (found : row_of name commands ≡ Some (command_of name))
         },
       )
 
+-- a command without options spells its request by its name alone
+pub spelled_by_name : (name : Text) (request : Request) → Contains commands (name, ([], request)) → IsRequest (name ∷ []) request
+spelled_by_name name request listed = record {
+  name = name;
+  kinds = [];
+  request = request;
+  command = listed;
+  options = [];
+  known = All-from_recursion (λ (option : Given). Contains [] option.0) [] tt;
+  separate = pairs_of [] tt;
+  spellings = [];
+  spelled = tt;
+  whole = refl;
+  values = refl;
+}
+
+-- the request is that of a command without options, with the command's name
+abbrev Listed : Request → List Command → Type 0
+Listed r rows = (name : Text) × Member (name, ([], r)) rows
+
+by_listing : (r : Request) → Listed r commands → Words r
+by_listing r listed = (listed.0 ∷ [], spelled_by_name listed.0 r (contains_of commands (listed.0, ([], r)) listed.1))
+
+here : (name : Text) (r : Request) (rows : List Command) → Listed r ((name, ([], r)) ∷ rows)
+here name r rows = (name, inl refl)
+
+later : (r : Request) (row : Command) (rows : List Command) → Listed r rows → Listed r (row ∷ rows)
+later r row rows listed = (listed.0, inr listed.1)
+
+-- the requests with values have clauses of their own; each other one is found in the table of commands
 pub words_for : (r : Request) → HoldsRange r → HasShortSeed r → Words r
 words_for (requests.Verify coords) range seed = asking (codes "verify") refl (coords, coords_meant coords, tt) refl
-words_for requests.Info range seed = asking (codes "info") refl tt refl
 words_for (requests.Surfaces coords order most) range seed =
-    asking (codes "surfaces") refl (coords, coords_meant coords, (order, order_meant order range.named, (most, limit_meant most range.some range.few, tt))) refl
+    asking (codes "surfaces") refl (coords, coords_meant coords, (order, order_meant order range.named, (most, limit_meant most range.some range.limited, tt))) refl
 words_for (requests.Rays order most) range seed =
-    asking (codes "rays") refl (order, order_meant order range.named, (most, limit_meant most range.some range.few, tt)) refl
+    asking (codes "rays") refl (order, order_meant order range.named, (most, limit_meant most range.some range.limited, tt)) refl
 words_for (requests.Describe coords) range seed = asking (codes "describe") refl (coords, pieces_meant coords range, tt) refl
-words_for requests.Lift range seed = asking (codes "lift") refl tt refl
-words_for requests.Crush range seed = asking (codes "crush") refl tt refl
-words_for requests.Play range seed = asking (codes "play") refl tt refl
-words_for requests.Sig range seed = asking (codes "sig") refl tt refl
-words_for requests.Same range seed = asking (codes "same") refl tt refl
-words_for requests.Group range seed = asking (codes "group") refl tt refl
-words_for requests.Check range seed = asking (codes "check") refl tt refl
-words_for requests.Descend range seed = asking (codes "descend") refl tt refl
 words_for (requests.Make seed moves) range short =
     asking (codes "make") refl (seed, seed_meant seed short, (moves, moves_meant most_moves moves refl range, tt)) refl
 words_for (requests.Bulk seed moves) range short =
     asking (codes "bulk") refl (seed, seed_meant seed short, (moves, moves_meant most_bulk_moves moves refl range, tt)) refl
 words_for (requests.Decompose coords most) range seed =
-    asking (codes "decompose") refl (coords, coords_meant coords, (most, limit_meant most range.some range.few, tt)) refl
+    asking (codes "decompose") refl (coords, coords_meant coords, (most, limit_meant most range.some range.limited, tt)) refl
 words_for (requests.Addup coords) range seed = asking (codes "addup") refl (coords, coords_meant coords, tt) refl
-words_for requests.Cover range seed = asking (codes "cover") refl tt refl
-words_for requests.Pi1 range seed = asking (codes "pi1") refl tt refl
-words_for requests.Csig range seed = asking (codes "csig") refl tt refl
-words_for requests.Csame range seed = asking (codes "csame") refl tt refl
+words_for r range seed = by_listing r (search (here, later) depth 24)
 
 -- ---- the request that words spell is in range
 

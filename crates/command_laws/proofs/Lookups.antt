@@ -118,10 +118,10 @@ module _ {A : Type 0} where
   missed_row name (r ∷ rows) absent = ap (λ b. cond b (Some r) (row_of name rows)) (name_other r.0 name absent.0) ∙ missed_row name rows absent.1
 
   pub found_row : (rows : List (Text × A)) (row : Text × A) → Apart rows → Member row rows → row_of row.0 rows ≡ Some row
-  found_row [] row apart m = absurd m
-  found_row (r ∷ rows) row apart (inl e) = ap (λ b. cond b (Some r) (row_of row.0 rows)) (name_same r.0 row.0 (ap (λ (x : Text × A). x.0) e)) ∙ ap (λ (x : Text × A). Some x) e
-  found_row (r ∷ rows) row apart (inr m) =
-      ap (λ b. cond b (Some r) (row_of row.0 rows)) (name_other r.0 row.0 (all_member (λ (other : Text × A). r.0 ≢ other.0) rows row apart.0 m)) ∙ found_row rows row apart.1 m
+  found_row [] row separate m = absurd m
+  found_row (r ∷ rows) row separate (inl e) = ap (λ b. cond b (Some r) (row_of row.0 rows)) (name_same r.0 row.0 (ap (λ (x : Text × A). x.0) e)) ∙ ap (λ (x : Text × A). Some x) e
+  found_row (r ∷ rows) row separate (inr m) =
+      ap (λ b. cond b (Some r) (row_of row.0 rows)) (name_other r.0 row.0 (all_member (λ (other : Text × A). r.0 ≢ other.0) rows row separate.0 m)) ∙ found_row rows row separate.1 m
 
   -- whether all rows have different names
   abbrev pub are_apart : List (Text × A) → Bool

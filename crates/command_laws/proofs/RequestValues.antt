@@ -39,7 +39,7 @@ value_missed name given e = go (row_of name given) refl e
     go (Some g) found e = absurd (some≢none g.1 e)
 
 found_value : (name w : Text) (given : List Given) → Apart given → Contains given (name, w) → value_of name given ≡ Some w
-found_value name w given apart has = ap (option_map (λ (g : Given). g.1)) (found_row given (name, w) apart (member_of given (name, w) has))
+found_value name w given separate has = ap (option_map (λ (g : Given). g.1)) (found_row given (name, w) separate (member_of given (name, w) has))
 
 missed_value : (name : Text) (given : List Given) → IsAbsent name given → value_of name given ≡ None
 missed_value name given absent = ap (option_map (λ (g : Given). g.1)) (missed_row name given (recursion_from_All (λ (g : Given). g.0 ≢ name) given absent))
@@ -57,7 +57,7 @@ module _ {A : Type 0} (name : Text) (meaning : Text → Option A) (given : List 
   needed_right = needed_by (value_of name given) refl
 
   pub given_right : (value : A) → Apart given → IsGiven name meaning given value → needed meaning (value_of name given) ≡ Some value
-  given_right value apart is = ap (needed meaning) (found_value name is.0 given apart is.1) ∙ is.2
+  given_right value separate is = ap (needed meaning) (found_value name is.0 given separate is.1) ∙ is.2
 
   module _ (default : A) where
     default_by : (o : Option Text) → value_of name given ≡ o → Holds (λ value. IsValue name meaning default given value) (or_default default meaning o)
@@ -72,8 +72,8 @@ module _ {A : Type 0} (name : Text) (meaning : Text → Option A) (given : List 
     default_right = default_by (value_of name given) refl
 
     pub value_right : (value : A) → Apart given → IsValue name meaning default given value → or_default default meaning (value_of name given) ≡ Some value
-    value_right value apart (inl is) = ap (or_default default meaning) (found_value name is.0 given apart is.1) ∙ is.2
-    value_right value apart (inr is) = ap (or_default default meaning) (missed_value name given is.0) ∙ ap (λ (x : A). Some x) (sym is.1)
+    value_right value separate (inl is) = ap (or_default default meaning) (found_value name is.0 given separate is.1) ∙ is.2
+    value_right value separate (inr is) = ap (or_default default meaning) (missed_value name given is.0) ∙ ap (λ (x : A). Some x) (sym is.1)
 
 -- ---- coordinates that have triangles
 
@@ -114,12 +114,12 @@ module _ (given : List Given) where
   value_is (Moves most) = needed_right (codes "moves") (decimal_up_to most) given
 
   is_value : (kind : Kind) (value : ValueOf kind) → Apart given → HasValue kind given value → value_in kind v ≡ Some value
-  is_value Coordinates coords apart has = value_right (codes "coords") coordinates_named given Standard coords apart has
-  is_value PieceCoordinates coords apart has = value_right (codes "coords") piece_coordinates_named given Standard coords apart (by_pieces coords has)
-  is_value RowOrder order apart has = value_right (codes "order") order_named given orders.Given order apart has
-  is_value Limit most apart has = value_right (codes "max-entry") limit_named given limit most apart has
-  is_value Seed seed apart has = given_right (codes "seed") (decimal_up_to most_seed) given seed apart has
-  is_value (Moves most) moves apart has = given_right (codes "moves") (decimal_up_to most) given moves apart has
+  is_value Coordinates coords separate has = value_right (codes "coords") coordinates_named given Standard coords separate has
+  is_value PieceCoordinates coords separate has = value_right (codes "coords") piece_coordinates_named given Standard coords separate (by_pieces coords has)
+  is_value RowOrder order separate has = value_right (codes "order") order_named given orders.Given order separate has
+  is_value Limit most separate has = value_right (codes "max-entry") limit_named given limit most separate has
+  is_value Seed seed separate has = given_right (codes "seed") (decimal_up_to most_seed) given seed separate has
+  is_value (Moves most) moves separate has = given_right (codes "moves") (decimal_up_to most) given moves separate has
 
   -- ---- the request by the values of options
 
@@ -134,6 +134,6 @@ module _ (given : List Given) where
   request_right kinds request r e = subst (λ (o : Option Request). Holds (HasValues kinds request given) o) e (values_hold kinds request)
 
   pub values_right : (kinds : List Kind) (request : RequestBy kinds) (r : Request) → Apart given → HasValues kinds request given r → request_by kinds request v ≡ Some r
-  values_right [] request r apart is = ap (λ (x : Request). Some x) is
-  values_right (kind ∷ kinds) request r apart is =
-      ap (λ (o : Option (ValueOf kind)). o >>= λ value. request_by kinds (request value) v) (is_value kind is.0 apart is.1) ∙ values_right kinds (request is.0) r apart is.2
+  values_right [] request r separate is = ap (λ (x : Request). Some x) is
+  values_right (kind ∷ kinds) request r separate is =
+      ap (λ (o : Option (ValueOf kind)). o >>= λ value. request_by kinds (request value) v) (is_value kind is.0 separate is.1) ∙ values_right kinds (request is.0) r separate is.2

@@ -1,30 +1,27 @@
 -- The words of each command, of each option and of each value that is a word, and the requests that they ask for.
-use Rattle.std.specs.Prelude.{◌≡◌, ℕ, List, [], ◌∷◌, Some, None, codes}
+use Rattle.std.specs.Prelude.{◌≡◌, ℕ, ⊤, List, [], ◌∷◌, Some, None, codes}
+use Rattle.std.specs.List.{All}
 use Rattle.cone_definitions.specs.declared.Order.TheVariants as orders
 use Rattle.surface_definitions.specs.declared.Coords.TheVariants.{Standard, Quad, Octagon}
 use Rattle.command_definitions.specs.declared.Request.{Request}
-use Rattle.command_definitions.specs.declared.Request.TheVariants.{Verify, Info, Surfaces, Rays, Describe, Lift, Crush, Play, Sig, Same, Group, Check, Descend, Make, Bulk, Decompose, Addup, Cover, Pi1, Csig, Csame}
+use Rattle.command_definitions.specs.declared.Request.TheVariants.{Verify, Info, Surfaces, Rays, Describe, Make, Bulk, Decompose, Addup}
+use Rattle.command_definitions.specs.Commands.{Kind, RequestBy, commands}
 use Rattle.command_definitions.specs.Words.{accepted_request}
 
 -- the words are accepted for the request
 abbrev pub Asks : List (List ℕ) → Request → Type 0
 Asks words r = accepted_request words ≡ Some r
 
--- each of the 21 commands asks for its own request, and each option and word of a value means its own
+-- the name of a command that takes no options asks for its request
+abbrev pub AsksByName : List ℕ → (kinds : List Kind) → RequestBy kinds → Type 0
+AsksByName name [] request = Asks (name ∷ []) request
+AsksByName name (kind ∷ kinds) request = ⊤
+
+-- each command asks for its own request, and each option and word of a value means its own
 pub record WorkedWords : Type 0 where
+  -- each command without options, by its row in the table of commands, such as the row of `info`
+  pub without_options : All (λ command. AsksByName command.0 command.1.0 command.1.1) commands
   pub info : Asks (codes "info" ∷ []) Info
-  pub lift : Asks (codes "lift" ∷ []) Lift
-  pub crush : Asks (codes "crush" ∷ []) Crush
-  pub play : Asks (codes "play" ∷ []) Play
-  pub sig : Asks (codes "sig" ∷ []) Sig
-  pub same : Asks (codes "same" ∷ []) Same
-  pub group : Asks (codes "group" ∷ []) Group
-  pub check : Asks (codes "check" ∷ []) Check
-  pub descend : Asks (codes "descend" ∷ []) Descend
-  pub cover : Asks (codes "cover" ∷ []) Cover
-  pub pi1 : Asks (codes "pi1" ∷ []) Pi1
-  pub csig : Asks (codes "csig" ∷ []) Csig
-  pub csame : Asks (codes "csame" ∷ []) Csame
   pub verify : Asks (codes "verify" ∷ codes "--coords" ∷ codes "quad" ∷ []) (Verify Quad)
   pub addup : Asks (codes "addup" ∷ codes "--coords=quad" ∷ []) (Addup Quad)
   pub make : Asks (codes "make" ∷ codes "--moves=2" ∷ codes "--seed=3" ∷ []) (Make 3 2)

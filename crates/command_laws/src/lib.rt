@@ -26,9 +26,10 @@ pub fn requests_are_spelled()
     ensures { RequestsAreSpelled }
 {}
 
-/// Example: for each of the 21 commands, words are accepted as its request. They use each of the five options and each
-/// word of its values: `standard`, `quad` and `octagon`; `given`, `short` and `zeros`. Options that are left out mean
-/// `standard`, `given` and the greatest entry 2^127 - 1. The words `describe --coords=quad` are refused.
+/// Example: for each command, words are accepted as its request. A command without options is accepted by its name
+/// alone. The other words use each of the five options and each word of its values: `standard`, `quad` and `octagon`;
+/// `given`, `short` and `zeros`. Options that are left out mean `standard`, `given` and the greatest entry
+/// 2^127 - 1. The words `describe --coords=quad` are refused.
 pub fn worked_words()
     ensures { WorkedWords }
 {}

@@ -9,7 +9,7 @@ use Rattle.std.proofs.lemmas.Slice.Eq.{bytes_eq-Decides}
 use Rattle.std.proofs.lemmas.List.{take-append-drop, append-nil}
 use Rattle.clap.proofs.CutLemmas.{Lacks, before_first-Lacks, before_first-at}
 use Rattle.clap.specs.Walk.{Text}
-use Rattle.command_definitions.specs.Options.{Given, is_equals_sign, is_hyphened, is_known, is_named, option_met, name_and_value, option_read, option_word, options_from, options_of, with_value, word_read}
+use Rattle.command_definitions.specs.Options.{Given, is_equals_sign, is_hyphened, is_known, is_named, option_found, name_and_value, option_read, option_word, options_from, options_of, with_value, word_read}
 use Rattle.command_definitions.specs.Commands.{Command, option_names}
 use Rattle.command_definitions.specs.Words.{command_named, request_given, accepted_request}
 use Rattle.command_definitions.specs.Values.{◌>>=◌}
@@ -59,7 +59,7 @@ module _ (names : List Text) (o name : Text) (reads : (w : Text) → is_naming o
   met_again : (l : Option (Text × Option Text)) (v : Option Text) (seen : List Given) (ws : List Text) → l ≡ Some (name, v) → Seen seen → option_read names l seen (options_from names ws) ≡ None
   met_again l v seen ws e p = rw e (go (is_known names name) v)
     where
-      go : (b : Bool) (v : Option Text) → cond b (option_met name v seen (options_from names ws)) None ≡ None
+      go : (b : Bool) (v : Option Text) → cond b (option_found name v seen (options_from names ws)) None ≡ None
       go false v = refl
       go true None = waits_no_more ws seen p
       go true (Some v) = rw p refl
@@ -70,59 +70,59 @@ module _ (names : List Text) (o name : Text) (reads : (w : Text) → is_naming o
 
   once : (ws : List Text) → 0 < times o ws → (seen : List Given) (waiting : Option Text) → Seen seen → options_from names ws seen waiting ≡ None
   unfolding options_from
-  once [] few seen waiting p = absurd (omega arith)
-  once (w ∷ ws) few seen waiting p = go (is_naming o w) refl (subst (λ k. 0 < k) (times_cons o w ws) few) (once ws)
+  once [] limited seen waiting p = absurd (omega arith)
+  once (w ∷ ws) limited seen waiting p = go (is_naming o w) refl (subst (λ k. 0 < k) (times_cons o w ws) limited) (once ws)
     where
       go : (b : Bool) → is_naming o w ≡ b → 0 < cond b 1 0 + times o ws → (0 < times o ws → (seen : List Given) (waiting : Option Text) → Seen seen → options_from names ws seen waiting ≡ None)
           → word_read names w seen waiting (options_from names ws) ≡ None
-      go true t few h = word_again w ws seen waiting (reads w t) p
-      go false t few h = word_never names (options_from names ws) Seen (λ s g q. named_again s g name q) (h (let f : 0 < times o ws = omega arith in f)) w seen waiting p
+      go true t limited h = word_again w ws seen waiting (reads w t) p
+      go false t limited h = word_never names (options_from names ws) Seen (λ s g q. named_again s g name q) (h (let f : 0 < times o ws = omega arith in f)) w seen waiting p
 
   -- the option is named, and its value follows
   waits_once : (ws : List Text) → 0 < times o ws → (seen : List Given) → options_from names ws seen (Some name) ≡ None
   unfolding options_from
-  waits_once [] few seen = refl
-  waits_once (w ∷ ws) few seen = go (is_naming o w) refl (subst (λ k. 0 < k) (times_cons o w ws) few)
+  waits_once [] limited seen = refl
+  waits_once (w ∷ ws) limited seen = go (is_naming o w) refl (subst (λ k. 0 < k) (times_cons o w ws) limited)
     where
       value : (b c : Bool) → is_hyphened w ≡ b → is_named seen name ≡ c → 0 < times o ws → cond b None (cond c None (options_from names ws (seen ++ (name, w) ∷ []) None)) ≡ None
-      value true c t u few = refl
-      value false true t u few = refl
-      value false false t u few = once ws few (seen ++ (name, w) ∷ []) None (named_now seen name w)
+      value true c t u limited = refl
+      value false true t u limited = refl
+      value false false t u limited = once ws limited (seen ++ (name, w) ∷ []) None (named_now seen name w)
 
       go : (b : Bool) → is_naming o w ≡ b → 0 < cond b 1 0 + times o ws → word_read names w seen (Some name) (options_from names ws) ≡ None
-      go true t few = rw ((reads w t).hyphened) refl
-      go false t few = value (is_hyphened w) (is_named seen name) refl refl (omega arith)
+      go true t limited = rw ((reads w t).hyphened) refl
+      go false t limited = value (is_hyphened w) (is_named seen name) refl refl (omega arith)
 
   met_first : (l : Option (Text × Option Text)) (v : Option Text) (seen : List Given) (ws : List Text) → l ≡ Some (name, v) → 0 < times o ws → option_read names l seen (options_from names ws) ≡ None
-  met_first l v seen ws e few = rw e (go (is_known names name) v)
+  met_first l v seen ws e limited = rw e (go (is_known names name) v)
     where
       value : (v : Text) (c : Bool) → cond c None (options_from names ws (seen ++ (name, v) ∷ []) None) ≡ None
       value v true = refl
-      value v false = once ws few (seen ++ (name, v) ∷ []) None (named_now seen name v)
+      value v false = once ws limited (seen ++ (name, v) ∷ []) None (named_now seen name v)
 
-      go : (b : Bool) (v : Option Text) → cond b (option_met name v seen (options_from names ws)) None ≡ None
+      go : (b : Bool) (v : Option Text) → cond b (option_found name v seen (options_from names ws)) None ≡ None
       go false v = refl
-      go true None = waits_once ws few seen
+      go true None = waits_once ws limited seen
       go true (Some v) = value v (is_named seen name)
 
   word_first : (w : Text) (ws : List Text) (seen : List Given) (waiting : Option Text) → Names name w → 0 < times o ws → word_read names w seen waiting (options_from names ws) ≡ None
-  word_first w ws seen None n few = met_first (option_word w) n.value seen ws n.read few
-  word_first w ws seen (Some other) n few = rw n.hyphened refl
+  word_first w ws seen None n limited = met_first (option_word w) n.value seen ws n.read limited
+  word_first w ws seen (Some other) n limited = rw n.hyphened refl
 
   twice : (ws : List Text) → 1 < times o ws → (seen : List Given) (waiting : Option Text) → options_from names ws seen waiting ≡ None
   unfolding options_from
-  twice [] few seen waiting = absurd (omega arith)
-  twice (w ∷ ws) few seen waiting = go (is_naming o w) refl (subst (λ k. 1 < k) (times_cons o w ws) few) (twice ws)
+  twice [] limited seen waiting = absurd (omega arith)
+  twice (w ∷ ws) limited seen waiting = go (is_naming o w) refl (subst (λ k. 1 < k) (times_cons o w ws) limited) (twice ws)
     where
       go : (b : Bool) → is_naming o w ≡ b → 1 < cond b 1 0 + times o ws → (1 < times o ws → (seen : List Given) (waiting : Option Text) → options_from names ws seen waiting ≡ None)
           → word_read names w seen waiting (options_from names ws) ≡ None
-      go true t few h = word_first w ws seen waiting (reads w t) (omega arith)
-      go false t few h = word_never names (options_from names ws) (λ s. ⊤) (λ s g q. tt) (λ s v q. h (omega arith) s v) w seen waiting tt
+      go true t limited h = word_first w ws seen waiting (reads w t) (omega arith)
+      go false t limited h = word_never names (options_from names ws) (λ s. ⊤) (λ s g q. tt) (λ s v q. h (omega arith) s v) w seen waiting tt
 
 lacks_by_test : (xs : Text) → list_any is_equals_sign xs ≡ false → Lacks 61 xs
-lacks_by_test [] e i few = absurd (omega arith)
-lacks_by_test (x ∷ xs) e zero few = eqb-false x 61 (or_parts (x == 61) (list_any is_equals_sign xs) e).0
-lacks_by_test (x ∷ xs) e (suc i) few = lacks_by_test xs (or_parts (x == 61) (list_any is_equals_sign xs) e).1 i (omega arith)
+lacks_by_test [] e i limited = absurd (omega arith)
+lacks_by_test (x ∷ xs) e zero limited = eqb-false x 61 (or_parts (x == 61) (list_any is_equals_sign xs) e).0
+lacks_by_test (x ∷ xs) e (suc i) limited = lacks_by_test xs (or_parts (x == 61) (list_any is_equals_sign xs) e).1 i (omega arith)
 
 -- an option's word is read as that option
 lacking : (name rest : Text) → Lacks 61 name → ends_option rest ≡ true → before_first is_equals_sign (name ++ rest) ≡ name
@@ -146,8 +146,8 @@ reads_of c cs l w e =
 -- words that name one option twice request nothing
 after_command : (o name : Text) (w : Text) (ws : List Text) (b : Bool) → ((v : Text) → is_naming o v ≡ true → Names name v) → (is_naming o w ≡ true → command_named w ≡ None) → is_naming o w ≡ b → 1 < cond b 1 0 + times o ws
     → accepted_request (w ∷ ws) ≡ None
-after_command o name w ws true reads none t few = rw (none t) refl
-after_command o name w ws false reads none t few = named (command_named w)
+after_command o name w ws true reads none t limited = rw (none t) refl
+after_command o name w ws false reads none t limited = named (command_named w)
   where
     named : (c : Option Command) → (c >>= λ c. options_of (option_names c.1) ws >>= λ os. request_given c os) ≡ None
     named None = refl

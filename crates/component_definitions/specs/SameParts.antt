@@ -13,8 +13,8 @@ abbrev pub part_at : List Part → ℕ → Part
 part_at parts i = slice_index_or parts i (record { rows = []; numbers = [] })
 
 -- component i comes before component j: by signature, then by least tetrahedron
-abbrev pub StandsBefore : List Part → List (List ℕ) → ℕ → ℕ → Type 0
-StandsBefore parts signatures i j =
+abbrev pub PrecedesPart : List Part → List (List ℕ) → ℕ → ℕ → Type 0
+PrecedesPart parts signatures i j =
     (is_list_before (slice_index_or signatures i []) (slice_index_or signatures j []) ≡ true)
     ⊎ ((slice_index_or signatures i [] ≡ slice_index_or signatures j []) × (first_of (part_at parts i) < first_of (part_at parts j)))
 
@@ -24,7 +24,7 @@ pub record ArePartsInOrder (rows : List Row) (parts : List Part) (order : List �
   pub signatures : List (List ℕ)
   pub of_parts : AllZip (λ (part : Part) signature. IsSignature part.rows signature) parts signatures
   pub permutes : IsPermutation order (below (length parts))
-  pub in_order : (i j : ℕ) → i < j → j < length order → StandsBefore parts signatures (slice_index order i) (slice_index order j)
+  pub in_order : (i j : ℕ) → i < j → j < length order → PrecedesPart parts signatures (slice_index order i) (slice_index order j)
 
 -- the component is carried to the other one by a relabelling of their rows
 abbrev pub GoesBy : Relabelling → Part → Part → Relabelling → Type 0

@@ -85,12 +85,12 @@ module _ (first second : List Row) (by : Relabelling) (tf : IsTable first) (ts :
 
       chosen : (k : ℕ) → (k < length q.numbers) ⊎ (length q.numbers ≤ k) → ℕ
       chosen k (inl l) = place_in p.numbers (found k l).0
-      chosen k (inr past) = 0
+      chosen k (inr exceeded) = 0
 
       chosen_is : (k : ℕ) (d : (k < length q.numbers) ⊎ (length q.numbers ≤ k)) → k < length q.numbers → (chosen k d < length p.numbers) × (to (slice_index p.numbers (chosen k d)) ≡ slice_index q.numbers k)
       unfolding chosen
       chosen_is k (inl l) m = let w = place_of p.numbers hp.ascending (found k l).0 (found_in k l) in (w.0, ap to w.1 ∙ (found k l).2)
-      chosen_is k (inr past) m = absurd (omega arith)
+      chosen_is k (inr exceeded) m = absurd (omega arith)
 
       back : ℕ → ℕ
       back k = chosen k (cases_lt k (length q.numbers))
@@ -113,22 +113,22 @@ module _ (first second : List Row) (by : Relabelling) (tf : IsTable first) (ts :
     pub part_by : Relabelling
     part_by = made (length p.numbers) stand
 
-    stands : (k : ℕ) → k < length p.numbers → relabelled_place part_by k ≡ stand k
+    occurs : (k : ℕ) → k < length p.numbers → relabelled_place part_by k ≡ stand k
     unfolding part_by
-    stands k l = made_stands (length p.numbers) stand k l
+    occurs k l = made_stands (length p.numbers) stand k l
 
     pub part_relabelling : IsRelabelling (length p.rows) part_by
     unfolding part_by stand
     part_relabelling = subst (λ n. IsRelabelling n (made (length p.numbers) stand)) (sym (length-part first tf p hp)) (made_relabelling (length p.numbers) stand (record {
       in_range = λ k l. subst (λ n. there k < n) as_long (there_is k l).0;
-      apart = there_apart;
+      separate = there_apart;
       permutes = λ k l. perm_permutes (length first) by r (slice_index p.numbers k) (member_below first tf p hp (slice_index p.numbers k) (entry_p k l));
     }))
 
     part_glued : (x : Face) → x.tet < length p.numbers → x.face < 4 → glue q.rows (face_under (relabelled_place part_by x.tet) x) ≡ option_map (λ g. gluing_under (relabelled_place part_by x.tet) (relabelled_place part_by g.tet) g) (glue p.rows x)
     unfolding stand there to
     part_glued x l lf =
-        ap (λ (b : Gluing). glue q.rows (face_under b x)) (stands x.tet l)
+        ap (λ (b : Gluing). glue q.rows (face_under b x)) (occurs x.tet l)
         ∙ glue-part second ts q hq (there x.tet) f' (there_is x.tet l).0
         ∙ ap (λ v. option_map (renumbered q.numbers) (glue second (record { tet = v; face = f' }))) (there_is x.tet l).1
         ∙ ap (option_map (renumbered q.numbers)) (c.glued (record { tet = u; face = x.face }) (member_below first tf p hp u (entry_p x.tet l)) lf)
@@ -150,7 +150,7 @@ module _ (first second : List Row) (by : Relabelling) (tf : IsTable first) (ts :
             same : (place_in p.numbers g.tet < length p.numbers) × (slice_index p.numbers (place_in p.numbers g.tet) ≡ g.tet) →
                 renumbered q.numbers (gluing_under (relabelled_place by u) (relabelled_place by g.tet) g) ≡ gluing_under (relabelled_place part_by x.tet) (relabelled_place part_by (place_in p.numbers g.tet)) (renumbered p.numbers g)
             same w = ap (λ v. record { tet = place_in q.numbers (slice_index by.images v); perm = compose (slice_index_or by.perms v []) (compose g.perm (inverse (slice_index_or by.perms u []))) }) (sym w.1)
-                ∙ ap₂ (λ (b d : Gluing). gluing_under b d (renumbered p.numbers g)) (sym (stands x.tet l)) (sym (stands (place_in p.numbers g.tet) w.0))
+                ∙ ap₂ (λ (b d : Gluing). gluing_under b d (renumbered p.numbers g)) (sym (occurs x.tet l)) (sym (occurs (place_in p.numbers g.tet) w.0))
 
     pub part_carries : Carries part_by p.rows q.rows
     part_carries = record {
@@ -170,7 +170,7 @@ module _ (first second : List Row) (by : Relabelling) (tf : IsTable first) (ts :
 
     chosen_part : (i : ℕ) → (i < length P) ⊎ (length P ≤ i) → ℕ
     chosen_part i (inl l) = (image_at i l).i
-    chosen_part i (inr past) = 0
+    chosen_part i (inr exceeded) = 0
 
     part_to : ℕ → ℕ
     part_to i = chosen_part i (cases_lt i (length P))
@@ -178,7 +178,7 @@ module _ (first second : List Row) (by : Relabelling) (tf : IsTable first) (ts :
     chosen_holds : (i : ℕ) (d : (i < length P) ⊎ (length P ≤ i)) → i < length P → (chosen_part i d < length Q) × Contains (numbers_at Q (chosen_part i d)) (to (first_of (part_at P i)))
     unfolding chosen_part
     chosen_holds i (inl l) m = ((image_at i l).in_parts, member_of second ts Q q (to (first_of (part_at P i))) (image_at i l))
-    chosen_holds i (inr past) m = absurd (omega arith)
+    chosen_holds i (inr exceeded) m = absurd (omega arith)
 
     part_holds : (i : ℕ) → i < length P → (part_to i < length Q) × Contains (numbers_at Q (part_to i)) (to (first_of (part_at P i)))
     unfolding part_to
@@ -208,4 +208,4 @@ module _ (first second : List Row) (by : Relabelling) (tf : IsTable first) (ts :
         hq = part_is second ts Q q (part_to i) (part_holds i l).0
 
     pub carried_parts : IsMatching P Q
-    carried_parts = record { to = part_to; in_range = λ i l. (part_holds i l).0; apart = parts_apart; relabelled = part_relabelled }
+    carried_parts = record { to = part_to; in_range = λ i l. (part_holds i l).0; separate = parts_apart; relabelled = part_relabelled }

@@ -25,12 +25,12 @@ module _ (n : ℕ) (P : List Part) (E : List Entry) (Q : List Part) (F : List En
     -- the relabelling of the component at index i of the order
     chosen : (i : ℕ) → (i < length E) ⊎ (length E ≤ i) → Relabelling
     chosen i (inl l) = (w i l).0
-    chosen i (inr past) = record { images = []; perms = [] }
+    chosen i (inr exceeded) = record { images = []; perms = [] }
 
     chosen_is : (i : ℕ) (c : (i < length E) ⊎ (length E ≤ i)) → i < length E → IsLeastRelabelling (part_in P E i).rows (part_in Q F i).rows (chosen i c) × GoesBy by (part_in P E i) (part_in Q F i) (chosen i c)
     unfolding chosen
     chosen_is i (inl l) k = ((w i l).1, (w i l).2)
-    chosen_is i (inr past) k = absurd (omega arith)
+    chosen_is i (inr exceeded) k = absurd (omega arith)
 
     by_at : ℕ → Relabelling
     by_at i = chosen i (cases_lt i (length E))
@@ -63,8 +63,8 @@ module _ (n : ℕ) (P : List Part) (E : List Entry) (Q : List Part) (F : List En
     abbrev stand : ℕ → ℕ → Gluing
     stand i k = record { tet = slice_index (part_in Q F i).numbers (slice_index (by_at i).images k); perm = slice_index_or (by_at i).perms k [] }
 
-    stands : (t : ℕ) (g : Goes t) → relabelled_place by t ≡ stand g.i g.k
-    stands t g = ap (relabelled_place by) (sym g.is) ∙ (by_at_is g.i g.in_order).1 g.k g.in_numbers
+    occurs : (t : ℕ) (g : Goes t) → relabelled_place by t ≡ stand g.i g.k
+    occurs t g = ap (relabelled_place by) (sym g.is) ∙ (by_at_is g.i g.in_order).1 g.k g.in_numbers
 
     row_below : (i k : ℕ) → i < length E → k < length (part_in P E i).numbers → k < length (part_in P E i).rows
     row_below i k l lk = subst (λ j. k < j) (sym (length-part m.first m.first_table (part_in P E i) (is_part m.first P E m.first_table m.are_parts m.in_order i l))) lk
@@ -85,7 +85,7 @@ module _ (n : ℕ) (P : List Part) (E : List Entry) (Q : List Part) (F : List En
         let g = goes t l in
         let b : (stand g.i g.k).tet < length m.second = member_below m.second m.second_table (part_in Q F g.i) (is_part m.second Q F m.second_table m.are_others m.others_in_order g.i (there n P E Q F m g.i g.in_order)) (stand g.i g.k).tet
         (member_of m.second m.second_table Q m.are_others (stand g.i g.k).tet (stands_there g.i g.k g.in_order g.in_numbers)) in
-        subst (λ j. (relabelled_place by t).tet < j) (second_size n P E Q F m) (subst (λ (x : Gluing). x.tet < length m.second) (sym (stands t g)) b)
+        subst (λ j. (relabelled_place by t).tet < j) (second_size n P E Q F m) (subst (λ (x : Gluing). x.tet < length m.second) (sym (occurs t g)) b)
 
     -- two tetrahedra of the component at one index of the order
     same_place : (i j k l : ℕ) → i ≡ j → i < length E → k < length (part_in P E i).numbers → l < length (part_in P E j).numbers → slice_index (by_at i).images k ≡ slice_index (by_at j).images l → k ≡ l
@@ -113,12 +113,12 @@ module _ (n : ℕ) (P : List Part) (E : List Entry) (Q : List Part) (F : List En
         places : g.k ≡ h.k
         places = same_place g.i h.i g.k h.k orders g.in_order g.in_numbers h.in_numbers both.1
 
-    apart : (t u : ℕ) → t < n → u < n → (relabelled_place by t).tet ≡ (relabelled_place by u).tet → t ≡ u
-    apart t u l k e = let g = goes t l in let h = goes u k in
-        apart_from t u g h (ap (λ (x : Gluing). x.tet) (sym (stands t g)) ∙ e ∙ ap (λ (x : Gluing). x.tet) (stands u h))
+    separate : (t u : ℕ) → t < n → u < n → (relabelled_place by t).tet ≡ (relabelled_place by u).tet → t ≡ u
+    separate t u l k e = let g = goes t l in let h = goes u k in
+        apart_from t u g h (ap (λ (x : Gluing). x.tet) (sym (occurs t g)) ∙ e ∙ ap (λ (x : Gluing). x.tet) (occurs u h))
 
     permuted : (t : ℕ) → t < n → IsPermutationOfFour (relabelled_place by t).perm
-    permuted t l = let g = goes t l in subst (λ (x : Gluing). IsPermutationOfFour x.perm) (sym (stands t g))
+    permuted t l = let g = goes t l in subst (λ (x : Gluing). IsPermutationOfFour x.perm) (sym (occurs t g))
         (perm_permutes (length (part_in P E g.i).rows) (by_at g.i) (by_at_is g.i g.in_order).0.relabels.0 g.k (row_below g.i g.k g.in_order g.in_numbers))
 
     made_same : made n (relabelled_place by) ≡ by
@@ -136,7 +136,7 @@ module _ (n : ℕ) (P : List Part) (E : List Entry) (Q : List Part) (F : List En
             (λ t l. get_or-map-range_with_len (λ t. slice_index_or by.perms t []) 0 n t t [] (omega (arith, long)) (omega arith))
 
     pub is_relabelling : IsRelabelling n by
-    is_relabelling = subst (IsRelabelling n) made_same (made_relabelling n (relabelled_place by) (record { in_range = in_range; apart = apart; permutes = permuted }))
+    is_relabelling = subst (IsRelabelling n) made_same (made_relabelling n (relabelled_place by) (record { in_range = in_range; separate = separate; permutes = permuted }))
 
     pub is_same_parts : IsSameParts m.first m.second by
     is_same_parts = record {

@@ -41,7 +41,7 @@ module _ (rows : List Row) (table : IsTable rows) where
             ],
             λ h. elim (cases_lt t j) [
               | inl l ↦ contains_front before.numbers j t ((before.members t).1 (l, h.1))
-              | inr past ↦ let l : t < suc j = h.0 in let e : j ≡ t = omega arith in subst (Contains (before.numbers ++ j ∷ [])) e (Contains-push before.numbers j)
+              | inr exceeded ↦ let l : t < suc j = h.0 in let e : j ≡ t = omega arith in subst (Contains (before.numbers ++ j ∷ [])) e (Contains-push before.numbers j)
             ],
           );
         }
@@ -52,7 +52,7 @@ module _ (rows : List Row) (table : IsTable rows) where
             λ c. let h = (before.members t).0 c in let l : t < j = h.0 in (omega arith, h.1),
             λ h. elim (cases_lt t j) [
               | inl l ↦ (before.members t).1 (l, h.1)
-              | inr past ↦ let l : t < suc j = h.0 in let e : t ≡ j = omega arith in absurd (never (subst (SameComponent rows k) e h.1))
+              | inr exceeded ↦ let l : t < suc j = h.0 in let e : t ≡ j = omega arith in absurd (never (subst (SameComponent rows k) e h.1))
             ],
           );
         }
@@ -118,7 +118,7 @@ module _ (rows : List Row) (table : IsTable rows) where
     ascending = before.ascending;
     holds = λ t m. elim (cases_lt t k) [
       | inl earlier ↦ before.holds t earlier
-      | inr past ↦ let e : k ≡ t = omega arith in let p = before.holds u less in
+      | inr exceeded ↦ let e : k ≡ t = omega arith in let p = before.holds u less in
           (p.0, p.1, subst (Contains p.0.numbers) e (joined_member rows table p.0 (part_of k before p.0 p.1) u k p.2 j l))
     ];
   }
@@ -134,7 +134,7 @@ module _ (rows : List Row) (table : IsTable rows) where
         (λ i d m. let f : first_of (slice_index_or before.parts i d) < k = before.firsts i d m in let g : first_of new ≡ k = part_first k l first in omega arith);
     holds = λ t m. elim (cases_lt t k) [
       | inl earlier ↦ let p = before.holds t earlier in (p.0, contains_front before.parts new p.0 p.1, p.2)
-      | inr past ↦ let e : k ≡ t = omega arith in (new, Contains-push before.parts new, subst (Contains new.numbers) e (part_holds k l first))
+      | inr exceeded ↦ let e : k ≡ t = omega arith in (new, Contains-push before.parts new, subst (Contains new.numbers) e (part_holds k l first))
     ];
   }
     where
@@ -152,7 +152,7 @@ module _ (rows : List Row) (table : IsTable rows) where
 
       decide : (u : ℕ) → (u < k → SameComponent rows u k → ⊥) ⊎ Earlier u
       decide u = elim (cases_lt u k) [
-        | inr past ↦ inl (λ less. absurd (omega arith))
+        | inr exceeded ↦ inl (λ less. absurd (omega arith))
         | inl less ↦ elim (decide_joined rows table u k) [ inl j ↦ inr (less, j) | inr never ↦ inl (λ _. never) ]
       ]
 

@@ -18,7 +18,7 @@ use Rattle.component_laws.proofs.Members.{part_at, numbers_at, StandsAt, part_is
 pub record Matches (P Q : List Part) : Type 0 where
   pub to : ℕ → ℕ
   pub in_range : (i : ℕ) → i < length P → to i < length Q
-  pub apart : (i j : ℕ) → i < length P → j < length P → to i ≡ to j → i ≡ j
+  pub separate : (i j : ℕ) → i < length P → j < length P → to i ≡ to j → i ≡ j
   pub by : ℕ → Relabelling
   pub relabels : (i : ℕ) → i < length P → IsRelabelling (length (part_at P i).rows) (by i)
   pub carries : (i : ℕ) → i < length P → Carries (by i) (part_at P i).rows (part_at Q (to i)).rows
@@ -27,25 +27,25 @@ pub record Matches (P Q : List Part) : Type 0 where
 pub record IsMatching (P Q : List Part) : Type 0 where
   pub to : ℕ → ℕ
   pub in_range : (i : ℕ) → i < length P → to i < length Q
-  pub apart : (i j : ℕ) → i < length P → j < length P → to i ≡ to j → i ≡ j
+  pub separate : (i j : ℕ) → i < length P → j < length P → to i ≡ to j → i ≡ j
   pub relabelled : (i : ℕ) → i < length P → AreIsomorphic (part_at P i).rows (part_at Q (to i)).rows
 
 module _ (P Q : List Part) (m : IsMatching P Q) where
   taken : (i : ℕ) → (i < length P) ⊎ (length P ≤ i) → Relabelling
   taken i (inl l) = (m.relabelled i l).0
-  taken i (inr past) = record { images = []; perms = [] }
+  taken i (inr exceeded) = record { images = []; perms = [] }
 
   taken_relabels : (i : ℕ) (d : (i < length P) ⊎ (length P ≤ i)) → i < length P →
       IsRelabelling (length (part_at P i).rows) (taken i d) × Carries (taken i d) (part_at P i).rows (part_at Q (m.to i)).rows
   unfolding taken
   taken_relabels i (inl l) k = ((m.relabelled i l).1, (m.relabelled i l).2)
-  taken_relabels i (inr past) k = absurd (omega arith)
+  taken_relabels i (inr exceeded) k = absurd (omega arith)
 
   pub matches : Matches P Q
   matches = record {
     to = m.to;
     in_range = m.in_range;
-    apart = m.apart;
+    separate = m.separate;
     by = λ i. taken i (cases_lt i (length P));
     relabels = λ i l. (taken_relabels i (cases_lt i (length P)) l).0;
     carries = λ i l. (taken_relabels i (cases_lt i (length P)) l).1;
@@ -101,7 +101,7 @@ module _ (first second : List Row) (P Q : List Part) (tf : IsTable first) (ts : 
           let w = moved (stand a.i a.k).tet (stand b.i b.k).tet e (stand_at b.i b.k b.in_parts b.in_numbers) in (o.0 ∙ w.0, o.1 ∙ w.1)
 
       parts : a.i ≡ b.i
-      parts = m.apart a.i b.i a.in_parts b.in_parts both.0
+      parts = m.separate a.i b.i a.in_parts b.in_parts both.0
 
       places : a.k ≡ b.k
       places = same_place a.i b.i a.k b.k parts a.in_parts a.in_numbers b.in_numbers both.1
@@ -110,7 +110,7 @@ module _ (first second : List Row) (P Q : List Part) (tf : IsTable first) (ts : 
 
   chosen : (t : ℕ) → (t < length first) ⊎ (length first ≤ t) → Gluing
   chosen t (inl l) = let s = stands_at first tf P p t l in stand s.i s.k
-  chosen t (inr past) = record { tet = 0; perm = [] }
+  chosen t (inr exceeded) = record { tet = 0; perm = [] }
 
   pub stand_for : ℕ → Gluing
   stand_for t = chosen t (cases_lt t (length first))
@@ -118,7 +118,7 @@ module _ (first second : List Row) (P Q : List Part) (tf : IsTable first) (ts : 
   chosen_is : (t : ℕ) (c : (t < length first) ⊎ (length first ≤ t)) (s : StandsAt P t) → t < length first → chosen t c ≡ stand s.i s.k
   unfolding chosen
   chosen_is t (inl m) s l = let o = one_place first tf P p t (stands_at first tf P p t m) s in ap₂ stand o.0 o.1
-  chosen_is t (inr past) s l = absurd (omega arith)
+  chosen_is t (inr exceeded) s l = absurd (omega arith)
 
   pub stand_is : (t : ℕ) (s : StandsAt P t) → t < length first → stand_for t ≡ stand s.i s.k
   unfolding stand_for
@@ -172,17 +172,17 @@ module _ (first second : List Row) (P Q : List Part) (tf : IsTable first) (ts : 
       there : StandsAt P g.tet
       there = record { i = i; in_parts = l; k = place_in (numbers_at P i) g.tet; in_numbers = place.0; is = place.1 }
 
-      stands : stand_for g.tet ≡ stand i (place_in (numbers_at P i) g.tet)
-      stands = stand_is g.tet there (tf.in_range (face_at (slice_index (numbers_at P i) k) f) g e)
+      occurs : stand_for g.tet ≡ stand i (place_in (numbers_at P i) g.tet)
+      occurs = stand_is g.tet there (tf.in_range (face_at (slice_index (numbers_at P i) k) f) g e)
 
       h_member : Contains (numbers_at Q (m.to i)) h.tet
       h_member = glued_member second ts (part_at Q (m.to i)) (part_q i l) (stand i k).tet (image (stand i k).perm f) h (member_of second ts Q q (stand i k).tet (stand_at i k l lk)) d
 
       tet : h.tet ≡ (stand_for g.tet).tet
-      tet = sym (place_of (numbers_at Q (m.to i)) (part_q i l).ascending h.tet h_member).1 ∙ ap (λ (b : Gluing). slice_index (numbers_at Q (m.to i)) b.tet) same ∙ ap (λ (b : Gluing). b.tet) (sym stands)
+      tet = sym (place_of (numbers_at Q (m.to i)) (part_q i l).ascending h.tet h_member).1 ∙ ap (λ (b : Gluing). slice_index (numbers_at Q (m.to i)) b.tet) same ∙ ap (λ (b : Gluing). b.tet) (sym occurs)
 
       perm : h.perm ≡ compose (stand_for g.tet).perm (compose g.perm (inverse (stand i k).perm))
-      perm = ap (λ (b : Gluing). b.perm) same ∙ ap (λ (b : Gluing). compose b.perm (compose g.perm (inverse (stand i k).perm))) (sym stands)
+      perm = ap (λ (b : Gluing). b.perm) same ∙ ap (λ (b : Gluing). compose b.perm (compose g.perm (inverse (stand i k).perm))) (sym occurs)
 
   glued_alike : (i k f : ℕ) → i < length P → k < length (numbers_at P i) → f < 4 →
       glue second (face_at (stand i k).tet (image (stand i k).perm f)) ≡ option_map (λ g. gluing_under (stand i k) (stand_for g.tet) g) (glue first (face_at (slice_index (numbers_at P i) k) f))
@@ -220,7 +220,7 @@ module _ (first second : List Row) (P Q : List Part) (tf : IsTable first) (ts : 
   pub matched_carries : length second ≤ length first → IsRelabelling (length first) (made (length first) stand_for) × Carries (made (length first) stand_for) first second
   unfolding whole
   matched_carries back = (
-    made_relabelling (length first) stand_for (record { in_range = λ t l. let b : (stand_for t).tet < length second = for_below t l in omega arith; apart = for_apart; permutes = for_permutes }),
+    made_relabelling (length first) stand_for (record { in_range = λ t l. let b : (stand_for t).tet < length second = for_below t l in omega arith; separate = for_apart; permutes = for_permutes }),
     record { same_length = le_antisymm back matched_fits; four_faces = ts.four_faces; glued = whole_glued },
   )
 

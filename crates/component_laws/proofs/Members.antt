@@ -6,7 +6,7 @@ use Rattle.std.proofs.lemmas.List.{get_or_default}
 use Rattle.std.proofs.lemmas.List.Elements.{All-from_get_or, All-get_or}
 use Rattle.basic_lemmas.proofs.Members.{contains_at}
 use Rattle.table_definitions.specs.Permutation.{IsPermutationOfFour, image, inverse}
-use Rattle.table_definitions.specs.Table.{Gluing, Row, Face, IsTable, glue, other_side, way_back, same_face}
+use Rattle.table_definitions.specs.Table.{Gluing, Row, Face, IsTable, glue, other_side, inverse_gluing, same_face}
 use Rattle.table_definitions.specs.Places.{whole, SameComponent}
 use Rattle.table_definitions.proofs.TableLaws.{glued_tet}
 use Rattle.table_definitions.proofs.ChainLaws.{joined_trans, joins_back, gluing_joins}
@@ -48,8 +48,8 @@ module _ (rows : List Row) (table : IsTable rows) (part : Part) (h : IsPart rows
 
   -- ---- a component is a table
 
-  few : length part.numbers ≤ length rows
-  few = fits (length part.numbers) (length rows) (slice_index part.numbers) (λ i l. member_below (slice_index part.numbers i) (contains_at part.numbers i (slice_index part.numbers i) l refl))
+  limited : length part.numbers ≤ length rows
+  limited = fits (length part.numbers) (length rows) (slice_index part.numbers) (λ i l. member_below (slice_index part.numbers i) (contains_at part.numbers i (slice_index part.numbers i) l refl))
       (λ i j li lj e. stands_once part.numbers h.ascending i j li lj e)
 
   -- the gluing of the whole table that is renumbered
@@ -81,16 +81,16 @@ module _ (rows : List Row) (table : IsTable rows) (part : Part) (h : IsPart rows
       let p = place_of part.numbers h.ascending d.g.tet d.member in
       let same = same_from g'.tet k (image g'.perm f) f s in
       let there : slice_index part.numbers k ≡ d.g.tet = ap (slice_index part.numbers) (sym same.0 ∙ ap (λ (g : Gluing). g.tet) (sym d.is)) ∙ p.1 in
-      let turned : image d.g.perm f ≡ f = ap (λ (g : Gluing). image g.perm f) d.is ∙ same.1 in
-      let not_itself : not (same_face (other_side (face (slice_index part.numbers k) f) d.g) (face (slice_index part.numbers k) f)) ≡ true = table.apart (face (slice_index part.numbers k) f) d.g d.glued in
-      let itself : same_face (other_side (face (slice_index part.numbers k) f) d.g) (face (slice_index part.numbers k) f) ≡ true = same_to d.g.tet (slice_index part.numbers k) (image d.g.perm f) f (sym there) turned in cc
+      let backwards : image d.g.perm f ≡ f = ap (λ (g : Gluing). image g.perm f) d.is ∙ same.1 in
+      let not_itself : not (same_face (other_side (face (slice_index part.numbers k) f) d.g) (face (slice_index part.numbers k) f)) ≡ true = table.separate (face (slice_index part.numbers k) f) d.g d.glued in
+      let itself : same_face (other_side (face (slice_index part.numbers k) f) d.g) (face (slice_index part.numbers k) f) ≡ true = same_to d.g.tet (slice_index part.numbers k) (image d.g.perm f) f (sym there) backwards in cc
 
-  part_back : (k f : ℕ) (g' : Gluing) → glue part.rows (record { tet = k; face = f }) ≡ Some g' → glue part.rows (other_side (record { tet = k; face = f }) g') ≡ Some (way_back (record { tet = k; face = f }) g')
+  part_back : (k f : ℕ) (g' : Gluing) → glue part.rows (record { tet = k; face = f }) ≡ Some g' → glue part.rows (other_side (record { tet = k; face = f }) g') ≡ Some (inverse_gluing (record { tet = k; face = f }) g')
   unfolding face
   part_back k f g' e =
       let d = glued_in k f g' e in
       let p = place_of part.numbers h.ascending d.g.tet d.member in
-      subst (λ (b : Gluing). glue part.rows (other_side (record { tet = k; face = f }) b) ≡ Some (way_back (record { tet = k; face = f }) b)) d.is
+      subst (λ (b : Gluing). glue part.rows (other_side (record { tet = k; face = f }) b) ≡ Some (inverse_gluing (record { tet = k; face = f }) b)) d.is
       (glue-part (place_in part.numbers d.g.tet) (image d.g.perm f) p.0
       ∙ ap (λ t. option_map (renumbered part.numbers) (glue rows (record { tet = t; face = image d.g.perm f }))) p.1
       ∙ ap (option_map (renumbered part.numbers)) (table.leads_back (face (slice_index part.numbers k) f) d.g d.glued)
@@ -99,13 +99,13 @@ module _ (rows : List Row) (table : IsTable rows) (part : Part) (h : IsPart rows
   pub part_is_table : IsTable part.rows
   unfolding face
   part_is_table = record {
-    few = let a : length part.numbers ≤ length rows = few in let b : length rows ≤ 1000 = table.few in let c : length part.rows ≡ length part.numbers = length-part in omega arith;
+    limited = let a : length part.numbers ≤ length rows = limited in let b : length rows ≤ 1000 = table.limited in let c : length part.rows ≡ length part.numbers = length-part in omega arith;
     four_faces = All-from_get_or (λ (row : Row). length row ≡ 4) part.rows [] (λ k l. let m : k < length part.numbers = subst (λ n. k < n) length-part l in
         ap (λ (all : List Row). length (slice_index_or all k [])) h.renumbers ∙ length-row_of rows part.numbers k m ∙
         All-get_or (λ (row : Row). length row ≡ 4) rows (slice_index part.numbers k) [] (member_below (slice_index part.numbers k) (contains_at part.numbers k (slice_index part.numbers k) m refl)) table.four_faces);
     permutes = λ x g' e. let d = glued_in x.tet x.face g' e in subst (λ (b : Gluing). IsPermutationOfFour b.perm) d.is (table.permutes (face (slice_index part.numbers x.tet) x.face) d.g d.glued);
     in_range = λ x g' e. let d = glued_in x.tet x.face g' e in subst (λ n. g'.tet < n) (sym length-part) (subst (λ (b : Gluing). b.tet < length part.numbers) d.is (place_of part.numbers h.ascending d.g.tet d.member).0);
-    apart = λ x g' e. not_from (same_face (other_side x g') x) (part_apart x.tet x.face g' e);
+    separate = λ x g' e. not_from (same_face (other_side x g') x) (part_apart x.tet x.face g' e);
     leads_back = λ x g' e. part_back x.tet x.face g' e;
   }
 

@@ -40,7 +40,7 @@ place_of numbers h t c = (subst (λ k. k < length numbers) (sym same) c.1, ap (s
 
 -- if f is injective below n, with values below m, n is at most m
 pub fits : (n m : ℕ) (f : ℕ → ℕ) → ((i : ℕ) → i < n → f i < m) → ((i j : ℕ) → i < n → j < n → f i ≡ f j → i ≡ j) → n ≤ m
-fits n m f small apart = let l : length (map f (below n)) ≤ m = length-le_from_distinct_below (map f (below n)) m distinct bounded in omega (arith, l, long)
+fits n m f small separate = let l : length (map f (below n)) ≤ m = length-le_from_distinct_below (map f (below n)) m distinct bounded in omega (arith, l, long)
   where
     long : length (map f (below n)) ≡ n
     long = length-map-range_with_len f 0 n
@@ -50,7 +50,7 @@ fits n m f small apart = let l : length (map f (below n)) ≤ m = length-le_from
 
     distinct : IsDistinct nat_eq (map f (below n))
     distinct = IsDistinct-from_before (map f (below n)) (λ i j less l e. let m : j < n = omega (arith, long) in let k : i < n = omega arith in
-        let same : i ≡ j = apart i j k m (sym (at i k) ∙ e ∙ at j m) in absurd (omega arith))
+        let same : i ≡ j = separate i j k m (sym (at i k) ∙ e ∙ at j m) in absurd (omega arith))
 
     bounded : (q : ℕ) → list_any (nat_eq q) (map f (below n)) ≡ true → q < m
     bounded q e = found (Any-from_list_any (nat_eq q) (map f (below n)) e)

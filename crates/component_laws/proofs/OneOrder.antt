@@ -15,7 +15,7 @@ use Rattle.signature_definitions.specs.Labellings.{IsLeastRelabelling}
 use Rattle.signature_laws.proofs.Uniqueness.{one_signature, one_least, before_before}
 use Rattle.signature_laws.proofs.Standing.{same_relabelling}
 use Rattle.component_definitions.specs.Parts.{Part, first_of}
-use Rattle.component_definitions.specs.SameParts.{StandsBefore, GoesBy, ArePartsInOrder, IsSameParts}
+use Rattle.component_definitions.specs.SameParts.{PrecedesPart, GoesBy, ArePartsInOrder, IsSameParts}
 use Rattle.component_laws.proofs.Members.{part_at, numbers_at, StandsAt, part_is, part_is_table, stands_at}
 use Rattle.component_laws.proofs.Alone.{one_list_of_parts, part_is_connected}
 use Rattle.component_laws.proofs.Permuted.{text_at}
@@ -61,7 +61,7 @@ module _ (R : ℕ → ℕ → Type 0) (asymmetric : (x y : ℕ) → R x y → R 
 not_both : (x y : List ℕ) → is_list_before x y ≡ true → is_list_before y x ≡ true → ⊥
 not_both x y a b = false≢true (sym (not_before_itself x) ∙ before_before x y x a b)
 
-before_asymmetric : (parts : List Part) (signatures : List (List ℕ)) (i j : ℕ) → StandsBefore parts signatures i j → StandsBefore parts signatures j i → ⊥
+before_asymmetric : (parts : List Part) (signatures : List (List ℕ)) (i j : ℕ) → PrecedesPart parts signatures i j → PrecedesPart parts signatures j i → ⊥
 before_asymmetric parts signatures i j (inl a) (inl b) = not_both (text_at signatures i) (text_at signatures j) a b
 before_asymmetric parts signatures i j (inl a) (inr b) = not_both (text_at signatures i) (text_at signatures j) a (subst (λ t. is_list_before t (text_at signatures i) ≡ true) (sym b.0) (subst (λ t. is_list_before (text_at signatures i) t ≡ true) b.0 a))
 before_asymmetric parts signatures i j (inr a) (inl b) = not_both (text_at signatures j) (text_at signatures i) b (subst (λ t. is_list_before t (text_at signatures j) ≡ true) (sym a.0) (subst (λ t. is_list_before (text_at signatures j) t ≡ true) a.0 b))
@@ -75,8 +75,8 @@ one_signatures parts xs ys a b = ext_get_or [] xs ys (long xs a ∙ sym (long ys
     long zs z = AllZip-long (λ (part : Part) signature. IsSignature part.rows signature) parts zs z
 
 pub one_order_of_parts : (rows : List Row) (parts : List Part) (order other : List ℕ) → ArePartsInOrder rows parts order → ArePartsInOrder rows parts other → order ≡ other
-one_order_of_parts rows parts order other a b = same_order (StandsBefore parts a.signatures) (before_asymmetric parts a.signatures) order other a.in_order
-    (subst (λ ts. (i j : ℕ) → i < j → j < length other → StandsBefore parts ts (slice_index other i) (slice_index other j)) (one_signatures parts b.signatures a.signatures b.of_parts a.of_parts) b.in_order)
+one_order_of_parts rows parts order other a b = same_order (PrecedesPart parts a.signatures) (before_asymmetric parts a.signatures) order other a.in_order
+    (subst (λ ts. (i j : ℕ) → i < j → j < length other → PrecedesPart parts ts (slice_index other i) (slice_index other j)) (one_signatures parts b.signatures a.signatures b.of_parts a.of_parts) b.in_order)
     (λ t c. Contains-permutation order other t p c) (λ t c. Contains-permutation other order t (IsPermutation-sym order other p) c)
   where
     p : IsPermutation order other

@@ -18,7 +18,7 @@ use Rattle.table_definitions.proofs.Carried.{permutation_below, permutation_apar
 use Rattle.signature_definitions.specs.Spelling.{IsSignature}
 use Rattle.signature_laws.proofs.Uniqueness.{neither_before}
 use Rattle.component_definitions.specs.Parts.{Part, first_of, AreParts}
-use Rattle.component_definitions.specs.SameParts.{part_at, StandsBefore, ArePartsInOrder}
+use Rattle.component_definitions.specs.SameParts.{part_at, PrecedesPart, ArePartsInOrder}
 use Rattle.component_definitions.specs.ComponentSignature.{component_text, IsInOrder, IsComponentSignature}
 use Rattle.component_laws.specs.Ordered.{Entry, texts_of, numbers_of, compared, AreInOrder}
 
@@ -139,16 +139,16 @@ module _ (parts : List Part) (entries : List Entry) (o : AreInOrder parts entrie
           | inr (inr over) ↦ let a = number_at_map entries i in let b = number_at_map entries j in absurd (omega (arith, a, b, at_most, over))
         ]
 
-    stands : (i j : ℕ) → i < j → j < length entries → StandsBefore parts (texts_of o.made) (slice_index (numbers_of entries) i) (slice_index (numbers_of entries) j)
-    stands i j less l = go (is_list_before (at entries i).text (at entries j).text) refl
+    occurs : (i j : ℕ) → i < j → j < length entries → PrecedesPart parts (texts_of o.made) (slice_index (numbers_of entries) i) (slice_index (numbers_of entries) j)
+    occurs i j less l = go (is_list_before (at entries i).text (at entries j).text) refl
       where
         li : i < length entries
         li = omega arith
 
-        go : (b : Bool) → is_list_before (at entries i).text (at entries j).text ≡ b → StandsBefore parts (texts_of o.made) (slice_index (numbers_of entries) i) (slice_index (numbers_of entries) j)
+        go : (b : Bool) → is_list_before (at entries i).text (at entries j).text ≡ b → PrecedesPart parts (texts_of o.made) (slice_index (numbers_of entries) i) (slice_index (numbers_of entries) j)
         go true e = inl (subst₂ (λ x y. is_list_before x y ≡ true) (sym (text_there i li)) (sym (text_there j l)) e)
         go false e = let same : (at entries i).text ≡ (at entries j).text = neither_before (at entries i).text (at entries j).text e (texts_later i j (omega arith) l) in
             inr (text_there i li ∙ same ∙ sym (text_there j l), tied i j less l same)
 
     pub parts_in_order : ArePartsInOrder rows parts (numbers_of entries)
-    parts_in_order = record { are_parts = h; signatures = texts_of o.made; of_parts = of_parts; permutes = permutes; in_order = λ i j less l. stands i j less (omega (arith, numbers_long)) }
+    parts_in_order = record { are_parts = h; signatures = texts_of o.made; of_parts = of_parts; permutes = permutes; in_order = λ i j less l. occurs i j less (omega (arith, numbers_long)) }

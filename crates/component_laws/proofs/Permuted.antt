@@ -68,14 +68,14 @@ reordered xs ys p = IsPermutation-keeps xs (Reorders xs) (record { order = below
 pub record TakenFrom (xs ys : Texts) : Type 0 where
   pub to : ℕ → ℕ
   pub in_range : (i : ℕ) → i < length ys → to i < length xs
-  pub apart : (i j : ℕ) → i < length ys → j < length ys → to i ≡ to j → i ≡ j
+  pub separate : (i j : ℕ) → i < length ys → j < length ys → to i ≡ to j → i ≡ j
   pub same : (i : ℕ) → i < length ys → text_at ys i ≡ text_at xs (to i)
 
 pub taken_from : (xs ys : Texts) → IsPermutation xs ys → TakenFrom xs ys
 taken_from xs ys p = record {
   to = slice_index r.order;
   in_range = λ i l. permutation_below (length xs) r.order back i (subst (λ n. i < n) long l);
-  apart = λ i j li lj e. elim (cases_order i j) [
+  separate = λ i j li lj e. elim (cases_order i j) [
     | inl same ↦ same
     | inr (inl less) ↦ absurd (permutation_apart (length xs) r.order back i j less (subst (λ n. j < n) long lj) e)
     | inr (inr more) ↦ absurd (permutation_apart (length xs) r.order back j i more (subst (λ n. i < n) long li) (sym e))
@@ -97,7 +97,7 @@ pub permuted_from : (xs ys : Texts) → TakenFrom xs ys → length xs ≤ length
 permuted_from xs ys t l = subst₂ IsPermutation (map-below xs) there (IsPermutation-map (text_at xs) (below (length xs)) places (IsPermutation-sym places (below (length xs))
     (onto (length xs) places (long ∙ same_length) (λ k m. let k' : k < length ys = subst (λ n. k < n) (sym same_length) m in subst (λ v. v < length xs) (sym (at k k')) (t.in_range k k'))
     (IsDistinct-from_before places (λ i j less m e. let lj : j < length ys = subst (λ n. j < n) long m in let li : i < length ys = omega arith in
-    let same : i ≡ j = t.apart i j li lj (sym (at i li) ∙ e ∙ at j lj) in absurd (omega arith))))))
+    let same : i ≡ j = t.separate i j li lj (sym (at i li) ∙ e ∙ at j lj) in absurd (omega arith))))))
   where
     places : List ℕ
     places = map t.to (below (length ys))
@@ -106,7 +106,7 @@ permuted_from xs ys t l = subst₂ IsPermutation (map-below xs) there (IsPermuta
     long = length-map (below (length ys)) t.to ∙ length-range_with_len 0 (length ys)
 
     same_length : length ys ≡ length xs
-    same_length = let m : length ys ≤ length xs = fits (length ys) (length xs) t.to t.in_range t.apart in omega arith
+    same_length = let m : length ys ≤ length xs = fits (length ys) (length xs) t.to t.in_range t.separate in omega arith
 
     at : (k : ℕ) → k < length ys → get_or places k 0 ≡ t.to k
     at k m = get_or-map t.to (below (length ys)) k 0 0 (subst (λ n. k < n) (sym (length-range_with_len 0 (length ys))) m) ∙ ap t.to (get_or-range_with_len 0 (length ys) k 0 m ∙ omega arith)
@@ -157,7 +157,7 @@ module _ (x : List ℕ) (xs ys : Texts) (t : TakenFrom (x ∷ xs) (x ∷ ys)) wh
   entry_behind zs (suc n) some = ap (text_at zs) (omega arith)
 
   first_some : (i : ℕ) → i < length ys → t.to (suc i) ≡ 0 → t.to 0 ≢ 0
-  first_some i l z y = let e : 0 ≡ suc i = t.apart 0 (suc i) (omega arith) (omega arith) (y ∙ sym z) in absurd (omega arith)
+  first_some i l z y = let e : 0 ≡ suc i = t.separate 0 (suc i) (omega arith) (omega arith) (y ∙ sym z) in absurd (omega arith)
 
   to_less : ℕ → ℕ
   to_less i = moved (t.to 0) (t.to (suc i))
@@ -173,15 +173,15 @@ module _ (x : List ℕ) (xs ys : Texts) (t : TakenFrom (x ∷ xs) (x ∷ ys)) wh
   unfolding to_less
   less_apart i j li lj e = elim (cases_eq (t.to (suc i)) 0) [
     | inl z ↦ elim (cases_eq (t.to (suc j)) 0) [
-      | inl y ↦ let f : suc i ≡ suc j = t.apart (suc i) (suc j) (omega arith) (omega arith) (z ∙ sym y) in omega arith
+      | inl y ↦ let f : suc i ≡ suc j = t.separate (suc i) (suc j) (omega arith) (omega arith) (z ∙ sym y) in omega arith
       | inr some ↦ let a : t.to 0 - 1 ≡ t.to (suc j) - 1 = sym (moved_zero (t.to 0) (t.to (suc i)) z) ∙ e ∙ moved_some (t.to 0) (t.to (suc j)) some in
-          let first : t.to 0 ≢ 0 = first_some i li z in let f : 0 ≡ suc j = t.apart 0 (suc j) (omega arith) (omega arith) (omega arith) in absurd (omega arith)
+          let first : t.to 0 ≢ 0 = first_some i li z in let f : 0 ≡ suc j = t.separate 0 (suc j) (omega arith) (omega arith) (omega arith) in absurd (omega arith)
     ]
     | inr some ↦ elim (cases_eq (t.to (suc j)) 0) [
       | inl y ↦ let a : t.to (suc i) - 1 ≡ t.to 0 - 1 = sym (moved_some (t.to 0) (t.to (suc i)) some) ∙ e ∙ moved_zero (t.to 0) (t.to (suc j)) y in
-          let first : t.to 0 ≢ 0 = first_some j lj y in let f : 0 ≡ suc i = t.apart 0 (suc i) (omega arith) (omega arith) (omega arith) in absurd (omega arith)
+          let first : t.to 0 ≢ 0 = first_some j lj y in let f : 0 ≡ suc i = t.separate 0 (suc i) (omega arith) (omega arith) (omega arith) in absurd (omega arith)
       | inr other ↦ let a : t.to (suc i) - 1 ≡ t.to (suc j) - 1 = sym (moved_some (t.to 0) (t.to (suc i)) some) ∙ e ∙ moved_some (t.to 0) (t.to (suc j)) other in
-          let f : suc i ≡ suc j = t.apart (suc i) (suc j) (omega arith) (omega arith) (omega arith) in omega arith
+          let f : suc i ≡ suc j = t.separate (suc i) (suc j) (omega arith) (omega arith) (omega arith) in omega arith
     ]
   ]
 
@@ -193,7 +193,7 @@ module _ (x : List ℕ) (xs ys : Texts) (t : TakenFrom (x ∷ xs) (x ∷ ys)) wh
   ]
 
   taken_less : TakenFrom xs ys
-  taken_less = record { to = to_less; in_range = less_range; apart = less_apart; same = less_same }
+  taken_less = record { to = to_less; in_range = less_range; separate = less_apart; same = less_same }
 
 one_less : (x : List ℕ) (xs ys : Texts) → IsPermutation (x ∷ xs) (x ∷ ys) → IsPermutation xs ys
 one_less x xs ys p = permuted_from xs ys (taken_less x xs ys (taken_from (x ∷ xs) (x ∷ ys) p)) (let e : length (x ∷ ys) ≡ length (x ∷ xs) = length_permutation (x ∷ xs) (x ∷ ys) p in omega arith)

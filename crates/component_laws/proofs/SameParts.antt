@@ -45,12 +45,12 @@ module _ (first second : List Row) (by : Relabelling) (tf : IsTable first) (ts :
   -- the index of component a in the order, and the component at that index of the other table's order
   place : (a : ℕ) → (a < count) ⊎ (count ≤ a) → ℕ
   place a (inl l) = (order_holds count h.order h.in_order.permutes a l).0
-  place a (inr past) = 0
+  place a (inr exceeded) = 0
 
   place_is : (a : ℕ) (c : (a < count) ⊎ (count ≤ a)) → a < count → (place a c < count) × (slice_index h.order (place a c) ≡ a)
   unfolding place
   place_is a (inl l) m = let w = order_holds count h.order h.in_order.permutes a l in (w.1, w.2)
-  place_is a (inr past) m = absurd (omega arith)
+  place_is a (inr exceeded) m = absurd (omega arith)
 
   other_permutes : IsPermutation h.other_order (below count)
   other_permutes = subst (λ k. IsPermutation h.other_order (below k)) count_second h.others_in_order.permutes
@@ -65,28 +65,28 @@ module _ (first second : List Row) (by : Relabelling) (tf : IsTable first) (ts :
   other_of : ℕ → ℕ
   other_of a = slice_index h.other_order (at_place a)
 
-  told : (a : ℕ) → a < count → (r : Relabelling) × IsLeastRelabelling (part_at h.parts a).rows (part_at h.others (other_of a)).rows r × GoesBy by (part_at h.parts a) (part_at h.others (other_of a)) r
+  reported : (a : ℕ) → a < count → (r : Relabelling) × IsLeastRelabelling (part_at h.parts a).rows (part_at h.others (other_of a)).rows r × GoesBy by (part_at h.parts a) (part_at h.others (other_of a)) r
   unfolding other_of
-  told a l = let w = at_place_is a l in
+  reported a l = let w = at_place_is a l in
       subst (λ b. (r : Relabelling) × IsLeastRelabelling (part_at h.parts b).rows (part_at h.others (slice_index h.other_order (at_place a))).rows r × GoesBy by (part_at h.parts b) (part_at h.others (slice_index h.other_order (at_place a))) r)
       w.1 (h.each (at_place a) (subst (λ n. at_place a < n) (sym (order_long count h.order h.in_order.permutes)) w.0))
 
   taken : (a : ℕ) → (a < count) ⊎ (count ≤ a) → Relabelling
-  taken a (inl l) = (told a l).0
-  taken a (inr past) = record { images = []; perms = [] }
+  taken a (inl l) = (reported a l).0
+  taken a (inr exceeded) = record { images = []; perms = [] }
 
   taken_is : (a : ℕ) (c : (a < count) ⊎ (count ≤ a)) → a < count →
       IsLeastRelabelling (part_at h.parts a).rows (part_at h.others (other_of a)).rows (taken a c) × GoesBy by (part_at h.parts a) (part_at h.others (other_of a)) (taken a c)
   unfolding taken
-  taken_is a (inl l) m = ((told a l).1, (told a l).2)
-  taken_is a (inr past) m = absurd (omega arith)
+  taken_is a (inl l) m = ((reported a l).1, (reported a l).2)
+  taken_is a (inr exceeded) m = absurd (omega arith)
 
   matches : Matches h.parts h.others
   unfolding other_of
   matches = record {
     to = other_of;
     in_range = λ a l. subst (λ n. other_of a < n) h.as_many (order_below count h.other_order other_permutes (at_place a) (at_place_is a l).0);
-    apart = λ a b la lb e. sym (at_place_is a la).1 ∙ ap (slice_index h.order) (order_apart count h.other_order other_permutes (at_place a) (at_place b) (at_place_is a la).0 (at_place_is b lb).0 e) ∙ (at_place_is b lb).1;
+    separate = λ a b la lb e. sym (at_place_is a la).1 ∙ ap (slice_index h.order) (order_apart count h.other_order other_permutes (at_place a) (at_place b) (at_place_is a la).0 (at_place_is b lb).0 e) ∙ (at_place_is b lb).1;
     by = λ a. taken a (cases_lt a count);
     relabels = λ a l. (taken_is a (cases_lt a count) l).0.relabels.0;
     carries = λ a l. (taken_is a (cases_lt a count) l).0.relabels.1;
@@ -104,12 +104,12 @@ module _ (first second : List Row) (by : Relabelling) (tf : IsTable first) (ts :
 
   back_place : (b : ℕ) → (b < count) ⊎ (count ≤ b) → ℕ
   back_place b (inl l) = (order_holds count h.other_order other_permutes b l).0
-  back_place b (inr past) = 0
+  back_place b (inr exceeded) = 0
 
   back_place_is : (b : ℕ) (c : (b < count) ⊎ (count ≤ b)) → b < count → (back_place b c < count) × (slice_index h.other_order (back_place b c) ≡ b)
   unfolding back_place
   back_place_is b (inl l) m = let w = order_holds count h.other_order other_permutes b l in (w.1, w.2)
-  back_place_is b (inr past) m = absurd (omega arith)
+  back_place_is b (inr exceeded) m = absurd (omega arith)
 
   at_back : ℕ → ℕ
   at_back b = back_place b (cases_lt b count)
@@ -140,7 +140,7 @@ module _ (first second : List Row) (by : Relabelling) (tf : IsTable first) (ts :
   back_matching = record {
     to = part_of;
     in_range = λ b l. order_below count h.order h.in_order.permutes (at_back b) (at_back_is b (less b l)).0;
-    apart = λ a b la lb e. sym (at_back_is a (less a la)).1 ∙ ap (slice_index h.other_order) (order_apart count h.order h.in_order.permutes (at_back a) (at_back b) (at_back_is a (less a la)).0 (at_back_is b (less b lb)).0 e) ∙ (at_back_is b (less b lb)).1;
+    separate = λ a b la lb e. sym (at_back_is a (less a la)).1 ∙ ap (slice_index h.other_order) (order_apart count h.order h.in_order.permutes (at_back a) (at_back b) (at_back_is a (less a la)).0 (at_back_is b (less b lb)).0 e) ∙ (at_back_is b (less b lb)).1;
     relabelled = λ b l. told_back b (less b l);
   }
 

@@ -51,7 +51,7 @@ module _ (first second : List Row) (text other : List ℕ) (tf : IsTable first) 
   matching_from t = record {
     to = t.to;
     in_range = in_range;
-    apart = λ i j li lj e. t.apart i j (at i li) (at j lj) e;
+    separate = λ i j li lj e. t.separate i j (at i li) (at j lj) e;
     relabelled = λ i l. (tells_tables (part_at a.parts i).rows (part_at b.parts (t.to i)).rows (text_at a.signatures i) (text_at b.signatures (t.to i)) (rows_table first text tf a i l) (rows_table second other ts b (t.to i) (in_range i l))
         (signature_at first text tf a i l) (signature_at second other ts b (t.to i) (in_range i l))).0 (t.same i (at i l));
   }
@@ -67,7 +67,7 @@ module _ (first second : List Row) (text other : List ℕ) (tf : IsTable first) 
   taken_by m = record {
     to = m.to;
     in_range = λ i l. subst (λ n. m.to i < n) (sym (long second other ts b)) (m.in_range i (at i l));
-    apart = λ i j li lj e. m.apart i j (at i li) (at j lj) e;
+    separate = λ i j li lj e. m.separate i j (at i li) (at j lj) e;
     same = λ i l. (tells_tables (part_at a.parts i).rows (part_at b.parts (m.to i)).rows (text_at a.signatures i) (text_at b.signatures (m.to i)) (rows_table first text tf a i (at i l)) (rows_table second other ts b (m.to i) (m.in_range i (at i l)))
         (signature_at first text tf a i (at i l)) (signature_at second other ts b (m.to i) (m.in_range i (at i l)))).1 (m.relabelled i (at i l));
   }
@@ -103,7 +103,7 @@ relabelled_same_text first second text other tf ts a b r = a.joined ∙ ap compo
     back_taken = taken_by second first other text ts tf b a (carried_parts second first back.0 ts tf back.1 back.2 b.parts a.parts b.are_parts a.are_parts)
 
     p : IsPermutation a.signatures b.signatures
-    p = permuted_from a.signatures b.signatures back_taken (fits (length a.signatures) (length b.signatures) there_taken.to there_taken.in_range there_taken.apart)
+    p = permuted_from a.signatures b.signatures back_taken (fits (length a.signatures) (length b.signatures) there_taken.to there_taken.in_range there_taken.separate)
 
 pub component_signatures_tell : (first second : List Row) (text other : List ℕ) → IsTable first → IsTable second → IsComponentSignature first text → IsComponentSignature second other → (text ≡ other) ↔ AreIsomorphic first second
 component_signatures_tell first second text other tf ts a b = (same_text_relabels first second text other tf ts a b, relabelled_same_text first second text other tf ts a b)
@@ -118,4 +118,4 @@ pub one_component_signature : (rows : List Row) (text other : List ℕ) → IsTa
 one_component_signature rows text other table a b = relabelled_same_text rows rows text other table table a b (matched_tables rows rows a.parts a.parts table table a.are_parts a.are_parts alone alone)
   where
     alone : IsMatching a.parts a.parts
-    alone = record { to = λ i. i; in_range = λ i l. l; apart = λ i j li lj e. e; relabelled = λ i l. itself (part_at a.parts i).rows (text_at a.signatures i) (rows_table rows text table a i l) (signature_at rows text table a i l) }
+    alone = record { to = λ i. i; in_range = λ i l. l; separate = λ i j li lj e. e; relabelled = λ i l. itself (part_at a.parts i).rows (text_at a.signatures i) (rows_table rows text table a i l) (signature_at rows text table a i l) }

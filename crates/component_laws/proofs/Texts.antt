@@ -39,7 +39,7 @@ character_past v l = get_or_past alphabet v 0 l
 no_stop_at : (v : ℕ) → character v ≢ 46
 no_stop_at v = elim (cases_lt v 64) [
   | inl l ↦ not_equal (character v) 46 (character_below v l)
-  | inr past ↦ λ e. let z : character v ≡ 0 = character_past v past in absurd (omega arith)
+  | inr exceeded ↦ λ e. let z : character v ≡ 0 = character_past v exceeded in absurd (omega arith)
 ]
 
 no_stop_in : (vs : List ℕ) → HasNoStop (map character vs)
@@ -67,7 +67,7 @@ record BeginsLater (values : List ℕ) : Type 0 where
 head_later : (n : ℕ) → 0 < n → BeginsLater (head_values n)
 head_later n some = elim (cases_lt n 63) [
   | inl l ↦ record { head = n; rest = []; begins = ap (λ b. if b then n ∷ [] else 63 ∷ width n ∷ in_values (width n) n) (is_less n l); some = some; small = omega arith }
-  | inr past ↦ record { head = 63; rest = width n ∷ in_values (width n) n; begins = ap (λ b. if b then n ∷ [] else 63 ∷ width n ∷ in_values (width n) n) (is_no_less n past); some = omega arith; small = omega arith }
+  | inr exceeded ↦ record { head = 63; rest = width n ∷ in_values (width n) n; begins = ap (λ b. if b then n ∷ [] else 63 ∷ width n ∷ in_values (width n) n) (is_no_less n exceeded); some = omega arith; small = omega arith }
 ]
   where
     is_less : (m : ℕ) → m < 63 → nat_lt m 63 ≡ true

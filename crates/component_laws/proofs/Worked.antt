@@ -41,11 +41,11 @@ two_free (suc (suc t)) f = refl
 
 one_table : IsTable one
 one_table = record {
-  few = lit≤ tt;
+  limited = lit≤ tt;
   four_faces = four;
   permutes = λ x g e. let z : None ≡ Some g = sym (one_free x.tet x.face) ∙ e in absurd cc;
   in_range = λ x g e. let z : None ≡ Some g = sym (one_free x.tet x.face) ∙ e in absurd cc;
-  apart = λ x g e. let z : None ≡ Some g = sym (one_free x.tet x.face) ∙ e in absurd cc;
+  separate = λ x g e. let z : None ≡ Some g = sym (one_free x.tet x.face) ∙ e in absurd cc;
   leads_back = λ x g e. let z : None ≡ Some g = sym (one_free x.tet x.face) ∙ e in absurd cc;
 }
   where

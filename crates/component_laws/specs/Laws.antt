@@ -20,8 +20,8 @@ abbrev pub OneListOfParts : Type 0
 OneListOfParts = (rows : List Row) (parts others : List Part) → IsTable rows → AreParts rows parts → AreParts rows others → parts ≡ others
 
 -- two tables have equal component signatures if and only if a relabelling carries one to the other
-abbrev pub ComponentSignaturesTellTables : Type 0
-ComponentSignaturesTellTables =
+abbrev pub ComponentSignaturesDetermineTables : Type 0
+ComponentSignaturesDetermineTables =
     (first second : List Row) (text other : List ℕ) → IsTable first → IsTable second → IsComponentSignature first text → IsComponentSignature second other
     → (text ≡ other) ↔ AreIsomorphic first second
 

@@ -6,7 +6,7 @@
 //! carries one table to another.
 #![tactic(auto)]
 
-ghost use Rattle.component_laws.specs.Laws.{PartsAreTables, SomeListOfParts, OneListOfParts, ComponentSignaturesTellTables, OneComponentSignature, ConnectedHasSignature, SamePartsCarry, OneSameParts};
+ghost use Rattle.component_laws.specs.Laws.{PartsAreTables, SomeListOfParts, OneListOfParts, ComponentSignaturesDetermineTables, OneComponentSignature, ConnectedHasSignature, SamePartsCarry, OneSameParts};
 ghost use Rattle.component_laws.specs.WorkedParts.{TwoFreeTets};
 
 /// Theorem: let T be a table.
@@ -27,8 +27,8 @@ pub fn parts_are_tables()
 /// 3. If T is connected, a text is the component signature of T if and only if it is the signature of T.
 ///
 /// Each table has a component signature: see `component_signatures_exist`.
-pub fn component_signatures_tell_tables()
-    ensures tell { ComponentSignaturesTellTables }
+pub fn component_signatures_determine_tables()
+    ensures determine { ComponentSignaturesDetermineTables }
     ensures one { OneComponentSignature }
     ensures connected { ConnectedHasSignature }
 {}

@@ -25,7 +25,7 @@ agree_more S T i s t l same is is' e a k m = elim (cases_order k i) [
   | inl here ↦ ap (λ n. slice_index_or (texts S) n []) here ∙ text_here S i s l is ∙ same_text s.signature.items t.signature.items (unnot (pointwise nat_eq s.signature.items t.signature.items) e)
       ∙ sym (text_here T i t (omega (arith, same)) is') ∙ ap (λ n. slice_index_or (texts T) n []) (sym here)
   | inr (inl less) ↦ a k less
-  | inr (inr past) ↦ absurd (omega arith)
+  | inr (inr exceeded) ↦ absurd (omega arith)
 ]
   where
     unnot : (b : Bool) → false ≡ not b → true ≡ b

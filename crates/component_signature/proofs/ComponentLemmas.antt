@@ -13,7 +13,7 @@ pub below_all : (rows : List Row) (slice all : List (List (Option ℕ))) → IsT
 below_all rows slice all table same is = neighbours_below rows slice table (same ∙ is)
 
 pub few_all : (rows : List Row) (slice all : List (List (Option ℕ))) → IsTable rows → slice ≡ all → all ≡ all_neighbours rows → length slice < 2 ^ 32
-few_all rows slice all table same is = let e : length slice ≡ length rows = ap length (same ∙ is) ∙ length-all_behind rows in let f = table.few in omega (arith, e, f)
+few_all rows slice all table same is = let e : length slice ≡ length rows = ap length (same ∙ is) ∙ length-all_behind rows in let f = table.limited in omega (arith, e, f)
 
 pub symmetric_all : (rows : List Row) (slice all : List (List (Option ℕ))) → IsTable rows → slice ≡ all → all ≡ all_neighbours rows → IsSymmetric (neighbours_of slice)
 symmetric_all rows slice all table same is = subst (λ (a : List (List (Option ℕ))). IsSymmetric (neighbours_of a)) (sym (same ∙ is)) (symmetric rows table)

@@ -72,10 +72,10 @@ pub grows : (xs : List ℕ) (x n : ℕ) (before now : List ℕ) → before ≡ f
 grows xs x n before now is e f = f ∙ ap (λ (b : List ℕ). b ++ n ∷ []) is ∙ sym (more (λ t. slice_index xs t == x) n (eq-eqb (slice_index xs n) x e))
 
 pub stays : (xs : List ℕ) (x n : ℕ) (before now : List ℕ) → before ≡ filter (λ t. slice_index xs t == x) (below n) → (slice_index xs n ≡ x → ⊥) → now ≡ before → now ≡ filter (λ t. slice_index xs t == x) (below (n + 1))
-stays xs x n before now is e f = f ∙ is ∙ sym (no_more (λ t. slice_index xs t == x) n (apart (slice_index xs n) x e))
+stays xs x n before now is e f = f ∙ is ∙ sym (no_more (λ t. slice_index xs t == x) n (separate (slice_index xs n) x e))
   where
-    apart : (a b : ℕ) → (a ≡ b → ⊥) → (a == b) ≡ false
-    apart a b h = go (a == b) refl
+    separate : (a b : ℕ) → (a ≡ b → ⊥) → (a == b) ≡ false
+    separate a b h = go (a == b) refl
       where
         go : (c : Bool) → (a == b) ≡ c → (a == b) ≡ false
         go true e = absurd (h (eqb-true a b e))

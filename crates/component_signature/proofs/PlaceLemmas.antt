@@ -46,8 +46,8 @@ module _ (rows : List Row) (table : IsTable rows) (part : Part) (h : IsPart rows
   pub tets_below : (n : ℕ) → length rows ≡ n → All (λ t. t < n) part.numbers
   tets_below n size k d l = subst (λ m. slice_index_or part.numbers k d < m) size (member_below rows table part h (slice_index_or part.numbers k d) (k, l, sym (get_or_default part.numbers k d (slice_index_or part.numbers k d) l)))
 
-  pub few_tets : length part.numbers ≤ 1000
-  few_tets = let f = (part_is_table rows table part h).few in let e = length-part rows table part h in omega (arith, f, e)
+  pub bounded_tets : length part.numbers ≤ 1000
+  bounded_tets = let f = (part_is_table rows table part h).limited in let e = length-part rows table part h in omega (arith, f, e)
 
   pub one_image_each : (second : List Row) (by : Relabelling) → IsLeastRelabelling part.rows second by → length by.images ≡ length part.numbers
   one_image_each second by least = length-images (length part.rows) by least.relabels.0 ∙ length-part rows table part h
@@ -61,8 +61,8 @@ module _ (rows : List Row) (table : IsTable rows) (part : Part) (h : IsPart rows
 -- ---- one more component is written
 
 module _ (n : ℕ) (P : List Part) (E : List Entry) (Q : List Part) (F : List Entry) (m : AreMatched n P E Q F) where
-  apart : (i k : ℕ) → k < i → i < length E → (t : ℕ) → Contains (part_in P E k).numbers t → Contains (part_in P E i).numbers t → ⊥
-  apart i k less l t a b = permutation_apart (length P) (numbers_of E) (permutes P E m.in_order) k i less (omega (arith, l, numbers_long P E m.in_order))
+  separate : (i k : ℕ) → k < i → i < length E → (t : ℕ) → Contains (part_in P E k).numbers t → Contains (part_in P E i).numbers t → ⊥
+  separate i k less l t a b = permutation_apart (length P) (numbers_of E) (permutes P E m.in_order) k i less (omega (arith, l, numbers_long P E m.in_order))
       (one_part m.first m.first_table P m.are_parts (slice_index (numbers_of E) k) (slice_index (numbers_of E) i) t (number_below P E m.in_order k (omega arith)) (number_below P E m.in_order i l) a b)
 
   pub written_more : (i : ℕ) (old new by : Relabelling) → i < length E → IsLeastRelabelling (part_in P E i).rows (part_in Q F i).rows by → GoesBy new (part_in P E i) (part_in Q F i) by
@@ -70,6 +70,6 @@ module _ (n : ℕ) (P : List Part) (E : List Entry) (Q : List Part) (F : List En
   written_more i old new by l least goes others w k lk = elim (cases_order k i) [
     | inl same ↦ subst (λ j. (r : Relabelling) × IsLeastRelabelling (part_in P E j).rows (part_in Q F j).rows r × GoesBy new (part_in P E j) (part_in Q F j) r) (sym same) (by, least, goes)
     | inr (inl less) ↦ let v = w k less in
-        (v.0, v.1, λ j lj. others (slice_index (part_in P E k).numbers j) (λ c. apart i k less l (slice_index (part_in P E k).numbers j) (contains_at (part_in P E k).numbers j (slice_index (part_in P E k).numbers j) lj refl) c) ∙ v.2 j lj)
-    | inr (inr past) ↦ absurd (omega arith)
+        (v.0, v.1, λ j lj. others (slice_index (part_in P E k).numbers j) (λ c. separate i k less l (slice_index (part_in P E k).numbers j) (contains_at (part_in P E k).numbers j (slice_index (part_in P E k).numbers j) lj refl) c) ∙ v.2 j lj)
+    | inr (inr exceeded) ↦ absurd (omega arith)
   ]

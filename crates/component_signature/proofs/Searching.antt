@@ -47,4 +47,4 @@ row_is rows numbers t a b c d table part there ea eb ec ed =
     (All-get_or (λ (row : Row). length row ≡ 4) rows t [] (member_below rows table (part_with rows numbers) part t there) table.four_faces)
 
 pub few_numbers : (rows : List Row) (numbers : List ℕ) → IsTable rows → IsPart rows (part_with rows numbers) → length numbers ≤ 1000
-few_numbers rows numbers table part = let f = (part_is_table rows table (part_with rows numbers) part).few in let e = length-part rows table (part_with rows numbers) part in omega (arith, f, e)
+few_numbers rows numbers table part = let f = (part_is_table rows table (part_with rows numbers) part).limited in let e = length-part rows table (part_with rows numbers) part in omega (arith, f, e)

@@ -33,16 +33,16 @@ one_written old now next part other by i t image perm up l here li lp to by_perm
   goes = λ k m. elim (cases_order k i) [
     | inl same ↦ ap (λ n. relabelled_place (set_at now t image perm) (slice_index part.numbers n)) same ∙ ap (relabelled_place (set_at now t image perm)) (sym here) ∙ set_here now t image perm li lp
         ∙ (λ j. record { tet = to j; perm = by_perm j }) ∙ ap (λ n. record { tet = slice_index other.numbers (slice_index by.images n); perm = slice_index_or by.perms n [] }) (sym same)
-    | inr (inl less) ↦ set_elsewhere now t (slice_index part.numbers k) image perm (λ e. apart k less (e ∙ here)) ∙ w.goes k less
-    | inr (inr past) ↦ absurd (omega arith)
+    | inr (inl less) ↦ set_elsewhere now t (slice_index part.numbers k) image perm (λ e. separate k less (e ∙ here)) ∙ w.goes k less
+    | inr (inr exceeded) ↦ absurd (omega arith)
   ];
   others = λ u h. set_elsewhere now t u image perm (λ e. h i (omega arith) (sym here ∙ sym e)) ∙ w.others u (λ k m. h k (omega arith));
   images = length-set now.images t image ∙ w.images;
   perms = length-set now.perms t perm ∙ w.perms;
 })
   where
-    apart : (k : ℕ) → k < i → slice_index part.numbers k ≡ slice_index part.numbers i → ⊥
-    apart k less e = let same : k ≡ i = stands_once part.numbers up k i (omega arith) l e in omega arith
+    separate : (k : ℕ) → k < i → slice_index part.numbers k ≡ slice_index part.numbers i → ⊥
+    separate k less e = let same : k ≡ i = stands_once part.numbers up k i (omega arith) l e in omega arith
 
 -- if all are written, no entry of another component has changed
 pub others_kept : (old now : Relabelling) (part other : Part) (by : Relabelling) (i : ℕ) → i ≡ length part.numbers → IsWritten old now part other by i → (t : ℕ) → (Contains part.numbers t → ⊥) → relabelled_place now t ≡ relabelled_place old t

@@ -6,7 +6,7 @@ ghost use Rattle.table_definitions.specs.Places.{SameComponent};
 ghost use Rattle.table_definitions.specs.Classes.{IsNumbering};
 
 use finite_walks::{Numbering, classes};
-use gluing_table::{Row, rows_behind};
+use gluing_table::{Row, dual_graph};
 use out_of_memory::NoMemory;
 use std::alloc::Global;
 
@@ -16,7 +16,7 @@ pub fn components(alloc: Global, rows: &[Row]) -> Result<Numbering, NoMemory>
     requires { IsTable rows.now }
     ensures { IfOk result (λ r. IsNumbering (length rows.now) (SameComponent rows.now) r.classes.items r.count) }
 {
-    let neighbours = rows_behind(alloc, rows)?;
+    let neighbours = dual_graph(alloc, rows)?;
     let numbering = classes(alloc, &neighbours)?;
     Ok(numbering)
 }

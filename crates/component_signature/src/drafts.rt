@@ -42,7 +42,7 @@ pub fn write_part(draft: &mut Draft, part: &Part, other: &Part, by: &Relabelling
     requires tets { All (λ t. t < length draft.old.images) part.now.numbers }
     requires perms { length draft.old.perms ≡ length draft.old.images }
     requires ascending { AllPairs (λ t u. t < u) part.now.numbers }
-    requires few { length part.now.numbers < 2 ^ 32 }
+    requires limited { length part.now.numbers < 2 ^ 32 }
     requires one_each { length by.now.images ≡ length part.now.numbers }
     requires there { (k : ℕ) → k < length part.now.numbers → slice_index by.now.images k < length other.now.numbers }
     ensures goes { GoesBy draft.new part.now other.now by.now }

@@ -98,7 +98,7 @@ pub fn same_parts(
     first: &Table,
     second: &Table,
 ) -> Result<Option<Relabelling>, NoMemory>
-    ensures told { IfOk result (λ r. IfSome r (IsSameParts first.now second.now)) }
+    ensures reported { IfOk result (λ r. IfSome r (IsSameParts first.now second.now)) }
     ensures relabels { IfOk result (λ r. IfSome r (Relabels first.now second.now)) }
     ensures size { IfOk result (λ r. IfSome r (λ by. length by.images ≡ length first.now)) }
     ensures none { IfOk result (λ r. IfNone r (AreIsomorphic first.now second.now → ⊥)) }

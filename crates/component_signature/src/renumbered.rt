@@ -13,7 +13,7 @@ use std::alloc::{AllocError, Global};
 /// The index of `tet` in the ascending list `numbers`.
 fn place_in(numbers: &[u32], tet: u32) -> u32
     requires ascending { AllPairs (λ t u. t < u) numbers.now }
-    requires few { length numbers.now < 2 ^ 32 }
+    requires limited { length numbers.now < 2 ^ 32 }
     requires there { Contains numbers.now tet }
     ensures { result ≡ parts.place_in numbers.now tet }
 {

@@ -47,7 +47,7 @@ fn members_of(alloc: Global, classes: &[u32], class: u32) -> Result<Vec<u32>, Al
 fn part_of(alloc: Global, table: &Table, classes: &[u32], class: u32) -> Result<Part, NoMemory>
     requires table { IsTable table.now }
     requires part { IsPart table.now (components.part_of table.now classes.now class) }
-    requires few { length classes.now < 2 ^ 32 }
+    requires limited { length classes.now < 2 ^ 32 }
     ensures { IfOk result (λ part. part ≡ components.part_of table.now classes.now class) }
 {
     let numbers = members_of(alloc, classes, class)?;

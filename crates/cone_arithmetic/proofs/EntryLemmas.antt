@@ -53,7 +53,7 @@ entries_gcd_one x i some = record {
   divides = λ column. one-dvd (get_or x column 0);
   greatest = λ d h. some.greatest d (λ column. ⊎_elim
       (λ before. subst (λ n. d ∣ n) (sym (get_or-take i x column 0 before)) (h column))
-      (λ past. subst (λ n. d ∣ n) (sym (get_or_past (take i x) column 0 (omega (arith, length-take i x)))) (dvd-zero d))
+      (λ exceeded. subst (λ n. d ∣ n) (sym (get_or_past (take i x) column 0 (omega (arith, length-take i x)))) (dvd-zero d))
       (cases_lt column i));
 }
 

@@ -24,7 +24,7 @@ filled_none limit z sums n is same = record {
 
     zero_at : (j : ℕ) → get_or (replicate n nothing) j nothing ≡ nothing
     zero_at j = ⊎_elim (λ less. get_or-replicate n j nothing nothing less)
-        (λ past. get_or_past (replicate n nothing) j nothing (let e = length-replicate n nothing in omega (arith, e))) (cases_lt j n)
+        (λ exceeded. get_or_past (replicate n nothing) j nothing (let e = length-replicate n nothing in omega (arith, e))) (cases_lt j n)
 
 module _ (limit : ℕ) (z : List ℕ) (column end rest : ℕ) (sums : List ℕ) (filled : AreFilled limit z column sums) (names : NamesColumns z column end rest) where
   -- if no bit is left, all sums up to the end are filled in
@@ -85,7 +85,7 @@ pub filled_is : (limit : ℕ) (z : List ℕ) (n : ℕ) (sums : List ℕ) → Are
 filled_is limit z n sums h all = ext_get_or 0 sums z h.count (λ j less. h.before j (omega (arith, less, h.count)))
 
 pub filled_within : (limit : ℕ) (z : List ℕ) (n : ℕ) (sums : List ℕ) → AreFilled limit z n sums → length z ≤ n → (j : ℕ) → slice_index z j ≤ limit
-filled_within limit z n sums h all j = ⊎_elim (λ less. h.within j less) (λ past. let e = get_or_past z j 0 (omega arith) in omega (arith, e)) (cases_lt j n)
+filled_within limit z n sums h all j = ⊎_elim (λ less. h.within j less) (λ exceeded. let e = get_or_past z j 0 (omega arith) in omega (arith, e)) (cases_lt j n)
 
 -- the words of a support name the columns of a sum of two vectors inside it
 module _ (a b : ℕ) (u w : List ℕ) (support : List Bool) (words : List ℕ) (same : length u ≡ length w) (width : length support ≡ length w) (inside : AreInside support u w)
@@ -104,7 +104,7 @@ module _ (a b : ℕ) (u w : List ℕ) (support : List Bool) (words : List ℕ) (
   low k i one = ⊎_elim (λ less. less) (λ more. let e = bit_at_above (get_or words k 0) 64 i (fits k) more in absurd (omega (arith, e, one))) (cases_lt i 64)
 
   column_within : (column : ℕ) → slice_index_or support column false ≡ true → column < length support
-  column_within column has = ⊎_elim (λ less. less) (λ past. absurd (true≢false (sym has ∙ get_or_past support column false past))) (cases_lt column (length support))
+  column_within column has = ⊎_elim (λ less. less) (λ exceeded. absurd (true≢false (sym has ∙ get_or_past support column false exceeded))) (cases_lt column (length support))
 
   names_at : (k : ℕ) → NamesColumns sums_of (64 * k) (64 * k + 64) (get_or words k 0)
   names_at k = record {

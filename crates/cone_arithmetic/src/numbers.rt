@@ -30,13 +30,13 @@ pub fn gcd(a: u128, b: u128) -> u128
     ensures { IsGcd a b result }
 {
     let mut greater = a;
-    let mut lesser = b;
-    while lesser > MAX_SMALL {
-        let rest = greater % lesser;
-        greater = lesser;
-        lesser = rest;
+    let mut smaller = b;
+    while smaller > MAX_SMALL {
+        let rest = greater % smaller;
+        greater = smaller;
+        smaller = rest;
     }
-    gcd_with_small(greater, lesser as u64)
+    gcd_with_small(greater, smaller as u64)
 }
 
 /// `sum + magnitude * entry`. Fails if that exceeds `limit`.

@@ -59,11 +59,11 @@ pub(crate) fn gcd_of_small(a: u64, b: u64) -> u64
     ensures { IsGcd a b result }
 {
     let mut greater = a;
-    let mut lesser = b;
-    while lesser != 0 {
-        let rest = greater % lesser;
-        greater = lesser;
-        lesser = rest;
+    let mut smaller = b;
+    while smaller != 0 {
+        let rest = greater % smaller;
+        greater = smaller;
+        smaller = rest;
     }
     greater
 }

@@ -5,7 +5,7 @@ ghost use Rattle.std.specs.List.{All};
 ghost use Rattle.cone_arithmetic.specs.Sparse.{IsInRange};
 ghost use Rattle.cone_arithmetic.specs.Faults.{SolutionFails};
 ghost use Rattle.cone_definitions.specs.Rows.{IsSolution};
-ghost use Rattle.cone_definitions.specs.Met.{HoldsWithin};
+ghost use Rattle.cone_definitions.specs.HoldingRows.{HoldsWithin};
 
 use crate::numbers::{MAX_ENTRY, Passed, parts};
 use crate::row::SparseRow;

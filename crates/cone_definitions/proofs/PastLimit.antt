@@ -10,7 +10,7 @@ use Rattle.cone_definitions.specs.Rows.{Row}
 use Rattle.cone_definitions.specs.Surfaces.{Clash}
 use Rattle.cone_definitions.specs.Elimination.{Step, step_at, in_order, IsWithin, Named, IsNamedAt, IsLarge}
 use Rattle.cone_definitions.specs.Orders.{AreNamed}
-use Rattle.cone_definitions.specs.Listings.{Enumeration, IsListed, IsPastLimit}
+use Rattle.cone_definitions.specs.Listings.{Enumeration, IsListed, ExceedsLimit}
 use Rattle.cone_definitions.specs.declared.Order.TheVariants.{Free}
 use Rattle.cone_definitions.proofs.Large.{one_is_named_lem, none_is_named_lem}
 use Rattle.cone_definitions.proofs.NamedOrders.{one_named_order_lem}
@@ -37,7 +37,7 @@ pub length-in_order : (rows : List Row) (taken : List ℕ) → length (in_order 
 length-in_order rows taken = length-map taken (λ k. slice_index_or rows k [])
 
 -- what exceeds the limit in the rows that an order names exceeds it in a longer list of them
-large_in_longer : (e : Enumeration) (taken others : List ℕ) (one : Named) → e.order ≢ Free → (h : IsPastLimit e taken one) → AreNamed e.order e.system others →
+large_in_longer : (e : Enumeration) (taken others : List ℕ) (one : Named) → e.order ≢ Free → (h : ExceedsLimit e taken one) → AreNamed e.order e.system others →
     length taken ≤ length others → IsLarge e.limit e.system.columns (in_order e.system.rows others) e.pairs h.step one
 large_in_longer e taken others one some h named less =
     let same = one_named_order_lem e.order e.system taken others some h.named named less in
@@ -47,7 +47,7 @@ large_in_longer e taken others one some h named less =
     (subst (λ (rows : List Row). IsLarge e.limit e.system.columns rows e.pairs h.step one)
     (ap (in_order e.system.rows) same ∙ sym (take-map (λ number. slice_index_or e.system.rows number []) (length taken) others)) h.large)
 
-one_of_longer : (e : Enumeration) (taken others : List ℕ) (one other : Named) → e.order ≢ Free → IsPastLimit e taken one → IsPastLimit e others other →
+one_of_longer : (e : Enumeration) (taken others : List ℕ) (one other : Named) → e.order ≢ Free → ExceedsLimit e taken one → ExceedsLimit e others other →
     length taken ≤ length others → (taken ≡ others) × (one ≡ other)
 one_of_longer e taken others one other some h g less =
     let both = one_is_named_lem e.limit e.system.columns (in_order e.system.rows others) e.pairs h.step g.step one other
@@ -59,7 +59,7 @@ one_of_longer e taken others one other some h g less =
       both.1,
     )
 
-pub one_past : (e : Enumeration) (taken others : List ℕ) (one other : Named) → e.order ≢ Free → IsPastLimit e taken one → IsPastLimit e others other →
+pub one_past : (e : Enumeration) (taken others : List ℕ) (one other : Named) → e.order ≢ Free → ExceedsLimit e taken one → ExceedsLimit e others other →
     (taken ≡ others) × (one ≡ other)
 one_past e taken others one other some h g = ⊎_elim
     (λ less. one_of_longer e taken others one other some h g (omega arith))
@@ -80,7 +80,7 @@ none_left e all taken list some r named less =
     (Contains-permutation (range_with_len 0 (length e.system.rows)) all z r.all (z, omega arith, get_or-range_with_len 0 (length e.system.rows) z z below ∙ zero-add z)))
 
 -- if the enumeration has a list, nothing exceeds the limit
-pub none_past : (e : Enumeration) (all taken : List ℕ) (list : List (List ℕ)) (kind : Named) → e.order ≢ Free → IsListed e all list → ¬ IsPastLimit e taken kind
+pub none_past : (e : Enumeration) (all taken : List ℕ) (list : List (List ℕ)) (kind : Named) → e.order ≢ Free → IsListed e all list → ¬ ExceedsLimit e taken kind
 none_past e all taken list kind some r h = ⊎_elim
     (λ less. none_left e all taken list some r h.named less)
     (λ more. none_is_named_lem e.limit e.system.columns (in_order e.system.rows all) e.pairs

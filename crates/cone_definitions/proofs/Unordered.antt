@@ -12,7 +12,7 @@ use Rattle.cone_definitions.specs.Unordered.{HasSurfaces}
 -- an ascending list is such a list
 pub without_order : (columns : ℕ) (rows : List Row) (pairs : List Clash) (rays : List (List ℕ)) → IsSurfaceList columns rows pairs rays → HasSurfaces columns rows pairs rays
 without_order columns rows pairs rays h = record {
-  apart = λ i j d less within same. before_irreflexive (get_or rays i d) (subst (IsBefore (get_or rays i d)) (sym same) (h.ascending i j d less within));
+  separate = λ i j d less within same. before_irreflexive (get_or rays i d) (subst (IsBefore (get_or rays i d)) (sym same) (h.ascending i j d less within));
   vertex_surfaces = h.vertex_surfaces;
   complete = h.complete;
 }
@@ -23,7 +23,7 @@ module _ (step : Step) (rays : List (List ℕ)) (h : HasSurfaces step.columns st
 
   -- a ray is at one index
   pub place_is_one : (i k : ℕ) → i < length rays → k < length rays → ray_at rays k ≡ ray_at rays i → k ≡ i
-  place_is_one i k i_in k_in same = one_place rays h.apart k i [] k_in i_in same
+  place_is_one i k i_in k_in same = one_place rays h.separate k i [] k_in i_in same
 
   -- the union of a pair at two indices contains no ray at a third index
   pub pair_third_place : (i j : ℕ) → i < length rays → j < length rays → IsPair step (ray_at rays i) (ray_at rays j) →

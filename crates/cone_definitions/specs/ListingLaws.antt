@@ -3,7 +3,7 @@ use Rattle.std.specs.Prelude.{◌≡◌, ◌≢◌, ℕ, ◌≤◌, List, length
 use Rattle.cone_definitions.specs.Elimination.{Named}
 use Rattle.cone_definitions.specs.Systems.{System}
 use Rattle.cone_definitions.specs.Orders.{AreNamed}
-use Rattle.cone_definitions.specs.Listings.{Enumeration, IsListed, IsPastLimit}
+use Rattle.cone_definitions.specs.Listings.{Enumeration, IsListed, ExceedsLimit}
 use Rattle.cone_definitions.specs.declared.Order.{Order}
 use Rattle.cone_definitions.specs.declared.Order.TheVariants.{Free}
 
@@ -15,9 +15,9 @@ OneNamedOrder = (order : Order) (system : System) (xs ys : List ℕ) → order �
 -- at most one ray or pair, of one step, is named as the first whose number exceeds the limit
 abbrev pub OneIsLarge : Type 0
 OneIsLarge = (e : Enumeration) (taken others : List ℕ) (one other : Named) → e.order ≢ Free →
-    IsPastLimit e taken one → IsPastLimit e others other → (taken ≡ others) × (one ≡ other)
+    ExceedsLimit e taken one → ExceedsLimit e others other → (taken ≡ others) × (one ≡ other)
 
 -- and none is named if there is a list
-abbrev pub NoneIsLargeBeside : Type 0
-NoneIsLargeBeside = (e : Enumeration) (all taken : List ℕ) (list : List (List ℕ)) (kind : Named) → e.order ≢ Free →
-    IsListed e all list → ¬ IsPastLimit e taken kind
+abbrev pub NoneListedIsLarge : Type 0
+NoneListedIsLarge = (e : Enumeration) (all taken : List ℕ) (list : List (List ℕ)) (kind : Named) → e.order ≢ Free →
+    IsListed e all list → ¬ ExceedsLimit e taken kind

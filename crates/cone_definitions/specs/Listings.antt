@@ -34,7 +34,7 @@ pub record IsListed (e : Enumeration) (taken : List ℕ) (list : List (List ℕ)
 
 -- in the order's own order of the rows, the last row taken is that of the first step at which a number exceeds the
 -- limit
-pub record IsPastLimit (e : Enumeration) (taken : List ℕ) (kind : Named) : Type 0 where
+pub record ExceedsLimit (e : Enumeration) (taken : List ℕ) (kind : Named) : Type 0 where
   pub step : ℕ
   pub count : length taken ≡ step + 1
   pub named : AreNamed e.order e.system taken

@@ -13,15 +13,15 @@ use Rattle.cone_definitions.proofs.First.{unit_vectors_list}
 use Rattle.cone_definitions.proofs.Next.{next_list_lem, rows_more}
 use Rattle.cone_definitions.specs.Vectors.{ray_at}
 use Rattle.cone_laws.specs.Unions.{union_size, HasThirdPlace}
-use Rattle.cone_laws.specs.Cuts.{IsListOfFew, IsStepOn, is_flat, cuts_before, AreLists}
+use Rattle.cone_laws.specs.Cuts.{IsListOfAtMost, IsStepOn, is_flat, cuts_before, AreLists}
 use Rattle.cone_laws.proofs.Counts.{count_next}
 use Rattle.cone_laws.proofs.Pairs.{pair_bound}
 use Rattle.cone_laws.proofs.Places.{large_third_place}
 
 -- ---- the first list, and a step whose row is 0 at all rays
 
-pub units_of_no_row : (columns : ℕ) (pairs : List Clash) → PairsAreOfTwoColumns pairs → IsListOfFew columns pairs 0 (unit_vectors columns)
-units_of_no_row columns pairs apart = record { rows = []; few = omega arith; surfaces = unit_vectors_list columns pairs apart }
+pub units_of_no_row : (columns : ℕ) (pairs : List Clash) → PairsAreOfTwoColumns pairs → IsListOfAtMost columns pairs 0 (unit_vectors columns)
+units_of_no_row columns pairs separate = record { rows = []; limited = omega arith; surfaces = unit_vectors_list columns pairs separate }
 
 zero_no_pair : (step : Step) (rays : List (List ℕ)) → IsSurfaceList step.columns step.before step.pairs rays → All (IsZeroAt step.row) rays → (u w : List ℕ) → IsPair step u w → ⊥
 zero_no_pair step rays h zeros u w p = let z : IsZeroAt step.row u = All-contains (IsZeroAt step.row) rays u zeros (h.complete u p.u_ray) in let l = p.positive in omega (arith, z, l)
@@ -91,32 +91,32 @@ module _ (step : Step) (rays : List (List ℕ)) (h : IsSurfaceList step.columns 
   unfolding after
   surfaces_more next n = next_list_lem (after step rows) rays next g (next_there next n)
 
-  few_more : (next : List (List ℕ)) (count : ℕ) → length rows ≤ count → IsNextList step rays next → IsListOfFew step.columns step.pairs (count + 1) next
-  few_more next count few n = record {
+  few_more : (next : List (List ℕ)) (count : ℕ) → length rows ≤ count → IsNextList step rays next → IsListOfAtMost step.columns step.pairs (count + 1) next
+  few_more next count limited n = record {
     rows = rows ++ step.row ∷ [];
-    few = omega (arith, few, length_push rows step.row);
+    limited = omega (arith, limited, length_push rows step.row);
     surfaces = surfaces_more next n;
   }
 
   few_pair : (count : ℕ) (u w : List ℕ) → length rows ≤ count → IsPair step u w → union_size step.columns u w ≤ count + 2
   unfolding after
-  few_pair count u w few p = omega (arith, few, pair_bound (after step rows) u w (pair_there u w p))
+  few_pair count u w limited p = omega (arith, limited, pair_bound (after step rows) u w (pair_there u w p))
 
 pub step_adds_row : (step : Step) (rays next : List (List ℕ)) (rows : List Row) → IsStepOn step rays next →
     IsSurfaceList step.columns rows step.pairs rays → IsSurfaceList step.columns (rows ++ step.row ∷ []) step.pairs next
 step_adds_row step rays next rows s g = surfaces_more step rays s.surfaces rows g next s.next_list
 
-pub step_needs_one : (step : Step) (rays next : List (List ℕ)) (count : ℕ) → IsStepOn step rays next → IsListOfFew step.columns step.pairs count rays → IsListOfFew step.columns step.pairs (count + 1) next
-step_needs_one step rays next count s f = few_more step rays s.surfaces f.rows f.surfaces next count f.few s.next_list
+pub step_needs_one : (step : Step) (rays next : List (List ℕ)) (count : ℕ) → IsStepOn step rays next → IsListOfAtMost step.columns step.pairs count rays → IsListOfAtMost step.columns step.pairs (count + 1) next
+step_needs_one step rays next count s f = few_more step rays s.surfaces f.rows f.surfaces next count f.limited s.next_list
 
-pub pair_of_few : (step : Step) (rays : List (List ℕ)) (count : ℕ) (u w : List ℕ) → IsSurfaceList step.columns step.before step.pairs rays → IsListOfFew step.columns step.pairs count rays →
+pub pair_of_few : (step : Step) (rays : List (List ℕ)) (count : ℕ) (u w : List ℕ) → IsSurfaceList step.columns step.before step.pairs rays → IsListOfAtMost step.columns step.pairs count rays →
     IsPair step u w → union_size step.columns u w ≤ count + 2
-pair_of_few step rays count u w h f p = few_pair step rays h f.rows f.surfaces count u w f.few p
+pair_of_few step rays count u w h f p = few_pair step rays h f.rows f.surfaces count u w f.limited p
 
-pub third_of_few : (columns : ℕ) (pairs : List Clash) (count : ℕ) (rays : List (List ℕ)) → IsListOfFew columns pairs count rays →
+pub third_of_few : (columns : ℕ) (pairs : List Clash) (count : ℕ) (rays : List (List ℕ)) → IsListOfAtMost columns pairs count rays →
     (i j : ℕ) → i < length rays → j < length rays → IsAdmissibleUnion pairs (ray_at rays i) (ray_at rays j) →
     count + 2 < union_size columns (ray_at rays i) (ray_at rays j) → HasThirdPlace rays i j
-third_of_few columns pairs count rays f i j li lj clear large = let few = f.few in
+third_of_few columns pairs count rays f i j li lj clear large = let limited = f.limited in
     large_third_place columns f.rows pairs rays f.surfaces i j li lj clear (omega arith)
 
 -- ---- an enumeration
@@ -133,13 +133,13 @@ module _ (columns : ℕ) (rows : List Row) (pairs : List Clash) (lists : ℕ →
 
   -- the list of a step, for the rows before it and for the rows among them that cut
   abbrev HasLists : ℕ → Type 0
-  HasLists k = IsSurfaceList columns (take k rows) pairs (lists k) × IsListOfFew columns pairs (cuts_before rows lists k) (lists k)
+  HasLists k = IsSurfaceList columns (take k rows) pairs (lists k) × IsListOfAtMost columns pairs (cuts_before rows lists k) (lists k)
 
-  next_lists : (k : ℕ) → k < length rows → HasLists k → IsListOfFew columns pairs (cuts_before rows lists (suc k)) (lists (k + 1))
+  next_lists : (k : ℕ) → k < length rows → HasLists k → IsListOfAtMost columns pairs (cuts_before rows lists (suc k)) (lists (k + 1))
   next_lists k l h = elim (cases_Bool (is_flat (slice_index_or rows k []) (lists k))) [
-    | inl e ↦ subst (λ n. IsListOfFew columns pairs n (lists (k + 1))) (sym (cuts_flat k e))
-        (subst (IsListOfFew columns pairs (cuts_before rows lists k)) (sym (flat_keeps (step_at columns rows pairs k) (lists k) (lists (k + 1)) on (flat_zeros (slice_index_or rows k []) (lists k) e))) h.1)
-    | inr e ↦ subst (λ n. IsListOfFew columns pairs n (lists (k + 1))) (sym (cuts_sharp k e))
+    | inl e ↦ subst (λ n. IsListOfAtMost columns pairs n (lists (k + 1))) (sym (cuts_flat k e))
+        (subst (IsListOfAtMost columns pairs (cuts_before rows lists k)) (sym (flat_keeps (step_at columns rows pairs k) (lists k) (lists (k + 1)) on (flat_zeros (slice_index_or rows k []) (lists k) e))) h.1)
+    | inr e ↦ subst (λ n. IsListOfAtMost columns pairs n (lists (k + 1))) (sym (cuts_sharp k e))
         (step_needs_one (step_at columns rows pairs k) (lists k) (lists (k + 1)) (cuts_before rows lists k) on h.1)
   ]
     where
@@ -148,14 +148,14 @@ module _ (columns : ℕ) (rows : List Row) (pairs : List Clash) (lists : ℕ →
 
   lists_at : (k : ℕ) → k ≤ length rows → HasLists k
   lists_at zero h = (
-    subst (IsSurfaceList columns [] pairs) (sym a.first) (unit_vectors_list columns pairs a.apart),
-    subst (IsListOfFew columns pairs 0) (sym a.first) (units_of_no_row columns pairs a.apart),
+    subst (IsSurfaceList columns [] pairs) (sym a.first) (unit_vectors_list columns pairs a.separate),
+    subst (IsListOfAtMost columns pairs 0) (sym a.first) (units_of_no_row columns pairs a.separate),
   )
   lists_at (suc k) h = let l : k < length rows = omega arith in let here = lists_at k (omega arith) in (
     subst (λ n. IsSurfaceList columns (take n rows) pairs (lists n)) (add-one k)
         (subst (λ r. IsSurfaceList columns r pairs (lists (k + 1))) (sym (rows_more columns rows pairs k l))
         (next_list_lem (step_at columns rows pairs k) (lists k) (lists (k + 1)) here.0 (a.next k l))),
-    subst (λ n. IsListOfFew columns pairs (cuts_before rows lists (suc k)) (lists n)) (add-one k) (next_lists k l here),
+    subst (λ n. IsListOfAtMost columns pairs (cuts_before rows lists (suc k)) (lists n)) (add-one k) (next_lists k l here),
   )
 
   pub pair_by_cuts : (k : ℕ) (u w : List ℕ) → k ≤ length rows → IsPair (step_at columns rows pairs k) u w → union_size columns u w ≤ cuts_before rows lists k + 2

@@ -7,7 +7,7 @@ use Rattle.cone_definitions.specs.Surfaces.{Clash, PairsAreOfTwoColumns}
 use Rattle.cone_definitions.specs.Elimination.{Step, in_order, IsWithin, Named, IsNamedAt, IsLarge}
 use Rattle.cone_definitions.specs.Systems.{System}
 use Rattle.cone_definitions.specs.Orders.{IsNamedTurn, AreNamed}
-use Rattle.cone_definitions.specs.Listings.{Enumeration, IsListed, IsPastLimit}
+use Rattle.cone_definitions.specs.Listings.{Enumeration, IsListed, ExceedsLimit}
 use Rattle.cone_definitions.specs.declared.Order.{Order}
 use Rattle.cone_definitions.proofs.Existence.{surface_list_exists_lem, named_or_within_lem}
 use Rattle.cone_definitions.proofs.PastLimit.{take_shorter, step_same, length-in_order}
@@ -28,12 +28,12 @@ large_shorter limit columns rows pairs n k named less within h = record {
   at_step = subst (λ (s : Step). IsNamedAt limit s named) (sym (step_same columns rows pairs n k less within)) h.at_step;
 }
 
-module _ (e : Enumeration) (apart : PairsAreOfTwoColumns e.pairs) where
+module _ (e : Enumeration) (separate : PairsAreOfTwoColumns e.pairs) where
   abbrev Ends : Type 0
-  Ends = ((taken : List ℕ) × (list : List (List ℕ)) × IsListed e taken list) ⊎ ((taken : List ℕ) × (kind : Named) × IsPastLimit e taken kind)
+  Ends = ((taken : List ℕ) × (list : List (List ℕ)) × IsListed e taken list) ⊎ ((taken : List ℕ) × (kind : Named) × ExceedsLimit e taken kind)
 
   past_limit : (taken : List ℕ) → AreNamed e.order e.system taken → (k : ℕ) (named : Named) → IsLarge e.limit e.system.columns (in_order e.system.rows taken) e.pairs k named
-      → IsPastLimit e (take (k + 1) taken) named
+      → ExceedsLimit e (take (k + 1) taken) named
   past_limit taken h k named large =
       let size : length (in_order e.system.rows taken) ≡ length taken = length-in_order e.system.rows taken in
       let inside : k < length (in_order e.system.rows taken) = large.in_range in
@@ -49,9 +49,9 @@ module _ (e : Enumeration) (apart : PairsAreOfTwoColumns e.pairs) where
   enumeration_ends =
       let t = some_rows_taken e.order e.system in
       let size : length (in_order e.system.rows t.0) ≡ length t.0 = length-in_order e.system.rows t.0 in
-      elim (named_or_within_lem e.system.columns (in_order e.system.rows t.0) e.pairs apart e.limit) [
+      elim (named_or_within_lem e.system.columns (in_order e.system.rows t.0) e.pairs separate e.limit) [
         | inl within ↦
-            let s = surface_list_exists_lem e.system.columns e.system.rows e.pairs apart in
+            let s = surface_list_exists_lem e.system.columns e.system.rows e.pairs separate in
             inl (t.0, s.0, record { surfaces = s.1; all = t.1; named = t.2; within = λ k l. within k (omega arith) })
         | inr w ↦ inr (take (w.0 + 1) t.0, w.1, past_limit t.0 t.2 w.0 w.1 w.2)
       ]

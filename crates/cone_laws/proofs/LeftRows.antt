@@ -36,8 +36,8 @@ left_more count taken left position number h within is = record {
     moved : IsPermutation left (number ∷ remove left position)
     moved = IsPermutation-remove left position number within is
 
-    stands : (other : ℕ) → Contains (remove left position) other → Contains left other
-    stands other c = Contains-permutation (number ∷ remove left position) left other (IsPermutation-sym left (number ∷ remove left position) moved)
+    occurs : (other : ℕ) → Contains (remove left position) other → Contains left other
+    occurs other c = Contains-permutation (number ∷ remove left position) left other (IsPermutation-sym left (number ∷ remove left position) moved)
         (suc c.0, (let w = c.1 in let v : suc c.0 < suc (length (remove left position)) = omega arith in v), c.2)
 
     differs : (other : ℕ) → Contains (remove left position) other → other ≢ number
@@ -48,7 +48,7 @@ left_more count taken left position number h within is = record {
         (sym same ∙ sym c.2)
 
     forth : (other : ℕ) → Contains (remove left position) other → (other < count) × ¬ Contains (taken ++ number ∷ []) other
-    forth other c = let m = (h.members other).0 (stands other c) in
+    forth other c = let m = (h.members other).0 (occurs other c) in
         (m.0, λ t. ⊎_elim m.1 (λ e. differs other c (sym e)) (Contains-push_cases taken number other t))
 
     back : (other : ℕ) → (other < count) × ¬ Contains (taken ++ number ∷ []) other → Contains (remove left position) other

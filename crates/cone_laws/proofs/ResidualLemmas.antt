@@ -6,7 +6,7 @@ use Rattle.std.proofs.lemmas.List.FromFn.{length-map-range_with_len, get_or-map-
 use Rattle.cone_definitions.specs.Vectors.{IsInside, IsInsideUnion, ray_at}
 use Rattle.cone_definitions.specs.Surfaces.{Clash, IsAdmissibleUnion}
 use Rattle.cone_laws.specs.Unions.{is_in_union, union_size}
-use Rattle.cone_laws.specs.Residuals.{residual, IsMinimalResidual, HasNoThirdPlace, IsRivalOf, IsMinimalAmongRivals}
+use Rattle.cone_laws.specs.Residuals.{residual, IsMinimalResidual, HasNoThirdPlace, IsCompatibleWith, IsMinimalAmongCompatible}
 use Rattle.cone_laws.proofs.Counts.{count_weaker, count_stronger}
 
 -- ---- entries of a residual
@@ -18,8 +18,8 @@ cond_zero false n z = refl
 residual_at : (u x : List ℕ) (column : ℕ) → get_or (residual u x) column 0 ≡ cond (eqb (get_or u column 0) 0) (get_or x column 0) 0
 residual_at u x column = elim (cases_lt column (length x)) [
   | inl less ↦ get_or-map-range_with_len (λ j. cond (eqb (get_or u j 0) 0) (get_or x j 0) 0) 0 (length x) column column 0 less (omega arith)
-  | inr past ↦ get_or_past (residual u x) column 0 (let n = length-map-range_with_len (λ j. cond (eqb (get_or u j 0) 0) (get_or x j 0) 0) 0 (length x) in omega arith)
-      ∙ sym (cond_zero (eqb (get_or u column 0) 0) (get_or x column 0) (get_or_past x column 0 past))
+  | inr exceeded ↦ get_or_past (residual u x) column 0 (let n = length-map-range_with_len (λ j. cond (eqb (get_or u j 0) 0) (get_or x j 0) 0) 0 (length x) in omega arith)
+      ∙ sym (cond_zero (eqb (get_or u column 0) 0) (get_or x column 0) (get_or_past x column 0 exceeded))
 ]
 
 residual_beside : (u x : List ℕ) (column : ℕ) → get_or u column 0 ≡ 0 → get_or (residual u x) column 0 ≡ get_or x column 0
@@ -60,13 +60,13 @@ minimal_has_no_third rays i j = (forth, back)
       | inr second ↦ second
     ]
 
-pub inside_are_rivals : (pairs : List Clash) (u w t : List ℕ) → IsAdmissibleUnion pairs u w → IsInsideUnion t u w → IsRivalOf pairs u t
+pub inside_are_rivals : (pairs : List Clash) (u w t : List ℕ) → IsAdmissibleUnion pairs u w → IsInsideUnion t u w → IsCompatibleWith pairs u t
 inside_are_rivals pairs u w t admissible inside k d less = elim (admissible k d less) [
   | inl first ↦ (inl first.0, inr (inside _ first.0 first.1))
   | inr second ↦ (inr (inside _ second.0 second.1), inl second.0)
 ]
 
-pub rivals_decide : (pairs : List Clash) (rays : List (List ℕ)) (i j : ℕ) → IsAdmissibleUnion pairs (ray_at rays i) (ray_at rays j) → IsMinimalAmongRivals pairs rays i j ↔ HasNoThirdPlace rays i j
+pub rivals_decide : (pairs : List Clash) (rays : List (List ℕ)) (i j : ℕ) → IsAdmissibleUnion pairs (ray_at rays i) (ray_at rays j) → IsMinimalAmongCompatible pairs rays i j ↔ HasNoThirdPlace rays i j
 rivals_decide pairs rays i j admissible = (
   λ minimal. (minimal_has_no_third rays i j).0 (λ k less other inside. minimal k less other
       (inside_are_rivals pairs (ray_at rays i) (ray_at rays j) (ray_at rays k) admissible ((inside_by_residuals (ray_at rays i) (ray_at rays j) (ray_at rays k)).1 inside)) inside),
@@ -92,12 +92,12 @@ smaller_alone columns u w t inside = count_weaker (is_in_union u t) (is_in_union
     (λ j _ has. in_weaker_union (get_or u j 0) (get_or w j 0) (get_or t j 0) (inside j) has)
 
 pub equal_spoil : (columns : ℕ) (u w t : List ℕ) → length w ≡ columns → IsInsideUnion t u w → union_size columns u w ≤ union_size columns u t → IsInsideUnion w u t
-equal_spoil columns u w t wide inside few column at_u at_t = elim (cases_eq (get_or w column 0) 0) [
+equal_spoil columns u w t wide inside limited column at_u at_t = elim (cases_eq (get_or w column 0) 0) [
   | inl z ↦ z
   | inr some ↦ elim (cases_lt column (length w)) [
     | inl less ↦ absurd (let more = count_stronger (is_in_union u t) (is_in_union u w) 0 columns column
         (λ j has. in_weaker_union (get_or u j 0) (get_or w j 0) (get_or t j 0) (inside j) has) (omega arith) (omega arith)
-        (in_no_union (get_or u column 0) (get_or t column 0) at_u at_t) (in_union_by_second (get_or u column 0) (get_or w column 0) some) in omega (arith, few, more))
-    | inr past ↦ get_or_past w column 0 past
+        (in_no_union (get_or u column 0) (get_or t column 0) at_u at_t) (in_union_by_second (get_or u column 0) (get_or w column 0) some) in omega (arith, limited, more))
+    | inr exceeded ↦ get_or_past w column 0 exceeded
   ]
 ]

@@ -9,9 +9,9 @@ use Rattle.cone_definitions.specs.Vectors.{ray_at}
 use Rattle.cone_laws.specs.Unions.{union_size, HasThirdPlace}
 
 -- the surface list of some rows, at most this many
-pub record IsListOfFew (columns : ℕ) (pairs : List Clash) (count : ℕ) (rays : List (List ℕ)) : Type 0 where
+pub record IsListOfAtMost (columns : ℕ) (pairs : List Clash) (count : ℕ) (rays : List (List ℕ)) : Type 0 where
   pub rows : List Row
-  pub few : length rows ≤ count
+  pub limited : length rows ≤ count
   pub surfaces : IsSurfaceList columns rows pairs rays
 
 -- the rays before a step and after it
@@ -21,7 +21,7 @@ pub record IsStepOn (step : Step) (rays next : List (List ℕ)) : Type 0 where
 
 -- the first list needs no row
 abbrev pub UnitVectorsAreOfNoRow : Type 0
-UnitVectorsAreOfNoRow = (columns : ℕ) (pairs : List Clash) → PairsAreOfTwoColumns pairs → IsListOfFew columns pairs 0 (unit_vectors columns)
+UnitVectorsAreOfNoRow = (columns : ℕ) (pairs : List Clash) → PairsAreOfTwoColumns pairs → IsListOfAtMost columns pairs 0 (unit_vectors columns)
 
 -- where the row is 0 at all rays, the next list is the same
 abbrev pub FlatStepsKeepTheList : Type 0
@@ -30,16 +30,16 @@ FlatStepsKeepTheList = (step : Step) (rays next : List (List ℕ)) → IsStepOn 
 -- and else it needs one row more
 abbrev pub StepsNeedOneRow : Type 0
 StepsNeedOneRow = (step : Step) (rays next : List (List ℕ)) (count : ℕ) → IsStepOn step rays next →
-    IsListOfFew step.columns step.pairs count rays → IsListOfFew step.columns step.pairs (count + 1) next
+    IsListOfAtMost step.columns step.pairs count rays → IsListOfAtMost step.columns step.pairs (count + 1) next
 
 -- the union of a pair has at most two columns more than the rays need rows
-abbrev pub PairsOfFewAreSmall : Type 0
-PairsOfFewAreSmall = (step : Step) (rays : List (List ℕ)) (count : ℕ) (u w : List ℕ) → IsSurfaceList step.columns step.before step.pairs rays →
-    IsListOfFew step.columns step.pairs count rays → IsPair step u w → union_size step.columns u w ≤ count + 2
+abbrev pub PairUnionsAreSmall : Type 0
+PairUnionsAreSmall = (step : Step) (rays : List (List ℕ)) (count : ℕ) (u w : List ℕ) → IsSurfaceList step.columns step.before step.pairs rays →
+    IsListOfAtMost step.columns step.pairs count rays → IsPair step u w → union_size step.columns u w ≤ count + 2
 
 -- a union with more columns that holds no clashing pair contains the support of a ray at a third place
-abbrev pub LargeUnionsOfFewHaveThird : Type 0
-LargeUnionsOfFewHaveThird = (columns : ℕ) (pairs : List Clash) (count : ℕ) (rays : List (List ℕ)) → IsListOfFew columns pairs count rays →
+abbrev pub LargeUnionsOfBoundedHaveThird : Type 0
+LargeUnionsOfBoundedHaveThird = (columns : ℕ) (pairs : List Clash) (count : ℕ) (rays : List (List ℕ)) → IsListOfAtMost columns pairs count rays →
     (i j : ℕ) → i < length rays → j < length rays → IsAdmissibleUnion pairs (ray_at rays i) (ray_at rays j) →
     count + 2 < union_size columns (ray_at rays i) (ray_at rays j) → HasThirdPlace rays i j
 
@@ -53,7 +53,7 @@ cuts_before rows lists k = count_by (λ i. not (is_flat (slice_index_or rows i [
 
 -- an enumeration: from the unit vectors through a next list at each step
 pub record AreLists (columns : ℕ) (rows : List Row) (pairs : List Clash) (lists : ℕ → List (List ℕ)) : Type 0 where
-  pub apart : PairsAreOfTwoColumns pairs
+  pub separate : PairsAreOfTwoColumns pairs
   pub first : lists 0 ≡ unit_vectors columns
   pub next : (k : ℕ) → k < length rows → IsNextList (step_at columns rows pairs k) (lists k) (lists (k + 1))
 

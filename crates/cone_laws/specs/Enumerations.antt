@@ -6,7 +6,7 @@ use Rattle.cone_definitions.specs.Surfaces.{PairsAreOfTwoColumns}
 use Rattle.cone_definitions.specs.Elimination.{Named}
 use Rattle.cone_definitions.specs.Systems.{System}
 use Rattle.cone_definitions.specs.Orders.{AreNamed}
-use Rattle.cone_definitions.specs.Listings.{Enumeration, IsListed, IsPastLimit}
+use Rattle.cone_definitions.specs.Listings.{Enumeration, IsListed, ExceedsLimit}
 use Rattle.cone_definitions.specs.declared.Order.{Order}
 
 -- all rows can be taken, each as the order names it
@@ -16,4 +16,4 @@ RowsAreTaken = (order : Order) (system : System) → (taken : List ℕ) × IsPer
 -- where each pair is of two different columns, there is a list, or a number exceeds the limit
 abbrev pub EnumerationsEnd : Type 0
 EnumerationsEnd = (e : Enumeration) → PairsAreOfTwoColumns e.pairs →
-    ((taken : List ℕ) × (list : List (List ℕ)) × IsListed e taken list) ⊎ ((taken : List ℕ) × (kind : Named) × IsPastLimit e taken kind)
+    ((taken : List ℕ) × (list : List (List ℕ)) × IsListed e taken list) ⊎ ((taken : List ℕ) × (kind : Named) × ExceedsLimit e taken kind)

@@ -38,8 +38,8 @@ MeetingRowsBoundPairs = (step : Step) (u w : List ℕ) → IsPair step u w → u
 
 -- in a surface list, a union with more columns that holds no clashing pair contains the support of a ray at a third
 -- place; the rows may be any of which it is the surface list
-abbrev pub UnionsPastMeetingRowsHaveThird : Type 0
-UnionsPastMeetingRowsHaveThird = (columns : ℕ) (rows : List Row) (pairs : List Clash) (rays : List (List ℕ)) → IsSurfaceList columns rows pairs rays →
+abbrev pub UnionsExceedingMeetingRowsHaveThird : Type 0
+UnionsExceedingMeetingRowsHaveThird = (columns : ℕ) (rows : List Row) (pairs : List Clash) (rays : List (List ℕ)) → IsSurfaceList columns rows pairs rays →
     (i j : ℕ) → i < length rays → j < length rays → IsAdmissibleUnion pairs (ray_at rays i) (ray_at rays j) →
     meeting_count rows (ray_at rays i) (ray_at rays j) + 2 < union_size columns (ray_at rays i) (ray_at rays j) → HasThirdPlace rays i j
 

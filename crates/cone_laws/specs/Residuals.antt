@@ -26,21 +26,21 @@ abbrev pub MinimalResidualsHaveNoThird : Type 0
 MinimalResidualsHaveNoThird = (rays : List (List ℕ)) (i j : ℕ) → IsMinimalResidual rays i j ↔ HasNoThirdPlace rays i j
 
 -- no clashing pair has one column in u and the other in t: t is compatible with u
-abbrev pub IsRivalOf : List Clash → List ℕ → List ℕ → Type 0
-IsRivalOf pairs u t = All (λ pair. ((slice_index u pair.0 ≡ 0) ⊎ (slice_index t pair.1 ≡ 0)) × ((slice_index u pair.1 ≡ 0) ⊎ (slice_index t pair.0 ≡ 0))) pairs
+abbrev pub IsCompatibleWith : List Clash → List ℕ → List ℕ → Type 0
+IsCompatibleWith pairs u t = All (λ pair. ((slice_index u pair.0 ≡ 0) ⊎ (slice_index t pair.1 ≡ 0)) × ((slice_index u pair.1 ≡ 0) ⊎ (slice_index t pair.0 ≡ 0))) pairs
 
 -- Theorem: what lies inside a union without clashing pairs is compatible with u
-abbrev pub InsideAreRivals : Type 0
-InsideAreRivals = (pairs : List Clash) (u w t : List ℕ) → IsAdmissibleUnion pairs u w → IsInsideUnion t u w → IsRivalOf pairs u t
+abbrev pub InsideAreCompatible : Type 0
+InsideAreCompatible = (pairs : List Clash) (u w t : List ℕ) → IsAdmissibleUnion pairs u w → IsInsideUnion t u w → IsCompatibleWith pairs u t
 
 -- so only the compatible rays are compared
-abbrev pub IsMinimalAmongRivals : List Clash → List (List ℕ) → ℕ → ℕ → Type 0
-IsMinimalAmongRivals pairs rays i j = (k : ℕ) → k < length rays → k ≢ i → IsRivalOf pairs (ray_at rays i) (ray_at rays k) →
+abbrev pub IsMinimalAmongCompatible : List Clash → List (List ℕ) → ℕ → ℕ → Type 0
+IsMinimalAmongCompatible pairs rays i j = (k : ℕ) → k < length rays → k ≢ i → IsCompatibleWith pairs (ray_at rays i) (ray_at rays k) →
     IsInside (residual (ray_at rays i) (ray_at rays k)) (residual (ray_at rays i) (ray_at rays j)) → k ≡ j
 
-abbrev pub RivalsDecide : Type 0
-RivalsDecide = (pairs : List Clash) (rays : List (List ℕ)) (i j : ℕ) → IsAdmissibleUnion pairs (ray_at rays i) (ray_at rays j) →
-    IsMinimalAmongRivals pairs rays i j ↔ HasNoThirdPlace rays i j
+abbrev pub CompatibleDecide : Type 0
+CompatibleDecide = (pairs : List Clash) (rays : List (List ℕ)) (i j : ℕ) → IsAdmissibleUnion pairs (ray_at rays i) (ray_at rays j) →
+    IsMinimalAmongCompatible pairs rays i j ↔ HasNoThirdPlace rays i j
 
 -- a residual inside another has no more columns, and as many where they are equal, so that each is tested against
 -- smaller ones alone

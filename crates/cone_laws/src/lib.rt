@@ -8,11 +8,11 @@
 #![tactic(auto)]
 
 ghost use Rattle.cone_laws.specs.Laws.{FacesAreSmall, PairsAreSmall, PairsOfStepsAreSmall, LargeUnionsAreNoPairs, LargeUnionsHaveThird, UnionsWithNoThirdAreSmall};
-ghost use Rattle.cone_laws.specs.Cuts.{UnitVectorsAreOfNoRow, FlatStepsKeepTheList, StepsNeedOneRow, PairsOfFewAreSmall, LargeUnionsOfFewHaveThird, PairsAreSmallByCuts};
-ghost use Rattle.cone_laws.specs.Meeting.{EnoughRowsBoundUnions, MeetingRowsBoundUnions, MeetingRowsBoundPairs, UnionsPastMeetingRowsHaveThird, StepsAddTheirRow};
+ghost use Rattle.cone_laws.specs.Cuts.{UnitVectorsAreOfNoRow, FlatStepsKeepTheList, StepsNeedOneRow, PairUnionsAreSmall, LargeUnionsOfBoundedHaveThird, PairsAreSmallByCuts};
+ghost use Rattle.cone_laws.specs.Meeting.{EnoughRowsBoundUnions, MeetingRowsBoundUnions, MeetingRowsBoundPairs, UnionsExceedingMeetingRowsHaveThird, StepsAddTheirRow};
 ghost use Rattle.cone_laws.specs.WorkedUnion.{WorkedPair, WorkedNoPair, WorkedCuts, WorkedMeeting};
 ghost use Rattle.cone_laws.specs.Enumerations.{RowsAreTaken, EnumerationsEnd};
-ghost use Rattle.cone_laws.specs.Residuals.{ResidualsDecide, MinimalResidualsHaveNoThird, InsideAreRivals, RivalsDecide, SmallerResidualsAlone, EqualResidualsSpoil};
+ghost use Rattle.cone_laws.specs.Residuals.{ResidualsDecide, MinimalResidualsHaveNoThird, InsideAreCompatible, CompatibleDecide, SmallerResidualsAlone, EqualResidualsSpoil};
 
 /// Theorem: let S be a system of rows.
 ///
@@ -52,8 +52,8 @@ pub fn cuts_bound_unions()
     ensures first { UnitVectorsAreOfNoRow }
     ensures flat { FlatStepsKeepTheList }
     ensures cut { StepsNeedOneRow }
-    ensures pairs { PairsOfFewAreSmall }
-    ensures third { LargeUnionsOfFewHaveThird }
+    ensures pairs { PairUnionsAreSmall }
+    ensures third { LargeUnionsOfBoundedHaveThird }
     ensures lists { PairsAreSmallByCuts }
 {}
 
@@ -70,7 +70,7 @@ pub fn meeting_rows_bound_unions()
     ensures enough { EnoughRowsBoundUnions }
     ensures faces { MeetingRowsBoundUnions }
     ensures pairs { MeetingRowsBoundPairs }
-    ensures third { UnionsPastMeetingRowsHaveThird }
+    ensures third { UnionsExceedingMeetingRowsHaveThird }
     ensures steps { StepsAddTheirRow }
 {}
 
@@ -116,8 +116,8 @@ pub fn enumerations_end()
 pub fn residuals_decide()
     ensures inside { ResidualsDecide }
     ensures minimal { MinimalResidualsHaveNoThird }
-    ensures rivals { InsideAreRivals }
-    ensures among { RivalsDecide }
+    ensures compatible_list { InsideAreCompatible }
+    ensures among { CompatibleDecide }
     ensures smaller { SmallerResidualsAlone }
     ensures equal { EqualResidualsSpoil }
 {}

@@ -27,7 +27,7 @@ surface_over columns rows others pairs x h s = record {
 pub same_surfaces : (columns : ℕ) (rows others : List Row) (pairs : List Clash) (rays : List (List ℕ)) → HaveSameSolutions columns rows others →
     HasSurfaces columns rows pairs rays → HasSurfaces columns others pairs rays
 same_surfaces columns rows others pairs rays same h = record {
-  apart = h.apart;
+  separate = h.separate;
   vertex_surfaces = λ k d within. surface_over columns rows others pairs (slice_index_or rays k d) same (h.vertex_surfaces k d within);
   complete = λ x s. h.complete x (surface_over columns others rows pairs x (same_symmetric columns rows others same) s);
 }

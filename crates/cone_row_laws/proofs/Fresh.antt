@@ -38,8 +38,8 @@ module _ (columns : ℕ) (rows : List Row) (column : ℕ) (h : IsUntouched colum
       (unit_inside columns column x some)
 
   unit_admissible : (pairs : List Clash) → All (λ pair. pair.0 ≢ pair.1) pairs → IsAdmissible pairs (unit columns column)
-  unit_admissible pairs apart k d l = let pair : Clash = slice_index_or pairs k d in elim (cases_eq pair.0 column) [
-    | inl e ↦ inr (entry-unit_other columns column pair.1 (λ f. apart k d l (e ∙ sym f)))
+  unit_admissible pairs separate k d l = let pair : Clash = slice_index_or pairs k d in elim (cases_eq pair.0 column) [
+    | inl e ↦ inr (entry-unit_other columns column pair.1 (λ f. separate k d l (e ∙ sym f)))
     | inr ne ↦ inl (entry-unit_other columns column pair.0 ne)
   ]
 
@@ -47,7 +47,7 @@ module _ (columns : ℕ) (rows : List Row) (column : ℕ) (h : IsUntouched colum
   unit_surface pairs admissible = record { extreme = unit_ray.extreme; admissible = admissible; primitive = unit_ray.primitive }
 
 pub units : (columns : ℕ) (rows : List Row) (pairs : List Clash) (column : ℕ) → IsUntouched columns rows column → All (λ pair. pair.0 ≢ pair.1) pairs → IsVertexSurface columns rows pairs (unit columns column)
-units columns rows pairs column h apart = unit_surface columns rows column h pairs (unit_admissible columns rows column h pairs apart)
+units columns rows pairs column h separate = unit_surface columns rows column h pairs (unit_admissible columns rows column h pairs separate)
 
 pub columns_are_units : (columns : ℕ) (rows : List Row) (pairs : List Clash) (column : ℕ) (x : List ℕ) → IsUntouched columns rows column → IsVertexSurface columns rows pairs x → slice_index x column ≢ 0 → x ≡ unit columns column
 columns_are_units columns rows pairs column x h hx some = is_unit columns rows column h pairs x hx some
@@ -155,14 +155,14 @@ module _ (step : Step) (column : ℕ) (h : IsFresh step column) where
   unit_positive = omega (arith, h.plus, h.minus)
 
   no_clash : (w : List ℕ) → IsAdmissible step.pairs w → IsAdmissibleUnion step.pairs (unit step.columns column) w
-  no_clash w admissible k d l = let pair : Clash = slice_index_or step.pairs k d in let a : (pair.0 ≢ column) × (pair.1 ≢ column) = h.apart k d l in
+  no_clash w admissible k d l = let pair : Clash = slice_index_or step.pairs k d in let a : (pair.0 ≢ column) × (pair.1 ≢ column) = h.separate k d l in
       elim (admissible k d l) [
         | inl z ↦ inl (entry-unit_other step.columns column pair.0 a.0, z)
         | inr z ↦ inr (entry-unit_other step.columns column pair.1 a.1, z)
       ]
 
   unit_admits : IsAdmissible step.pairs (unit step.columns column)
-  unit_admits k d l = inl (entry-unit_other step.columns column (slice_index_or step.pairs k d).0 (h.apart k d l).0)
+  unit_admits k d l = inl (entry-unit_other step.columns column (slice_index_or step.pairs k d).0 (h.separate k d l).0)
 
   makes_pair : (w : List ℕ) → IsRay step w → IsNegativeAt step.row w → IsPair step (unit step.columns column) w
   makes_pair w hw negative = record {

@@ -5,7 +5,7 @@ use Rattle.std.specs.List.Sorted.{IsPermutation}
 use Rattle.cone_definitions.specs.Surfaces.{IsSurfaceList}
 use Rattle.cone_definitions.specs.Elimination.{Named}
 use Rattle.cone_definitions.specs.Orders.{AreNamed}
-use Rattle.cone_definitions.specs.Listings.{Enumeration, IsListed, IsPastLimit}
+use Rattle.cone_definitions.specs.Listings.{Enumeration, IsListed, ExceedsLimit}
 use Rattle.cone_definitions.specs.declared.Order.TheVariants.{Free}
 use Rattle.cone_definitions.proofs.PastLimit.{none_past}
 use Rattle.cone_bound_laws.proofs.Numbers.{are_within}
@@ -23,5 +23,5 @@ listed e free group cap groups size h taken list perm named surfaces = record {
 
 pub not_past : (e : Enumeration) (free : ℕ → Bool) (group cap : ℕ → ℕ) (groups size : ℕ) → IsBounded e free group cap groups size → e.order ≢ Free →
     (all taken : List ℕ) (list : List (List ℕ)) (kind : Named) → IsPermutation (range_with_len 0 (length e.system.rows)) all → AreNamed e.order e.system all →
-    IsSurfaceList e.system.columns e.system.rows e.pairs list → ¬ IsPastLimit e taken kind
+    IsSurfaceList e.system.columns e.system.rows e.pairs list → ¬ ExceedsLimit e taken kind
 not_past e free group cap groups size h ne all taken list kind perm named surfaces = none_past e all taken list kind ne (listed e free group cap groups size h all list perm named surfaces)

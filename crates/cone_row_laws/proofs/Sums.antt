@@ -6,7 +6,7 @@ use Rattle.std.proofs.lemmas.List.Elements.{All-contains}
 use Rattle.std.specs.Prelude.{slice_index}
 use Rattle.cone_definitions.specs.Rows.{Row, IsZeroAt, positive_coefficient, negative_coefficient, plus_part, minus_part}
 use Rattle.cone_row_laws.specs.Solutions.{HaveSameSolutions}
-use Rattle.cone_row_laws.specs.Operations.{multiple_plus, multiple_minus, IsSumWith, turned}
+use Rattle.cone_row_laws.specs.Operations.{multiple_plus, multiple_minus, IsSumWith, negated}
 use Rattle.cone_row_laws.proofs.Zeros.{row_replaced, row_dropped}
 
 -- a multiple of a row is 0 at each vector at which the row is
@@ -28,15 +28,15 @@ multiple_added columns front back row other sum factor h s = row_replaced column
 
 -- ---- negated rows
 
-positive-turned : (z : ℤ) → positive_coefficient (neg_ℤ z) ≡ negative_coefficient z
-positive-turned (pos zero) = refl
-positive-turned (pos (suc n)) = refl
-positive-turned (negsuc n) = omega arith
+positive-negated : (z : ℤ) → positive_coefficient (neg_ℤ z) ≡ negative_coefficient z
+positive-negated (pos zero) = refl
+positive-negated (pos (suc n)) = refl
+positive-negated (negsuc n) = omega arith
 
-negative-turned : (z : ℤ) → negative_coefficient (neg_ℤ z) ≡ positive_coefficient z
-negative-turned (pos zero) = refl
-negative-turned (pos (suc n)) = omega arith
-negative-turned (negsuc n) = refl
+negative-negated : (z : ℤ) → negative_coefficient (neg_ℤ z) ≡ positive_coefficient z
+negative-negated (pos zero) = refl
+negative-negated (pos (suc n)) = omega arith
+negative-negated (negsuc n) = refl
 
 positive_term : List ℕ → ℕ × ℤ → ℕ
 positive_term x term = positive_coefficient term.1 * slice_index x term.0
@@ -44,37 +44,37 @@ positive_term x term = positive_coefficient term.1 * slice_index x term.0
 negative_term : List ℕ → ℕ × ℤ → ℕ
 negative_term x term = negative_coefficient term.1 * slice_index x term.0
 
-pub plus-turned : (row : Row) (x : List ℕ) → plus_part (turned row) x ≡ minus_part row x
+pub plus-negated : (row : Row) (x : List ℕ) → plus_part (negated row) x ≡ minus_part row x
 unfolding positive_term negative_term
-plus-turned [] x = refl
-plus-turned (term ∷ row) x =
-    sum_by-cons (positive_term x) (term.0, neg_ℤ term.1) (turned row) ∙
-    ap (λ k. k * slice_index x term.0 + plus_part (turned row) x) (positive-turned term.1) ∙
-    ap (λ n. negative_coefficient term.1 * slice_index x term.0 + n) (plus-turned row x) ∙
+plus-negated [] x = refl
+plus-negated (term ∷ row) x =
+    sum_by-cons (positive_term x) (term.0, neg_ℤ term.1) (negated row) ∙
+    ap (λ k. k * slice_index x term.0 + plus_part (negated row) x) (positive-negated term.1) ∙
+    ap (λ n. negative_coefficient term.1 * slice_index x term.0 + n) (plus-negated row x) ∙
     sym (sum_by-cons (negative_term x) term row)
 
-pub minus-turned : (row : Row) (x : List ℕ) → minus_part (turned row) x ≡ plus_part row x
+pub minus-negated : (row : Row) (x : List ℕ) → minus_part (negated row) x ≡ plus_part row x
 unfolding positive_term negative_term
-minus-turned [] x = refl
-minus-turned (term ∷ row) x =
-    sum_by-cons (negative_term x) (term.0, neg_ℤ term.1) (turned row) ∙
-    ap (λ k. k * slice_index x term.0 + minus_part (turned row) x) (negative-turned term.1) ∙
-    ap (λ n. positive_coefficient term.1 * slice_index x term.0 + n) (minus-turned row x) ∙
+minus-negated [] x = refl
+minus-negated (term ∷ row) x =
+    sum_by-cons (negative_term x) (term.0, neg_ℤ term.1) (negated row) ∙
+    ap (λ k. k * slice_index x term.0 + minus_part (negated row) x) (negative-negated term.1) ∙
+    ap (λ n. positive_coefficient term.1 * slice_index x term.0 + n) (minus-negated row x) ∙
     sym (sum_by-cons (positive_term x) term row)
 
-pub turned_zero : (row : Row) (x : List ℕ) → IsZeroAt row x ↔ IsZeroAt (turned row) x
+pub turned_zero : (row : Row) (x : List ℕ) → IsZeroAt row x ↔ IsZeroAt (negated row) x
 turned_zero row x = (
-  λ z. plus-turned row x ∙ sym z ∙ sym (minus-turned row x),
-  λ z. sym (minus-turned row x) ∙ sym z ∙ plus-turned row x,
+  λ z. plus-negated row x ∙ sym z ∙ sym (minus-negated row x),
+  λ z. sym (minus-negated row x) ∙ sym z ∙ plus-negated row x,
 )
 
-pub signs_turned : (columns : ℕ) (front back : List Row) (row : Row) → HaveSameSolutions columns (front ++ row ∷ back) (front ++ turned row ∷ back)
-signs_turned columns front back row = row_replaced columns front back row (turned row) (λ x z. turned_zero row x)
+pub signs_turned : (columns : ℕ) (front back : List Row) (row : Row) → HaveSameSolutions columns (front ++ row ∷ back) (front ++ negated row ∷ back)
+signs_turned columns front back row = row_replaced columns front back row (negated row) (λ x z. turned_zero row x)
 
-pub turned_dropped : (columns : ℕ) (front back : List Row) (row : Row) → Contains (front ++ back) (turned row) →
+pub turned_dropped : (columns : ℕ) (front back : List Row) (row : Row) → Contains (front ++ back) (negated row) →
     HaveSameSolutions columns (front ++ row ∷ back) (front ++ back)
 turned_dropped columns front back row h = row_dropped columns front back row
-    (λ x z. (turned_zero row x).1 (All-contains (λ r. IsZeroAt r x) (front ++ back) (turned row) z h))
+    (λ x z. (turned_zero row x).1 (All-contains (λ r. IsZeroAt r x) (front ++ back) (negated row) z h))
 
 -- ---- by terms
 
@@ -87,5 +87,5 @@ minus-append row other x = sum_by-append (λ term. negative_coefficient term.1 *
 pub appended_sum : (row other : Row) → IsSumWith row (pos 1) other (row ++ other)
 appended_sum row other x = omega (arith, plus-append row other x, minus-append row other x)
 
-pub appended_difference : (row other : Row) → IsSumWith row (negsuc 0) other (row ++ turned other)
-appended_difference row other x = omega (arith, plus-append row (turned other) x, minus-append row (turned other) x, plus-turned other x, minus-turned other x)
+pub appended_difference : (row other : Row) → IsSumWith row (negsuc 0) other (row ++ negated other)
+appended_difference row other x = omega (arith, plus-append row (negated other) x, minus-append row (negated other) x, plus-negated other x, minus-negated other x)

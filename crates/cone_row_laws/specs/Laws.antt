@@ -4,7 +4,7 @@ use Rattle.std.specs.List.Sorted.{IsPermutation}
 use Rattle.cone_definitions.specs.Rows.{Row, IsExtreme}
 use Rattle.cone_definitions.specs.Surfaces.{Clash, IsVertexSurface, IsSurfaceList}
 use Rattle.cone_row_laws.specs.Solutions.{HaveSameZeros, HaveSameSolutions}
-use Rattle.cone_row_laws.specs.Operations.{IsSumWith, turned}
+use Rattle.cone_row_laws.specs.Operations.{IsSumWith, negated}
 
 -- rows that are 0 at the same vectors have the same solutions
 abbrev pub SameZerosSuffice : Type 0
@@ -31,11 +31,11 @@ abbrev pub AppendedIsSum : Type 0
 AppendedIsSum = (row other : Row) → IsSumWith row (pos 1) other (row ++ other)
 
 abbrev pub AppendedIsDifference : Type 0
-AppendedIsDifference = (row other : Row) → IsSumWith row (negsuc 0) other (row ++ turned other)
+AppendedIsDifference = (row other : Row) → IsSumWith row (negsuc 0) other (row ++ negated other)
 
 -- all signs of a row are turned
-abbrev pub SignsAreTurned : Type 0
-SignsAreTurned = (columns : ℕ) (front back : List Row) (row : Row) → HaveSameSolutions columns (front ++ row ∷ back) (front ++ turned row ∷ back)
+abbrev pub SignsAreNegated : Type 0
+SignsAreNegated = (columns : ℕ) (front back : List Row) (row : Row) → HaveSameSolutions columns (front ++ row ∷ back) (front ++ negated row ∷ back)
 
 -- rows are taken in another order
 abbrev pub OrderIsChanged : Type 0
@@ -49,8 +49,8 @@ abbrev pub EqualRowsAreDropped : Type 0
 EqualRowsAreDropped = (columns : ℕ) (front back : List Row) (row : Row) → Contains (front ++ back) row →
     HaveSameSolutions columns (front ++ row ∷ back) (front ++ back)
 
-abbrev pub TurnedRowsAreDropped : Type 0
-TurnedRowsAreDropped = (columns : ℕ) (front back : List Row) (row : Row) → Contains (front ++ back) (turned row) →
+abbrev pub NegatedRowsAreDropped : Type 0
+NegatedRowsAreDropped = (columns : ℕ) (front back : List Row) (row : Row) → Contains (front ++ back) (negated row) →
     HaveSameSolutions columns (front ++ row ∷ back) (front ++ back)
 
 -- the same solutions: the same are extreme, the same are vertex surfaces, and the surface list is the same

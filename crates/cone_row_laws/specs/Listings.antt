@@ -5,7 +5,7 @@ use Rattle.std.specs.List.Sorted.{IsPermutation}
 use Rattle.cone_definitions.specs.Surfaces.{IsSurfaceList}
 use Rattle.cone_definitions.specs.Elimination.{Named}
 use Rattle.cone_definitions.specs.Orders.{AreNamed}
-use Rattle.cone_definitions.specs.Listings.{Enumeration, IsListed, IsPastLimit}
+use Rattle.cone_definitions.specs.Listings.{Enumeration, IsListed, ExceedsLimit}
 use Rattle.cone_definitions.specs.declared.Order.TheVariants.{Free}
 use Rattle.cone_bound_laws.specs.Caps.{HasCaps, caps_product}
 
@@ -21,7 +21,7 @@ ListsOfBoundedAreListed = (e : Enumeration) (free : ℕ → Bool) (group cap : �
     IsSurfaceList e.system.columns e.system.rows e.pairs list → IsListed e taken list
 
 -- and nothing exceeds the limit, where the order names its rows
-abbrev pub BoundedIsNotPast : Type 0
-BoundedIsNotPast = (e : Enumeration) (free : ℕ → Bool) (group cap : ℕ → ℕ) (groups size : ℕ) → IsBounded e free group cap groups size → e.order ≢ Free →
+abbrev pub BoundedDoesNotExceed : Type 0
+BoundedDoesNotExceed = (e : Enumeration) (free : ℕ → Bool) (group cap : ℕ → ℕ) (groups size : ℕ) → IsBounded e free group cap groups size → e.order ≢ Free →
     (all taken : List ℕ) (list : List (List ℕ)) (kind : Named) → IsPermutation (range_with_len 0 (length e.system.rows)) all → AreNamed e.order e.system all →
-    IsSurfaceList e.system.columns e.system.rows e.pairs list → ¬ IsPastLimit e taken kind
+    IsSurfaceList e.system.columns e.system.rows e.pairs list → ¬ ExceedsLimit e taken kind

@@ -6,11 +6,11 @@
 //! entries solve both.
 #![tactic(auto)]
 
-ghost use Rattle.cone_row_laws.specs.Laws.{SameZerosSuffice, SameSolutionsAreReflexive, SameSolutionsAreSymmetric, SameSolutionsAreTransitive, MultiplesAreAdded, AppendedIsSum, AppendedIsDifference, SignsAreTurned, OrderIsChanged, EmptyRowsAreDropped, EqualRowsAreDropped, TurnedRowsAreDropped, ExtremeOnesAgree, VertexSurfacesAgree, SurfaceListsAgree};
+ghost use Rattle.cone_row_laws.specs.Laws.{SameZerosSuffice, SameSolutionsAreReflexive, SameSolutionsAreSymmetric, SameSolutionsAreTransitive, MultiplesAreAdded, AppendedIsSum, AppendedIsDifference, SignsAreNegated, OrderIsChanged, EmptyRowsAreDropped, EqualRowsAreDropped, NegatedRowsAreDropped, ExtremeOnesAgree, VertexSurfacesAgree, SurfaceListsAgree};
 ghost use Rattle.cone_row_laws.specs.RedundantRows.{OneListOfSolutions, RedundantRowsAreFree, SumsAreRedundant, DifferencesAreRedundant};
 ghost use Rattle.cone_row_laws.specs.Singles.{SinglesHaveNoThird};
 ghost use Rattle.cone_row_laws.specs.Fresh.{UntouchedColumnsAreUnits, UntouchedUnitsAreRays, FreshStepGivesNext};
-ghost use Rattle.cone_row_laws.specs.Listings.{ListsOfBoundedAreListed, BoundedIsNotPast};
+ghost use Rattle.cone_row_laws.specs.Listings.{ListsOfBoundedAreListed, BoundedDoesNotExceed};
 
 /// Theorem: let R, S and S' be systems of rows in the same columns.
 ///
@@ -41,8 +41,8 @@ pub fn multiples_are_added()
 ///
 /// 1. If a row of S is negated, the solutions stay the same.
 /// 2. If the rows of S are reordered, the solutions stay the same.
-pub fn rows_are_turned()
-    ensures signs { SignsAreTurned }
+pub fn rows_are_negated()
+    ensures signs { SignsAreNegated }
     ensures order { OrderIsChanged }
 {}
 
@@ -54,7 +54,7 @@ pub fn rows_are_turned()
 pub fn rows_are_dropped()
     ensures empty { EmptyRowsAreDropped }
     ensures equal { EqualRowsAreDropped }
-    ensures turned { TurnedRowsAreDropped }
+    ensures negated { NegatedRowsAreDropped }
 {}
 
 /// Theorem: let R and S be systems with the same solutions, and P any set of clashing pairs.
@@ -108,5 +108,5 @@ pub fn fresh_steps()
 /// 2. If the order is `given`, `short` or `zeros`, nothing is named as the first number above the limit.
 pub fn bounded_lists()
     ensures listed { ListsOfBoundedAreListed }
-    ensures none { BoundedIsNotPast }
+    ensures none { BoundedDoesNotExceed }
 {}

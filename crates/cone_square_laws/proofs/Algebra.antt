@@ -13,9 +13,9 @@ pub record Vector (R : Type 0) : Type 0 where
   pub minus : R → ℕ
 
 module _ (R : Type 0) where
-  unfoldable pub turned : {rows : List R} → Form rows → Form rows
-  turned (leaf p m) = leaf m p
-  turned (fork x y) = fork (turned x) (turned y)
+  unfoldable pub negated : {rows : List R} → Form rows → Form rows
+  negated (leaf p m) = leaf m p
+  negated (fork x y) = fork (negated x) (negated y)
 
   unfoldable pub plus : {rows : List R} → Form rows → Form rows → Form rows
   plus (leaf p m) (leaf q n) = leaf (p + q) (m + n)
@@ -34,20 +34,20 @@ module _ (R : Type 0) where
   dot (leaf p m) (leaf q n) = p * q + m * n
   dot (fork x y) (fork z w) = dot x z + dot y w
 
-  pub turned-turned : {rows : List R} (x : Form rows) → turned (turned x) ≡ x
-  unfolding turned
-  turned-turned (leaf p m) = refl
-  turned-turned (fork x y) = ap₂ (λ a b. fork a b) (turned-turned x) (turned-turned y)
+  pub negated-negated : {rows : List R} (x : Form rows) → negated (negated x) ≡ x
+  unfolding negated
+  negated-negated (leaf p m) = refl
+  negated-negated (fork x y) = ap₂ (λ a b. fork a b) (negated-negated x) (negated-negated y)
 
-  pub turned-plus : {rows : List R} (x y : Form rows) → turned (plus x y) ≡ plus (turned x) (turned y)
-  unfolding turned plus
-  turned-plus (leaf p m) (leaf q n) = refl
-  turned-plus (fork x y) (fork z w) = ap₂ (λ a b. fork a b) (turned-plus x z) (turned-plus y w)
+  pub negated-plus : {rows : List R} (x y : Form rows) → negated (plus x y) ≡ plus (negated x) (negated y)
+  unfolding negated plus
+  negated-plus (leaf p m) (leaf q n) = refl
+  negated-plus (fork x y) (fork z w) = ap₂ (λ a b. fork a b) (negated-plus x z) (negated-plus y w)
 
-  pub turned-times : {rows : List R} (k : ℕ) (x : Form rows) → turned (times k x) ≡ times k (turned x)
-  unfolding turned times
-  turned-times k (leaf p m) = refl
-  turned-times k (fork x y) = ap₂ (λ a b. fork a b) (turned-times k x) (turned-times k y)
+  pub negated-times : {rows : List R} (k : ℕ) (x : Form rows) → negated (times k x) ≡ times k (negated x)
+  unfolding negated times
+  negated-times k (leaf p m) = refl
+  negated-times k (fork x y) = ap₂ (λ a b. fork a b) (negated-times k x) (negated-times k y)
 
   dot-plus : {rows : List R} (x y z : Form rows) → dot (plus x y) z ≡ dot x z + dot y z
   unfolding dot plus
@@ -69,69 +69,69 @@ module _ (R : Type 0) where
   dot-sym (leaf p m) (leaf q n) = omega arith
   dot-sym (fork x y) (fork z w) = omega (arith, dot-sym x z, dot-sym y w)
 
-  dot-turned : {rows : List R} (x y : Form rows) → dot (turned x) y ≡ dot x (turned y)
-  unfolding dot turned
-  dot-turned (leaf p m) (leaf q n) = omega arith
-  dot-turned (fork x y) (fork z w) = omega (arith, dot-turned x z, dot-turned y w)
+  dot-negated : {rows : List R} (x y : Form rows) → dot (negated x) y ≡ dot x (negated y)
+  unfolding dot negated
+  dot-negated (leaf p m) (leaf q n) = omega arith
+  dot-negated (fork x y) (fork z w) = omega (arith, dot-negated x z, dot-negated y w)
 
   -- ---- p - m times x, and z
 
   unfoldable pub mixed : {rows : List R} → ℕ → ℕ → Form rows → Form rows → Form rows
-  mixed p m x z = plus (plus (times p x) (times m (turned x))) z
+  mixed p m x z = plus (plus (times p x) (times m (negated x))) z
 
-  dot-mixed : {rows : List R} (p m : ℕ) (x z y : Form rows) → dot (mixed p m x z) y ≡ p * dot x y + m * dot (turned x) y + dot z y
+  dot-mixed : {rows : List R} (p m : ℕ) (x z y : Form rows) → dot (mixed p m x z) y ≡ p * dot x y + m * dot (negated x) y + dot z y
   unfolding mixed
-  dot-mixed p m x z y = omega (arith, dot-plus (plus (times p x) (times m (turned x))) z y, dot-plus (times p x) (times m (turned x)) y, dot-times p x y, dot-times m (turned x) y)
+  dot-mixed p m x z y = omega (arith, dot-plus (plus (times p x) (times m (negated x))) z y, dot-plus (times p x) (times m (negated x)) y, dot-times p x y, dot-times m (negated x) y)
 
-  pub turned-mixed : {rows : List R} (p m : ℕ) (x z : Form rows) → turned (mixed p m x z) ≡ mixed p m (turned x) (turned z)
+  pub negated-mixed : {rows : List R} (p m : ℕ) (x z : Form rows) → negated (mixed p m x z) ≡ mixed p m (negated x) (negated z)
   unfolding mixed
-  turned-mixed p m x z = turned-plus (plus (times p x) (times m (turned x))) z
-      ∙ ap (λ y. plus y (turned z)) (turned-plus (times p x) (times m (turned x)) ∙ ap₂ (λ a b. plus a b) (turned-times p x) (turned-times m (turned x)))
+  negated-mixed p m x z = negated-plus (plus (times p x) (times m (negated x))) z
+      ∙ ap (λ y. plus y (negated z)) (negated-plus (times p x) (times m (negated x)) ∙ ap₂ (λ a b. plus a b) (negated-times p x) (negated-times m (negated x)))
 
-  both_turned : {rows : List R} (x y : Form rows) → dot (turned x) (turned y) ≡ dot x y
-  both_turned x y = dot-turned x (turned y) ∙ ap (λ z. dot x z) (turned-turned y)
+  both_turned : {rows : List R} (x y : Form rows) → dot (negated x) (negated y) ≡ dot x y
+  both_turned x y = dot-negated x (negated y) ∙ ap (λ z. dot x z) (negated-negated y)
 
   pub norm-mixed : {rows : List R} (p m : ℕ) (x z : Form rows) → dot (mixed p m x z) (mixed p m x z)
-      ≡ (p * p + m * m) * dot x x + 2 * (p * m) * dot (turned x) x + dot z z + (2 * (p * dot x z) + 2 * (m * dot (turned x) z))
+      ≡ (p * p + m * m) * dot x x + 2 * (p * m) * dot (negated x) x + dot z z + (2 * (p * dot x z) + 2 * (m * dot (negated x) z))
   norm-mixed p m x z =
-      let a : dot x (mixed p m x z) ≡ p * dot x x + m * dot (turned x) x + dot x z = omega (arith, dot-sym x (mixed p m x z), dot-mixed p m x z x, dot-sym z x) in
-      let b : dot (turned x) (mixed p m x z) ≡ p * dot (turned x) x + m * dot x x + dot (turned x) z =
+      let a : dot x (mixed p m x z) ≡ p * dot x x + m * dot (negated x) x + dot x z = omega (arith, dot-sym x (mixed p m x z), dot-mixed p m x z x, dot-sym z x) in
+      let b : dot (negated x) (mixed p m x z) ≡ p * dot (negated x) x + m * dot x x + dot (negated x) z =
       omega (
         arith,
-        dot-sym (turned x) (mixed p m x z),
-        dot-mixed p m x z (turned x),
-        ap (λ n. p * n) (dot-turned x x),
+        dot-sym (negated x) (mixed p m x z),
+        dot-mixed p m x z (negated x),
+        ap (λ n. p * n) (dot-negated x x),
         ap (λ n. m * n) (both_turned x x),
-        dot-sym z (turned x),
+        dot-sym z (negated x),
       ) in
-      let c : dot z (mixed p m x z) ≡ p * dot x z + m * dot (turned x) z + dot z z = dot-sym z (mixed p m x z) ∙ dot-mixed p m x z z in
+      let c : dot z (mixed p m x z) ≡ p * dot x z + m * dot (negated x) z + dot z z = dot-sym z (mixed p m x z) ∙ dot-mixed p m x z z in
       omega (arith, dot-mixed p m x z (mixed p m x z), ap (λ n. p * n) a, ap (λ n. m * n) b, c)
 
-  pub cross-mixed : {rows : List R} (p m : ℕ) (x z : Form rows) → dot (turned (mixed p m x z)) (mixed p m x z)
-      ≡ (p * p + m * m) * dot (turned x) x + 2 * (p * m) * dot x x + dot (turned z) z + (2 * (p * dot (turned x) z) + 2 * (m * dot x z))
+  pub cross-mixed : {rows : List R} (p m : ℕ) (x z : Form rows) → dot (negated (mixed p m x z)) (mixed p m x z)
+      ≡ (p * p + m * m) * dot (negated x) x + 2 * (p * m) * dot x x + dot (negated z) z + (2 * (p * dot (negated x) z) + 2 * (m * dot x z))
   cross-mixed p m x z =
-      let t : dot (turned (mixed p m x z)) (mixed p m x z) ≡ dot (mixed p m (turned x) (turned z)) (mixed p m x z) = ap (λ w. dot w (mixed p m x z)) (turned-mixed p m x z) in
-      let s : dot (mixed p m (turned x) (turned z)) (mixed p m x z) ≡ p * dot (turned x) (mixed p m x z) + m * dot (turned (turned x)) (mixed p m x z) + dot (turned z) (mixed p m x z) =
-      dot-mixed p m (turned x) (turned z) (mixed p m x z) in
-      let u : dot (turned (turned x)) (mixed p m x z) ≡ dot x (mixed p m x z) = ap (λ w. dot w (mixed p m x z)) (turned-turned x) in
-      let a : dot x (mixed p m x z) ≡ p * dot x x + m * dot (turned x) x + dot x z = omega (arith, dot-sym x (mixed p m x z), dot-mixed p m x z x, dot-sym z x) in
-      let b : dot (turned x) (mixed p m x z) ≡ p * dot (turned x) x + m * dot x x + dot (turned x) z =
+      let t : dot (negated (mixed p m x z)) (mixed p m x z) ≡ dot (mixed p m (negated x) (negated z)) (mixed p m x z) = ap (λ w. dot w (mixed p m x z)) (negated-mixed p m x z) in
+      let s : dot (mixed p m (negated x) (negated z)) (mixed p m x z) ≡ p * dot (negated x) (mixed p m x z) + m * dot (negated (negated x)) (mixed p m x z) + dot (negated z) (mixed p m x z) =
+      dot-mixed p m (negated x) (negated z) (mixed p m x z) in
+      let u : dot (negated (negated x)) (mixed p m x z) ≡ dot x (mixed p m x z) = ap (λ w. dot w (mixed p m x z)) (negated-negated x) in
+      let a : dot x (mixed p m x z) ≡ p * dot x x + m * dot (negated x) x + dot x z = omega (arith, dot-sym x (mixed p m x z), dot-mixed p m x z x, dot-sym z x) in
+      let b : dot (negated x) (mixed p m x z) ≡ p * dot (negated x) x + m * dot x x + dot (negated x) z =
       omega (
         arith,
-        dot-sym (turned x) (mixed p m x z),
-        dot-mixed p m x z (turned x),
-        ap (λ n. p * n) (dot-turned x x),
+        dot-sym (negated x) (mixed p m x z),
+        dot-mixed p m x z (negated x),
+        ap (λ n. p * n) (dot-negated x x),
         ap (λ n. m * n) (both_turned x x),
-        dot-sym z (turned x),
+        dot-sym z (negated x),
       ) in
-      let c : dot (turned z) (mixed p m x z) ≡ p * dot (turned x) z + m * dot x z + dot (turned z) z =
+      let c : dot (negated z) (mixed p m x z) ≡ p * dot (negated x) z + m * dot x z + dot (negated z) z =
       omega (
         arith,
-        dot-sym (turned z) (mixed p m x z),
-        dot-mixed p m x z (turned z),
-        ap (λ n. p * n) (dot-turned x z),
+        dot-sym (negated z) (mixed p m x z),
+        dot-mixed p m x z (negated z),
+        ap (λ n. p * n) (dot-negated x z),
         ap (λ n. m * n) (both_turned x z),
-        dot-sym z (turned z),
+        dot-sym z (negated z),
       ) in
       omega (arith, t, s, ap (λ n. p * n) b, ap (λ n. m * n) (u ∙ a), c)
 
@@ -139,32 +139,32 @@ module _ (R : Type 0) where
 
   unfoldable pub wedge : (c : Vector R) (rows : List R) → Form rows → Form rows
   wedge c [] (leaf p m) = leaf 0 0
-  wedge c (row ∷ rows) (fork x y) = fork (wedge c rows x) (mixed (c.plus row) (c.minus row) x (turned (wedge c rows y)))
+  wedge c (row ∷ rows) (fork x y) = fork (wedge c rows x) (mixed (c.plus row) (c.minus row) x (negated (wedge c rows y)))
 
   unfoldable pub contracted : (c : Vector R) (rows : List R) → Form rows → Form rows
   contracted c [] (leaf p m) = leaf 0 0
-  contracted c (row ∷ rows) (fork x y) = fork (mixed (c.plus row) (c.minus row) y (contracted c rows x)) (turned (contracted c rows y))
+  contracted c (row ∷ rows) (fork x y) = fork (mixed (c.plus row) (c.minus row) y (contracted c rows x)) (negated (contracted c rows y))
 
-  pub wedge-turned : (c : Vector R) (rows : List R) (x : Form rows) → wedge c rows (turned x) ≡ turned (wedge c rows x)
-  unfolding wedge turned
-  wedge-turned c [] (leaf p m) = refl
-  wedge-turned c (row ∷ rows) (fork x y) = ap₂ (λ a b. fork a b) (wedge-turned c rows x)
-      (ap (λ z. mixed (c.plus row) (c.minus row) (turned x) (turned z)) (wedge-turned c rows y) ∙ sym (turned-mixed (c.plus row) (c.minus row) x (turned (wedge c rows y))))
+  pub wedge-negated : (c : Vector R) (rows : List R) (x : Form rows) → wedge c rows (negated x) ≡ negated (wedge c rows x)
+  unfolding wedge negated
+  wedge-negated c [] (leaf p m) = refl
+  wedge-negated c (row ∷ rows) (fork x y) = ap₂ (λ a b. fork a b) (wedge-negated c rows x)
+      (ap (λ z. mixed (c.plus row) (c.minus row) (negated x) (negated z)) (wedge-negated c rows y) ∙ sym (negated-mixed (c.plus row) (c.minus row) x (negated (wedge c rows y))))
 
   adjoint : (c : Vector R) (rows : List R) (x y : Form rows) → dot (contracted c rows x) y ≡ dot x (wedge c rows y)
   unfolding wedge contracted dot
   adjoint c [] (leaf p m) (leaf q n) = omega arith
   adjoint c (row ∷ rows) (fork x y) (fork z w) =
-      let a : dot (turned (contracted c rows y)) w ≡ dot y (turned (wedge c rows w)) =
-      dot-turned (contracted c rows y) w ∙ adjoint c rows y (turned w) ∙ ap (λ v. dot y v) (wedge-turned c rows w) in
-      let b : dot y (mixed (c.plus row) (c.minus row) z (turned (wedge c rows w))) ≡ c.plus row * dot y z + c.minus row * dot (turned y) z + dot y (turned (wedge c rows w)) =
+      let a : dot (negated (contracted c rows y)) w ≡ dot y (negated (wedge c rows w)) =
+      dot-negated (contracted c rows y) w ∙ adjoint c rows y (negated w) ∙ ap (λ v. dot y v) (wedge-negated c rows w) in
+      let b : dot y (mixed (c.plus row) (c.minus row) z (negated (wedge c rows w))) ≡ c.plus row * dot y z + c.minus row * dot (negated y) z + dot y (negated (wedge c rows w)) =
       omega (
         arith,
-        dot-sym y (mixed (c.plus row) (c.minus row) z (turned (wedge c rows w))),
-        dot-mixed (c.plus row) (c.minus row) z (turned (wedge c rows w)) y,
+        dot-sym y (mixed (c.plus row) (c.minus row) z (negated (wedge c rows w))),
+        dot-mixed (c.plus row) (c.minus row) z (negated (wedge c rows w)) y,
         ap (λ n. c.plus row * n) (dot-sym z y),
-        ap (λ n. c.minus row * n) (dot-turned z y ∙ dot-sym z (turned y)),
-        dot-sym (turned (wedge c rows w)) y,
+        ap (λ n. c.minus row * n) (dot-negated z y ∙ dot-sym z (negated y)),
+        dot-sym (negated (wedge c rows w)) y,
       ) in
       omega (arith, a, b, adjoint c rows x z, dot-mixed (c.plus row) (c.minus row) y (contracted c rows x) z)
 
@@ -179,9 +179,9 @@ module _ (R : Type 0) where
   cross_sum c (row ∷ rows) = 2 * (c.plus row * c.minus row) + cross_sum c rows
 
   pub norms : (c : Vector R) (rows : List R) (x : Form rows) →
-      dot (wedge c rows x) (wedge c rows x) + dot (contracted c rows x) (contracted c rows x) + (square_sum c rows * dot (turned x) x + cross_sum c rows * dot x x)
-      ≡ dot (turned (wedge c rows x)) (wedge c rows x) + dot (turned (contracted c rows x)) (contracted c rows x) + (square_sum c rows * dot x x + cross_sum c rows * dot (turned x) x)
-  unfolding wedge contracted dot turned square_sum cross_sum
+      dot (wedge c rows x) (wedge c rows x) + dot (contracted c rows x) (contracted c rows x) + (square_sum c rows * dot (negated x) x + cross_sum c rows * dot x x)
+      ≡ dot (negated (wedge c rows x)) (wedge c rows x) + dot (negated (contracted c rows x)) (contracted c rows x) + (square_sum c rows * dot x x + cross_sum c rows * dot (negated x) x)
+  unfolding wedge contracted dot negated square_sum cross_sum
   norms c [] (leaf p m) = omega arith
   norms c (row ∷ rows) (fork x y) =
       let p : ℕ = c.plus row in
@@ -189,22 +189,22 @@ module _ (R : Type 0) where
       let w : Form rows = wedge c rows y in
       let k : Form rows = contracted c rows x in
       let e : Form rows = contracted c rows y in
-      let one : dot x (turned w) ≡ dot (turned x) w = sym (dot-turned x w) in
-      let two : dot (turned x) (turned w) ≡ dot x w = both_turned x w in
+      let one : dot x (negated w) ≡ dot (negated x) w = sym (dot-negated x w) in
+      let two : dot (negated x) (negated w) ≡ dot x w = both_turned x w in
       let three : dot y k ≡ dot x w = dot-sym y k ∙ adjoint c rows x y in
-      let four : dot (turned y) k ≡ dot (turned x) w = dot-sym (turned y) k ∙ adjoint c rows x (turned y) ∙ ap (λ v. dot x v) (wedge-turned c rows y) ∙ one in
+      let four : dot (negated y) k ≡ dot (negated x) w = dot-sym (negated y) k ∙ adjoint c rows x (negated y) ∙ ap (λ v. dot x v) (wedge-negated c rows y) ∙ one in
       omega (
         arith,
         norms c rows x,
         norms c rows y,
-        norm-mixed p m x (turned w),
-        cross-mixed p m x (turned w),
+        norm-mixed p m x (negated w),
+        cross-mixed p m x (negated w),
         norm-mixed p m y k,
         cross-mixed p m y k,
         both_turned w w,
-        both_turned (turned w) w,
+        both_turned (negated w) w,
         both_turned e e,
-        both_turned (turned e) e,
+        both_turned (negated e) e,
         ap (λ n. p * n) one,
         ap (λ n. m * n) one,
         ap (λ n. p * n) two,

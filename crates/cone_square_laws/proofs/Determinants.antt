@@ -5,7 +5,7 @@ use borrow.Author.Differences.{up, down}
 use Rattle.std.proofs.lemmas.List.Sums.{sum_by-cons}
 use Rattle.cone_definitions.specs.Rows.{positive_coefficient, negative_coefficient}
 use Rattle.cone_square_laws.specs.Determinants.{MatrixRow, expansion, determinant, product_of_squares}
-use Rattle.cone_square_laws.proofs.Algebra.{Form, leaf, Vector, turned, none, mixed, wedge, wedge-turned, turned-turned, turned-mixed}
+use Rattle.cone_square_laws.proofs.Algebra.{Form, leaf, Vector, negated, none, mixed, wedge, wedge-negated, negated-negated, negated-mixed}
 use Rattle.cone_square_laws.proofs.Products.{unit, wedges, top, squares, squares_product, hadamard}
 use Rattle.cone_square_laws.proofs.Linear.{IsLinear, linear_behind, linear_turned, linear_mixed, linear_top, with_row, row_more}
 
@@ -27,35 +27,35 @@ entry_times (negsuc n) f g a b c d h k = let e : a + down f ≡ up f + b = omega
 module _ (row : MatrixRow) (rows : List MatrixRow) where
   -- a linear function of the choices with the row is its expansion by the row
   linear_expansion : (n : Form rows → ℕ) → IsLinear rows n → (f : List ℕ → ℤ) →
-      ((cs : List ℕ) → pos (n (wedges MatrixRow rows (all_columns cs))) ≡ f cs +ℤ pos (n (turned MatrixRow (wedges MatrixRow rows (all_columns cs))))) →
-      (cs : List ℕ) → pos (n (with_row MatrixRow row rows (all_columns cs))) ≡ expansion row f cs +ℤ pos (n (turned MatrixRow (with_row MatrixRow row rows (all_columns cs))))
+      ((cs : List ℕ) → pos (n (wedges MatrixRow rows (all_columns cs))) ≡ f cs +ℤ pos (n (negated MatrixRow (wedges MatrixRow rows (all_columns cs))))) →
+      (cs : List ℕ) → pos (n (with_row MatrixRow row rows (all_columns cs))) ≡ expansion row f cs +ℤ pos (n (negated MatrixRow (with_row MatrixRow row rows (all_columns cs))))
   unfolding with_row wedges expansion
   linear_expansion n lin f h [] =
       let a : n (none MatrixRow rows) ≡ 0 = lin.zero in
-      let b : n (turned MatrixRow (none MatrixRow rows)) ≡ 0 = (linear_turned MatrixRow rows n lin).zero in
+      let b : n (negated MatrixRow (none MatrixRow rows)) ≡ 0 = (linear_turned MatrixRow rows n lin).zero in
       ap (λ k. pos k) a ∙ ap (λ k. pos 0 +ℤ pos k) (sym b)
   linear_expansion n lin f h (c ∷ cs) =
       let p : ℕ = positive_coefficient (row c) in
       let m : ℕ = negative_coefficient (row c) in
       let w : Form rows = wedges MatrixRow rows (all_columns cs) in
       let v : Form rows = wedge MatrixRow (column c) rows (with_row MatrixRow row rows (all_columns cs)) in
-      let rest : pos (n v) ≡ expansion row (λ ds. f (c ∷ ds)) cs +ℤ pos (n (turned MatrixRow v)) =
+      let rest : pos (n v) ≡ expansion row (λ ds. f (c ∷ ds)) cs +ℤ pos (n (negated MatrixRow v)) =
       linear_expansion (λ x. n (wedge MatrixRow (column c) rows x)) (linear_behind MatrixRow (column c) rows n lin) (λ ds. f (c ∷ ds)) (behind c) cs
-      ∙ ap (λ x. expansion row (λ ds. f (c ∷ ds)) cs +ℤ pos (n x)) (wedge-turned MatrixRow (column c) rows (with_row MatrixRow row rows (all_columns cs))) in
-      let left : n (mixed MatrixRow p m w (turned MatrixRow v)) ≡ p * n w + m * n (turned MatrixRow w) + n (turned MatrixRow v) = linear_mixed MatrixRow rows n lin p m w (turned MatrixRow v) in
-      let tw : n (turned MatrixRow (turned MatrixRow w)) ≡ n w = ap n (turned-turned MatrixRow w) in
-      let tv : n (turned MatrixRow (turned MatrixRow v)) ≡ n v = ap n (turned-turned MatrixRow v) in
-      let opened : n (turned MatrixRow (mixed MatrixRow p m w (turned MatrixRow v)))
-      ≡ p * n (turned MatrixRow w) + m * n (turned MatrixRow (turned MatrixRow w)) + n (turned MatrixRow (turned MatrixRow v)) =
-      ap n (turned-mixed MatrixRow p m w (turned MatrixRow v)) ∙ linear_mixed MatrixRow rows n lin p m (turned MatrixRow w) (turned MatrixRow (turned MatrixRow v)) in
-      let right : n (turned MatrixRow (mixed MatrixRow p m w (turned MatrixRow v))) ≡ p * n (turned MatrixRow w) + m * n w + n v = omega (arith, opened, ap (λ k. m * k) tw, tv) in
+      ∙ ap (λ x. expansion row (λ ds. f (c ∷ ds)) cs +ℤ pos (n x)) (wedge-negated MatrixRow (column c) rows (with_row MatrixRow row rows (all_columns cs))) in
+      let left : n (mixed MatrixRow p m w (negated MatrixRow v)) ≡ p * n w + m * n (negated MatrixRow w) + n (negated MatrixRow v) = linear_mixed MatrixRow rows n lin p m w (negated MatrixRow v) in
+      let tw : n (negated MatrixRow (negated MatrixRow w)) ≡ n w = ap n (negated-negated MatrixRow w) in
+      let tv : n (negated MatrixRow (negated MatrixRow v)) ≡ n v = ap n (negated-negated MatrixRow v) in
+      let opened : n (negated MatrixRow (mixed MatrixRow p m w (negated MatrixRow v)))
+      ≡ p * n (negated MatrixRow w) + m * n (negated MatrixRow (negated MatrixRow w)) + n (negated MatrixRow (negated MatrixRow v)) =
+      ap n (negated-mixed MatrixRow p m w (negated MatrixRow v)) ∙ linear_mixed MatrixRow rows n lin p m (negated MatrixRow w) (negated MatrixRow (negated MatrixRow v)) in
+      let right : n (negated MatrixRow (mixed MatrixRow p m w (negated MatrixRow v))) ≡ p * n (negated MatrixRow w) + m * n w + n v = omega (arith, opened, ap (λ k. m * k) tw, tv) in
       ap (λ k. pos k) left
-      ∙ entry_times (row c) (f cs) (expansion row (λ ds. f (c ∷ ds)) cs) (n w) (n (turned MatrixRow w)) (n v) (n (turned MatrixRow v)) (h cs) rest
+      ∙ entry_times (row c) (f cs) (expansion row (λ ds. f (c ∷ ds)) cs) (n w) (n (negated MatrixRow w)) (n v) (n (negated MatrixRow v)) (h cs) rest
       ∙ ap (λ k. (row c *ℤ f cs -ℤ expansion row (λ ds. f (c ∷ ds)) cs) +ℤ pos k) (sym right)
     where
       behind : (c : ℕ) (ds : List ℕ) → pos (n (wedge MatrixRow (column c) rows (wedges MatrixRow rows (all_columns ds))))
-          ≡ f (c ∷ ds) +ℤ pos (n (wedge MatrixRow (column c) rows (turned MatrixRow (wedges MatrixRow rows (all_columns ds)))))
-      behind c ds = h (c ∷ ds) ∙ ap (λ x. f (c ∷ ds) +ℤ pos (n x)) (sym (wedge-turned MatrixRow (column c) rows (wedges MatrixRow rows (all_columns ds))))
+          ≡ f (c ∷ ds) +ℤ pos (n (wedge MatrixRow (column c) rows (negated MatrixRow (wedges MatrixRow rows (all_columns ds)))))
+      behind c ds = h (c ∷ ds) ∙ ap (λ x. f (c ∷ ds) +ℤ pos (n x)) (sym (wedge-negated MatrixRow (column c) rows (wedges MatrixRow rows (all_columns ds))))
 
 no_rows : (c : Vector MatrixRow) (x : Form []) → wedge MatrixRow c [] x ≡ leaf 0 0
 unfolding wedge
@@ -63,14 +63,14 @@ no_rows c (leaf p m) = refl
 
 -- the coefficient for all rows
 determinant_is : (rows : List MatrixRow) (cs : List ℕ) →
-    pos (top MatrixRow (wedges MatrixRow rows (all_columns cs))) ≡ determinant rows cs +ℤ pos (top MatrixRow (turned MatrixRow (wedges MatrixRow rows (all_columns cs))))
-unfolding determinant top wedges unit turned
+    pos (top MatrixRow (wedges MatrixRow rows (all_columns cs))) ≡ determinant rows cs +ℤ pos (top MatrixRow (negated MatrixRow (wedges MatrixRow rows (all_columns cs))))
+unfolding determinant top wedges unit negated
 determinant_is [] [] = omega (arith, ints)
 determinant_is [] (c ∷ cs) = let e = no_rows (column c) (wedges MatrixRow [] (all_columns cs)) in
-    ap (λ x. pos (top MatrixRow x)) e ∙ ap (λ x. pos 0 +ℤ pos (top MatrixRow (turned MatrixRow x))) (sym e)
+    ap (λ x. pos (top MatrixRow x)) e ∙ ap (λ x. pos 0 +ℤ pos (top MatrixRow (negated MatrixRow x))) (sym e)
 determinant_is (row ∷ rows) cs = let e = row_more MatrixRow row rows (all_columns cs) in
     ap (λ x. pos (top MatrixRow x)) e ∙ linear_expansion row rows (top MatrixRow) (linear_top MatrixRow rows) (determinant rows) (determinant_is rows) cs
-    ∙ ap (λ x. expansion row (determinant rows) cs +ℤ pos (top MatrixRow (turned MatrixRow x))) (sym e)
+    ∙ ap (λ x. expansion row (determinant rows) cs +ℤ pos (top MatrixRow (negated MatrixRow x))) (sym e)
 
 -- a sum of squares of entries
 parts_are : (z : ℤ) → positive_coefficient z + negative_coefficient z ≡ unsigned_abs z
@@ -98,5 +98,5 @@ square_is (negsuc n) a b s e h = let d : b ≡ (n + 1) + a = omega (arith, ints)
 
 pub determinants_bounded : (rows : List MatrixRow) (cs : List ℕ) → unsigned_abs (determinant rows cs) * unsigned_abs (determinant rows cs) ≤ product_of_squares rows cs
 determinants_bounded rows cs = let x : Form rows = wedges MatrixRow rows (all_columns cs) in
-    square_is (determinant rows cs) (top MatrixRow x) (top MatrixRow (turned MatrixRow x)) (product_of_squares rows cs) (determinant_is rows cs)
+    square_is (determinant rows cs) (top MatrixRow x) (top MatrixRow (negated MatrixRow x)) (product_of_squares rows cs) (determinant_is rows cs)
     (omega (arith, hadamard MatrixRow rows (all_columns cs), product_is rows cs))

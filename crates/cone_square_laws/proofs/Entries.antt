@@ -70,7 +70,7 @@ module _ (columns : ℕ) (rows : List Row) (pairs : List Clash) (group cap : ℕ
         caps.light j l,
       )) js (all_before js s) ys sub in
       let q : bound_product none_free group cap js ≤ caps_product cap groups = product_in_groups groups none_free group cap caps.some_cap js (own_groups js d s) (groups_below js s) in
-      minors_within taken ys root.root (omega (arith, p, q, root.past))
+      minors_within taken ys root.root (omega (arith, p, q, root.exceeded))
 
   started : (minor []).up (columns_of columns none_free []) ≢ (minor []).down (columns_of columns none_free [])
   unfolding minor one

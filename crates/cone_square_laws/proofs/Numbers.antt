@@ -21,9 +21,9 @@ use Rattle.cone_square_laws.proofs.Steps.{step_within}
 
 -- the root of 1 or more is 1 at least
 some_root : (s r : ℕ) → 1 ≤ s → s < (r + 1) * (r + 1) → 1 ≤ r
-some_root s r some past = elim (cases_lt 0 r) [
+some_root s r some exceeded = elim (cases_lt 0 r) [
   | inl l ↦ omega arith
-  | inr l ↦ let e : r ≡ 0 = omega arith in absurd (let less : s < (0 + 1) * (0 + 1) = subst (λ n. s < (n + 1) * (n + 1)) e past in omega arith)
+  | inr l ↦ let e : r ≡ 0 = omega arith in absurd (let less : s < (0 + 1) * (0 + 1) = subst (λ n. s < (n + 1) * (n + 1)) e exceeded in omega arith)
 ]
 
 module _ (limit : ℕ) (system : System) (pairs : List Clash) (group cap : ℕ → ℕ) (groups size : ℕ) (caps : HasSquareCaps system.columns system.rows pairs group cap groups size)
@@ -50,6 +50,6 @@ module _ (limit : ℕ) (system : System) (pairs : List Clash) (group cap : ℕ �
 
   pub are_within : AreWithin limit system pairs taken
   are_within k l = let r = root_of (caps_product cap groups) in
-      step_within r.root limit size (step_at system.columns (in_order system.rows taken) pairs k) (some_root (caps_product cap groups) r.root (caps_some groups cap caps.some_cap) r.past)
+      step_within r.root limit size (step_at system.columns (in_order system.rows taken) pairs k) (some_root (caps_product cap groups) r.root (caps_some groups cap caps.some_cap) r.exceeded)
       (All-permutation (λ row. row_size row ≤ size) system.rows (in_order system.rows taken) permutes caps.small k [] (omega (arith, l, length-map taken (λ number. slice_index_or system.rows number []))))
       (square_most r) (λ x h. entries system.columns (take k (in_order system.rows taken)) pairs group cap groups size (caps_before k) x h)

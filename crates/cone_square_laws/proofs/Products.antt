@@ -2,7 +2,7 @@
 -- of squares.
 use Rattle.std.proofs.Common.{◌≡◌, ℕ, ◌+◌, ◌-◌, ◌*◌, ◌≤◌, inl, inr, List, [], ◌∷◌, arith, refl, subst, mul-le-mul}
 use Rattle.std.proofs.lemmas.Bool.{cases_lt}
-use Rattle.cone_square_laws.proofs.Algebra.{Form, leaf, fork, Vector, turned, none, dot, wedge, contracted, dot-none, square_sum, cross_sum, norms}
+use Rattle.cone_square_laws.proofs.Algebra.{Form, leaf, fork, Vector, negated, none, dot, wedge, contracted, dot-none, square_sum, cross_sum, norms}
 
 -- ---- natural numbers
 
@@ -35,31 +35,31 @@ module _ (R : Type 0) where
   cross_least c [] = omega arith
   cross_least c (row ∷ rows) = omega (arith, cross_least c rows, two_squares (c.plus row) (c.minus row))
 
-  pub dot_least : {rows : List R} (x : Form rows) → dot R (turned R x) x ≤ dot R x x
-  unfolding dot turned
+  pub dot_least : {rows : List R} (x : Form rows) → dot R (negated R x) x ≤ dot R x x
+  unfolding dot negated
   dot_least (leaf p m) = omega (arith, two_squares p m)
   dot_least (fork x y) = omega (arith, dot_least x, dot_least y)
 
-  wedge_bounded : (c : Vector R) (rows : List R) (x : Form rows) (q : ℕ) → dot R x x ≤ dot R (turned R x) x + q →
-      dot R (wedge R c rows x) (wedge R c rows x) ≤ dot R (turned R (wedge R c rows x)) (wedge R c rows x) + squares c rows * q
+  wedge_bounded : (c : Vector R) (rows : List R) (x : Form rows) (q : ℕ) → dot R x x ≤ dot R (negated R x) x + q →
+      dot R (wedge R c rows x) (wedge R c rows x) ≤ dot R (negated R (wedge R c rows x)) (wedge R c rows x) + squares c rows * q
   wedge_bounded c rows x q h =
       let n : ℕ = dot R (wedge R c rows x) (wedge R c rows x) in
-      let w : ℕ = dot R (turned R (wedge R c rows x)) (wedge R c rows x) in
+      let w : ℕ = dot R (negated R (wedge R c rows x)) (wedge R c rows x) in
       let y : Form rows = contracted R c rows x in
-      let v : ℕ = dot R (turned R y) y in
+      let v : ℕ = dot R (negated R y) y in
       let a : ℕ = square_sum R c rows - cross_sum R c rows in
-      let r : ℕ = dot R x x - dot R (turned R x) x in
+      let r : ℕ = dot R x x - dot R (negated R x) x in
       let least : cross_sum R c rows ≤ square_sum R c rows = cross_least c rows in
       let ea : cross_sum R c rows + a ≡ square_sum R c rows = omega arith in
-      let er : dot R (turned R x) x + r ≡ dot R x x = omega (arith, dot_least x) in
+      let er : dot R (negated R x) x + r ≡ dot R x x = omega (arith, dot_least x) in
       let more : v ≤ dot R y y = dot_least y in
       let b : ℕ = dot R y y - v in
       let eb : v + b ≡ dot R y y = omega arith in
-      let e : (n + b) + v + ((cross_sum R c rows + a) * dot R (turned R x) x + cross_sum R c rows * (dot R (turned R x) x + r))
-      ≡ w + v + ((cross_sum R c rows + a) * (dot R (turned R x) x + r) + cross_sum R c rows * dot R (turned R x) x) =
+      let e : (n + b) + v + ((cross_sum R c rows + a) * dot R (negated R x) x + cross_sum R c rows * (dot R (negated R x) x + r))
+      ≡ w + v + ((cross_sum R c rows + a) * (dot R (negated R x) x + r) + cross_sum R c rows * dot R (negated R x) x) =
       rw (ea, er) (omega (arith, norms R c rows x, eb)) in
       let bound : n + b ≤ w + squares c rows * q =
-      norm_bounded (n + b) (dot R (turned R x) x) a r (squares c rows) q (cross_sum R c rows) w v e (omega (arith, squares-are c rows, ea)) (omega (arith, h, er)) in
+      norm_bounded (n + b) (dot R (negated R x) x) a r (squares c rows) q (cross_sum R c rows) w v e (omega (arith, squares-are c rows, ea)) (omega (arith, h, er)) in
       omega (arith, bound)
 
   -- ---- several vectors
@@ -76,12 +76,12 @@ module _ (R : Type 0) where
   squares_product rows [] = 1
   squares_product rows (c ∷ cs) = squares c rows * squares_product rows cs
 
-  unit_bounded : (rows : List R) → dot R (unit rows) (unit rows) ≤ dot R (turned R (unit rows)) (unit rows) + 1
-  unfolding unit dot turned none
+  unit_bounded : (rows : List R) → dot R (unit rows) (unit rows) ≤ dot R (negated R (unit rows)) (unit rows) + 1
+  unfolding unit dot negated none
   unit_bounded [] = omega arith
   unit_bounded (row ∷ rows) = omega (arith, unit_bounded rows, dot-none R (none R rows))
 
-  wedges_bounded : (rows : List R) (cs : List (Vector R)) → dot R (wedges rows cs) (wedges rows cs) ≤ dot R (turned R (wedges rows cs)) (wedges rows cs) + squares_product rows cs
+  wedges_bounded : (rows : List R) (cs : List (Vector R)) → dot R (wedges rows cs) (wedges rows cs) ≤ dot R (negated R (wedges rows cs)) (wedges rows cs) + squares_product rows cs
   unfolding wedges squares_product
   wedges_bounded rows [] = unit_bounded rows
   wedges_bounded rows (c ∷ cs) = wedge_bounded c rows (wedges rows cs) (squares_product rows cs) (wedges_bounded rows cs)
@@ -93,11 +93,11 @@ module _ (R : Type 0) where
   top (fork x y) = top y
 
   top_within : {rows : List R} (x : Form rows) →
-      top x * top x + top (turned R x) * top (turned R x) + dot R (turned R x) x ≤ dot R x x + 2 * (top x * top (turned R x))
-  unfolding top dot turned
+      top x * top x + top (negated R x) * top (negated R x) + dot R (negated R x) x ≤ dot R x x + 2 * (top x * top (negated R x))
+  unfolding top dot negated
   top_within (leaf p m) = omega arith
   top_within (fork x y) = omega (arith, top_within y, dot_least x)
 
   pub hadamard : (rows : List R) (cs : List (Vector R)) → let x = wedges rows cs in
-      top x * top x + top (turned R x) * top (turned R x) ≤ 2 * (top x * top (turned R x)) + squares_product rows cs
+      top x * top x + top (negated R x) * top (negated R x) ≤ 2 * (top x * top (negated R x)) + squares_product rows cs
   hadamard rows cs = omega (arith, top_within (wedges rows cs), wedges_bounded rows cs)

@@ -5,7 +5,7 @@ use Rattle.std.proofs.lemmas.List.{length-map}
 use Rattle.std.proofs.lemmas.List.Elements.{All-from_get_or, All-get_or}
 use Rattle.std.proofs.lemmas.List.FromFn.{get_or-map-range_with_len, length-map-range_with_len}
 use Rattle.table_definitions.specs.Permutation.{IsPermutationOfFour, image, is_odd, inverse}
-use Rattle.table_definitions.specs.Table.{max_tets, Gluing, Row, Face, IsTable, glue, other_side, way_back, same_face}
+use Rattle.table_definitions.specs.Table.{max_tets, Gluing, Row, Face, IsTable, glue, other_side, inverse_gluing, same_face}
 use Rattle.skeleton_definitions.specs.Orientation.{sign_of, sign_across, AreSigns}
 use Rattle.table_definitions.proofs.Carried.{not_from, same_from, same_to}
 use Rattle.cover_definitions.specs.Cover.{over, sheet, above, other_sheet, sheet_across, lifted, cover, face_below, sheet_signs}
@@ -36,11 +36,11 @@ module _ (rows : List Row) (table : IsTable rows) where
       let d = glued_below rows x h e in
       let same = same_from h.tet x.tet (image h.perm x.face) x.face s in
       let tet : d.g.tet ≡ over n x.tet = sym (behind_over x h d) ∙ ap (over n) same.0 in
-      let turned : image d.g.perm x.face ≡ x.face = ap (λ p. image p x.face) (sym (same_perm x h d)) ∙ same.1 in
-      let itself : same_face (other_side (face_below n x) d.g) (face_below n x) ≡ true = same_to d.g.tet (over n x.tet) (image d.g.perm x.face) x.face tet turned in
-      let never : not (same_face (other_side (face_below n x) d.g) (face_below n x)) ≡ true = table.apart (face_below n x) d.g d.glued in cc
+      let backwards : image d.g.perm x.face ≡ x.face = ap (λ p. image p x.face) (sym (same_perm x h d)) ∙ same.1 in
+      let itself : same_face (other_side (face_below n x) d.g) (face_below n x) ≡ true = same_to d.g.tet (over n x.tet) (image d.g.perm x.face) x.face tet backwards in
+      let never : not (same_face (other_side (face_below n x) d.g) (face_below n x)) ≡ true = table.separate (face_below n x) d.g d.glued in cc
 
-  cover_back : (x : Face) (h : Gluing) → glue (cover rows) x ≡ Some h → glue (cover rows) (other_side x h) ≡ Some (way_back x h)
+  cover_back : (x : Face) (h : Gluing) → glue (cover rows) x ≡ Some h → glue (cover rows) (other_side x h) ≡ Some (inverse_gluing x h)
   cover_back x h e =
       let d = glued_below rows x h e in
       let p : IsPermutationOfFour d.g.perm = table.permutes (face_below n x) d.g d.glued in
@@ -53,12 +53,12 @@ module _ (rows : List Row) (table : IsTable rows) where
 
   pub cover_is_table : 2 * length rows ≤ max_tets → IsTable (cover rows)
   cover_is_table l = record {
-    few = subst (λ m. m ≤ max_tets) (sym (length-cover rows)) l;
+    limited = subst (λ m. m ≤ max_tets) (sym (length-cover rows)) l;
     four_faces = All-from_get_or (λ (row : Row). length row ≡ 4) (cover rows) [] (λ u k. let m : u < 2 * n = subst (λ a. u < a) (length-cover rows) k in
         ap length (row-cover rows u m) ∙ length-map (slice_index_or rows (over n u) []) (option_map (lifted n (sheet n u))) ∙ All-get_or (λ (row : Row). length row ≡ 4) rows (over n u) [] (over_below n u m) table.four_faces);
     permutes = λ x h e. let d = glued_below rows x h e in subst IsPermutationOfFour (sym (same_perm x h d)) (table.permutes (face_below n x) d.g d.glued);
     in_range = λ x h e. subst (λ a. h.tet < a) (sym (length-cover rows)) (behind_below x h e);
-    apart = λ x h e. not_from (same_face (other_side x h) x) (cover_apart x h e);
+    separate = λ x h e. not_from (same_face (other_side x h) x) (cover_apart x h e);
     leads_back = cover_back;
   }
 
@@ -68,9 +68,9 @@ module _ (rows : List Row) (table : IsTable rows) where
   unfolding sheet_signs
   sign_at u l = get_or-map-range_with_len (λ v. sheet n v == 0) 0 (2 * n) u u false l (omega arith)
 
-  sign_behind : (b : Bool) (s : ℕ) → s ≤ 1 → ((if b then s else other_sheet s) == 0) ≡ (if b then (s == 0) else not (s == 0))
-  sign_behind true s l = refl
-  sign_behind false s l = elim (cases_sheet s l) [
+  sign_by_gluing : (b : Bool) (s : ℕ) → s ≤ 1 → ((if b then s else other_sheet s) == 0) ≡ (if b then (s == 0) else not (s == 0))
+  sign_by_gluing true s l = refl
+  sign_by_gluing false s l = elim (cases_sheet s l) [
     | inl z ↦ subst (λ r. (other_sheet r == 0) ≡ not (r == 0)) (sym z) refl
     | inr o ↦ subst (λ r. (other_sheet r == 0) ≡ not (r == 0)) (sym o) refl
   ]
@@ -84,7 +84,7 @@ module _ (rows : List Row) (table : IsTable rows) where
 
       agree : (x : Face) (h : Gluing) → glue (cover rows) x ≡ Some h → sign_of (sheet_signs n) h.tet ≡ sign_across h (sign_of (sheet_signs n) x.tet)
       agree x h e = let d = glued_below rows x h e in
-          sign_at h.tet (behind_below x h e) ∙ ap (λ s. s == 0) (behind_sheet x h d) ∙ sign_behind (is_odd d.g.perm) (sheet n x.tet) (sheet_small n x.tet)
+          sign_at h.tet (behind_below x h e) ∙ ap (λ s. s == 0) (behind_sheet x h d) ∙ sign_by_gluing (is_odd d.g.perm) (sheet n x.tet) (sheet_small n x.tet)
           ∙ ap₂ (λ p b. if is_odd p then b else not b) (sym (same_perm x h d)) (sym (sign_at x.tet d.in_range))
 
   pub projects : (x : Face) (h : Gluing) → glue (cover rows) x ≡ Some h → ProjectsTo rows x h

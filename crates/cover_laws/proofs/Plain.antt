@@ -28,20 +28,20 @@ plain_is_made n f = ap (λ ps. record { images = map f (below n); perms = ps }) 
 abbrev pub moved_to : (ℕ → ℕ) → Gluing → Gluing
 moved_to f g = record { tet = f g.tet; perm = g.perm }
 
-module _ (old new : List Row) (f : ℕ → ℕ) (small : (t : ℕ) → t < length old → f t < length old) (apart : (t u : ℕ) → t < length old → u < length old → f t ≡ f u → t ≡ u)
+module _ (old new : List Row) (f : ℕ → ℕ) (small : (t : ℕ) → t < length old → f t < length old) (separate : (t u : ℕ) → t < length old → u < length old → f t ≡ f u → t ≡ u)
     (same_length : length new ≡ length old) (four_faces : All (λ (row : Row). length row ≡ 4) new)
     (permutes : (x : Face) (g : Gluing) → glue old x ≡ Some g → IsPermutationOfFour g.perm) (in_range : (x : Face) (g : Gluing) → glue old x ≡ Some g → g.tet < length old)
     (moved : (t v : ℕ) → t < length old → glue new (record { tet = f t; face = v }) ≡ option_map (moved_to f) (glue old (record { tet = t; face = v }))) where
   pub plain_relabelling : IsRelabelling (length old) (by_numbers (length old) f)
   unfolding stands_plain
   plain_relabelling = subst (IsRelabelling (length old)) (plain_is_made (length old) f)
-      (made_relabelling (length old) (stands_plain f) (record { in_range = small; apart = apart; permutes = λ t l. identity_permutes }))
+      (made_relabelling (length old) (stands_plain f) (record { in_range = small; separate = separate; permutes = λ t l. identity_permutes }))
 
   abbrev whole : Relabelling
   whole = made (length old) (stands_plain f)
 
-  stands : (t : ℕ) → t < length old → relabelled_place whole t ≡ stands_plain f t
-  stands t l = made_stands (length old) (stands_plain f) t l
+  occurs : (t : ℕ) → t < length old → relabelled_place whole t ≡ stands_plain f t
+  occurs t l = made_stands (length old) (stands_plain f) t l
 
   plain_under : (t u : ℕ) (g : Gluing) → IsPermutationOfFour g.perm → gluing_under (stands_plain f t) (stands_plain f g.tet) g ≡ moved_to f g
   unfolding stands_plain
@@ -50,12 +50,12 @@ module _ (old new : List Row) (f : ℕ → ℕ) (small : (t : ℕ) → t < lengt
 
   plain_glued : (x : Face) → x.tet < length old → x.face < 4 → glue new (face_under (relabelled_place whole x.tet) x) ≡ option_map (λ g. gluing_under (relabelled_place whole x.tet) (relabelled_place whole g.tet) g) (glue old x)
   unfolding stands_plain
-  plain_glued x lt lf = ap (λ (b : Gluing). glue new (face_under b x)) (stands x.tet lt) ∙ ap (λ v. glue new (record { tet = f x.tet; face = v })) (image-identity x.face lf)
+  plain_glued x lt lf = ap (λ (b : Gluing). glue new (face_under b x)) (occurs x.tet lt) ∙ ap (λ v. glue new (record { tet = f x.tet; face = v })) (image-identity x.face lf)
       ∙ moved x.tet x.face lt ∙ cases (glue old x) refl
     where
       cases : (o : Option Gluing) → glue old x ≡ o → option_map (moved_to f) (glue old x) ≡ option_map (λ (g : Gluing). gluing_under (relabelled_place whole x.tet) (relabelled_place whole g.tet) g) (glue old x)
       cases None e = rw e refl
-      cases (Some g) e = rw e (ap (λ (b : Gluing). Some b) (sym (plain_under x.tet x.tet g (permutes x g e)) ∙ ap₂ (λ (b c : Gluing). gluing_under b c g) (sym (stands x.tet lt)) (sym (stands g.tet (in_range x g e)))))
+      cases (Some g) e = rw e (ap (λ (b : Gluing). Some b) (sym (plain_under x.tet x.tet g (permutes x g e)) ∙ ap₂ (λ (b c : Gluing). gluing_under b c g) (sym (occurs x.tet lt)) (sym (occurs g.tet (in_range x g e)))))
 
   pub plain_carries : Carries (by_numbers (length old) f) old new
   plain_carries = subst (λ (by : Relabelling). Carries by old new) (plain_is_made (length old) f) (record { same_length = same_length; four_faces = four_faces; glued = plain_glued })

@@ -76,8 +76,8 @@ module _ (rows new : List Row) (by : Relabelling) (table : IsTable rows) (is : I
   in_range : (u : ℕ) → u < 2 * n → (lifted_place n by u).tet < 2 * n
   in_range u l = above_below n (to (over n u)) (sheet_to u) (image_in_range n by is (over n u) (over_below n u l)) (sheet_to_small u)
 
-  apart : (u v : ℕ) → u < 2 * n → v < 2 * n → (lifted_place n by u).tet ≡ (lifted_place n by v).tet → u ≡ v
-  apart u v lu lv e =
+  separate : (u v : ℕ) → u < 2 * n → v < 2 * n → (lifted_place n by u).tet ≡ (lifted_place n by v).tet → u ≡ v
+  separate u v lu lv e =
       let ou = over_below n u lu in
       let ov = over_below n v lv in
       let both = above_apart n (to (over n u)) (to (over n v)) (sheet_to u) (sheet_to v) (image_in_range n by is (over n u) ou) (image_in_range n by is (over n v) ov) (sheet_to_small u) (sheet_to_small v) e in
@@ -87,7 +87,7 @@ module _ (rows new : List Row) (by : Relabelling) (table : IsTable rows) (is : I
       sym (above_over n u) ∙ ap₂ (above n) tets sheets ∙ above_over n v
 
   lift_is : IsRelabelling (2 * n) (lift n by)
-  lift_is = made_relabelling (2 * n) (lifted_place n by) (record { in_range = in_range; apart = apart; permutes = λ u l. fine (over n u) (over_below n u l) })
+  lift_is = made_relabelling (2 * n) (lifted_place n by) (record { in_range = in_range; separate = separate; permutes = λ u l. fine (over n u) (over_below n u l) })
 
   place_is : (u : ℕ) → u < 2 * n → relabelled_place (lift n by) u ≡ lifted_place n by u
   place_is u l = made_stands (2 * n) (lifted_place n by) u l

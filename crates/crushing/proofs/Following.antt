@@ -34,7 +34,7 @@ ahead_is rows xs x (suc fuel) (suc n) (Some g) end l h =
 pub record IsFollowed (rows : List Row) (xs : List ℕ) (x : Face) (o : Option Gluing) : Type 0 where
   pub end : Option Gluing
   pub left : ℕ
-  pub few : left < 4 * length rows
+  pub limited : left < 4 * length rows
   pub ends : ChainEnds rows xs x left o end
   pub there : CrushesTo rows xs x end
   pub only : (other : Option Gluing) → CrushesTo rows xs x other → other ≡ end
@@ -45,7 +45,7 @@ abbrev pub left_of : List Row → List ℕ → Face → Option Gluing → ℕ
 left_of rows xs x o = ahead (4 * length rows) rows xs x o
 
 left_is : (rows : List Row) (xs : List ℕ) (x : Face) (o : Option Gluing) (f : IsFollowed rows xs x o) → left_of rows xs x o ≡ f.left
-left_is rows xs x o f = ahead_is rows xs x (4 * length rows) f.left o f.end (let l = f.few in omega arith) f.ends
+left_is rows xs x o f = ahead_is rows xs x (4 * length rows) f.left o f.end (let l = f.limited in omega arith) f.ends
 
 pub follow_starts : (rows : List Row) (xs : List ℕ) (x : Face) → IsTable rows → IsKeptFace rows xs x → IsFollowed rows xs x (glue rows x)
 follow_starts rows xs x table k =
@@ -53,7 +53,7 @@ follow_starts rows xs x table k =
     record {
       end = c.end;
       left = c.count;
-      few = c.few;
+      limited = c.limited;
       ends = c.ends;
       there = (c.count, c.ends);
       only = λ other d. one_end rows xs x d.0 c.count (glue rows x) other c.end d.1 c.ends;
@@ -90,7 +90,7 @@ follow_steps rows xs x g table f gone = go f.left refl f.ends
         let next : IsFollowed rows xs x (passed rows xs x g) = record {
           end = f.end;
           left = n;
-          few = (let l = f.few in omega arith);
+          limited = (let l = f.limited in omega arith);
           ends = h.1;
           there = f.there;
           only = f.only;

@@ -27,7 +27,7 @@ impl Sheet {
 #[derive(Clone, Copy)]
 pub struct Sheets {
     pub tets: u32,
-    pub ghost few: { tets ≤ max_tets },
+    pub ghost limited: { tets ≤ max_tets },
 }
 
 impl Sheets {

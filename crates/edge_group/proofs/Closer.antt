@@ -4,7 +4,7 @@ use Rattle.std.proofs.Common.{◌≡◌, ℕ, ◌+◌, ◌<◌, ◌⊎◌, inl, 
 use Rattle.std.specs.Prelude.{nat_lt, ◌==◌, ◌||◌, ◌&&◌}
 use Rattle.std.proofs.lemmas.Bool.{cases_lt, cases_eq}
 use Rattle.table_definitions.specs.Permutation.{image}
-use Rattle.table_definitions.specs.Table.{Gluing, Row, Face, IsTable, glue, other_side, way_back, is_face_before}
+use Rattle.table_definitions.specs.Table.{Gluing, Row, Face, IsTable, glue, other_side, inverse_gluing, is_face_before}
 use Rattle.table_definitions.specs.Places.{IsConnected}
 use Rattle.table_definitions.proofs.TableLaws.{glued_tet, glued_face}
 use Rattle.table_definitions.proofs.PermutationLaws.{image-of_inverse}
@@ -13,7 +13,7 @@ use Rattle.presentation_definitions.specs.Trees.{IsDistance, LeadsCloser}
 use Rattle.presentation_definitions.specs.Groups.{IsTreeFaceAt, IsTree}
 use Rattle.presentation_laws.proofs.TreeLaws.{tree_face_of}
 use Rattle.edge_group.specs.Searches.{mark_of, AreDistances}
-use Rattle.edge_group.specs.Behind.{IsOneLess, IsCloser, IsCloserFace, IsNotAfter, IsLeastOf, IsLeastCloser, AreLeastCloser}
+use Rattle.edge_group.specs.Across.{IsOneLess, IsCloser, IsCloserFace, IsNotAfter, IsLeastOf, IsLeastCloser, AreLeastCloser}
 
 -- ---- the order of faces
 
@@ -67,24 +67,24 @@ module _ (rows : List Row) (table : IsTable rows) where
       let tets : y.tet ≡ g.tet = ap (λ (w : Face). w.tet) (sym h.other) ∙ ap (λ (k : Gluing). k.tet) same in
       never (
         h.leads.distance,
-        (a.told g.tet h.leads.distance (table.in_range x g e)).1 (subst (λ u. IsDistance rows u h.leads.distance) tets h.leads.here),
-        (a.told x.tet (h.leads.distance + 1) (glued_tet rows x g e)).1 h.leads.there,
+        (a.reported g.tet h.leads.distance (table.in_range x g e)).1 (subst (λ u. IsDistance rows u h.leads.distance) tets h.leads.here),
+        (a.reported x.tet (h.leads.distance + 1) (glued_tet rows x g e)).1 h.leads.there,
       )
 
   -- ---- each face of a closer tetrahedron that is glued to t is glued to one of the four faces of t
 
-  record Behind (t : ℕ) (x : Face) : Type 0 where
+  record Across (t : ℕ) (x : Face) : Type 0 where
     face : ℕ
     small : face < 4
     closer : IsCloser rows (face_at t face) x
 
-  behind : (t : ℕ) (x : Face) → LeadsCloser rows t x → Behind t x
+  behind : (t : ℕ) (x : Face) → LeadsCloser rows t x → Across t x
   behind t x h = record {
     face = image h.gluing.perm x.face;
-    small = glued_face rows (other_side x h.gluing) (way_back x h.gluing) table.four_faces (table.leads_back x h.gluing h.glued);
+    small = glued_face rows (other_side x h.gluing) (inverse_gluing x h.gluing) table.four_faces (table.leads_back x h.gluing h.glued);
     closer = record {
-      gluing = way_back x h.gluing;
-      glued = subst (λ u. glue rows (face_at u (image h.gluing.perm x.face)) ≡ Some (way_back x h.gluing)) h.to (table.leads_back x h.gluing h.glued);
+      gluing = inverse_gluing x h.gluing;
+      glued = subst (λ u. glue rows (face_at u (image h.gluing.perm x.face)) ≡ Some (inverse_gluing x h.gluing)) h.to (table.leads_back x h.gluing h.glued);
       other = λ i. record { tet = x.tet; face = image-of_inverse h.gluing.perm x.face (table.permutes x h.gluing h.glued) (glued_face rows x h.gluing table.four_faces h.glued) i };
       leads = h;
     };
@@ -98,4 +98,4 @@ module _ (rows : List Row) (table : IsTable rows) where
   tree_face_at t (Some x) connected l h = record { leads = h.0; least = λ y k. let b = behind t y k in h.1 b.face y b.small b.closer }
 
   pub closer_tree : IsConnected rows → (faces : List (Option Face)) → AreLeastCloser rows faces → IsTree rows faces
-  closer_tree connected faces h = record { one_each = h.one_each; told = λ t l. tree_face_at t _ connected l (h.told t l) }
+  closer_tree connected faces h = record { one_each = h.one_each; reported = λ t l. tree_face_at t _ connected l (h.reported t l) }

@@ -34,14 +34,14 @@ module _ (rows : List Row) where
       )
 
   pub path_ends : (end t : ℕ) (odd : Bool) → t ≡ 0 → IsPathOn rows end t odd → IsPathOdd rows end odd
-  path_ends end t odd z on = let p = on [] z in record { path = p.0; is_path = p.1; told = sym (p.2 ∙ differs_false odd) }
+  path_ends end t odd z on = let p = on [] z in record { path = p.0; is_path = p.1; reported = sym (p.2 ∙ differs_false odd) }
 
   -- the distance decreases
   pub path_falls : (marks : List (Option ℕ)) (t : ℕ) (x : Face) → IsTable rows → AreDistances rows marks → IsTreeFace rows t x → distance_or (mark_of marks x.tet) < distance_or (mark_of marks t)
   path_falls marks t x table a h =
-      let here : mark_of marks x.tet ≡ Some h.leads.distance = (a.told x.tet h.leads.distance (glued_tet rows x h.leads.gluing h.leads.glued)).1 h.leads.here in
+      let here : mark_of marks x.tet ≡ Some h.leads.distance = (a.reported x.tet h.leads.distance (glued_tet rows x h.leads.gluing h.leads.glued)).1 h.leads.here in
       let inside : t < length rows = subst (λ u. u < length rows) h.leads.to (table.in_range x h.leads.gluing h.leads.glued) in
-      let there : mark_of marks t ≡ Some (h.leads.distance + 1) = (a.told t (h.leads.distance + 1) inside).1 h.leads.there in
+      let there : mark_of marks t ≡ Some (h.leads.distance + 1) = (a.reported t (h.leads.distance + 1) inside).1 h.leads.there in
       let m : distance_or (mark_of marks x.tet) ≡ h.leads.distance = ap distance_or here in
       let n : distance_or (mark_of marks t) ≡ h.leads.distance + 1 = ap distance_or there in
       omega arith

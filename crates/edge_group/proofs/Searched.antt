@@ -12,7 +12,7 @@ use Rattle.table_definitions.proofs.TableLaws.{glued_tet}
 use Rattle.table_definitions.proofs.Faces.{face_at}
 use Rattle.presentation_definitions.specs.Trees.{IsDistance}
 use Rattle.presentation_laws.proofs.Levels.{Level, LastStep, level_more, level_last, level_zero, some_distance, distance_level, distance_least, one_distance}
-use Rattle.edge_group.specs.Searches.{mark_of, unmarked, IsBehind, IsGrown, IsFaceOfSome, IsSearched, AreDistances}
+use Rattle.edge_group.specs.Searches.{mark_of, unmarked, IsAcross, IsGrown, IsFaceOfSome, IsSearched, AreDistances}
 
 module _ (rows : List Row) (table : IsTable rows) where
   -- a tetrahedron at distance m + 1 is across a face of one at distance m
@@ -56,13 +56,13 @@ module _ (rows : List Row) (table : IsTable rows) where
           | inl less ↦
               let e = some_distance rows table (length other) t (record { crossed = other; long = refl; led = led }) in
               let m : e.0 ≤ length other = distance_least rows t e.0 (length other) e.1 (record { crossed = other; long = refl; led = led }) in
-              let marked : mark_of old t ≡ Some e.0 = (h.told t e.0 inside).1 (e.1, omega arith) in
+              let marked : mark_of old t ≡ Some e.0 = (h.reported t e.0 inside).1 (e.1, omega arith) in
               absurd (let z : None ≡ Some e.0 = sym f.0 ∙ marked in cc)
         ];
       },
     )
       where
-        f : (mark_of old t ≡ None) × (mark_of new t ≡ Some (d + 1)) × IsBehind rows (IsFaceOfSome level) t
+        f : (mark_of old t ≡ None) × (mark_of new t ≡ Some (d + 1)) × IsAcross rows (IsFaceOfSome level) t
         f = g.fresh t c
 
         inside : t < length rows
@@ -73,13 +73,13 @@ module _ (rows : List Row) (table : IsTable rows) where
 
     marked_distance : (t j : ℕ) → t < length rows → mark_of new t ≡ Some j → IsDistance rows t j × (j ≤ d + 1)
     marked_distance t j l e = elim (g.marked t j e) [
-      | inl was ↦ let k = (h.told t j l).0 was in (k.0, let m : j ≤ d = k.1 in omega arith)
+      | inl was ↦ let k = (h.reported t j l).0 was in (k.0, let m : j ≤ d = k.1 in omega arith)
       | inr c ↦ (subst (IsDistance rows t) (sym c.1) (fresh_distance t c.0).1, let m : j ≡ d + 1 = c.1 in omega arith)
     ]
 
     distance_marked : (t j : ℕ) → t < length rows → IsDistance rows t j → j ≤ d + 1 → mark_of new t ≡ Some j
     distance_marked t j l k m = elim (cases_lt d j) [
-      | inr low ↦ g.kept t j ((h.told t j l).1 (k, low))
+      | inr low ↦ g.kept t j ((h.reported t j l).1 (k, low))
       | inl high ↦
           let e : j ≡ suc d = omega arith in
           let b = before d t (subst (IsDistance rows t) e k) in
@@ -92,12 +92,12 @@ module _ (rows : List Row) (table : IsTable rows) where
     pub searched_on : IsSearched rows (d + 1) new next
     searched_on = record {
       one_each = g.one_each ∙ h.one_each;
-      told = λ t j l. (marked_distance t j l, λ k. distance_marked t j l k.0 k.1);
+      reported = λ t j l. (marked_distance t j l, λ k. distance_marked t j l k.0 k.1);
       at_level = λ t. (
         fresh_distance t,
         λ k. elim (g.marked t (d + 1) (distance_marked t (d + 1) k.0 k.1 (omega arith))) [
           | inr c ↦ c.0
-          | inl was ↦ let m : d + 1 ≤ d = ((h.told t (d + 1) k.0).0 was).1 in absurd (omega arith)
+          | inl was ↦ let m : d + 1 ≤ d = ((h.reported t (d + 1) k.0).0 was).1 in absurd (omega arith)
         ],
       );
     }
@@ -107,10 +107,10 @@ module _ (rows : List Row) (table : IsTable rows) where
   pub searched_end : (d : ℕ) (marks : List (Option ℕ)) → IsSearched rows d marks [] → AreDistances rows marks
   searched_end d marks h = record {
     one_each = h.one_each;
-    told = λ t j l. (
-      λ e. ((h.told t j l).0 e).0,
+    reported = λ t j l. (
+      λ e. ((h.reported t j l).0 e).0,
       λ k. elim (cases_lt d j) [
-        | inr low ↦ (h.told t j l).1 (k, low)
+        | inr low ↦ (h.reported t j l).1 (k, low)
         | inl high ↦ let u = lower (j - d) d t l (subst (IsDistance rows t) (omega arith) k) in absurd (contains_nil u.0 ((h.at_level u.0).1 (u.1, u.2)))
       ],
     );
@@ -124,7 +124,7 @@ module _ (rows : List Row) (table : IsTable rows) where
   pub searched_start : (marks : List (Option ℕ)) (level : List ℕ) → 0 < length rows → marks ≡ set (replicate (length rows) None) 0 (Some 0) → level ≡ 0 ∷ [] → IsSearched rows 0 marks level
   searched_start marks level some e f = record {
     one_each = ap length e ∙ length-set (replicate (length rows) None) 0 (Some 0) ∙ length-replicate (length rows) None;
-    told = λ t j l. elim (cases_eq t 0) [
+    reported = λ t j l. elim (cases_eq t 0) [
       | inl z ↦ (
         λ m. let w : Some 0 ≡ Some j = sym at_zero ∙ ap (mark_of marks) (sym z) ∙ m in let y : 0 ≡ j = cc in
             (subst (λ u. IsDistance rows u j) (sym z) (subst (IsDistance rows 0) y zero_distance), omega arith),
@@ -162,7 +162,7 @@ module _ (rows : List Row) (table : IsTable rows) where
   pub level_inside : (d : ℕ) (marks : List (Option ℕ)) (level : List ℕ) → IsSearched rows d marks level → All (λ t. t < length rows) level
   level_inside d marks level h = λ k e l. ((h.at_level (slice_index_or level k e)).0 (Contains-get_or level k e l)).0
 
-  pub few_turns : (d : ℕ) (old new : List (Option ℕ)) (level next : List ℕ) (P : Face → Type 0) → IsGrown rows P (d + 1) old new next → 0 < length level → d + (unmarked old + length level) ≤ length rows
+  pub bounded_steps : (d : ℕ) (old new : List (Option ℕ)) (level next : List ℕ) (P : Face → Type 0) → IsGrown rows P (d + 1) old new next → 0 < length level → d + (unmarked old + length level) ≤ length rows
       → (d + 1 + (unmarked new + length next) ≤ length rows) × (unmarked new + length next < unmarked old + length level)
-  few_turns d old new level next P g some few = let e : unmarked new + length next ≡ unmarked old = g.count in
+  bounded_steps d old new level next P g some limited = let e : unmarked new + length next ≡ unmarked old = g.count in
       let a : d + 1 + (unmarked new + length next) ≤ length rows = omega arith in let b : unmarked new + length next < unmarked old + length level = omega arith in (a, b)

@@ -7,9 +7,9 @@ use Rattle.presentation_definitions.specs.declared.Letter.{Letter}
 
 -- one sign for each generator, one relator for each edge, and a tree face for each tetrahedron but the first
 pub record IsKept (tree : List (Option Face)) (generators : List ℕ) (turning : List Bool) (edges : List ℕ) (relators : List (List Letter)) : Type 0 where
-  pub few : length generators < 2 ^ 32
+  pub limited : length generators < 2 ^ 32
   pub signs : length turning ≡ length generators
-  pub few_edges : length edges < 2 ^ 32
+  pub bounded_edges : length edges < 2 ^ 32
   pub one_each : length relators ≡ length edges
   pub root : (t : ℕ) → t < length tree → (slice_index_or tree t None ≡ None) ↔ (t ≡ 0)
 

@@ -14,4 +14,4 @@ pub record AreFound (s : Skeleton) (faces numbers : List ℕ) : Type 0 where
   pub skeleton : IsSkeleton s
   pub firsts : AreLeastFaces s faces
   pub generators : AreGenerators s numbers
-  pub few : length numbers < 2 ^ 32
+  pub limited : length numbers < 2 ^ 32

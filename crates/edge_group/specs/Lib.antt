@@ -1,5 +1,5 @@
 pub mod Searches
-pub mod Behind
+pub mod Across
 pub mod Turns
 pub mod Fields
 pub mod Generators

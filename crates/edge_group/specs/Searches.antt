@@ -13,7 +13,7 @@ abbrev pub unmarked : List (Option ℕ) → ℕ
 unmarked marks = count_by is_none marks
 
 -- a face of the set is glued to t
-pub record IsBehind (rows : List Row) (Crossed : Face → Type 0) (t : ℕ) : Type 0 where
+pub record IsAcross (rows : List Row) (Crossed : Face → Type 0) (t : ℕ) : Type 0 where
   pub face : Face
   pub crossed : Crossed face
   pub gluing : Gluing
@@ -25,7 +25,7 @@ pub record IsGrown (rows : List Row) (Crossed : Face → Type 0) (distance : ℕ
   pub one_each : length new ≡ length old
   pub kept : (t j : ℕ) → mark_of old t ≡ Some j → mark_of new t ≡ Some j
   pub marked : (t j : ℕ) → mark_of new t ≡ Some j → (mark_of old t ≡ Some j) ⊎ (Contains added t × (j ≡ distance))
-  pub fresh : (t : ℕ) → Contains added t → (mark_of old t ≡ None) × (mark_of new t ≡ Some distance) × IsBehind rows Crossed t
+  pub fresh : (t : ℕ) → Contains added t → (mark_of old t ≡ None) × (mark_of new t ≡ Some distance) × IsAcross rows Crossed t
   pub all : (x : Face) (g : Gluing) → Crossed x → glue rows x ≡ Some g → (j : ℕ) × (mark_of new g.tet ≡ Some j)
   pub count : unmarked new + length added ≡ unmarked old
 
@@ -51,10 +51,10 @@ IsFaceOfSome ts x = Contains ts x.tet
 -- the tetrahedra up to a distance are marked with their distances, and the level has those at that distance
 pub record IsSearched (rows : List Row) (distance : ℕ) (marks : List (Option ℕ)) (level : List ℕ) : Type 0 where
   pub one_each : length marks ≡ length rows
-  pub told : (t j : ℕ) → t < length rows → (mark_of marks t ≡ Some j) ↔ (IsDistance rows t j × (j ≤ distance))
+  pub reported : (t j : ℕ) → t < length rows → (mark_of marks t ≡ Some j) ↔ (IsDistance rows t j × (j ≤ distance))
   pub at_level : (t : ℕ) → Contains level t ↔ ((t < length rows) × IsDistance rows t distance)
 
 -- each tetrahedron that has a distance is marked with it
 pub record AreDistances (rows : List Row) (marks : List (Option ℕ)) : Type 0 where
   pub one_each : length marks ≡ length rows
-  pub told : (t j : ℕ) → t < length rows → (mark_of marks t ≡ Some j) ↔ IsDistance rows t j
+  pub reported : (t j : ℕ) → t < length rows → (mark_of marks t ≡ Some j) ↔ IsDistance rows t j

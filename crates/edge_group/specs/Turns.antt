@@ -14,4 +14,4 @@ pub record IsTreeWith (rows : List Row) (faces : List (Option Face)) (marks : Li
 pub record IsPathOdd (rows : List Row) (t : ℕ) (odd : Bool) : Type 0 where
   pub path : List Face
   pub is_path : IsTreePath rows t path
-  pub told : odd ≡ is_odd_number (evens rows path)
+  pub reported : odd ≡ is_odd_number (evens rows path)

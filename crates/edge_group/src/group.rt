@@ -7,7 +7,7 @@ ghost use Rattle.table_definitions.specs.Places.{IsConnected};
 ghost use Rattle.presentation_definitions.specs.Groups.{IsGroup, HasGroup, IsGroupFault};
 
 use crate::generators::Generators;
-use crate::relators::inner_edges;
+use crate::relators::internal_edge_classes;
 use crate::tree::shortest_tree;
 use gluing_table::Face;
 use out_of_memory::{Failure, NoMemory};
@@ -56,7 +56,7 @@ fn presentation_of(alloc: Global, skeleton: &Skeleton) -> Result<Group, NoMemory
     let tree = shortest_tree(alloc, skeleton.table())?;
     let generators = Generators::of(alloc, skeleton, &tree.faces)?;
     let turning = generators.turning(alloc, &tree)?;
-    let edges = inner_edges(alloc, skeleton)?;
+    let edges = internal_edge_classes(alloc, skeleton)?;
     let relators = generators.relators(alloc, &edges)?;
     Ok(Group {
         tree: tree.faces,

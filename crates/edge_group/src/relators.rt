@@ -17,10 +17,10 @@ use skeleton::{Corner, Skeleton};
 use std::alloc::{AllocError, Global};
 
 /// The internal edge classes of `skeleton`, ascending.
-pub fn inner_edges(alloc: Global, skeleton: &Skeleton) -> Result<Vec<u32>, AllocError>
+pub fn internal_edge_classes(alloc: Global, skeleton: &Skeleton) -> Result<Vec<u32>, AllocError>
     ensures edges { IfOk result (λ edges. edges.items ≡ definition.internal_edges skeleton.now.rows skeleton.now.edges.classes skeleton.now.edges.count) }
     ensures in_range { IfOk result (λ edges. All (λ c. c < skeleton.now.edges.count) edges.items) }
-    ensures few { IfOk result (λ edges. length edges.items < 2 ^ 32) }
+    ensures limited { IfOk result (λ edges. length edges.items < 2 ^ 32) }
 {
     let mut edges = Vec::new(alloc);
     for class in 0..skeleton.edges() {

@@ -3,7 +3,7 @@
 ghost use Rattle.std.specs.Prelude.{◌↔◌, IsTrue, IfOk};
 ghost use Rattle.table_definitions.specs.Places.{IsConnected};
 ghost use Rattle.edge_group.specs.Searches.{AreDistances};
-ghost use Rattle.edge_group.specs.Behind.{IsOneLess, IsCloserFace, IsLeastOf, IsLeastCloser, AreLeastCloser};
+ghost use Rattle.edge_group.specs.Across.{IsOneLess, IsCloserFace, IsLeastOf, IsLeastCloser, AreLeastCloser};
 ghost use Rattle.edge_group.specs.Turns.{IsTreeWith};
 
 use crate::distances::distances;
@@ -49,7 +49,7 @@ fn closer_face(distances: &[Option<u32>], at: FaceOfTable<'_>) -> Option<Face>
 }
 
 /// The first, by tetrahedron and number, of `first` and `second`, or the one that there is.
-fn lesser(first: Option<Face>, second: Option<Face>) -> Option<Face>
+fn smaller(first: Option<Face>, second: Option<Face>) -> Option<Face>
     ensures { IsLeastOf first second result }
 {
     let Some(one) = first else {
@@ -76,7 +76,7 @@ fn tree_face(distances: &[Option<u32>], at: TetOfTable<'_>) -> Option<Face>
             table: at.table,
             face: Face { tet: at.tet, face },
         };
-        least = lesser(least, closer_face(distances, face));
+        least = smaller(least, closer_face(distances, face));
     }
     least
 }

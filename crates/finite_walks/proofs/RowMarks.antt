@@ -10,7 +10,7 @@ use Rattle.table_walk_laws.proofs.SearchLemmas.{turn_ends, has_few_turns}
 use Rattle.table_walk_laws.proofs.Members.{members_grow}
 
 pub none_done : (row : List ℕ) (marked : List Bool) (pending : List ℕ) → IsRowMarked row [] marked marked pending pending
-none_done row marked pending = record { size = refl; behind = omega arith; turn = λ neighbours first x k same l t. t; members = λ old m. m; work = λ k l. refl }
+none_done row marked pending = record { size = refl; not_longer = omega arith; turn = λ neighbours first x k same l t. t; members = λ old m. m; work = λ k l. refl }
 
 module _ (row : List (Option ℕ)) (i : ℕ) (inside : i < length row) (before after : List Bool) (pending longer : List ℕ)
     (h : IsRowMarked (present row) (present (take i row)) before after pending longer) (after' : List Bool) (longer' : List ℕ) where
@@ -18,20 +18,20 @@ module _ (row : List (Option ℕ)) (i : ℕ) (inside : i < length row) (before a
       IsRowMarked (present row) (present (take (i + 1) row)) before after' pending longer'
   marks_one y e below new ea el = record {
     size = ap length ea ∙ length-set after y true ∙ h.size;
-    behind = omega (arith, ap length el, length_push longer y, h.behind);
+    not_longer = omega (arith, ap length el, length_push longer y, h.not_longer);
     turn = λ neighbours first x k same l t. entry_marks neighbours first x row same i inside after (drop k longer) (h.turn neighbours first x k same l t) after' (drop k longer') y e below new ea (dropped k l);
     members = λ old m. subst₂ (AreMembers old) (sym ea) (sym el) (members_grow old after longer y (h.members old m) below new);
     work = λ k l. ap₂ work_left ea (dropped k l) ∙ has_few_turns.mark after (drop k longer) y below new ∙ h.work k l;
   }
     where
       dropped : (k : ℕ) → k ≤ length pending → drop k longer' ≡ drop k longer ++ y ∷ []
-      dropped k l = ap (drop k) el ∙ drop-append-le k longer (y ∷ []) (omega (arith, h.behind))
+      dropped k l = ap (drop k) el ∙ drop-append-le k longer (y ∷ []) (omega (arith, h.not_longer))
 
   module _ (ea : after' ≡ after) (el : longer' ≡ longer) where
     pub passes_one : (y : ℕ) → slice_index_or row i None ≡ Some y → IsMarked after y → IsRowMarked (present row) (present (take (i + 1) row)) before after' pending longer'
     passes_one y e m = record {
       size = ap length ea ∙ h.size;
-      behind = omega (arith, ap length el, h.behind);
+      not_longer = omega (arith, ap length el, h.not_longer);
       turn = λ neighbours first x k same l t. entry_passes neighbours first x row same i inside after (drop k longer) (h.turn neighbours first x k same l t) after' (drop k longer') y e m ea (ap (drop k) el);
       members = λ old m. subst₂ (AreMembers old) (sym ea) (sym el) (h.members old m);
       work = λ k l. ap₂ work_left ea (ap (drop k) el) ∙ h.work k l;
@@ -40,7 +40,7 @@ module _ (row : List (Option ℕ)) (i : ℕ) (inside : i < length row) (before a
     pub skips_one : slice_index_or row i None ≡ None → IsRowMarked (present row) (present (take (i + 1) row)) before after' pending longer'
     skips_one e = record {
       size = ap length ea ∙ h.size;
-      behind = omega (arith, ap length el, h.behind);
+      not_longer = omega (arith, ap length el, h.not_longer);
       turn = λ neighbours first x k same l t. entry_skips neighbours first x row same i inside after (drop k longer) (h.turn neighbours first x k same l t) after' (drop k longer') e ea (ap (drop k) el);
       members = λ old m. subst₂ (AreMembers old) (sym ea) (sym el) (h.members old m);
       work = λ k l. ap₂ work_left ea (ap (drop k) el) ∙ h.work k l;

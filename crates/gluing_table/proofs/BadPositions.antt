@@ -15,10 +15,10 @@ good_new images k h = grind arith
 
 -- if no position is bad, the images are a bijection
 pub no_bad : (images : List ℕ) → ((k : ℕ) → k < length images → is_bad_at images k ≡ false) → IsPermutation images (below (length images))
-no_bad images good = onto (length images) images refl (λ k l. good_small images k (good k l)) (IsDistinct-from_before images apart)
+no_bad images good = onto (length images) images refl (λ k l. good_small images k (good k l)) (IsDistinct-from_before images separate)
   where
-    apart : (i j : ℕ) → i < j → j < length images → get_or images i 0 ≢ get_or images j 0
-    apart i j l m e =
+    separate : (i j : ℕ) → i < j → j < length images → get_or images i 0 ≢ get_or images j 0
+    separate i j l m e =
         let fresh = good_new images j (good j m) in
         let in_take : i < length (take j images) = rw (length-take-le j images (omega arith)) l in
         let same : get_or (take j images) i 0 ≡ get_or images i 0 = get_or-take j images i 0 l in
@@ -28,7 +28,7 @@ no_bad images good = onto (length images) images refl (λ k l. good_small images
 pub none_marked : (images : List ℕ) (marks : List Bool) → marks ≡ replicate (length images) false → AreMarked images 0 marks
 none_marked images marks e = record {
   one_each = ap (λ (xs : List Bool). length xs) e ∙ length-replicate (length images) false;
-  stood = λ v l. rw e (grind (arith, common_steps));
+  was_marked = λ v l. rw e (grind (arith, common_steps));
   good = λ k l. absurd (omega (arith, l));
 }
 
@@ -37,16 +37,16 @@ pub marked_more : (images : List ℕ) (marks : List Bool) (i : ℕ) → i < leng
     → get_or marks (get_or images i 0) false ≡ false → AreMarked images i marks → AreMarked images (i + 1) (set marks (get_or images i 0) true)
 marked_more images marks i l small fresh m = record {
   one_each = length-set _ _ _ ∙ m.one_each;
-  stood = λ v w. grind (arith, common_steps, m.stood v w);
-  good = λ k w. grind (arith, common_steps, m.good k, m.stood (get_or images i 0) small);
+  was_marked = λ v w. grind (arith, common_steps, m.was_marked v w);
+  good = λ k w. grind (arith, common_steps, m.good k, m.was_marked (get_or images i 0) small);
 }
 
 -- a number that is marked
 pub marked_bad : (images : List ℕ) (marks : List Bool) (i : ℕ) → i < length images → get_or images i 0 < length images
     → get_or marks (get_or images i 0) false ≡ true → AreMarked images i marks → IsFirstBad images i
-marked_bad images marks i l small stood m = record {
+marked_bad images marks i l small was_marked m = record {
   in_range = l;
-  bad = grind (arith, m.stood (get_or images i 0) small);
+  bad = grind (arith, m.was_marked (get_or images i 0) small);
   before = m.good;
 }
 

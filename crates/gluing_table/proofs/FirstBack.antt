@@ -10,7 +10,7 @@ use Rattle.std.proofs.lemmas.Bool.{eq-eqb, ne_eqb}
 use Rattle.table_definitions.specs.Lists.{has, first_some, below}
 use Rattle.table_definitions.specs.Permutation.{four}
 use Rattle.table_definitions.specs.Table.{Gluing, Row, Face}
-use Rattle.table_definitions.specs.Replacing.{Replacement, leads_to, fresh_row, back_to_fresh}
+use Rattle.table_definitions.specs.Replacing.{Replacement, inverse_if_reached, fresh_row, back_to_fresh}
 use Rattle.table_definitions.proofs.ListFacts.{first_some-append, first_some-map, first_some-below, first_some-none_below}
 use Rattle.table_definitions.specs.Replaceable.{numbers_of, fresh_numbers, row_back}
 use Rattle.table_definitions.proofs.FreshRows.{gives_back}
@@ -38,9 +38,9 @@ row_at xs i row u l is e =
 pub fresh_found : (xs : List Numbered) (removed : List ℕ) (i : ℕ) (row : Numbered) (copy : Row) (u : ℕ) → i < length xs → row ≡ get_or xs i row → row.0 ≡ u → copy ≡ row.1 → ((k : ℕ) → k < i → get_or (numbers_of xs) k 0 ≡ u → ⊥)
     → Some copy ≡ if◌then◌else◌ {A = Option Row} (has (numbers_of xs) u) (Some (fresh_row (record { removed = removed; fresh = xs }) u)) None
 fresh_found xs removed i row copy u l is e same before =
-    let stands : has (numbers_of xs) u ≡ true = list_any_at (λ m. m == u) (numbers_of xs) i 0 (rw length-numbers_of l) (eq-eqb (get_or (numbers_of xs) i 0) u (sym (number_at xs i row l is) ∙ e)) in
+    let occurs : has (numbers_of xs) u ≡ true = list_any_at (λ m. m == u) (numbers_of xs) i 0 (rw length-numbers_of l) (eq-eqb (get_or (numbers_of xs) i 0) u (sym (number_at xs i row l is) ∙ e)) in
     ap (λ (w : Row). Some w) (same ∙ sym (row_at xs i row u l is (position_at xs i row u l is e before)))
-    ∙ ap (λ b. if◌then◌else◌ {A = Option Row} b (Some (fresh_row (record { removed = removed; fresh = xs }) u)) None) (sym stands)
+    ∙ ap (λ b. if◌then◌else◌ {A = Option Row} b (Some (fresh_row (record { removed = removed; fresh = xs }) u)) None) (sym occurs)
 
 pub fresh_missing : (xs : List Numbered) (removed : List ℕ) (i : ℕ) (u : ℕ) → length xs ≤ i → ((k : ℕ) → k < i → get_or (numbers_of xs) k 0 ≡ u → ⊥)
     → None ≡ if◌then◌else◌ {A = Option Row} (has (numbers_of xs) u) (Some (fresh_row (record { removed = removed; fresh = xs }) u)) None
@@ -111,7 +111,7 @@ back_by_rows r y up =
         let at : position_or_len (λ (x : Numbered). x.0 == row.0) r.fresh ≡ k = position_at r.fresh k row row.0 l is refl
         (λ j m e. (let less : get_or (fresh_numbers r) j 0 < get_or (fresh_numbers r) k 0 = up j k 0 m (rw length-numbers_of l) in let here = number_at r.fresh k row l is in absurd (omega arith))) in
         let rows : fresh_row r row.0 ≡ row.1 = row_at r.fresh k row row.0 l is at in
-        ap (λ (w : Row). first_some (λ f. option_and_then (leads_to y (face_at row.0 f)) (slice_index_or w f None)) four) (sym rows)
+        ap (λ (w : Row). first_some (λ f. option_and_then (inverse_if_reached y (face_at row.0 f)) (slice_index_or w f None)) four) (sym rows)
         ∙ sym (first_some-map (gives_back r y) (face_at row.0) four)
       where
         itself : (xs : List Numbered) (k : ℕ) (d : Numbered) → k < length xs → get_or xs k d ≡ get_or xs k (get_or xs k d)
@@ -126,4 +126,4 @@ row_entry (x ∷ row) zero o l = refl
 row_entry (x ∷ row) (suc k) o l = row_entry row k o (omega arith)
 
 abbrev pub face_back : Face → Numbered → ℕ → Option Gluing
-face_back y x f = option_and_then (leads_to y (record { tet = x.0; face = f })) (slice_index_or x.1 f None)
+face_back y x f = option_and_then (inverse_if_reached y (record { tet = x.0; face = f })) (slice_index_or x.1 f None)

@@ -31,10 +31,10 @@ below_by_rank p n u l = by_size (cases_lt u n)
     by_size (inr a) = absurd (omega (arith, rank-le p n u a))
 
 pub few_removed : (rows : List Row) (r : Replacement) → IsTable rows → CanReplace rows r → length r.removed < 2 ^ 32
-few_removed rows r table can = omega (arith, fewer_removed rows r can, table.few)
+few_removed rows r table can = omega (arith, fewer_removed rows r can, table.limited)
 
 pub few_fresh : (rows : List Row) (r : Replacement) → CanReplace rows r → length r.fresh ≤ 1000
-few_fresh rows r can = omega (arith, can.few)
+few_fresh rows r can = omega (arith, can.limited)
 
 -- raised above the numbers of the new rows, the rank of a retained row is its new number
 pub number_opened : (rows : List Row) (r : Replacement) → CanReplace rows r → (t closed u : ℕ) → t < length rows → has r.removed t ≡ false → closed ≡ rank_without r.removed t
@@ -74,7 +74,7 @@ glued_on rows r y o g new e stays is same =
 
 pub closed_fits : (rows : List Row) (r : Replacement) → IsTable rows → CanReplace rows r → (x : Face) (g : Gluing) (tet closed : ℕ) → Some g ≡ glue rows x → tet ≡ g.tet → closed ≡ rank_without r.removed tet
     → closed + length r.fresh < 2 ^ 32
-closed_fits rows r table can x g tet closed e same is = let l = table.in_range x g (sym e) in omega (arith, few_fresh rows r can, table.few)
+closed_fits rows r table can x g tet closed e same is = let l = table.in_range x g (sym e) in omega (arith, few_fresh rows r can, table.limited)
 
 pub glued_back_by : (rows : List Row) (r : Replacement) → CanReplace rows r → (y : Face) (t f tet : ℕ) (g : Gluing) (back : Option Gluing) → Some g ≡ glue rows (face_at t f) → tet ≡ g.tet → f ≡ y.face
     → true ≡ has r.removed tet → back ≡ first_some (row_back y) r.fresh → back ≡ kept_gluing rows r y (glue rows (face_at t y.face))
@@ -114,7 +114,7 @@ new_kept rows r t u row k e =
     e ∙ ap (λ v. kept_row rows r v u) (sym k.back) ∙ ap (λ b. cond b (fresh_row r u) (kept_row rows r (kept_at rows r u) u)) (sym k.free)
 
 pub place_fits : (rows : List Row) (r : Replacement) → IsTable rows → CanReplace rows r → (u closed : ℕ) → u < replaced_length rows r → closed ≡ rank_without (fresh_numbers r) u → closed + length r.removed < 2 ^ 32
-place_fits rows r table can u closed l is = omega (arith, can.few, table.few, fewer_removed rows r can)
+place_fits rows r table can u closed l is = omega (arith, can.limited, table.limited, fewer_removed rows r can)
 
 -- one more row is written
 pub written_more : (f : ℕ → Row) (n : ℕ) (items more : List Row) (row : Row) → items ≡ map f (below n) → row ≡ f n → more ≡ items ++ row ∷ [] → more ≡ map f (below (n + 1))

@@ -101,11 +101,11 @@ fn fresh_row(fresh: &[(u32, Row)], number: u32) -> Option<Row>
 
 /// The gluing of `target` back to `from`, if `glue`, the gluing of `from`, is to `target`.
 fn back_to_face(from: Face, glue: Option<Glue>, target: Face) -> Option<Glue>
-    ensures { result ≡ option_and_then (exchange.leads_to target from) glue }
+    ensures { result ≡ option_and_then (exchange.inverse_if_reached target from) glue }
 {
     let glue = glue?;
     if glue.other_side(from) == target {
-        Some(glue.way_back(from))
+        Some(glue.inverse_gluing(from))
     } else {
         None
     }
@@ -214,7 +214,7 @@ fn new_row(swap: &ReplacingRows<'_>, number: u32) -> Row
 /// The number of rows of the new table of `swap`.
 fn new_length(swap: &ReplacingRows<'_>) -> u32
     ensures value { result ≡ replaced_length swap.now.rows swap.now.by }
-    ensures few { result ≤ max_tets }
+    ensures limited { result ≤ max_tets }
     ensures is_table { IsTable (replaced swap.now.rows swap.now.by) }
 {
     (swap.rows.len() - swap.removed.len() + swap.fresh.len()) as u32

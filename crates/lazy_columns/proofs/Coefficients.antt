@@ -7,7 +7,7 @@ use Rattle.cone_definitions.specs.Vectors.{unit}
 use Rattle.cone_definitions.specs.Rows.{Row, plus_part, minus_part, positive_coefficient, negative_coefficient}
 use Rattle.cone_definitions.proofs.Units.{entry-unit_same, entry-unit_other}
 use Rattle.cone_arithmetic.specs.Sparse.{IsSparse}
-use Rattle.cone_row_laws.proofs.Sums.{plus-turned, minus-turned}
+use Rattle.cone_row_laws.proofs.Sums.{plus-negated, minus-negated}
 use Rattle.lazy_columns.specs.Fresh.{one_or_minus_one, HasOne}
 use Rattle.lazy_columns.proofs.Held.{parts_without}
 
@@ -50,9 +50,9 @@ module _ (columns : ℕ) (row : Row) (column : ℕ) (coefficient : ℤ) (sparse 
   parts : (plus_part row (unit columns column) ≡ positive_coefficient (get_or row term.0 (0, pos 0)).1) × (minus_part row (unit columns column) ≡ negative_coefficient (get_or row term.0 (0, pos 0)).1)
   parts = parts_at columns column row term.0 within term.1 (ap (λ (t : ℕ × ℤ). t.0) (is_at (0, pos 0))) others
 
-  pub has_one : (is_turned : Bool) → coefficient ≡ one_or_minus_one is_turned → HasOne columns row column is_turned
+  pub has_one : (is_negated : Bool) → coefficient ≡ one_or_minus_one is_negated → HasOne columns row column is_negated
   has_one true is = (
-    plus-turned row (unit columns column) ∙ parts.1 ∙ ap negative_coefficient (value ∙ is),
-    minus-turned row (unit columns column) ∙ parts.0 ∙ ap positive_coefficient (value ∙ is),
+    plus-negated row (unit columns column) ∙ parts.1 ∙ ap negative_coefficient (value ∙ is),
+    minus-negated row (unit columns column) ∙ parts.0 ∙ ap positive_coefficient (value ∙ is),
   )
   has_one false is = (parts.0 ∙ ap positive_coefficient (value ∙ is), parts.1 ∙ ap negative_coefficient (value ∙ is))

@@ -16,11 +16,11 @@ use Rattle.lazy_columns.proofs.UnitRays.{entered_surfaces}
 pub entered_one : (columns : ℕ) (old new : LateRays) (column : ℕ) → IsUnseen old.seen.items column → new.seen.items ≡ set old.seen.items column true →
     rays_of new.ray_list.items ≡ rays_of old.ray_list.items ++ unit columns column ∷ [] → HaveEntered columns old new
 entered_one columns old new column unseen seen_is rays_is = record {
-  late = λ rows pairs apart h. record {
+  late = λ rows pairs separate h. record {
     count = ap length seen_is ∙ length-set old.seen.items column true ∙ h.count;
     untouched = λ j still. h.untouched j (before j still);
     surfaces = subst₂ (λ seen rays. HasSurfaces columns (rows ++ held_rows 0 seen) pairs rays) (sym seen_is) (sym rays_is)
-        (entered_surfaces columns rows pairs old.seen.items (rays_of old.ray_list.items) column unseen apart (h.untouched column unseen) h.surfaces);
+        (entered_surfaces columns rows pairs old.seen.items (rays_of old.ray_list.items) column unseen separate (h.untouched column unseen) h.surfaces);
   };
   unseen = before;
 }
@@ -30,7 +30,7 @@ entered_one columns old new column unseen seen_is rays_is = record {
 
 pub entered_more : (columns : ℕ) (old middle new : LateRays) → HaveEntered columns old middle → HaveEntered columns middle new → HaveEntered columns old new
 entered_more columns old middle new first then = record {
-  late = λ rows pairs apart h. then.late rows pairs apart (first.late rows pairs apart h);
+  late = λ rows pairs separate h. then.late rows pairs separate (first.late rows pairs separate h);
   unseen = λ j h. first.unseen j (then.unseen j h);
 }
 

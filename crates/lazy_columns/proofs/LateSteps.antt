@@ -58,8 +58,8 @@ module _ (columns : ℕ) (rows : List Row) (pairs : List Clash) (seen : List Boo
 
 pub few_unions : (columns most : ℕ) (rows : List Row) (pairs : List Clash) (late : LateRays) → length rows + 2 ≤ most → AreLate columns rows pairs late →
     HaveSmallUnions columns most pairs (rays_of late.ray_list.items)
-few_unions columns most rows pairs late few h i j i_in j_in face =
-    let small = small_unions columns rows pairs late.seen.items (rays_of late.ray_list.items) h.surfaces i j i_in j_in face in omega (arith, small, few)
+few_unions columns most rows pairs late limited h i j i_in j_in face =
+    let small = small_unions columns rows pairs late.seen.items (rays_of late.ray_list.items) h.surfaces i j i_in j_in face in omega (arith, small, limited)
 
 -- the columns of a clashing pair differ
 pub pairs_apart : (columns : ℕ) (pairs : List Clash) → AreClashes columns pairs → PairsAreOfTwoColumns pairs
@@ -128,7 +128,7 @@ oriented_zero false row x = (λ z. z, λ z. z)
 -- the row has a column that has not entered
 pub late_extended : (limit columns : ℕ) (rows : List Row) (pairs : List Clash) (row : Row) (fresh : NewColumn) (late next : LateRays) → IsFreshColumn columns row pairs late.seen.items fresh →
     next.seen.items ≡ set late.seen.items fresh.column true →
-    AreRaised limit pairs (oriented fresh.is_turned row) fresh.column (rays_of late.ray_list.items) (rays_of next.ray_list.items) → AreLate columns rows pairs late → AreLate columns (rows ++ row ∷ []) pairs next
+    AreRaised limit pairs (oriented fresh.is_negated row) fresh.column (rays_of late.ray_list.items) (rays_of next.ray_list.items) → AreLate columns rows pairs late → AreLate columns (rows ++ row ∷ []) pairs next
 late_extended limit columns rows pairs row fresh late next f same raised h = record {
   count = ap length same ∙ length-set late.seen.items fresh.column true ∙ h.count;
   untouched = λ column unseen.
@@ -136,10 +136,10 @@ late_extended limit columns rows pairs row fresh late next f same raised h = rec
       untouched_more columns rows row column (h.untouched column u.0)
       (λ k d within e. u.1 (sym e ∙ f.lone k d within (subst (IsUnseen late.seen.items) (sym e) u.0)));
   surfaces = subst (λ s. HasSurfaces columns ((rows ++ row ∷ []) ++ held_rows 0 s) pairs (rays_of next.ray_list.items)) (sym same)
-      (same_surfaces columns ((rows ++ held_rows 0 (set late.seen.items fresh.column true)) ++ oriented fresh.is_turned row ∷ [])
+      (same_surfaces columns ((rows ++ held_rows 0 (set late.seen.items fresh.column true)) ++ oriented fresh.is_negated row ∷ [])
       ((rows ++ row ∷ []) ++ held_rows 0 (set late.seen.items fresh.column true)) pairs (rays_of next.ray_list.items)
-      (same_zeros columns rows row (oriented fresh.is_turned row) (set late.seen.items fresh.column true) (oriented_zero fresh.is_turned row))
-      (raised_surfaces limit columns rows pairs (oriented fresh.is_turned row) late.seen.items (rays_of late.ray_list.items) (rays_of next.ray_list.items) raised.signs fresh.column f.unseen
+      (same_zeros columns rows row (oriented fresh.is_negated row) (set late.seen.items fresh.column true) (oriented_zero fresh.is_negated row))
+      (raised_surfaces limit columns rows pairs (oriented fresh.is_negated row) late.seen.items (rays_of late.ray_list.items) (rays_of next.ray_list.items) raised.signs fresh.column f.unseen
       (h.untouched fresh.column f.unseen) f.one.0 f.one.1 f.free h.surfaces raised.signed raised.raised));
 }
 

@@ -3,23 +3,23 @@ use Rattle.std.proofs.Common.{◌≡◌, ℕ, ◌<◌, List, length, get_or, sli
 use Rattle.std.specs.List.{All}
 use Rattle.cone_definitions.specs.Rows.{Row}
 use Rattle.cone_definitions.specs.Vectors.{ray_at}
-use Rattle.cone_row_laws.specs.Operations.{turned}
+use Rattle.cone_row_laws.specs.Operations.{negated}
 use Rattle.ray_steps.specs.declared.rays.RayWithSupport.{RayWithSupport}
 use Rattle.ray_steps.specs.Clashes.{ClashData}
 use Rattle.ray_steps.specs.Rays.{rays_of}
-use Rattle.ray_steps.specs.Steps.{StepData, IsStepOf, turned_step}
+use Rattle.ray_steps.specs.Steps.{StepData, IsStepOf, negated_step}
 use Rattle.ray_steps.proofs.RayLemmas.{length-rays_of, ray_at-rays_of}
-use Rattle.ray_steps.proofs.TurnedLemmas.{signs-turned}
+use Rattle.ray_steps.proofs.TurnedLemmas.{signs-negated}
 use Rattle.lazy_columns.specs.Raised.{HasRoom}
 
-pub turned_step_of : (limit : ℕ) (clashes : ClashData) (row : Row) (rays : List (List ℕ)) (step after : StepData) → IsStepOf limit clashes row rays step → after ≡ turned_step step →
-    IsStepOf limit clashes (turned row) rays after
-turned_step_of limit clashes row rays step after h is = subst (IsStepOf limit clashes (turned row) rays) (sym is) (record {
+pub turned_step_of : (limit : ℕ) (clashes : ClashData) (row : Row) (rays : List (List ℕ)) (step after : StepData) → IsStepOf limit clashes row rays step → after ≡ negated_step step →
+    IsStepOf limit clashes (negated row) rays after
+turned_step_of limit clashes row rays step after h is = subst (IsStepOf limit clashes (negated row) rays) (sym is) (record {
   columns = h.columns;
   pairs = h.pairs;
   rays_are = h.rays_are;
   limit_is = h.limit_is;
-  signed = signs-turned limit rays step.signs row h.signed;
+  signed = signs-negated limit rays step.signs row h.signed;
 })
 
 -- equal rays are 0 in the same column

@@ -4,14 +4,14 @@ use Rattle.std.proofs.lemmas.List.{take-append-drop, drop_more}
 use Rattle.cone_arithmetic.specs.declared.numbers.TheConstants.{MAX_ENTRY}
 use Rattle.cone_definitions.specs.Rows.{Row}
 use Rattle.cone_definitions.specs.Elimination.{Named}
-use Rattle.cone_row_laws.specs.Operations.{turned}
+use Rattle.cone_row_laws.specs.Operations.{negated}
 use Rattle.ray_steps.specs.Clashes.{ClashData}
 use Rattle.ray_steps.specs.Faults.{IfLarge}
-use Rattle.ray_steps.specs.Steps.{StepData, IsStepOf, IsFirstLargeEitherWay, turned_step}
+use Rattle.ray_steps.specs.Steps.{StepData, IsStepOf, IsFirstLargeEitherWay, negated_step}
 use Rattle.ray_steps.specs.declared.rays.StepFault.{StepFault}
 use Rattle.ray_steps.specs.declared.rays.StepFault.TheVariants.{Large, NoMemory}
 use Rattle.lazy_columns.specs.Fresh.{oriented}
-use Rattle.lazy_columns.specs.Passing.{PassesAtPair, PassesBehind, HasPassedStep}
+use Rattle.lazy_columns.specs.Passing.{PassesAtPair, PassesBefore, HasPassedStep}
 use Rattle.lazy_columns.proofs.Oriented.{turned_step_of}
 
 pub fault_weaker : (P Q : Named → Type 0) → ((named : Named) → P named → Q named) → (fault : StepFault) → IfLarge P fault → IfLarge Q fault
@@ -25,26 +25,26 @@ back (pos zero) = refl
 back (pos (suc n)) = refl
 back (negsuc n) = refl
 
-turned_back : (row : Row) → turned (turned row) ≡ row
+turned_back : (row : Row) → negated (negated row) ≡ row
 turned_back [] = refl
 turned_back ((column, z) ∷ row) = ap₂ (λ (z : ℤ) (row : Row). (column, z) ∷ row) (back z) (turned_back row)
 
 -- the pair is one of the step, or of the step of the negated row
-pub pair_either_way : (clashes : ClashData) (row : Row) (is_turned : Bool) (rays : List (List ℕ)) (step : StepData) → IsStepOf MAX_ENTRY clashes (oriented is_turned row) rays step →
+pub pair_either_way : (clashes : ClashData) (row : Row) (is_negated : Bool) (rays : List (List ℕ)) (step : StepData) → IsStepOf MAX_ENTRY clashes (oriented is_negated row) rays step →
     (named : Named) → IsFirstLargeEitherWay step named → PassesAtPair clashes row rays named
-pair_either_way clashes row is_turned rays step h named (inl first) = record { is_turned = is_turned; step = step; is = h; passes = first }
-pair_either_way clashes row false rays step h named (inr first) = record { is_turned = true; step = turned_step step; is = turned_step_of MAX_ENTRY clashes row rays step (turned_step step) h refl; passes = first }
+pair_either_way clashes row is_negated rays step h named (inl first) = record { is_negated = is_negated; step = step; is = h; passes = first }
+pair_either_way clashes row false rays step h named (inr first) = record { is_negated = true; step = negated_step step; is = turned_step_of MAX_ENTRY clashes row rays step (negated_step step) h refl; passes = first }
 pair_either_way clashes row true rays step h named (inr first) = record {
-  is_turned = false;
-  step = turned_step step;
-  is = subst (λ r. IsStepOf MAX_ENTRY clashes r rays (turned_step step)) (turned_back row) (turned_step_of MAX_ENTRY clashes (turned row) rays step (turned_step step) h refl);
+  is_negated = false;
+  step = negated_step step;
+  is = subst (λ r. IsStepOf MAX_ENTRY clashes r rays (negated_step step)) (turned_back row) (turned_step_of MAX_ENTRY clashes (negated row) rays step (negated_step step) h refl);
   passes = first;
 }
 
 -- ---- the next row
 
 pub passed_next : (clashes : ClashData) (rows : List Row) (number : ℕ) (row : Row) → number < length rows → row ≡ slice_index_or rows number [] →
-    (named : Named) → PassesBehind clashes (take number rows) row named → HasPassedStep clashes rows
+    (named : Named) → PassesBefore clashes (take number rows) row named → HasPassedStep clashes rows
 passed_next clashes rows number row less is named h = record {
   before = take number rows;
   row = row;

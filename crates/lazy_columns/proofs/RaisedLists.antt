@@ -36,7 +36,7 @@ module _ (limit : ℕ) (pairs : List Clash) (rays : List (List ℕ)) (signs : Li
         (λ x c. inr c) made h.comes;
     keeps = λ k left from less leaves. absurd (omega arith);
     gives = λ u w p. h.gives u w (inl p.u_in_range) p;
-    apart = λ fresh. h.apart fresh.step;
+    separate = λ fresh. h.separate fresh.step;
   }
 
   weaker : (m : ℕ) (x : List ℕ) → ComesFromRaised rays signs column (m + 1) x ⊎ ComesFromPlaces limit pairs rays signs (length rays) 0 x →
@@ -53,7 +53,7 @@ module _ (limit : ℕ) (pairs : List Clash) (rays : List (List ℕ)) (signs : Li
     keeps = λ k left from less leaves. ⊎_elim (λ same. absurd (none left (subst (λ i. IsLeft (slice_index_or signs i Zero) left) same leaves)))
         (λ differs. h.keeps k left (omega (arith, differs)) less leaves) (cases_eq k m);
     gives = h.gives;
-    apart = h.apart;
+    separate = h.separate;
   }
 
   left_once : (sign : Sign) (a b : ℕ) → IsLeft sign a → IsLeft sign b → a ≡ b
@@ -112,8 +112,8 @@ module _ (limit : ℕ) (pairs : List Clash) (rays : List (List ℕ)) (signs : Li
         subst (Contains (next ++ x ∷ [])) (raised ∙ ap (slice_set (ray_at rays m) column) e ∙ ap (λ i. slice_set (ray_at rays i) column other) (sym same)) (Contains-push next x))
         (λ differs. Contains-append_left next (x ∷ []) (slice_set (ray_at rays k) column other) (h.keeps k other (omega (arith, differs)) less left_there))
         (cases_eq k m);
-    gives = λ u w p. let g = h.gives u w p in record { pair = g.pair; x = g.x; stands = Contains-append_left next (x ∷ []) g.x g.stands; reduced = g.reduced };
-    apart = λ fresh. all_pairs_push (λ y z. y ≢ z) next x (h.apart fresh)
+    gives = λ u w p. let g = h.gives u w p in record { pair = g.pair; x = g.x; occurs = Contains-append_left next (x ∷ []) g.x g.occurs; reduced = g.reduced };
+    separate = λ fresh. all_pairs_push (λ y z. y ≢ z) next x (h.separate fresh)
         (λ k d less same. not_again fresh m left x (slice_index_or next k d) sign within is leaves some raised (h.comes k d less) same);
   }
 

@@ -28,9 +28,9 @@ left_of row x (Positive value) left at is = absurd is
 left_of row x (Negative value) left at is = let less = at.0 in let e = at.1 in (omega (arith, less), is ∙ e)
 
 left_from : (row : Row) (x : List ℕ) (sign : Sign) → IsSignAt row x sign → plus_part row x ≤ minus_part row x → IsLeft sign (minus_part row x - plus_part row x)
-left_from row x Zero at few = omega (arith, at)
-left_from row x (Positive value) at few = absurd (let less = at.0 in omega (arith, less, few))
-left_from row x (Negative value) at few = sym at.1
+left_from row x Zero at limited = omega (arith, at)
+left_from row x (Positive value) at limited = absurd (let less = at.0 in omega (arith, less, limited))
+left_from row x (Negative value) at limited = sym at.1
 
 module _ (limit columns : ℕ) (rows : List Row) (pairs : List Clash) (row : Row) (seen : List Bool) (rays next : List (List ℕ)) (signs : List Sign) (column : ℕ) (unseen : IsUnseen seen column)
     (untouched : IsUntouched columns rows column) (plus : plus_part row (unit columns column) ≡ 1) (minus : minus_part row (unit columns column) ≡ 0) (free : IsFree pairs column)
@@ -56,7 +56,7 @@ module _ (limit columns : ℕ) (rows : List Row) (pairs : List Clash) (row : Row
     untouched = untouched_held columns rows (set seen column true) column untouched (λ j still. (unseen_after seen column j unseen still).1);
     plus = plus;
     minus = minus;
-    apart = free;
+    separate = free;
   }
 
   fresh_step : IsFreshStepAt limit pairs rays signs column
@@ -122,13 +122,13 @@ module _ (limit columns : ℕ) (rows : List Row) (pairs : List Clash) (row : Row
       subst (Contains next) (ap (λ y. slice_set y column (minus_part row r.ray - plus_part row r.ray)) k.2 ∙ sym r.is)
       (raised.keeps k.0 (minus_part row r.ray - plus_part row r.ray) (omega arith) k.1 (left_from row r.ray (slice_index_or signs k.0 Zero) at r.left))
 
-  stands : (x : List ℕ) → IsRaised (step_of pairs columns now row) column x ⊎ ComesFromOthers (step_of pairs columns now row) column x → Contains next x
-  stands x (inl r) = raised_stands x r
-  stands x (inr c) = pair_stands limit columns pairs before row rays signs surfaces signed next raised.gives x (to_pair x c)
+  occurs : (x : List ℕ) → IsRaised (step_of pairs columns now row) column x ⊎ ComesFromOthers (step_of pairs columns now row) column x → Contains next x
+  occurs x (inl r) = raised_stands x r
+  occurs x (inr c) = pair_stands limit columns pairs before row rays signs surfaces signed next raised.gives x (to_pair x c)
 
   pub raised_surfaces : HasSurfaces columns ((rows ++ held_rows 0 (set seen column true)) ++ row ∷ []) pairs next
   raised_surfaces = record {
-    apart = raised.apart fresh_step;
+    separate = raised.separate fresh_step;
     vertex_surfaces = λ k d within. next_surface (slice_index_or next k d) (raised.comes k d within);
-    complete = λ x s. stands x ((fresh_next (step_of pairs columns now row) column is_fresh x).0 s);
+    complete = λ x s. occurs x ((fresh_next (step_of pairs columns now row) column is_fresh x).0 s);
   }

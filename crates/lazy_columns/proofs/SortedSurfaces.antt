@@ -14,7 +14,7 @@ pub sorted_surfaces : (columns : ℕ) (rows : List Row) (pairs : List Clash) (ra
     IsSorted (slice_cmp nat_cmp) sorted → IsSurfaceList columns rows pairs sorted
 sorted_surfaces columns rows pairs rays sorted h permutation up = record {
   ascending = ascending_from_sorted columns sorted (All-weaker (IsVertexSurface columns rows pairs) (λ x. length x ≡ columns) (λ x s. s.extreme.solution.width) sorted surfaces) up
-      (apart_permutation rays sorted permutation h.apart);
+      (apart_permutation rays sorted permutation h.separate);
   vertex_surfaces = surfaces;
   complete = λ x s. Contains-permutation rays sorted x permutation (h.complete x s);
 }

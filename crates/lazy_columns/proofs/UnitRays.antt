@@ -17,7 +17,7 @@ use Rattle.lazy_columns.proofs.Held.{held_solution, seen_before, unseen_after, u
 use Rattle.lazy_columns.proofs.Faces.{surface_of_face, surface_in_face, gone_in_face, column_face}
 
 module _ (columns : ℕ) (rows : List Row) (pairs : List Clash) (seen : List Bool) (rays : List (List ℕ)) (column : ℕ) (unseen : IsUnseen seen column)
-    (apart : PairsAreOfTwoColumns pairs) (untouched : IsUntouched columns rows column) (h : HasSurfaces columns (rows ++ held_rows 0 seen) pairs rays) where
+    (separate : PairsAreOfTwoColumns pairs) (untouched : IsUntouched columns rows column) (h : HasSurfaces columns (rows ++ held_rows 0 seen) pairs rays) where
   abbrev after : List Bool
   after = set seen column true
 
@@ -42,13 +42,13 @@ module _ (columns : ℕ) (rows : List Row) (pairs : List Clash) (seen : List Boo
 
   pub entered_surfaces : HasSurfaces columns (rows ++ held_rows 0 (set seen column true)) pairs (rays ++ unit columns column ∷ [])
   entered_surfaces = record {
-    apart = all_pairs_push (λ x y. x ≢ y) rays (unit columns column) h.apart
+    separate = all_pairs_push (λ x y. x ≢ y) rays (unit columns column) h.separate
         (λ k d within same. let e : slice_index (unit columns column) column ≡ 1 = entry-unit_same columns column untouched.in_range in
         let f : slice_index (slice_index_or rays k d) column ≡ 0 = without k d within in
         let g = ap (λ x. slice_index x column) same in omega (arith, e, f, g));
     vertex_surfaces = All-push (IsVertexSurface columns (rows ++ held_rows 0 after) pairs) rays (unit columns column)
         (All-weaker (IsVertexSurface columns (rows ++ held_rows 0 seen) pairs) (IsVertexSurface columns (rows ++ held_rows 0 after) pairs) outer rays h.vertex_surfaces)
-        (units columns (rows ++ held_rows 0 after) pairs column untouched_after apart);
+        (units columns (rows ++ held_rows 0 after) pairs column untouched_after separate);
     complete = found;
   }
 
@@ -58,7 +58,7 @@ none_seen_at columns j within = get_or-replicate columns j false true within
 
 pub no_surfaces : (columns : ℕ) (pairs : List Clash) → HasSurfaces columns ([] ++ held_rows 0 (replicate columns false)) pairs []
 no_surfaces columns pairs = record {
-  apart = λ i j d less within. absurd (omega arith);
+  separate = λ i j d less within. absurd (omega arith);
   vertex_surfaces = All-nil (IsVertexSurface columns ([] ++ held_rows 0 (replicate columns false)) pairs);
   complete = λ x s. let n = s.extreme.nonzero in
       absurd (n.1 (((held_solution columns [] (replicate columns false) x).0 s.extreme.solution).1 n.0

@@ -26,10 +26,10 @@ pub record AreLate (columns : ℕ) (rows : List Row) (pairs : List Clash) (late 
   pub surfaces : HasSurfaces columns (rows ++ held_rows 0 late.seen.items) pairs (rays_of late.ray_list.items)
 
 -- AreLate for at most most - 2 rows, if no column clashes with itself
-pub record AreLateOfFew (columns most : ℕ) (pairs : List Clash) (late : LateRays) : Type 0 where
-  pub apart : PairsAreOfTwoColumns pairs
+pub record AreBoundedLate (columns most : ℕ) (pairs : List Clash) (late : LateRays) : Type 0 where
+  pub separate : PairsAreOfTwoColumns pairs
   pub rows : List Row
-  pub few : length rows + 2 ≤ most
+  pub limited : length rows + 2 ≤ most
   pub so_far : AreLate columns rows pairs late
 
 -- AreLate still holds, and no further column is without a ray

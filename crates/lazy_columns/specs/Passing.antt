@@ -13,9 +13,9 @@ use Rattle.lazy_columns.specs.Fresh.{oriented}
 
 -- named is the first pair of the step of the row, or of the negated row, whose combination has an entry above MAX_ENTRY
 pub record PassesAtPair (clashes : ClashData) (row : Row) (rays : List (List ℕ)) (named : Named) : Type 0 where
-  pub is_turned : Bool
+  pub is_negated : Bool
   pub step : StepData
-  pub is : IsStepOf MAX_ENTRY clashes (oriented is_turned row) rays step
+  pub is : IsStepOf MAX_ENTRY clashes (oriented is_negated row) rays step
   pub passes : IsFirstLargeOf step named
 
 -- a ray at which a part of the row exceeds MAX_ENTRY, or a pair at which an entry does
@@ -23,14 +23,14 @@ abbrev pub PassesAt : ClashData → Row → List (List ℕ) → Named → Type 0
 PassesAt clashes row rays named = IsFirstLargeValue MAX_ENTRY row rays named ⊎ PassesAtPair clashes row rays named
 
 -- PassesAt, at the rays of the rows before that are 0 at each column that has not entered
-pub record PassesBehind (clashes : ClashData) (before : List Row) (row : Row) (named : Named) : Type 0 where
+pub record PassesBefore (clashes : ClashData) (before : List Row) (row : Row) (named : Named) : Type 0 where
   pub late : LateRays
   pub are_late : AreLate clashes.columns before clashes.pairs late
   pub passes : PassesAt clashes row (rays_of late.ray_list.items) named
 
--- PassesBehind, for any rows of which late has the rays
+-- PassesBefore, for any rows of which late has the rays
 abbrev pub PassesNext : ClashData → Row → LateRays → Named → Type 0
-PassesNext clashes row late named = (before : List Row) → AreLate clashes.columns before clashes.pairs late → PassesBehind clashes before row named
+PassesNext clashes row late named = (before : List Row) → AreLate clashes.columns before clashes.pairs late → PassesBefore clashes before row named
 
 -- for some first rows, a number of the next row's step exceeds MAX_ENTRY
 pub record HasPassedStep (clashes : ClashData) (rows : List Row) : Type 0 where
@@ -39,4 +39,4 @@ pub record HasPassedStep (clashes : ClashData) (rows : List Row) : Type 0 where
   pub after : List Row
   pub rows_are : rows ≡ before ++ row ∷ after
   pub named : Named
-  pub passes : PassesBehind clashes before row named
+  pub passes : PassesBefore clashes before row named

@@ -48,7 +48,7 @@ pub record IsRaisedFrom (limit : ℕ) (pairs : List Clash) (rays : List (List �
   pub comes : All (λ x. ComesFromRaised rays signs column m x ⊎ ComesFromPlaces limit pairs rays signs (length rays) 0 x) next
   pub keeps : (k left : ℕ) → m ≤ k → k < length rays → IsLeft (slice_index_or signs k Zero) left → Contains next (slice_set (ray_at rays k) column left)
   pub gives : (u w : ℕ) → IsSignedPair pairs rays signs u w → GivesFrom limit pairs rays signs next u w
-  pub apart : IsFreshStepAt limit pairs rays signs column → AllPairs (λ x y. x ≢ y) next
+  pub separate : IsFreshStepAt limit pairs rays signs column → AllPairs (λ x y. x ≢ y) next
 
 -- the rays raised by the signs of a row
 pub record AreRaised (limit : ℕ) (pairs : List Clash) (row : Row) (column : ℕ) (rays next : List (List ℕ)) : Type 0 where

@@ -6,7 +6,7 @@ ghost use Rattle.cone_definitions.specs.Surfaces.{Clash, IsSurfaceList};
 ghost use Rattle.cone_definitions.specs.Unordered.{HasSurfaces};
 ghost use Rattle.ray_steps.specs.Faults.{IfLarge};
 ghost use Rattle.ray_steps.specs.Rays.{rays_of};
-ghost use Rattle.lazy_columns.specs.Late.{AreLateOfFew, AreNextLate};
+ghost use Rattle.lazy_columns.specs.Late.{AreBoundedLate, AreNextLate};
 ghost use Rattle.lazy_columns.specs.Fresh.{IsFreeColumn};
 ghost use Rattle.lazy_columns.specs.Passing.{PassesNext, HasPassedStep};
 
@@ -26,7 +26,7 @@ use std::alloc::Global;
 /// Processes the row of `step`, all of whose columns enter before. Fails with `Large` at a ray or pair at which a number
 /// exceeds `MAX_ENTRY`.
 fn eliminate_row<C: Compatible>(alloc: Global, step: RowStep<C>) -> Result<LateRays, StepFault>
-    requires late { AreLateOfFew step.clashes.now.columns step.most step.clashes.now.pairs step.late }
+    requires late { AreBoundedLate step.clashes.now.columns step.most step.clashes.now.pairs step.late }
     ensures ok { IfOk result (AreNextLate step.entry.clashes.now.columns step.entry.clashes.now.pairs step.entry.row.now step.entry.late) }
     ensures err { IfErr result (IfLarge (PassesNext step.entry.clashes.now step.entry.row.now step.entry.late)) }
 {
@@ -63,7 +63,7 @@ fn eliminate_with_fresh<C: Compatible>(
     step: RowStep<C>,
     fresh: NewColumn,
 ) -> Result<LateRays, StepFault>
-    requires late { AreLateOfFew step.clashes.now.columns step.most step.clashes.now.pairs step.late }
+    requires late { AreBoundedLate step.clashes.now.columns step.most step.clashes.now.pairs step.late }
     requires fresh { IsFreeColumn step.clashes.now.columns step.row.now step.clashes.now.pairs step.late.seen.items fresh }
     ensures ok { IfOk result (AreNextLate step.entry.clashes.now.columns step.entry.clashes.now.pairs step.entry.row.now step.entry.late) }
     ensures err { IfErr result (IfLarge (PassesNext step.entry.clashes.now step.entry.row.now step.entry.late)) }
@@ -97,7 +97,7 @@ fn eliminate_with_fresh<C: Compatible>(
 
 /// Processes the row of `step`, by a free column if it has one. Fails as `eliminate_row`.
 fn next_late<C: Compatible>(alloc: Global, step: RowStep<C>) -> Result<LateRays, StepFault>
-    requires late { AreLateOfFew step.clashes.now.columns step.most step.clashes.now.pairs step.late }
+    requires late { AreBoundedLate step.clashes.now.columns step.most step.clashes.now.pairs step.late }
     ensures ok { IfOk result (AreNextLate step.entry.clashes.now.columns step.entry.clashes.now.pairs step.entry.row.now step.entry.late) }
     ensures err { IfErr result (IfLarge (PassesNext step.entry.clashes.now step.entry.row.now step.entry.late)) }
 {

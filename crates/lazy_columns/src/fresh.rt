@@ -14,12 +14,12 @@ use ray_steps::Compatible;
 #[derive(Clone, Copy)]
 pub struct NewColumn {
     pub column: u32,
-    pub is_turned: bool,
+    pub is_negated: bool,
 }
 
 /// Whether `coefficient` is -1 (true) or 1 (false); `None` if it is neither.
 fn turning(coefficient: i32) -> Option<bool>
-    ensures { IfSome result (λ is_turned. coefficient ≡ one_or_minus_one is_turned) }
+    ensures { IfSome result (λ is_negated. coefficient ≡ one_or_minus_one is_negated) }
 {
     match coefficient {
         1 => Some(false),
@@ -49,6 +49,6 @@ pub fn free_column<C: Compatible>(step: &RowStep<C>) -> Option<NewColumn>
     ensures { IfSome result (IsFreeColumn step.now.clashes.now.columns step.now.row.now step.now.clashes.now.pairs step.now.late.seen.items) }
 {
     let (column, coefficient) = first_free(step)?;
-    let is_turned = turning(coefficient)?;
-    Some(NewColumn { column, is_turned })
+    let is_negated = turning(coefficient)?;
+    Some(NewColumn { column, is_negated })
 }

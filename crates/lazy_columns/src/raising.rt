@@ -19,23 +19,23 @@ use ray_steps::{Compatible, RayWithSupport, Sign, Step, StepFault, StepInput};
 use std::alloc::Global;
 use support_bits::Support;
 
-/// The step of the row, or of the negated row if `is_turned`. Fails with the first ray at which a part of the row
+/// The step of the row, or of the negated row if `is_negated`. Fails with the first ray at which a part of the row
 /// exceeds `MAX_ENTRY`.
 fn oriented_step<'a, C: Compatible>(
     alloc: Global,
     input: StepInput<'a, C>,
-    is_turned: bool,
+    is_negated: bool,
 ) -> Result<Step<'a, C>, StepFault>
     requires { AreStepRays input.clashes.now.columns input.most input.clashes.now.pairs input.ray_list.items }
-    ensures ok { IfOk result (IsStepOf MAX_ENTRY input.entry.clashes.now (oriented is_turned input.entry.row.now) (rays_of input.entry.ray_list.items)) }
+    ensures ok { IfOk result (IsStepOf MAX_ENTRY input.entry.clashes.now (oriented is_negated input.entry.row.now) (rays_of input.entry.ray_list.items)) }
     ensures err { IfErr result (IfLarge (IsFirstLargeValue MAX_ENTRY input.entry.row.now (rays_of input.entry.ray_list.items))) }
 {
     let step = Step::of(alloc, input, Limit::MAX)?;
-    if !is_turned {
+    if !is_negated {
         return Ok(step);
     }
-    let (turned, _signs) = step.turned(alloc)?;
-    Ok(turned)
+    let (negated, _signs) = step.negated(alloc)?;
+    Ok(negated)
 }
 
 /// A ray, and a column whose entry a row leaves. Invariant: the ray has that entry, and it is 0.
@@ -113,10 +113,10 @@ pub fn raised_rays<C: Compatible>(
 ) -> Result<Vec<RayWithSupport>, StepFault>
     requires rays { AreStepRays input.clashes.now.columns input.most input.clashes.now.pairs input.ray_list.items }
     requires room { All (HasRoom fresh.column) input.ray_list.items }
-    ensures ok { IfOk result (λ next. AreRaised MAX_ENTRY input.entry.clashes.now.pairs (oriented fresh.is_turned input.entry.row.now) fresh.column (rays_of input.entry.ray_list.items) (rays_of next.items)) }
+    ensures ok { IfOk result (λ next. AreRaised MAX_ENTRY input.entry.clashes.now.pairs (oriented fresh.is_negated input.entry.row.now) fresh.column (rays_of input.entry.ray_list.items) (rays_of next.items)) }
     ensures err { IfErr result (IfLarge (PassesAt input.entry.clashes.now input.entry.row.now (rays_of input.entry.ray_list.items))) }
 {
-    let step = oriented_step(alloc, input, fresh.is_turned)?;
+    let step = oriented_step(alloc, input, fresh.is_negated)?;
     let parts = step.combinations_by_fewer(alloc)?;
     let mut next = parts.made;
     raise_all(alloc, parts.ray_list, &parts.signs, fresh.column, &mut next)?;

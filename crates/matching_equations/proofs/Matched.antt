@@ -11,8 +11,8 @@ use Rattle.table_definitions.specs.Table.{Gluing, Row, Face, glue, other_side, f
 use Rattle.table_definitions.proofs.Faces.{face_at}
 use Rattle.surface_definitions.specs.Coordinates.{columns}
 use Rattle.surface_definitions.specs.declared.Coords.{Coords}
-use Rattle.surface_definitions.specs.Equations.{Equation, matching, matching_equations, matching_rows, row_of, lesser_side, glued_pairs}
-use Rattle.matching_equations.specs.Matching.{glued_rows, face_rows, rows_if_lesser, tet_rows}
+use Rattle.surface_definitions.specs.Equations.{Equation, matching, matching_equations, matching_rows, row_of, smaller_side, glued_pairs}
+use Rattle.matching_equations.specs.Matching.{glued_rows, face_rows, rows_if_smaller, tet_rows}
 use Rattle.surface_definitions.proofs.Ranges.{filter-more, flat_map-more}
 
 abbrev pub Rows : Type 0
@@ -49,15 +49,15 @@ glued_whole coords n x g = refl
 -- the rows of a face
 pub face_rows-lesser : (coords : Coords) (rows : List Row) (n : ℕ) (x : Face) (g : Gluing) → Some g ≡ glue rows x → is_face_before x (other_side x g) ≡ true → face_rows coords rows n x ≡ glued_rows coords n x g
 unfolding face_rows
-face_rows-lesser coords rows n x g e b = ap (rows_if_lesser coords n x) (sym e) ∙ ap (λ c. if c then glued_rows coords n x g else []) b
+face_rows-lesser coords rows n x g e b = ap (rows_if_smaller coords n x) (sym e) ∙ ap (λ c. if c then glued_rows coords n x g else []) b
 
 pub face_rows-greater : (coords : Coords) (rows : List Row) (n : ℕ) (x : Face) (g : Gluing) → Some g ≡ glue rows x → is_face_before x (other_side x g) ≡ false → face_rows coords rows n x ≡ []
 unfolding face_rows
-face_rows-greater coords rows n x g e b = ap (rows_if_lesser coords n x) (sym e) ∙ ap (λ c. if c then glued_rows coords n x g else []) b
+face_rows-greater coords rows n x g e b = ap (rows_if_smaller coords n x) (sym e) ∙ ap (λ c. if c then glued_rows coords n x g else []) b
 
 pub face_rows-boundary : (coords : Coords) (rows : List Row) (n : ℕ) (x : Face) → None ≡ glue rows x → face_rows coords rows n x ≡ []
 unfolding face_rows
-face_rows-boundary coords rows n x e = ap (rows_if_lesser coords n x) (sym e)
+face_rows-boundary coords rows n x e = ap (rows_if_smaller coords n x) (sym e)
 
 -- one more face, or one more tetrahedron
 pub appended_more : (f : ℕ → Rows) (k : ℕ) (old now new : Rows) → now ≡ old ++ flat_map f (below k) → new ≡ now ++ f k → new ≡ old ++ flat_map f (below (k + 1))
@@ -75,7 +75,7 @@ abbrev rows_of_pairs : Coords → ℕ → List (Face × Gluing) → Rows
 rows_of_pairs coords n ys = map (row_of n) (flat_map (equations_of coords) ys)
 
 one_face : (coords : Coords) (n : ℕ) (x : Face) (g : Option Gluing) (ys : List (Face × Gluing))
-    → rows_of_pairs coords n (cons_option (lesser_side x g) ys) ≡ rows_if_lesser coords n x g ++ rows_of_pairs coords n ys
+    → rows_of_pairs coords n (cons_option (smaller_side x g) ys) ≡ rows_if_smaller coords n x g ++ rows_of_pairs coords n ys
 unfolding glued_rows
 one_face coords n x None ys = refl
 one_face coords n x (Some g) ys = go (is_face_before x (other_side x g))
@@ -84,11 +84,11 @@ one_face coords n x (Some g) ys = go (is_face_before x (other_side x g))
     go true = map-append (row_of n) (equations_of coords (x, g)) (flat_map (equations_of coords) ys)
     go false = refl
 
-all_faces : (coords : Coords) (rows : List Row) (n : ℕ) (xs : List Face) → rows_of_pairs coords n (filter_map (λ x. lesser_side x (glue rows x)) xs) ≡ flat_map (face_rows coords rows n) xs
+all_faces : (coords : Coords) (rows : List Row) (n : ℕ) (xs : List Face) → rows_of_pairs coords n (filter_map (λ x. smaller_side x (glue rows x)) xs) ≡ flat_map (face_rows coords rows n) xs
 unfolding face_rows
 all_faces coords rows n [] = refl
 all_faces coords rows n (x ∷ xs) =
-    one_face coords n x (glue rows x) (filter_map (λ y. lesser_side y (glue rows y)) xs) ∙ ap (λ r. rows_if_lesser coords n x (glue rows x) ++ r) (all_faces coords rows n xs)
+    one_face coords n x (glue rows x) (filter_map (λ y. smaller_side y (glue rows y)) xs) ∙ ap (λ r. rows_if_smaller coords n x (glue rows x) ++ r) (all_faces coords rows n xs)
 
 by_tets : (F : Face → Rows) (g : ℕ × ℕ → Face) (h : ℕ → List (ℕ × ℕ)) (ts : List ℕ) → flat_map F (map g (flat_map h ts)) ≡ flat_map (λ t. flat_map F (map g (h t))) ts
 by_tets F g h [] = refl

@@ -91,14 +91,14 @@ are_terms e a (suc n) l r = go (times_in e.left a == times_in e.right a) refl (a
     go false same rest =
         let t : ℕ × ℤ = (a, coefficient e a) in
         let ts : List (ℕ × ℤ) = filter_map (term_of e) (range_with_len (a + 1) n) in
-        let apart : times_in e.left a ≢ times_in e.right a = eqb-false (times_in e.left a) (times_in e.right a) same in
+        let separate : times_in e.left a ≢ times_in e.right a = eqb-false (times_in e.left a) (times_in e.right a) same in
         let few_left : times_in e.left a ≤ length e.left = count_by-le-length (λ m. m == a) e.left in
         let few_right : times_in e.right a ≤ length e.right = count_by-le-length (λ m. m == a) e.right in
         record {
           low = All-cons (λ term. a ≤ term.0) t ts (omega arith) (λ k d h. let m = rest.low k d h in omega (arith, m));
           high = All-cons (λ term. term.0 < a + suc n) t ts (omega arith) (λ k d h. let m = rest.high k d h in omega (arith, m));
           ascending = AllPairs-cons (λ one other. one.0 < other.0) t ts (λ k d h. let m = rest.low k d h in omega (arith, m)) rest.ascending;
-          nonzero = All-cons (λ term. 1 ≤ unsigned_abs term.1) t ts (some_coefficient (times_in e.left a) (times_in e.right a) (coefficient e a) refl apart) rest.nonzero;
+          nonzero = All-cons (λ term. 1 ≤ unsigned_abs term.1) t ts (some_coefficient (times_in e.left a) (times_in e.right a) (coefficient e a) refl separate) rest.nonzero;
           bounded = All-cons (λ term. unsigned_abs term.1 ≤ 1000000) t ts (small_coefficient (times_in e.left a) (times_in e.right a) (coefficient e a) refl (omega arith) (omega arith)) rest.bounded;
         }
 

@@ -15,15 +15,15 @@ use std::alloc::Global;
 pub struct Sides<'a> {
     pub left: &'a [u32],
     pub right: &'a [u32],
-    pub ghost left_few: { length left.now ≤ 1000000 },
-    pub ghost right_few: { length right.now ≤ 1000000 },
+    pub ghost left_bounded: { length left.now ≤ 1000000 },
+    pub ghost right_bounded: { length right.now ≤ 1000000 },
 }
 
 /// The number of occurrences of `column` in `columns`.
 fn times_in(columns: &[u32], column: u32) -> u32
     requires { length columns.now ≤ 1000000 }
     ensures value { result ≡ lists.times_in columns.now column }
-    ensures few { result ≤ 1000000 }
+    ensures limited { result ≤ 1000000 }
 {
     let mut times = 0;
     for other in columns {

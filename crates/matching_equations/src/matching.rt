@@ -32,7 +32,7 @@ fn push_equation(
     system: &mut System,
 ) -> Result<(), NoMemory>
     requires a_vertex { vertex < 4 }
-    requires apart { vertex ≢ pair.now.face.face }
+    requires separate { vertex ≢ pair.now.face.face }
     requires room { length system.old.rows + 1 < 2 ^ 32 }
     ensures columns { OnOk result (system.new.columns ≡ system.old.columns) }
     ensures rows { OnOk result (system.new.rows ≡ system.old.rows ++ equations.row_of system.old.columns (matching coords.system pair.now.face pair.now.glue vertex) ∷ []) }
@@ -63,7 +63,7 @@ fn push_glued(
     requires room { length system.old.rows + 4 < 2 ^ 32 }
     ensures columns { OnOk result (system.new.columns ≡ system.old.columns) }
     ensures rows { OnOk result (system.new.rows ≡ system.old.rows ++ glued_rows coords.system system.old.columns pair.now.face pair.now.glue) }
-    ensures few { OnOk result (length system.new.rows ≤ length system.old.rows + 4) }
+    ensures limited { OnOk result (length system.new.rows ≤ length system.old.rows + 4) }
 {
     let face = pair.face;
     let opposite = face.face;
@@ -87,7 +87,7 @@ fn push_face(
     requires room { length system.old.rows + 4 < 2 ^ 32 }
     ensures columns { OnOk result (system.new.columns ≡ system.old.columns) }
     ensures rows { OnOk result (system.new.rows ≡ system.old.rows ++ face_rows coords.system table.now system.old.columns face) }
-    ensures few { OnOk result (length system.new.rows ≤ length system.old.rows + 4) }
+    ensures limited { OnOk result (length system.new.rows ≤ length system.old.rows + 4) }
 {
     if let Some(glue) = table.glue(face) {
         if face.is_before(glue.other_side(face)) {
@@ -109,7 +109,7 @@ fn push_tet(
     requires room { length system.old.rows + 16 < 2 ^ 32 }
     ensures columns { OnOk result (system.new.columns ≡ system.old.columns) }
     ensures rows { OnOk result (system.new.rows ≡ system.old.rows ++ tet_rows coords.system table.now system.old.columns tet) }
-    ensures few { OnOk result (length system.new.rows ≤ length system.old.rows + 16) }
+    ensures limited { OnOk result (length system.new.rows ≤ length system.old.rows + 16) }
 {
     for face in 0..4 {
         push_face(alloc, coords, table, Face { tet, face }, system)?;
@@ -122,7 +122,7 @@ fn push_tet(
 pub fn matching_system(alloc: Global, coords: DiscCoords, table: &Table) -> Result<System, NoMemory>
     ensures columns { IfOk result (λ s. s.columns ≡ coordinates.columns coords.system (length table.now)) }
     ensures rows { IfOk result (λ s. s.rows ≡ matching_rows coords.system table.now) }
-    ensures few { IfOk result (λ s. length s.rows ≤ 16000) }
+    ensures limited { IfOk result (λ s. length s.rows ≤ 16000) }
 {
     let tets = table.rows().len() as u32;
     let mut system = System::new(alloc, columns(coords.system, tets));

@@ -22,7 +22,7 @@ fn quad_along(tet: u32, vertex: u8, other: u8) -> u32
     requires tet { tet ≤ max_tets }
     requires a_vertex { vertex < 4 }
     requires another { other < 4 }
-    requires apart { vertex ≢ other }
+    requires separate { vertex ≢ other }
     ensures { result ≡ coordinates.quad_column Coords.Quad tet (coordinates.keeping vertex other) }
 {
     quad_column(Coords::Quad, tet, keeping(vertex, other))
@@ -55,7 +55,7 @@ fn second_columns(alloc: Global, corners: &[Corner]) -> Result<Vec<u32>, NoMemor
 /// Appends the equation of the `corners` around an edge.
 fn push_around(alloc: Global, corners: &[Corner], system: &mut System) -> Result<(), NoMemory>
     requires corners { AreCornersIn max_tets corners.now }
-    requires few { length corners.now ≤ 1000000 }
+    requires limited { length corners.now ≤ 1000000 }
     requires room { length system.old.rows + 1 < 2 ^ 32 }
     ensures columns { OnOk result (system.new.columns ≡ system.old.columns) }
     ensures rows { OnOk result (system.new.rows ≡ system.old.rows ++ equations.row_of system.old.columns (quad_equation corners.now) ∷ []) }

@@ -34,20 +34,20 @@ IsMoved-passed old m new p = record {
   legal = p.legal;
   length_is = p.length_is;
   four_faces = fours_from new p.fours;
-  inner = λ j l hj hl apart. inner_at j l apart (list_all-among (is_inner_moved old m new) (j, l) (pairs_of (below (length m.core)) (below (length m.core))) p.inner
+  inner = λ j l hj hl separate. inner_at j l separate (list_all-among (is_inner_moved old m new) (j, l) (pairs_of (below (length m.core)) (below (length m.core))) p.inner
       (Among-pairs j l (below (length m.core)) (below (length m.core)) (Among-below j (length m.core) hj) (Among-below l (length m.core) hl)));
   outer = λ x s ht hf is. outer_at x s is (each_face (λ y. is_outer_moved old m new y (place_after old m y)) (length old) p.outer x ht hf);
 }
   where
     inner_at : (j l : ℕ) → j ≢ l → is_inner_moved old m new (j, l) ≡ true
         → glue new (opposite (new_facet old m j) l) ≡ Some (record { tet = (new_facet old m l).tet; perm = label_by_label (new_facet old m j) (new_facet old m l) })
-    inner_at j l apart e =
+    inner_at j l separate e =
         let target : Option Gluing = Some (record { tet = (new_facet old m l).tet; perm = label_by_label (new_facet old m j) (new_facet old m l) }) in
         pick (or_cases (j == l) (same_glue (glue new (opposite (new_facet old m j) l)) target) e)
       where
         pick : ((j == l) ≡ true) ⊎ (same_glue (glue new (opposite (new_facet old m j) l)) (Some (record { tet = (new_facet old m l).tet; perm = label_by_label (new_facet old m j) (new_facet old m l) })) ≡ true)
             → glue new (opposite (new_facet old m j) l) ≡ Some (record { tet = (new_facet old m l).tet; perm = label_by_label (new_facet old m j) (new_facet old m l) })
-        pick (inl same) = absurd (apart (eqb-true j l same))
+        pick (inl same) = absurd (separate (eqb-true j l same))
         pick (inr s) = same_glue-true (glue new (opposite (new_facet old m j) l)) (Some (record { tet = (new_facet old m l).tet; perm = label_by_label (new_facet old m j) (new_facet old m l) })) s
 
     outer_at : (x : Face) (s : Gluing) → place_after old m x ≡ Some s → is_outer_moved old m new x (place_after old m x) ≡ true

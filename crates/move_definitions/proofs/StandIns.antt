@@ -16,15 +16,15 @@ find-none (f ∷ fs) t h = by_test (f.tet == t) h (λ later. find-none fs t late
     by_test true h later = absurd cc
     by_test false h later = later h
 
-pub stand_in-kept : (rows : List Row) (m : Move) (x : Face) → has (old_tets rows m) x.tet ≡ false → place_after rows m x ≡ Some (kept_place_after rows m x.tet)
-stand_in-kept rows m x h = ap (place_after_of rows m x) (find-none (old_facets rows m) x.tet h)
+pub image_after-kept : (rows : List Row) (m : Move) (x : Face) → has (old_tets rows m) x.tet ≡ false → place_after rows m x ≡ Some (kept_place_after rows m x.tet)
+image_after-kept rows m x h = ap (place_after_of rows m x) (find-none (old_facets rows m) x.tet h)
 
-pub facet_stand_in-new : (rows : List Row) (m : Move) (f : Facet) (j : ℕ) → j < length m.core → facet_place_after rows m f j ≡ Some (record { tet = (new_facet rows m j).tet; perm = label_by_label f (new_facet rows m j) })
-facet_stand_in-new rows m f j l =
+pub facet_image_after-new : (rows : List Row) (m : Move) (f : Facet) (j : ℕ) → j < length m.core → facet_place_after rows m f j ≡ Some (record { tet = (new_facet rows m j).tet; perm = label_by_label f (new_facet rows m j) })
+facet_image_after-new rows m f j l =
     let by : Gluing = record { tet = (new_facet rows m j).tet; perm = label_by_label f (new_facet rows m j) } in
     ap (λ (b : Bool). if◌then◌else◌ {A = Option Gluing} b (Some by) None) (lt-ltb j (length m.core) l)
 
-pub facet_stand_in-old : (rows : List Row) (m : Move) (f : Facet) (j : ℕ) → length m.core ≤ j → facet_place_after rows m f j ≡ None
-facet_stand_in-old rows m f j l =
+pub facet_image_after-old : (rows : List Row) (m : Move) (f : Facet) (j : ℕ) → length m.core ≤ j → facet_place_after rows m f j ≡ None
+facet_image_after-old rows m f j l =
     let by : Gluing = record { tet = (new_facet rows m j).tet; perm = label_by_label f (new_facet rows m j) } in
     ap (λ (b : Bool). if◌then◌else◌ {A = Option Gluing} b (Some by) None) (le-ltb j (length m.core) l)

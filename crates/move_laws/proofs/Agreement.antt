@@ -11,10 +11,10 @@ use Rattle.move_laws.proofs.Covered.{StandsForOld, IsInner, covered}
 
 same_at : (old : List Row) (m : Move) (new new' : List Row) → IsMoved old m new → IsMoved old m new' → (y : Face) → StandsForOld old m y ⊎ IsInner old m y → glue new y ≡ glue new' y
 same_at old m new new' h h' y (inl s) =
-    let here : glue new y ≡ _ = ap (glue new) (sym s.is) ∙ h.outer s.old s.by s.tet s.face s.stands in
-    here ∙ sym (ap (glue new') (sym s.is) ∙ h'.outer s.old s.by s.tet s.face s.stands)
+    let here : glue new y ≡ _ = ap (glue new) (sym s.is) ∙ h.outer s.old s.by s.tet s.face s.occurs in
+    here ∙ sym (ap (glue new') (sym s.is) ∙ h'.outer s.old s.by s.tet s.face s.occurs)
 same_at old m new new' h h' y (inr s) =
-    ap (glue new) (sym s.is) ∙ h.inner s.j s.l s.j_small s.l_small s.apart ∙ sym (h'.inner s.j s.l s.j_small s.l_small s.apart) ∙ ap (glue new') s.is
+    ap (glue new) (sym s.is) ∙ h.inner s.j s.l s.j_small s.l_small s.separate ∙ sym (h'.inner s.j s.l s.j_small s.l_small s.separate) ∙ ap (glue new') s.is
 
 -- tables with the same gluings are equal
 pub same_tables : (rows rows' : List Row) → length rows ≡ length rows' → All (λ (row : Row). length row ≡ 4) rows → All (λ (row : Row). length row ≡ 4) rows'

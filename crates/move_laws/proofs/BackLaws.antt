@@ -9,7 +9,7 @@ use Rattle.std.proofs.lemmas.List.FromFn.{length-range_with_len}
 use Rattle.std.proofs.lemmas.List.Kept.{AllPairs-from_increasing}
 use Rattle.table_definitions.specs.Lists.{has, below, rank_without}
 use Rattle.table_definitions.specs.Permutation.{image, IsPermutationOfFour}
-use Rattle.table_definitions.specs.Table.{Gluing, Row, Face, glue, other_side, way_back, IsTable}
+use Rattle.table_definitions.specs.Table.{Gluing, Row, Face, glue, other_side, inverse_gluing, IsTable}
 use Rattle.table_definitions.specs.Replacing.{Replacement, replaced_length, number_of_kept, free_numbers, kept_gluing, back_to_fresh, replaced}
 use Rattle.table_definitions.specs.Relabelling.{gluing_under}
 use Rattle.table_definitions.proofs.TableLaws.{glued_tet, glued_face}
@@ -20,7 +20,7 @@ use Rattle.table_definitions.proofs.Ranks.{rank, stays, closed_up-rank, at_rank,
 use Rattle.table_definitions.proofs.Retained.{IsKeptAs, kept_as, length-replaced, fresh_row_at, kept_row_at, glue-fresh, glue-kept}
 use Rattle.table_definitions.proofs.FreshRows.{fresh_tet, length-fresh_row, back_is}
 use Rattle.move_definitions.specs.Moves.{Move, Facet, kept, kept_place_after, place_after, moved_gluing, IsMoved, Plays, facet_gluing, old_tets}
-use Rattle.move_definitions.proofs.StandIns.{stand_in-kept}
+use Rattle.move_definitions.proofs.StandIns.{image_after-kept}
 use Rattle.move_definitions.specs.Undos.{Undo, taken_numbers, undo_of, back_exchange, former, CanTakeBack, IsTakenBack, TakesBack}
 use Rattle.move_laws.specs.Facets.{numbered}
 use Rattle.move_laws.proofs.LegalLaws.{IsLegal, legal_from}
@@ -101,7 +101,7 @@ number-back old m new t h l free =
 kept-glue : (old : List Row) (m : Move) (new : List Row) (x : Face) → HasMoved old m new → x.tet < length old → x.face < 4 → has (old_tets old m) x.tet ≡ false
     → glue new (kept_place old m x) ≡ option_and_then (moved_gluing old m x (kept_place_after old m x.tet)) (glue old x)
 kept-glue old m new x h lt l free =
-    ap (glue new) (sym (kept_under old m x l)) ∙ h.moved.outer x (kept_place_after old m x.tet) lt l (stand_in-kept old m x free)
+    ap (glue new) (sym (kept_under old m x l)) ∙ h.moved.outer x (kept_place_after old m x.tet) lt l (image_after-kept old m x free)
 
 -- a face of a retained tetrahedron that was glued to an old facet
 record LedTo (old : List Row) (m : Move) (x : Face) (g : Gluing) : Type 0 where
@@ -118,7 +118,7 @@ led_to old m x g legal l free e h =
     let y : Face = other_side x g in
     let permutes = legal.table.permutes x g e in
     let ly : y.face < 4 = image_below g.perm permutes x.face l in
-    let new : image f.labels y.face < length m.core = outer_label old m i f y (way_back x g) legal q.2 (sym q.3) ly (legal.table.leads_back x g e) free in
+    let new : image f.labels y.face < length m.core = outer_label old m i f y (inverse_gluing x g) legal q.2 (sym q.3) ly (legal.table.leads_back x g e) free in
     record { f = f; j = image f.labels y.face; new = new; at = ap (place_after old m) (face_at f y q.2.labelled (sym q.3) ly) ∙ stand_put old m i (image f.labels y.face) f legal q.2 new }
 
 freed_back : (old : List Row) (m : Move) (new : List Row) (x : Face) (g : Gluing) → HasMoved old m new → Saved old m x g → has (old_tets old m) g.tet ≡ false → IsFreed new (back old m) (other_side x g)
@@ -128,10 +128,10 @@ freed_back old m new x g h s free =
     let permutes = table.permutes x g s.glued in
     let inside = table.in_range x g s.glued in
     let ly : y.face < 4 = image_below g.perm permutes x.face s.face in
-    let home : glue old y ≡ Some (way_back x g) = table.leads_back x g s.glued in
-    let led = led_to old m y (way_back x g) h.legal ly free home s.taken in
+    let home : glue old y ≡ Some (inverse_gluing x g) = table.leads_back x g s.glued in
+    let led = led_to old m y (inverse_gluing x g) h.legal ly free home s.taken in
     let k : Gluing = kept_place_after old m g.tet in
-    let put : Gluing = gluing_under k (facet_gluing old m led.f led.j) (way_back x g) in
+    let put : Gluing = gluing_under k (facet_gluing old m led.f led.j) (inverse_gluing x g) in
     let fewer = (closes old m g.tet h.legal inside free).fewer in
     let n = h.moved.length_is in
     let new_label = led.new in
@@ -141,7 +141,7 @@ freed_back old m new x g h s free =
       in_range = omega arith;
       is_kept = gone-not old m (rank_without (old_tets old m) g.tet) fewer;
       number = number-back old m new g.tet h inside free;
-      glued = kept-glue old m new y h inside ly free ∙ ap (option_and_then (moved_gluing old m y k)) home ∙ ap (option_map (λ r. gluing_under k r (way_back x g))) led.at;
+      glued = kept-glue old m new y h inside ly free ∙ ap (option_and_then (moved_gluing old m y k)) home ∙ ap (option_map (λ r. gluing_under k r (inverse_gluing x g))) led.at;
       led_to_removed = has-range (kept old m) (length m.core) (kept old m + led.j) (omega arith) (omega arith);
     }
 
@@ -152,12 +152,12 @@ can_take_back old m new h = record {
   fresh_ascend = subst (λ (ns : List ℕ). IsStrictlyIncreasing ns) (sym (saved-numbers old m)) (picked-up (has (old_tets old m)) (length old));
   fresh_in_range = subst (λ (ns : List ℕ). All (λ u. u < replaced_length new (back old m)) ns) (sym (saved-numbers old m))
       (picked-within (has (old_tets old m)) (length old) (replaced_length new (back old m)) (let n = back-length old m new h in omega arith));
-  few = (let n = back-length old m new h in let f = table.few in omega arith);
+  limited = (let n = back-length old m new h in let f = table.limited in omega arith);
   four_faces = All-map (λ (x : ℕ × Row). length x.1 ≡ 4) (λ t. (t, saved old t)) (taken_numbers old m)
       (λ k d l. All-get_or (λ (row : Row). length row ≡ 4) old (get_or (taken_numbers old m) k d) [] (picked-within (has (old_tets old m)) (length old) (length old) (omega arith) k d l) table.four_faces);
   permutes = λ x g e. table.permutes x g (saved-face old m x g h.legal e).glued;
   in_range = λ x g e. (let n = back-length old m new h in let i = table.in_range x g (saved-face old m x g h.legal e).glued in omega arith);
-  apart = λ x g e. table.apart x g (saved-face old m x g h.legal e).glued;
+  separate = λ x g e. table.separate x g (saved-face old m x g h.legal e).glued;
   leads_back = λ x g e f. leads x g (saved-face old m x g h.legal e) f;
   freed = λ x g e f. (let s = saved-face old m x g h.legal e in freed_back old m new x g h s (sym (saved-has old m g.tet (table.in_range x g s.glued)) ∙ f));
   one_each = λ x z g k e f free same. (let s = saved-face old m x g h.legal e in let t = saved-face old m z k h.legal f in one_face old table x z g k s.glued t.glued s.face t.face same);
@@ -166,7 +166,7 @@ can_take_back old m new h = record {
     table : IsTable old
     table = h.legal.table
 
-    leads : (x : Face) (g : Gluing) → Saved old m x g → has (fresh_numbers (back old m)) g.tet ≡ true → fresh_glue (back old m) (other_side x g) ≡ Some (way_back x g)
+    leads : (x : Face) (g : Gluing) → Saved old m x g → has (fresh_numbers (back old m)) g.tet ≡ true → fresh_glue (back old m) (other_side x g) ≡ Some (inverse_gluing x g)
     leads x g s f =
         let inside = table.in_range x g s.glued in
         saved-glue old m (other_side x g) inside (sym (saved-has old m g.tet inside) ∙ f) ∙ table.leads_back x g s.glued
@@ -195,18 +195,18 @@ kept_again old m new x (Some g) h lt l free e = by_test (has (old_tets old m) g.
         let s : Gluing = kept_place_after old m x.tet in
         let put : Gluing = gluing_under s (facet_gluing old m led.f led.j) g in
         let y : Face = other_side x g in
-        let home : fresh_glue (back old m) y ≡ Some (way_back x g) = saved-glue old m y inside q ∙ h.legal.table.leads_back x g e in
+        let home : fresh_glue (back old m) y ≡ Some (inverse_gluing x g) = saved-glue old m y inside q ∙ h.legal.table.leads_back x g e in
         let to_kept : has (fresh_numbers (back old m)) x.tet ≡ false = saved-has old m x.tet lt ∙ free in
         ap (λ (r : Option Gluing). kept_gluing new (back old m) x (option_map (λ t. gluing_under s t g) r)) led.at
         ∙ shown put true (has-range (kept old m) (length m.core) (kept old m + led.j) (omega arith) (omega arith))
         ∙ ap (back_to_fresh (back old m)) (sym (there_and_back x g permutes l))
-        ∙ back_is new (back old m) (can_take_back old m new h) y (way_back x g) home to_kept
+        ∙ back_is new (back old m) (can_take_back old m new h) y (inverse_gluing x g) home to_kept
         ∙ ap (λ (k : Gluing). Some k) (back_again x g permutes)
     by_test false q =
         let s : Gluing = kept_place_after old m x.tet in
         let k : Gluing = record { tet = rank_without (old_tets old m) g.tet; perm = g.perm } in
         let fewer = (closes old m g.tet h.legal inside q).fewer in
-        ap (λ (r : Option Gluing). kept_gluing new (back old m) x (option_map (λ t. gluing_under s t g) r)) (stand_in-kept old m (other_side x g) q)
+        ap (λ (r : Option Gluing). kept_gluing new (back old m) x (option_map (λ t. gluing_under s t g) r)) (image_after-kept old m (other_side x g) q)
         ∙ ap (λ (t : Gluing). kept_gluing new (back old m) x (Some t)) (under_kept (rank_without (old_tets old m) x.tet) (rank_without (old_tets old m) g.tet) g permutes)
         ∙ shown k false (gone-not old m (rank_without (old_tets old m) g.tet) fewer)
         ∙ ap (λ n. Some (record { tet = n; perm = g.perm })) (number-back old m new g.tet h inside q)

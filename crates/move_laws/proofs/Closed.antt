@@ -14,11 +14,11 @@ use Rattle.table_definitions.proofs.Tests.{each_face}
 use Rattle.table_definitions.proofs.Listed.{faces-among, among_contains}
 use Rattle.table_definitions.proofs.Faces.{face_at}
 use Rattle.move_definitions.specs.Moves.{Move, Facet, IsMoved, place_after, kept_place_after, moved_gluing, facet_gluing, old_tets}
-use Rattle.move_definitions.proofs.StandIns.{facet_stand_in-new, stand_in-kept}
+use Rattle.move_definitions.proofs.StandIns.{facet_image_after-new, image_after-kept}
 use Rattle.move_laws.proofs.Labels.{HasLabel, label_at}
 use Rattle.move_laws.proofs.Legal.{IsFacet, facet_is, HasNoFault, no_fault, old_tet_facet, OldFacet, old_facet}
 use Rattle.move_laws.proofs.Matched.{AreGlued, old_glued}
-use Rattle.move_laws.proofs.Covered.{covered, stand_in-old}
+use Rattle.move_laws.proofs.Covered.{covered, image_after-old}
 use Rattle.move_laws.proofs.Shapes.{stand_in_range}
 use Rattle.move_laws.proofs.SecondStand.{other_stands}
 use Rattle.move_laws.specs.Closed.{MovesKeepClosed, MovesKeepBoundary, PlaysKeepClosed, PlaysKeepBoundary}
@@ -49,12 +49,12 @@ module _ (old : List Row) (m : Move) (new : List Row) (table : IsTable old) (h :
 
   new_glued : AreGluedAll old → AreGluedAll new
   new_glued all y lt lf = elim (covered old m y table fine h.core (let e = h.length_is in omega arith) lf) [
-    | inl o ↦ (let g = all o.old o.tet o.face in let r = other_stands old m table fine h.core o.old o.by g.0 o.face o.stands g.1 in (
+    | inl o ↦ (let g = all o.old o.tet o.face in let r = other_stands old m table fine h.core o.old o.by g.0 o.face o.occurs g.1 in (
       gluing_under o.by r.0 g.0,
-      ap (glue new) (sym o.is) ∙ h.outer o.old o.by o.tet o.face o.stands ∙ ap (option_and_then (moved_gluing old m o.old o.by)) g.1
+      ap (glue new) (sym o.is) ∙ h.outer o.old o.by o.tet o.face o.occurs ∙ ap (option_and_then (moved_gluing old m o.old o.by)) g.1
           ∙ ap (option_map (λ q. gluing_under o.by q g.0)) r.1,
     ))
-    | inr n ↦ (_, ap (glue new) (sym n.is) ∙ h.inner n.j n.l n.j_small n.l_small n.apart)
+    | inr n ↦ (_, ap (glue new) (sym n.is) ∙ h.inner n.j n.l n.j_small n.l_small n.separate)
   ]
 
   module _ (all : AreGluedAll new) (x : Face) (lt : x.tet < length old) (lf : x.face < 4) where
@@ -91,7 +91,7 @@ module _ (old : List Row) (m : Move) (new : List Row) (table : IsTable old) (h :
 
         by_label : (j < length m.core) ⊎ (length m.core ≤ j) → IsGlued old x
         by_label (inl new_label) = where_stands (facet_gluing old m f j) (subst (λ (y : Face). place_after old m y ≡ Some (facet_gluing old m f j)) same
-            (stand_in-old old m o.label f x.face fine h.core o.low o.high o.is ∙ facet_stand_in-new old m f j new_label))
+            (image_after-old old m o.label f x.face fine h.core o.low o.high o.is ∙ facet_image_after-new old m f j new_label))
         by_label (inr old_label) =
             let g = old_facet old m j fine h.core old_label at.small in
             let a : AreGlued old o.label j f g.0 = old_glued old m o.label j f g.0 table fine h.core o.low o.high old_label at.small (λ e. at.present (sym e)) o.is g.1 in
@@ -102,7 +102,7 @@ module _ (old : List Row) (m : Move) (new : List Row) (table : IsTable old) (h :
     old_glued_at = by_test (has (old_tets old m) x.tet) refl
       where
         by_test : (b : Bool) → has (old_tets old m) x.tet ≡ b → IsGlued old x
-        by_test false e = where_stands (kept_place_after old m x.tet) (stand_in-kept old m x e)
+        by_test false e = where_stands (kept_place_after old m x.tet) (image_after-kept old m x e)
         by_test true e = of_facet (old_tet_facet old m x.tet h.core e)
 
 pub moves_keep_closed_lem : MovesKeepClosed

@@ -11,15 +11,15 @@ use Rattle.table_definitions.proofs.InPlace.{in_place-same}
 use Rattle.table_definitions.proofs.Faces.{face_at}
 use Rattle.move_definitions.specs.Moves.{Move, IsCore, Facet, opposite, facet, old_labels, old_tets, new_length, new_facet, label_by_label, facet_place_after, kept_place_after, place_after_of, place_after, kept, facet_gluing}
 use Rattle.move_definitions.proofs.CoreTests.{core_size}
-use Rattle.move_definitions.proofs.StandIns.{facet_stand_in-new, stand_in-kept}
+use Rattle.move_definitions.proofs.StandIns.{facet_image_after-new, image_after-kept}
 use Rattle.move_laws.proofs.Labels.{ascending, new_labels, HasLabel, label_at, HasVertex, vertex_at, length-labels, image-map}
 use Rattle.move_laws.proofs.ListedFacets.{is_found, comes_from, stays-count}
 use Rattle.move_laws.proofs.Legal.{IsFacet, facet_is, HasNoFault, old_facet, old_label, facets_apart, old_tets_distinct, length-old_tets, old_tets_below}
 
 -- the replacement of an old facet at a face
-pub stand_in-old : (rows : List Row) (m : Move) (i : ℕ) (f : Facet) (v : ℕ) → HasNoFault rows m → IsCore m.core → length m.core ≤ i → i < 5 → facet rows m i ≡ Some f
+pub image_after-old : (rows : List Row) (m : Move) (i : ℕ) (f : Facet) (v : ℕ) → HasNoFault rows m → IsCore m.core → length m.core ≤ i → i < 5 → facet rows m i ≡ Some f
     → place_after rows m (face_at f.tet v) ≡ facet_place_after rows m f (image f.labels v)
-stand_in-old rows m i f v h c low high e =
+image_after-old rows m i f v h c low high e =
     ap (place_after_of rows m (face_at f.tet v)) (is_found (facet rows m) (old_labels m) i f (facets_apart rows m h c) (old_label (length m.core) i (core_size m.core c).1 low high) e)
 
 -- at least as many tetrahedra remain as are retained, and the old table has all that are removed
@@ -33,7 +33,7 @@ pub record StandsForOld (rows : List Row) (m : Move) (y : Face) : Type 0 where
   pub by : Gluing
   pub tet : old.tet < length rows
   pub face : old.face < 4
-  pub stands : place_after rows m old ≡ Some by
+  pub occurs : place_after rows m old ≡ Some by
   pub is : face_under by old ≡ y
 
 -- the face y of the new table lies between the new facets j and l
@@ -42,13 +42,13 @@ pub record IsInner (rows : List Row) (m : Move) (y : Face) : Type 0 where
   pub l : ℕ
   pub j_small : j < length m.core
   pub l_small : l < length m.core
-  pub apart : j ≢ l
+  pub separate : j ≢ l
   pub is : opposite (new_facet rows m j) l ≡ y
 
 -- the vertex of old facet i with label j is mapped to the vertex of the new facet j with label i
 pub crossed : (rows : List Row) (m : Move) (i j : ℕ) (f : Facet) → IsFacet rows i f → j < 5 → j ≢ i → image (label_by_label f (new_facet rows m j)) (preimage f.labels j) ≡ preimage (ascending j) i
-crossed rows m i j f is l apart =
-    let at : HasVertex f.labels j = vertex_at i f.labels is.labels j l apart in
+crossed rows m i j f is l separate =
+    let at : HasVertex f.labels j = vertex_at i f.labels is.labels j l separate in
     image-map (λ l. preimage (ascending j) (substitute j f.missing l)) f.labels (preimage f.labels j) (rw (length-labels i f.labels is.labels) at.small)
     ∙ ap (λ l. preimage (ascending j) (substitute j f.missing l)) at.label
     ∙ ap (preimage (ascending j)) (in_place-same j f.missing j refl ∙ is.missing)
@@ -61,23 +61,23 @@ facet_covered rows m i j table h c low high less =
     let is : IsFacet rows i f = facet_is rows m i f table c h.in_range high o.1 in
     let size : length m.core < 5 = (core_size m.core c).1 in
     let small : j < 5 = omega arith in
-    let apart : j ≢ i = λ e. absurd (omega arith) in
-    let at : HasVertex f.labels j = vertex_at i f.labels is.labels j small apart in
+    let separate : j ≢ i = λ e. absurd (omega arith) in
+    let at : HasVertex f.labels j = vertex_at i f.labels is.labels j small separate in
     record {
       old = face_at f.tet (preimage f.labels j);
       by = facet_gluing rows m f j;
       tet = is.in_range;
       face = at.small;
-      stands = stand_in-old rows m i f (preimage f.labels j) h c low high o.1 ∙ ap (facet_place_after rows m f) at.label ∙ facet_stand_in-new rows m f j less;
-      is = ap (face_at (kept rows m + j)) (crossed rows m i j f is small apart);
+      occurs = image_after-old rows m i f (preimage f.labels j) h c low high o.1 ∙ ap (facet_place_after rows m f) at.label ∙ facet_image_after-new rows m f j less;
+      is = ap (face_at (kept rows m + j)) (crossed rows m i j f is small separate);
     }
 
 -- a face of a retained tetrahedron
 pub kept_covered : (rows : List Row) (m : Move) (y : Face) → IsTable rows → HasNoFault rows m → IsCore m.core → y.tet < kept rows m → y.face < 4 → StandsForOld rows m y
-kept_covered rows m y table h c lt lf = from (comes_from (old_tets rows m) (length rows) y.tet (old_tets_distinct rows m h c) (old_tets_below rows m table h c) few)
+kept_covered rows m y table h c lt lf = from (comes_from (old_tets rows m) (length rows) y.tet (old_tets_distinct rows m h c) (old_tets_below rows m table h c) limited)
   where
-    few : y.tet + length (old_tets rows m) < length rows
-    few = let size : length m.core < 5 = (core_size m.core c).1 in let k : 5 - length m.core ≤ length rows = kept-count rows m table h c in omega (arith, length-old_tets rows m h c)
+    limited : y.tet + length (old_tets rows m) < length rows
+    limited = let size : length m.core < 5 = (core_size m.core c).1 in let k : 5 - length m.core ≤ length rows = kept-count rows m table h c in omega (arith, length-old_tets rows m h c)
 
     from : (t : ℕ) × (t < length rows) × (has (old_tets rows m) t ≡ false) × (rank_without (old_tets rows m) t ≡ y.tet) → StandsForOld rows m y
     from (t, l, stays, is) = record {
@@ -85,7 +85,7 @@ kept_covered rows m y table h c lt lf = from (comes_from (old_tets rows m) (leng
       by = kept_place_after rows m t;
       tet = l;
       face = lf;
-      stands = stand_in-kept rows m (face_at t y.face) stays;
+      occurs = image_after-kept rows m (face_at t y.face) stays;
       is = ap (λ v. face_at (rank_without (old_tets rows m) t) v) (image-identity y.face lf) ∙ ap (λ u. face_at u y.face) is;
     }
 
@@ -104,8 +104,8 @@ covered rows m y table h c lt lf = by_tet (cases_lt y.tet (kept rows m))
         by_label l here.small here.present is (cases_lt l (length m.core))
       where
         by_label : (l : ℕ) → l < 5 → l ≢ j → face_at (kept rows m + j) (preimage (ascending j) l) ≡ y → (l < length m.core) ⊎ (length m.core ≤ l) → StandsForOld rows m y ⊎ IsInner rows m y
-        by_label l small apart is (inl new) = inr (record { j = j; l = l; j_small = less; l_small = new; apart = λ e. apart (sym e); is = is })
-        by_label l small apart is (inr old) = inl (subst (λ (z : Face). StandsForOld rows m z) is (facet_covered rows m l j table h c old small less))
+        by_label l small separate is (inl new) = inr (record { j = j; l = l; j_small = less; l_small = new; separate = λ e. separate (sym e); is = is })
+        by_label l small separate is (inr old) = inl (subst (λ (z : Face). StandsForOld rows m z) is (facet_covered rows m l j table h c old small less))
 
     by_tet : (y.tet < kept rows m) ⊎ (kept rows m ≤ y.tet) → StandsForOld rows m y ⊎ IsInner rows m y
     by_tet (inl low) = inl (kept_covered rows m y table h c low lf)

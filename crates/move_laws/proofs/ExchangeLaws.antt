@@ -9,7 +9,7 @@ use Rattle.std.proofs.lemmas.List.FromFn.{length-range_with_len, get_or-range_wi
 use Rattle.std.proofs.lemmas.List.Kept.{AllPairs-from_increasing}
 use Rattle.table_definitions.specs.Lists.{has, rank_without}
 use Rattle.table_definitions.specs.Permutation.{image, IsPermutationOfFour}
-use Rattle.table_definitions.specs.Table.{max_tets, Gluing, Row, Face, glue, other_side, way_back, same_face, IsTable}
+use Rattle.table_definitions.specs.Table.{max_tets, Gluing, Row, Face, glue, other_side, inverse_gluing, same_face, IsTable}
 use Rattle.table_definitions.specs.Replacing.{replaced_length, number_of_kept, free_numbers}
 use Rattle.table_definitions.specs.Relabelling.{face_under, gluing_under}
 use Rattle.table_definitions.proofs.Permutations.{identity_permutes, image-identity, image_below}
@@ -26,7 +26,7 @@ use Rattle.move_laws.proofs.FacetLaws.{new_is_facet, core_few}
 use Rattle.move_laws.proofs.LegalLaws.{IsLegal, same_facet, label_in}
 use Rattle.move_laws.proofs.NumberLaws.{range-up, range-within, picked-up, picked-within}
 use Rattle.move_laws.proofs.ListedLaws.{tet_of_old, taken-has}
-use Rattle.move_laws.proofs.StandLaws.{side_under, way_under, under_permutes, closes, closed-apart, StandsKept, StandsPut, stands, vertex_small, stand_put, put_permutes, put_face}
+use Rattle.move_laws.proofs.StandLaws.{side_under, way_under, under_permutes, closes, closed-separate, StandsKept, StandsPut, occurs, vertex_small, stand_put, put_permutes, put_face}
 use Rattle.move_laws.proofs.PutLaws.{put-numbers, put-length, is-put, put-is, not-put, glue-inner, glue-outer, LeadsIn, LeadsOut, leads, Leads}
 
 -- the new number of a tetrahedron that is retained
@@ -56,7 +56,7 @@ record Outer (rows : List Row) (m : Move) (x : Face) (g : Gluing) : Type 0 where
   at : x ≡ face_under (facet_gluing rows m f j) (opposite f j)
   is : g ≡ gluing_under (facet_gluing rows m f j) there before
   glued : glue rows (opposite f j) ≡ Some before
-  stands : place_after rows m (other_side (opposite f j) before) ≡ Some there
+  occurs : place_after rows m (other_side (opposite f j) before) ≡ Some there
   small : vertex_of f j < 4
   permutes : IsPermutationOfFour before.perm
   here_permutes : IsPermutationOfFour (facet_gluing rows m f j).perm
@@ -64,7 +64,7 @@ record Outer (rows : List Row) (m : Move) (x : Face) (g : Gluing) : Type 0 where
   there_small : (other_side (opposite f j) before).face < 4
   there_in_range : before.tet < length rows
   side : other_side x g ≡ face_under there (other_side (opposite f j) before)
-  back : way_back x g ≡ gluing_under there (facet_gluing rows m f j) (way_back (opposite f j) before)
+  back : inverse_gluing x g ≡ gluing_under there (facet_gluing rows m f j) (inverse_gluing (opposite f j) before)
 
 there_is : (rows : List Row) (m : Move) (y : Face) (r : Gluing) → IsLegal rows m → StandsKept rows m y r ⊎ StandsPut rows m y r → IsPermutationOfFour r.perm
 there_is rows m y r legal (inl k) = subst (λ (s : Gluing). IsPermutationOfFour s.perm) (sym k.is) identity_permutes
@@ -78,7 +78,7 @@ outer rows m x g legal o =
     let h = legal.table.permutes a o.before o.glued in
     let hs = put_permutes rows m o.i o.j o.f legal o.old o.own in
     let there_small = image_below o.before.perm h a.face small in
-    let hr = there_is rows m (other_side a o.before) o.there legal (stands rows m (other_side a o.before) o.there legal there_small o.stands) in
+    let hr = there_is rows m (other_side a o.before) o.there legal (occurs rows m (other_side a o.before) o.there legal there_small o.occurs) in
     let at : x ≡ face_under s a = o.at ∙ sym (put_face rows m o.i o.j o.f legal o.old o.own) in
     record {
       i = o.i;
@@ -91,7 +91,7 @@ outer rows m x g legal o =
       at = at;
       is = o.is;
       glued = o.glued;
-      stands = o.stands;
+      occurs = o.occurs;
       small = small;
       permutes = h;
       here_permutes = hs;
@@ -99,12 +99,12 @@ outer rows m x g legal o =
       there_small = there_small;
       there_in_range = legal.table.in_range a o.before o.glued;
       side = ap (λ (y : Face). other_side y g) at ∙ ap (other_side (face_under s a)) o.is ∙ side_under s o.there o.before a hs hr h small;
-      back = ap (λ (y : Face). way_back y g) at ∙ ap (way_back (face_under s a)) o.is ∙ way_under s o.there o.before a hs hr h;
+      back = ap (λ (y : Face). inverse_gluing y g) at ∙ ap (inverse_gluing (face_under s a)) o.is ∙ way_under s o.there o.before a hs hr h;
     }
 
 -- such a face is glued to a retained tetrahedron, or to a face that replaces one of an old facet
 outer_stands : (rows : List Row) (m : Move) (x : Face) (g : Gluing) → IsLegal rows m → (o : Outer rows m x g) → StandsKept rows m (other_side (opposite o.f o.j) o.before) o.there ⊎ StandsPut rows m (other_side (opposite o.f o.j) o.before) o.there
-outer_stands rows m x g legal o = stands rows m (other_side (opposite o.f o.j) o.before) o.there legal o.there_small o.stands
+outer_stands rows m x g legal o = occurs rows m (other_side (opposite o.f o.j) o.before) o.there legal o.there_small o.occurs
 
 tet_of : (g h : Gluing) → g ≡ h → g.tet ≡ h.tet
 tet_of g h e = ap (λ (k : Gluing). k.tet) e
@@ -126,7 +126,7 @@ put_side rows m x g legal o p = o.side ∙ ap (face_under o.there) p.at ∙ ap (
 -- the other side of a gluing between new facets
 in_side : (rows : List Row) (m : Move) (x : Face) (g : Gluing) → IsLegal rows m → (i : LeadsIn rows m x g) → other_side x g ≡ opposite (new_facet rows m i.l) i.j
 in_side rows m x g legal i =
-    let few = core_few m.core legal.core in
+    let limited = core_few m.core legal.core in
     let own = i.own in
     let new = i.new in
     let N = new_is_facet rows m i.j (omega arith) in
@@ -136,7 +136,7 @@ in_side rows m x g legal i =
 
 in_permutes : (rows : List Row) (m : Move) (j l : ℕ) → IsLegal rows m → j < length m.core → l < length m.core → l ≢ j → IsPermutationOfFour (label_by_label (new_facet rows m j) (new_facet rows m l))
 in_permutes rows m j l legal own new other =
-    let few = core_few m.core legal.core in
+    let limited = core_few m.core legal.core in
     by_permutes (new_facet rows m j) (new_facet rows m l) (new_is_facet rows m j (omega arith)) (new_is_facet rows m l (omega arith)) (λ e. other (sym e))
 
 -- the conditions of an exchange, one by one
@@ -189,8 +189,8 @@ put_apart rows m x g legal (inr l) e = by_stand (outer_stands rows m x g legal o
     o : Outer rows m x g
     o = outer rows m x g legal l
 
-    few : length m.core < 5
-    few = core_few m.core legal.core
+    limited : length m.core < 5
+    limited = core_few m.core legal.core
 
     by_stand : StandsKept rows m (other_side (opposite o.f o.j) o.before) o.there ⊎ StandsPut rows m (other_side (opposite o.f o.j) o.before) o.there → ⊥
     by_stand (inl k) =
@@ -204,10 +204,10 @@ put_apart rows m x g legal (inr l) e = by_stand (outer_stands rows m x g legal o
         let at : x ≡ opposite (new_facet rows m o.j) o.i = o.at ∙ put_face rows m o.i o.j o.f legal o.old o.own in
         let both : opposite (new_facet rows m p.j) p.i ≡ opposite (new_facet rows m o.j) o.i = sym (put_side rows m x g legal o p) ∙ e ∙ at in
         let pn = p.new in
-        let s = same_new rows m p.i p.j o.i o.j (let q = few in omega arith) (label_in rows m p.i p.f p.old) (label_in rows m o.i o.f o.old) (not_old rows m p.i p.j p.f p.old p.new) (not_old rows m o.i o.j o.f o.old o.own) both in
+        let s = same_new rows m p.i p.j o.i o.j (let q = limited in omega arith) (label_in rows m p.i p.f p.old) (label_in rows m o.i o.f o.old) (not_old rows m p.i p.j p.f p.old p.new) (not_old rows m o.i o.j o.f o.old o.own) both in
         let f : p.f ≡ o.f = same_facet rows m o.i p.f o.f (subst (λ n. IsOldFacet rows m n p.f) s.1 p.old) o.old in
         let itself : other_side (opposite o.f o.j) o.before ≡ opposite o.f o.j = p.at ∙ ap (λ (h : Facet). opposite h p.j) f ∙ ap (opposite o.f) s.0 in
-        let never = legal.table.apart (opposite o.f o.j) o.before o.glued in
+        let never = legal.table.separate (opposite o.f o.j) o.before o.glued in
         let z : false ≡ true = ap not (sym (same_refl (other_side (opposite o.f o.j) o.before) (opposite o.f o.j) itself)) ∙ never in
         absurd cc
       where
@@ -215,13 +215,13 @@ put_apart rows m x g legal (inr l) e = by_stand (outer_stands rows m x g legal o
         same_refl a b q = same_to a.tet b.tet a.face b.face (face_tet a b q) (face_vertex a b q)
 
 -- gluings between new facets have their inverses
-back_in : (rows : List Row) (m : Move) (x : Face) (g : Gluing) → IsLegal rows m → Leads rows m x g → has (fresh_numbers (exchange rows m)) g.tet ≡ true → fresh_glue (exchange rows m) (other_side x g) ≡ Some (way_back x g)
+back_in : (rows : List Row) (m : Move) (x : Face) (g : Gluing) → IsLegal rows m → Leads rows m x g → has (fresh_numbers (exchange rows m)) g.tet ≡ true → fresh_glue (exchange rows m) (other_side x g) ≡ Some (inverse_gluing x g)
 back_in rows m x g legal (inl i) h =
-    let few = core_few m.core legal.core in
+    let limited = core_few m.core legal.core in
     let own = i.own in
     let new = i.new in
-    let way : way_back x g ≡ facet_gluing rows m (new_facet rows m i.l) i.j =
-    ap (λ (y : Face). way_back y g) i.at ∙ ap (way_back (opposite (new_facet rows m i.j) i.l)) i.is
+    let way : inverse_gluing x g ≡ facet_gluing rows m (new_facet rows m i.l) i.j =
+    ap (λ (y : Face). inverse_gluing y g) i.at ∙ ap (inverse_gluing (opposite (new_facet rows m i.j) i.l)) i.is
     ∙ ap (λ (p : List ℕ). record { tet = kept rows m + i.j; perm = p }) (by_back (new_facet rows m i.j) (new_facet rows m i.l) (new_is_facet rows m i.j (omega arith)) (new_is_facet rows m i.l (omega arith)) (λ e. i.other (sym e))) in
     ap (fresh_glue (exchange rows m)) (in_side rows m x g legal i) ∙ glue-inner rows m i.l i.j legal i.new i.own (λ e. i.other (sym e)) ∙ ap (λ (k : Gluing). Some k) (sym way)
 back_in rows m x g legal (inr l) h = by_stand (outer_stands rows m x g legal o)
@@ -229,7 +229,7 @@ back_in rows m x g legal (inr l) h = by_stand (outer_stands rows m x g legal o)
     o : Outer rows m x g
     o = outer rows m x g legal l
 
-    by_stand : StandsKept rows m (other_side (opposite o.f o.j) o.before) o.there ⊎ StandsPut rows m (other_side (opposite o.f o.j) o.before) o.there → fresh_glue (exchange rows m) (other_side x g) ≡ Some (way_back x g)
+    by_stand : StandsKept rows m (other_side (opposite o.f o.j) o.before) o.there ⊎ StandsPut rows m (other_side (opposite o.f o.j) o.before) o.there → fresh_glue (exchange rows m) (other_side x g) ≡ Some (inverse_gluing x g)
     by_stand (inl k) =
         let t = kept_tet rows m x g legal o k in
         let t0 = t.0 in
@@ -241,11 +241,11 @@ back_in rows m x g legal (inr l) h = by_stand (outer_stands rows m x g legal o)
         let a : Face = opposite o.f o.j in
         let s : Gluing = facet_gluing rows m o.f o.j in
         let r : Gluing = facet_gluing rows m p.f p.j in
-        let back : glue rows (opposite p.f p.j) ≡ Some (way_back a o.before) = ap (glue rows) (sym p.at) ∙ legal.table.leads_back a o.before o.glued in
-        let home : other_side (opposite p.f p.j) (way_back a o.before) ≡ a = ap (λ (y : Face). other_side y (way_back a o.before)) (sym p.at) ∙ there_and_back a o.before o.permutes o.small in
-        let carried : moved_gluing rows m (opposite p.f p.j) r (way_back a o.before) ≡ Some (gluing_under r s (way_back a o.before)) =
-        ap (λ (y : Face). option_map (λ t. gluing_under r t (way_back a o.before)) (place_after rows m y)) home ∙ ap (option_map (λ t. gluing_under r t (way_back a o.before))) (stand_put rows m o.i o.j o.f legal o.old o.own) in
-        let way : way_back x g ≡ gluing_under r s (way_back a o.before) = o.back ∙ ap (λ (t : Gluing). gluing_under t s (way_back a o.before)) p.is in
+        let back : glue rows (opposite p.f p.j) ≡ Some (inverse_gluing a o.before) = ap (glue rows) (sym p.at) ∙ legal.table.leads_back a o.before o.glued in
+        let home : other_side (opposite p.f p.j) (inverse_gluing a o.before) ≡ a = ap (λ (y : Face). other_side y (inverse_gluing a o.before)) (sym p.at) ∙ there_and_back a o.before o.permutes o.small in
+        let carried : moved_gluing rows m (opposite p.f p.j) r (inverse_gluing a o.before) ≡ Some (gluing_under r s (inverse_gluing a o.before)) =
+        ap (λ (y : Face). option_map (λ t. gluing_under r t (inverse_gluing a o.before)) (place_after rows m y)) home ∙ ap (option_map (λ t. gluing_under r t (inverse_gluing a o.before))) (stand_put rows m o.i o.j o.f legal o.old o.own) in
+        let way : inverse_gluing x g ≡ gluing_under r s (inverse_gluing a o.before) = o.back ∙ ap (λ (t : Gluing). gluing_under t s (inverse_gluing a o.before)) p.is in
         ap (fresh_glue (exchange rows m)) (put_side rows m x g legal o p) ∙ glue-outer rows m p.i p.j p.f legal p.old p.new ∙ ap (option_and_then (moved_gluing rows m (opposite p.f p.j) r)) back ∙ carried
         ∙ ap (λ (k : Gluing). Some k) (sym way)
 
@@ -287,7 +287,7 @@ freed_by rows m x g legal kind h =
     let inside = o.old.in_range in
     record {
       old = o.before.tet;
-      gluing = way_back a o.before;
+      gluing = inverse_gluing a o.before;
       in_range = o.there_in_range;
       is_kept = taken-has rows m o.before.tet o.there_in_range ∙ k.free;
       number = number-kept rows m o.before.tet legal o.there_in_range k.free ∙ sym (face_tet (other_side x g) _ at);
@@ -298,13 +298,13 @@ freed_by rows m x g legal kind h =
 -- two faces of a table that are glued to one face are equal
 pub one_face : (rows : List Row) → IsTable rows → (a b : Face) (g h : Gluing) → glue rows a ≡ Some g → glue rows b ≡ Some h → a.face < 4 → b.face < 4 → other_side a g ≡ other_side b h → a ≡ b
 one_face rows table a b g h ga gb la lb e =
-    let back : Some (way_back a g) ≡ Some (way_back b h) = sym (table.leads_back a g ga) ∙ ap (glue rows) e ∙ table.leads_back b h gb in
-    let way : way_back a g ≡ way_back b h = cc in
-    sym (there_and_back a g (table.permutes a g ga) la) ∙ ap (λ (y : Face). other_side y (way_back a g)) e ∙ ap (other_side (other_side b h)) way ∙ there_and_back b h (table.permutes b h gb) lb
+    let back : Some (inverse_gluing a g) ≡ Some (inverse_gluing b h) = sym (table.leads_back a g ga) ∙ ap (glue rows) e ∙ table.leads_back b h gb in
+    let way : inverse_gluing a g ≡ inverse_gluing b h = cc in
+    sym (there_and_back a g (table.permutes a g ga) la) ∙ ap (λ (y : Face). other_side y (inverse_gluing a g)) e ∙ ap (other_side (other_side b h)) way ∙ there_and_back b h (table.permutes b h gb) lb
 
 one_by : (rows : List Row) (m : Move) (x z : Face) (g h : Gluing) → IsLegal rows m → Leads rows m x g → Leads rows m z h → has (fresh_numbers (exchange rows m)) g.tet ≡ false → other_side x g ≡ other_side z h → x ≡ z
 one_by rows m x z g h legal kx kz kept_x e =
-    let few = core_few m.core legal.core in
+    let limited = core_few m.core legal.core in
     let kept_z : has (fresh_numbers (exchange rows m)) h.tet ≡ false = ap (has (fresh_numbers (exchange rows m))) (sym (face_tet (other_side x g) (other_side z h) e)) ∙ kept_x in
     let p = not_in rows m x g legal kx kept_x in
     let q = not_in rows m z h legal kz kept_z in
@@ -314,10 +314,10 @@ one_by rows m x z g h legal kx kz kept_x e =
     let b : Face = opposite u.f u.j in
     let mk : ℕ → ℕ → Face = λ t v. record { tet = t; face = v } in
     let both : mk (rank_without (old_tets rows m) o.before.tet) (other_side a o.before).face ≡ mk (rank_without (old_tets rows m) u.before.tet) (other_side b u.before).face = sym (kept_side rows m x g o p.1) ∙ e ∙ kept_side rows m z h u q.1 in
-    let t : o.before.tet ≡ u.before.tet = closed-apart rows m o.before.tet u.before.tet legal o.there_in_range u.there_in_range p.1.free q.1.free (face_tet _ _ both) in
+    let t : o.before.tet ≡ u.before.tet = closed-separate rows m o.before.tet u.before.tet legal o.there_in_range u.there_in_range p.1.free q.1.free (face_tet _ _ both) in
     let sides : other_side a o.before ≡ other_side b u.before = ap (λ n. mk n (other_side a o.before).face) t ∙ ap (mk u.before.tet) (face_vertex _ _ both) in
     let faces : a ≡ b = one_face rows legal.table a b o.before u.before o.glued u.glued o.small u.small sides in
-    let i : o.i ≡ u.i = legal.apart o.i u.i o.f u.f o.old u.old (face_tet a b faces) in
+    let i : o.i ≡ u.i = legal.separate o.i u.i o.f u.f o.old u.old (face_tet a b faces) in
     let f : o.f ≡ u.f = same_facet rows m u.i o.f u.f (subst (λ n. IsOldFacet rows m n o.f) i o.old) u.old in
     let jo = o.own in
     let ju = u.own in
@@ -334,11 +334,11 @@ can_exchange rows m legal fits = record {
   fresh_ascend = subst (λ (ns : List ℕ). IsStrictlyIncreasing ns) (sym (put-numbers rows m)) (range-up (kept rows m) (length m.core));
   fresh_in_range = subst (λ (ns : List ℕ). All (λ u. u < replaced_length rows (exchange rows m)) ns) (sym (put-numbers rows m))
       (range-within (kept rows m) (length m.core) (replaced_length rows (exchange rows m)) (let n = put-length rows m legal in omega arith));
-  few = (let n = put-length rows m legal in omega arith);
+  limited = (let n = put-length rows m legal in omega arith);
   four_faces = four_long;
   permutes = λ x g e. put_gluing_permutes rows m x g legal (leads rows m x g legal e);
   in_range = λ x g e. put_in_range rows m x g legal (leads rows m x g legal e);
-  apart = λ x g e. not_from (same_face (other_side x g) x) (λ s. put_apart rows m x g legal (leads rows m x g legal e) (same_true (other_side x g) x s));
+  separate = λ x g e. not_from (same_face (other_side x g) x) (λ s. put_apart rows m x g legal (leads rows m x g legal e) (same_true (other_side x g) x s));
   leads_back = λ x g e h. back_in rows m x g legal (leads rows m x g legal e) h;
   freed = λ x g e h. freed_by rows m x g legal (leads rows m x g legal e) h;
   one_each = λ x z g h e k free s. one_by rows m x z g h legal (leads rows m x g legal e) (leads rows m z h legal k) free s;
@@ -353,7 +353,7 @@ can_exchange rows m legal fits = record {
     four_long : All (λ (x : ℕ × Row). length x.1 ≡ 4) (put_rows rows m)
     four_long =
         All-map (λ (x : ℕ × Row). length x.1 ≡ 4) (λ u. (u, put_row rows m (u - kept rows m))) (range_with_len (kept rows m) (length m.core))
-        (λ k d l. (let few = core_few m.core legal.core in let b : k < length m.core = rw length-range_with_len at l in let at = get_or-range_with_len (kept rows m) (length m.core) k d b in long (get_or (range_with_len (kept rows m) (length m.core)) k d - kept rows m) (omega arith)))
+        (λ k d l. (let limited = core_few m.core legal.core in let b : k < length m.core = rw length-range_with_len at l in let at = get_or-range_with_len (kept rows m) (length m.core) k d b in long (get_or (range_with_len (kept rows m) (length m.core)) k d - kept rows m) (omega arith)))
       where
         long : (j : ℕ) → j < 5 → length (put_row rows m j) ≡ 4
         long j b = length-map (new_facet rows m j).labels (fresh_gluing rows m j) ∙ (new_is_facet rows m j b).four_labels

@@ -27,11 +27,11 @@ facet_test i labels = (length labels == 4) && (list_all (vertex_test i labels) (
 
 passed : (f : Facet) → f.missing < 5 → facet_test f.missing f.labels ≡ true → IsFacet f
 unfolding facet_test vertex_test label_test
-passed f few h =
+passed f limited h =
     let p = both_true (length f.labels == 4) (list_all (vertex_test f.missing f.labels) (below 4) && list_all (label_test f.missing f.labels) (below 5)) h in
     let q = both_true (list_all (vertex_test f.missing f.labels) (below 4)) (list_all (label_test f.missing f.labels) (below 5)) p.1 in
     record {
-      missing_below = few;
+      missing_below = limited;
       four_labels = eqb-true (length f.labels) 4 p.0;
       label_below = λ v l. ltb-true (image f.labels v) 5 (vertices q.0 v l).0;
       label_other = λ v l. not_equal (image f.labels v) f.missing (vertices q.0 v l).1;

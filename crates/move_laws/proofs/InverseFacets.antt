@@ -31,7 +31,7 @@ pub record IsPlayed (old : List Row) (m : Move) (new : List Row) : Type 0 where
   pub core : IsCore m.core
   pub moved : IsMoved old m new
   pub some : 0 < length m.core
-  pub few : length m.core < 5
+  pub limited : length m.core < 5
   pub fits : 5 - length m.core ≤ length old
   pub inverse_core : IsInverseCore (length m.core) (drop (length m.core - 1) four)
 
@@ -41,7 +41,7 @@ played old m new table h = record {
   core = h.core;
   moved = h;
   some = (core_size m.core h.core).0;
-  few = (core_size m.core h.core).1;
+  limited = (core_size m.core h.core).1;
   fits = kept-count old m table (no_fault old m h.legal) h.core;
   inverse_core = inverse_core (length m.core) (core_size m.core h.core).0 (core_size m.core h.core).1;
 }
@@ -80,18 +80,18 @@ renamed_found s j low l =
 pub opposite-new : (old : List Row) (m : Move) (new : List Row) → IsPlayed old m new → (j l : ℕ) → j < length m.core → l < length m.core → j ≢ l
     → glue new (opposite (new_as_old old m j) (renamed (length m.core) l)) ≡ Some (record { tet = kept old m + l; perm = across j l })
 opposite-new old m new p j l hj hl d =
-    let few : length m.core < 5 = p.few in
-    ap (λ v. glue new (face_at (kept old m + j) v)) (renamed-vertex (length m.core) j l p.few (omega arith) (omega arith) (λ e. d (sym e))) ∙ p.moved.inner j l hj hl d
+    let limited : length m.core < 5 = p.limited in
+    ap (λ v. glue new (face_at (kept old m + j) v)) (renamed-vertex (length m.core) j l p.limited (omega arith) (omega arith) (λ e. d (sym e))) ∙ p.moved.inner j l hj hl d
 
 found_inverse : (old : List Row) (m : Move) (new : List Row) → IsPlayed old m new → (j : ℕ) → 0 < j → j < length m.core → facet new (inverse_of old m) (renamed (length m.core) j) ≡ Some (new_as_old old m j)
 found_inverse old m new p j low high =
     let s : ℕ = length m.core in
-    let few : length m.core < 5 = p.few in
+    let limited : length m.core < 5 = p.limited in
     let small : renamed s j < 4 = (let e = renamed_found s j low high in omega arith) in
     facet-found new (inverse_of old m) (renamed s j) small
     ∙ ap (λ (f : Facet). option_map (facet_across f (renamed s j)) (glue new (opposite f (renamed s j)))) (own_inverse old m new p)
     ∙ ap (option_map (facet_across (new_as_old old m 0) (renamed s j))) (opposite-new old m new p 0 j p.some high (λ e. absurd (omega arith)))
-    ∙ ap (λ ls. Some (facet_by (kept old m + j) (renamed s j) ls)) (behind-renamed s j few low high)
+    ∙ ap (λ ls. Some (facet_by (kept old m + j) (renamed s j) ls)) (behind-renamed s j limited low high)
 
 pub facet-inverse : (old : List Row) (m : Move) (new : List Row) → IsPlayed old m new → (j : ℕ) → j < length m.core → facet new (inverse_of old m) (renamed (length m.core) j) ≡ Some (new_as_old old m j)
 facet-inverse old m new p zero l = ap (facet new (inverse_of old m)) (renamed_zero (length m.core) p.some) ∙ ap (λ (f : Facet). Some f) (own_inverse old m new p)
@@ -108,16 +108,16 @@ pub new_label : (old : List Row) (m : Move) (new : List Row) → IsPlayed old m 
 new_label old m new p i low high =
     let s : ℕ = length m.core in
     let j : ℕ = renamed_back s i in
-    let small : j < s = back-new s i p.few high low in
-    let is : renamed s j ≡ i = renamed-back s i p.few high in
+    let small : j < s = back-new s i p.limited high low in
+    let is : renamed s j ≡ i = renamed-back s i p.limited high in
     record { label = j; small = small; is = is; facet_is = ap (facet new (inverse_of old m)) (sym is) ∙ facet-inverse old m new p j small }
 
 -- the facets that the inverse finds have different tetrahedra
 
 among_found : (old : List Row) (m : Move) (new : List Row) → IsPlayed old m new → (i : ℕ) → Among i (found_labels (inverse_of old m)) → (5 - length m.core ≤ i) × (i < 4)
 among_found old m new p i a =
-    let few : 5 - length m.core < 5 = (let l = p.some in omega arith) in
-    found_range (5 - length m.core) i few (subst (λ k. Among i (drop k four)) p.inverse_core.size a)
+    let limited : 5 - length m.core < 5 = (let l = p.some in omega arith) in
+    found_range (5 - length m.core) i limited (subst (λ k. Among i (drop k four)) p.inverse_core.size a)
   where
     found_range : (s i : ℕ) → s < 5 → Among i (drop s four) → (s ≤ i) × (i < 4)
     found_range zero i l a = let r : (0 ≤ i) × (i < 4) = four_range i a in r
@@ -184,13 +184,13 @@ facet_fine old m new p i a =
 pair_fine : (old : List Row) (m : Move) (new : List Row) → IsPlayed old m new → (a b : ℕ) → a < length m.core → b < length m.core → a ≢ b → pair_fault new (Some (new_as_old old m a)) (Some (new_as_old old m b)) ≡ None
 pair_fine old m new p a b ha hb d =
     let s : ℕ = length m.core in
-    let few : length m.core < 5 = p.few in
+    let limited : length m.core < 5 = p.limited in
     let f : Facet = new_as_old old m a in
     let g : Facet = new_as_old old m b in
     let matched : is_matched f g (glue new (opposite f (renamed s b))) ≡ true =
     ap (is_matched f g) (opposite-new old m new p a b ha hb d)
     ∙ and_from (kept old m + b == kept old m + b) (same_list (compose (new_as_old_labels s b) (across a b)) (map (substitute (renamed s b) (renamed s a)) (new_as_old_labels s a))) (eq-eqb (kept old m + b) (kept old m + b) refl)
-    (match-renamed s a b few (omega arith) (omega arith) d) in
+    (match-renamed s a b limited (omega arith) (omega arith) d) in
     ap (λ (c : Bool). if c then None else Some (NotMatched (renamed s a) (renamed s b))) matched
 
 pair_at : (old : List Row) (m : Move) (new : List Row) → IsPlayed old m new → (q : ℕ × ℕ) → Among {A = ℕ × ℕ} q (filter (λ (p : ℕ × ℕ). nat_lt p.0 p.1) (pairs_of (found_labels (inverse_of old m)) (found_labels (inverse_of old m))))
@@ -203,10 +203,10 @@ pair_at old m new p q a =
     let r' : (5 - length m.core ≤ q.1) × (q.1 < 4) = among_found old m new p q.1 both.1 in
     let n : IsNewLabel old m new q.0 = new_label old m new p q.0 r.0 (omega arith) in
     let n' : IsNewLabel old m new q.1 = new_label old m new p q.1 r'.0 (omega arith) in
-    let apart : n.label ≢ n'.label = λ e. (let same : q.0 ≡ q.1 = sym n.is ∙ ap (renamed (length m.core)) e ∙ n'.is in absurd (omega arith)) in
+    let separate : n.label ≢ n'.label = λ e. (let same : q.0 ≡ q.1 = sym n.is ∙ ap (renamed (length m.core)) e ∙ n'.is in absurd (omega arith)) in
     ap (λ (o : Option Facet). pair_fault new o (facet new (inverse_of old m) q.1)) n.facet_is
     ∙ ap (λ (o : Option Facet). pair_fault new (Some (new_as_old old m n.label)) o) n'.facet_is
-    ∙ pair_fine old m new p n.label n'.label n.small n'.small apart
+    ∙ pair_fine old m new p n.label n'.label n.small n'.small separate
 
 -- the inverse move has no error
 pub inverse_legal : (old : List Row) (m : Move) (new : List Row) → IsPlayed old m new → move_fault new (inverse_of old m) ≡ None

@@ -69,9 +69,9 @@ pub record HasVertex (labels : List ℕ) (l : ℕ) : Type 0 where
 
 pub vertex_at : (i : ℕ) (labels : List ℕ) → AreLabels i labels → (l : ℕ) → l < 5 → l ≢ i → HasVertex labels l
 unfolding place_test
-vertex_at i labels h l small apart =
+vertex_at i labels h l small separate =
     let at = list_all-below (λ l. (l == i) || (nat_lt (preimage labels l) 4 && (slice_index labels (preimage labels l) == l))) 5 (on_labels place_test place_tests i labels h) l small in
-    let p = and_parts (nat_lt (preimage labels l) 4) (slice_index labels (preimage labels l) == l) (given_apart l i (nat_lt (preimage labels l) 4 && (slice_index labels (preimage labels l) == l)) at apart) in
+    let p = and_parts (nat_lt (preimage labels l) 4) (slice_index labels (preimage labels l) == l) (given_apart l i (nat_lt (preimage labels l) 4 && (slice_index labels (preimage labels l) == l)) at separate) in
     record { small = ltb-true (preimage labels l) 4 p.0; label = eqb-true (image labels (preimage labels l)) l p.1 }
 
 -- a permutation is labels of facet 4

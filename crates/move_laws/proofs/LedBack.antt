@@ -13,15 +13,15 @@ use Rattle.table_definitions.proofs.ListFacts.{list_all-below}
 use Rattle.table_definitions.proofs.Permutations.{image_below, preimage_below, image-preimage, preimage-image, image-inverse, inverse_permutes, compose_permutes, image-compose, same_images, carried_twice}
 use Rattle.table_definitions.proofs.Faces.{face_at, gluing_to}
 use Rattle.move_definitions.proofs.CoreTests.{core_size}
-use Rattle.move_definitions.proofs.StandIns.{facet_stand_in-old}
+use Rattle.move_definitions.proofs.StandIns.{facet_image_after-old}
 use Rattle.move_laws.proofs.ListedFacets.{same_some}
 use Rattle.move_laws.proofs.Labels.{AreLabels, ascending, new_labels, HasLabel, label_at, HasVertex, vertex_at, length-labels, image-map}
 use Rattle.move_laws.proofs.Legal.{IsFacet, facet_is, HasNoFault, no_fault, old_facet}
-use Rattle.move_laws.proofs.Covered.{StandsForOld, IsInner, covered, stand_in-old}
+use Rattle.move_laws.proofs.Covered.{StandsForOld, IsInner, covered, image_after-old}
 use Rattle.move_laws.proofs.Matched.{AreGlued, old_glued, label_across}
 use Rattle.move_laws.proofs.Renamed.{renamed, renamed-old, renamed-new, renamed_below, renamed-place, new_as_old_labels, across, inverse_core, renamed_apart}
 use Rattle.move_laws.proofs.InverseFacets.{inverse_of, new_as_old, IsPlayed, played, facet-inverse, inverse_legal}
-use Rattle.move_laws.proofs.Placed.{moved_perm, moved_perm_permutes, place, facet_place, place-old, relabelling, stand_in-placed, is_relabelling, led_back, carries_back}
+use Rattle.move_laws.proofs.Placed.{moved_perm, moved_perm_permutes, place, facet_place, place-old, relabelling, image_after-placed, is_relabelling, led_back, carries_back}
 use Rattle.move_laws.proofs.SecondStand.{kept-inverse, StandsAgain, stands_again, other_stands}
 
 -- the gluings of the relabelled table
@@ -30,7 +30,7 @@ carried_at : (old : List Row) (m : Move) (new : List Row) → IsPlayed old m new
     → glue (led_back old m) (face_under (place old m x.tet) x) ≡ option_map (λ g. gluing_under (place old m x.tet) (place old m g.tet) g) o
 carried_at old m new p x lt lf o e =
     let c : Carries (relabelling old m) old (led_back old m) = carries_back old m p.table (no_fault old m p.moved.legal) p.core in
-    let at : relabelled_place (relabelling old m) x.tet ≡ place old m x.tet = stand_in-placed old m x.tet lt in
+    let at : relabelled_place (relabelling old m) x.tet ≡ place old m x.tet = image_after-placed old m x.tet lt in
     let here = c.glued x lt lf in
     ap (λ (s : Gluing). glue (led_back old m) (face_under s x)) (sym at) ∙ here ∙ ap (λ (s : Gluing). option_map (λ g. gluing_under s (relabelled_place (relabelling old m) g.tet) g) (glue old x)) at
     ∙ reached o e
@@ -39,7 +39,7 @@ carried_at old m new p x lt lf o e =
     reached None e = ap (option_map (λ g. gluing_under (place old m x.tet) (relabelled_place (relabelling old m) g.tet) g)) e
     reached (Some g) e =
         ap (option_map (λ g. gluing_under (place old m x.tet) (relabelled_place (relabelling old m) g.tet) g)) e
-        ∙ ap (λ (r : Gluing). Some (gluing_under (place old m x.tet) r g)) (stand_in-placed old m g.tet (p.table.in_range x g e))
+        ∙ ap (λ (r : Gluing). Some (gluing_under (place old m x.tet) r g)) (image_after-placed old m g.tet (p.table.in_range x g e))
 
 -- between the facets that the inverse adds
 
@@ -154,13 +154,13 @@ inner_at old m new p i k low high low' high' d = ap (glue (led_back old m)) (sym
     gluing =
         ap (λ (q : Gluing). gluing_under q (place old m a.by.tet) a.by) from
         ∙ ap (λ (r : Gluing). gluing_under (facet_place old m i f.labels) r a.by) to
-        ∙ ap (gluing_to (kept old m + (k - s))) (moved_across s i k f.labels g.labels a.by.perm p.few low low' d is.labels is'.labels (p.table.permutes x a.by a.glued) a.labels)
+        ∙ ap (gluing_to (kept old m + (k - s))) (moved_across s i k f.labels g.labels a.by.perm p.limited low low' d is.labels is'.labels (p.table.permutes x a.by a.glued) a.labels)
 
 inner_back : (old : List Row) (m : Move) (new : List Row) → IsPlayed old m new → (j l : ℕ) → j < 5 - length m.core → l < 5 - length m.core → j ≢ l
     → glue (led_back old m) (opposite (new_facet new (inverse_of old m) j) l) ≡ Some (record { tet = (new_facet new (inverse_of old m) l).tet; perm = across j l })
 inner_back old m new p j l hj hl d =
     let s : ℕ = length m.core in
-    let few : length m.core < 5 = p.few in
+    let limited : length m.core < 5 = p.limited in
     let ej : j + s - s ≡ j = omega arith in
     let el : l + s - s ≡ l = omega arith in
     let base : kept new (inverse_of old m) ≡ kept old m = kept-inverse old m new p in
@@ -175,17 +175,17 @@ inner_back old m new p j l hj hl d =
 inner_none : (old : List Row) (m : Move) (new : List Row) → IsPlayed old m new → (x : Face) → IsInner old m x → place_after new (inverse_of old m) x ≡ None
 inner_none old m new p x n =
     let s : ℕ = length m.core in
-    let few : length m.core < 5 = p.few in
+    let limited : length m.core < 5 = p.limited in
     let hj : n.j < 5 = (let l = n.j_small in omega arith) in
     let hl : n.l < 5 = (let l = n.l_small in omega arith) in
-    let v : HasVertex (ascending n.j) n.l = vertex_at n.j (ascending n.j) (new_labels n.j hj) n.l hl (λ e. n.apart (sym e)) in
+    let v : HasVertex (ascending n.j) n.l = vertex_at n.j (ascending n.j) (new_labels n.j hj) n.l hl (λ e. n.separate (sym e)) in
     let label : image (new_as_old_labels s n.j) (preimage (ascending n.j) n.l) ≡ renamed s n.l =
     image-map (renamed s) (ascending n.j) (preimage (ascending n.j) n.l) (rw (length-labels n.j (ascending n.j) (new_labels n.j hj)) v.small) ∙ ap (renamed s) v.label in
-    let low : (j : ℕ) → j < s → length (inverse_of old m).core ≤ renamed s j = λ j l. subst (λ k. k ≤ renamed s j) (sym p.inverse_core.size) (renamed-new s j p.few l) in
+    let low : (j : ℕ) → j < s → length (inverse_of old m).core ≤ renamed s j = λ j l. subst (λ k. k ≤ renamed s j) (sym p.inverse_core.size) (renamed-new s j p.limited l) in
     ap (place_after new (inverse_of old m)) (sym n.is)
-    ∙ stand_in-old new (inverse_of old m) (renamed s n.j) (new_as_old old m n.j) (preimage (ascending n.j) n.l) (no_fault new (inverse_of old m) (inverse_legal old m new p)) p.inverse_core.is_core (low n.j n.j_small) (renamed_below s n.j p.few hj) (facet-inverse old m new p n.j n.j_small)
+    ∙ image_after-old new (inverse_of old m) (renamed s n.j) (new_as_old old m n.j) (preimage (ascending n.j) n.l) (no_fault new (inverse_of old m) (inverse_legal old m new p)) p.inverse_core.is_core (low n.j n.j_small) (renamed_below s n.j p.limited hj) (facet-inverse old m new p n.j n.j_small)
     ∙ ap (facet_place_after new (inverse_of old m) (new_as_old old m n.j)) label
-    ∙ facet_stand_in-old new (inverse_of old m) (new_as_old old m n.j) (renamed s n.l) (low n.l n.l_small)
+    ∙ facet_image_after-old new (inverse_of old m) (new_as_old old m n.j) (renamed s n.l) (low n.l n.l_small)
 
 -- the face that replaces x is glued to the face that replaces the other side of x
 pub over_there : (x : Face) (s r g : Gluing) → IsPermutationOfFour s.perm → IsPermutationOfFour r.perm → IsPermutationOfFour g.perm → x.face < 4 → other_side (face_under s x) (gluing_under s r g) ≡ face_under r (other_side x g)
@@ -199,13 +199,13 @@ over_there x s r g hs hr hg l =
 -- a face that replaces the old face x
 outer_at : (old : List Row) (m : Move) (new : List Row) → IsPlayed old m new → (x : Face) (s s' : Gluing) → x.tet < length old → x.face < 4 → place_after old m x ≡ Some s → place_after new (inverse_of old m) (face_under s x) ≡ Some s'
     → glue (led_back old m) (face_under s' (face_under s x)) ≡ option_and_then (moved_gluing new (inverse_of old m) (face_under s x) s') (glue new (face_under s x))
-outer_at old m new p x s s' lt lf stands stands' = by_gluing (glue old x) refl
+outer_at old m new p x s s' lt lf occurs occurs' = by_gluing (glue old x) refl
   where
     again : StandsAgain old m new x s
-    again = stands_again old m new p x s lt lf stands
+    again = stands_again old m new p x s lt lf occurs
 
     second : again.second ≡ s'
-    second = same_some (place_after new (inverse_of old m) (face_under s x)) again.second s' again.stands stands'
+    second = same_some (place_after new (inverse_of old m) (face_under s x)) again.second s' again.occurs occurs'
 
     tet : s'.tet ≡ (place old m x.tet).tet
     tet = ap (λ (g : Gluing). g.tet) (sym second) ∙ again.tet
@@ -223,7 +223,7 @@ outer_at old m new p x s s' lt lf stands stands' = by_gluing (glue old x) refl
     carried o e = ap (glue (led_back old m)) face ∙ carried_at old m new p x lt lf o e
 
     moved : (o : Option Gluing) → glue old x ≡ o → glue new (face_under s x) ≡ option_and_then (moved_gluing old m x s) o
-    moved o e = p.moved.outer x s lt lf stands ∙ ap (option_and_then (moved_gluing old m x s)) e
+    moved o e = p.moved.outer x s lt lf occurs ∙ ap (option_and_then (moved_gluing old m x s)) e
 
     by_gluing : (o : Option Gluing) → glue old x ≡ o → glue (led_back old m) (face_under s' (face_under s x)) ≡ option_and_then (moved_gluing new (inverse_of old m) (face_under s x) s') (glue new (face_under s x))
     by_gluing None e = carried None e ∙ ap (option_and_then (moved_gluing new (inverse_of old m) (face_under s x) s')) (sym (moved None e))
@@ -242,7 +242,7 @@ outer_at old m new p x s s' lt lf stands stands' = by_gluing (glue old x) refl
         yf = image_below g.perm hg x.face lf
 
         reached : (r : Gluing) × (place_after old m y ≡ Some r)
-        reached = other_stands old m p.table (no_fault old m p.moved.legal) p.core x s g lf stands e
+        reached = other_stands old m p.table (no_fault old m p.moved.legal) p.core x s g lf occurs e
 
         r : Gluing
         r = reached.0
@@ -257,7 +257,7 @@ outer_at old m new p x s s' lt lf stands stands' = by_gluing (glue old x) refl
         glued = moved (Some g) e ∙ ap (option_map (λ r. gluing_under s r g)) reached.1
 
         side : place_after new (inverse_of old m) (other_side (face_under s x) g') ≡ Some again'.second
-        side = ap (place_after new (inverse_of old m)) (over_there x s r g again.first_permutes again'.first_permutes hg lf) ∙ again'.stands
+        side = ap (place_after new (inverse_of old m)) (over_there x s r g again.first_permutes again'.first_permutes hg lf) ∙ again'.occurs
 
         perms : compose again'.second.perm (compose g'.perm (inverse s'.perm)) ≡ compose (place old m g.tet).perm (compose g.perm (inverse (place old m x.tet).perm))
         perms =
@@ -273,14 +273,14 @@ outer_at old m new p x s s' lt lf stands stands' = by_gluing (glue old x) refl
 
 outer_back : (old : List Row) (m : Move) (new : List Row) → IsPlayed old m new → (x : Face) (s' : Gluing) → x.tet < length new → x.face < 4 → place_after new (inverse_of old m) x ≡ Some s'
     → glue (led_back old m) (face_under s' x) ≡ option_and_then (moved_gluing new (inverse_of old m) x s') (glue new x)
-outer_back old m new p x s' lt lf stands = by_cover (covered old m x p.table (no_fault old m p.moved.legal) p.core (rw (← p.moved.length_is) lt) lf)
+outer_back old m new p x s' lt lf occurs = by_cover (covered old m x p.table (no_fault old m p.moved.legal) p.core (rw (← p.moved.length_is) lt) lf)
   where
     none : (o : Option Gluing) → o ≡ None → o ≡ Some s' → ⊥
     none o a b = cc
 
     by_cover : StandsForOld old m x ⊎ IsInner old m x → glue (led_back old m) (face_under s' x) ≡ option_and_then (moved_gluing new (inverse_of old m) x s') (glue new x)
-    by_cover (inl o) = subst (λ (y : Face). place_after new (inverse_of old m) y ≡ Some s' → glue (led_back old m) (face_under s' y) ≡ option_and_then (moved_gluing new (inverse_of old m) y s') (glue new y)) o.is (λ st. outer_at old m new p o.old o.by s' o.tet o.face o.stands st) stands
-    by_cover (inr n) = absurd (none (place_after new (inverse_of old m) x) (inner_none old m new p x n) stands)
+    by_cover (inl o) = subst (λ (y : Face). place_after new (inverse_of old m) y ≡ Some s' → glue (led_back old m) (face_under s' y) ≡ option_and_then (moved_gluing new (inverse_of old m) y s') (glue new y)) o.is (λ st. outer_at old m new p o.old o.by s' o.tet o.face o.occurs st) occurs
+    by_cover (inr n) = absurd (none (place_after new (inverse_of old m) x) (inner_none old m new p x n) occurs)
 
 pub led_back_moved : (old : List Row) (m : Move) (new : List Row) → IsPlayed old m new → IsMoved new (inverse_of old m) (led_back old m)
 led_back_moved old m new p =
@@ -288,10 +288,10 @@ led_back_moved old m new p =
     record {
       core = p.inverse_core.is_core;
       legal = inverse_legal old m new p;
-      length_is = (let few = p.few in let fits = p.fits in omega (arith, c.same_length, kept-inverse old m new p, p.inverse_core.size));
+      length_is = (let limited = p.limited in let fits = p.fits in omega (arith, c.same_length, kept-inverse old m new p, p.inverse_core.size));
       four_faces = c.four_faces;
       inner = λ j l hj hl d. inner_back old m new p j l (subst (λ k. j < k) p.inverse_core.size hj) (subst (λ k. l < k) p.inverse_core.size hl) d;
-      outer = λ x s' lt lf stands. outer_back old m new p x s' lt lf stands;
+      outer = λ x s' lt lf occurs. outer_back old m new p x s' lt lf occurs;
     }
 
 pub inverses_lead_back_lem : InversesLeadBackUpToLabels

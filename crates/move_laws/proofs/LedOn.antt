@@ -45,18 +45,18 @@ made rows m table h c = map (made_row rows m table h c) (below (new_length rows 
 outer_value : (rows : List Row) (m : Move) → IsTable rows → HasNoFault rows m → IsCore m.core → (x : Face) (s : Gluing) → x.tet < length rows → x.face < 4 → place_after rows m x ≡ Some s
     → (k : StandsForOld rows m (face_under s x) ⊎ IsInner rows m (face_under s x)) → gluing_of rows m (face_under s x) k ≡ option_and_then (moved_gluing rows m x s) (glue rows x)
 unfolding gluing_of
-outer_value rows m table h c x s lt lf stands (inl o) =
+outer_value rows m table h c x s lt lf occurs (inl o) =
     let there : IsKeptFace rows m o.old (face_under s x) o.by ⊎ IsFacetFace rows m o.old (face_under s x) o.by =
-    subst (λ (y : Face). IsKeptFace rows m o.old y o.by ⊎ IsFacetFace rows m o.old y o.by) o.is (shape rows m table h c o.old o.by o.tet o.face o.stands) in
-    let same : o.old ≡ x = stands_for_one rows m table h c o.old x (face_under s x) o.by s o.tet lt there (shape rows m table h c x s lt lf stands) in
-    let by : o.by ≡ s = same_some (place_after rows m x) o.by s (ap (place_after rows m) (sym same) ∙ o.stands) stands in
+    subst (λ (y : Face). IsKeptFace rows m o.old y o.by ⊎ IsFacetFace rows m o.old y o.by) o.is (shape rows m table h c o.old o.by o.tet o.face o.occurs) in
+    let same : o.old ≡ x = stands_for_one rows m table h c o.old x (face_under s x) o.by s o.tet lt there (shape rows m table h c x s lt lf occurs) in
+    let by : o.by ≡ s = same_some (place_after rows m x) o.by s (ap (place_after rows m) (sym same) ∙ o.occurs) occurs in
     ap (λ (z : Face). option_and_then (moved_gluing rows m z o.by) (glue rows z)) same ∙ ap (λ (g : Gluing). option_and_then (moved_gluing rows m x g) (glue rows x)) by
-outer_value rows m table h c x s lt lf stands (inr n) = absurd (inner_stands_for_none rows m c x (face_under s x) s (shape rows m table h c x s lt lf stands) n)
+outer_value rows m table h c x s lt lf occurs (inr n) = absurd (inner_stands_for_none rows m c x (face_under s x) s (shape rows m table h c x s lt lf occurs) n)
 
 inner_value : (rows : List Row) (m : Move) → IsTable rows → HasNoFault rows m → IsCore m.core → (y : Face) (n : IsInner rows m y) (k : StandsForOld rows m y ⊎ IsInner rows m y) → gluing_of rows m y k ≡ inner_gluing rows m n.j n.l
 unfolding gluing_of
 inner_value rows m table h c y n (inl o) =
-    absurd (inner_stands_for_none rows m c o.old y o.by (subst (λ (z : Face). IsKeptFace rows m o.old z o.by ⊎ IsFacetFace rows m o.old z o.by) o.is (shape rows m table h c o.old o.by o.tet o.face o.stands)) n)
+    absurd (inner_stands_for_none rows m c o.old y o.by (subst (λ (z : Face). IsKeptFace rows m o.old z o.by ⊎ IsFacetFace rows m o.old z o.by) o.is (shape rows m table h c o.old o.by o.tet o.face o.occurs)) n)
 inner_value rows m table h c y n (inr n') =
     let same : (n'.j ≡ n.j) × (n'.l ≡ n.l) = inner_once rows m c y n' n in
     ap (λ j. inner_gluing rows m j n'.l) same.0 ∙ ap (inner_gluing rows m n.j) same.1
@@ -102,8 +102,8 @@ legal_moves_lead_on_lem rows m table c legal = (
     length_is = unfold made in length-map (below (new_length rows m)) (made_row rows m table h c) ∙ length-range_with_len 0 (new_length rows m);
     four_faces = All-from_get_or (λ (row : Row). length row ≡ 4) (made rows m table h c) [] (made_fours rows m table h c);
     inner = λ j l hj hl d. made_inner j l hj hl d;
-    outer = λ x s lt lf stands. (let r : (s.tet < new_length rows m) × (image s.perm x.face < 4) = stand_in_range rows m table h c x s lt lf stands in
-        made_value rows m table h c (face_under s x) (option_and_then (moved_gluing rows m x s) (glue rows x)) r.0 r.1 (outer_value rows m table h c x s lt lf stands));
+    outer = λ x s lt lf occurs. (let r : (s.tet < new_length rows m) × (image s.perm x.face < 4) = stand_in_range rows m table h c x s lt lf occurs in
+        made_value rows m table h c (face_under s x) (option_and_then (moved_gluing rows m x s) (glue rows x)) r.0 r.1 (outer_value rows m table h c x s lt lf occurs));
   },
 )
   where
@@ -112,7 +112,7 @@ legal_moves_lead_on_lem rows m table c legal = (
 
     made_inner : (j l : ℕ) → j < length m.core → l < length m.core → j ≢ l → glue (made rows m table h c) (opposite (new_facet rows m j) l) ≡ inner_gluing rows m j l
     made_inner j l hj hl d =
-        let few : length m.core < 5 = (core_size m.core c).1 in
+        let limited : length m.core < 5 = (core_size m.core c).1 in
         let v : HasVertex (ascending j) l = vertex_at j (ascending j) (new_labels j (omega arith)) l (omega arith) (λ e. d (sym e)) in
-        let n : IsInner rows m (opposite (new_facet rows m j) l) = record { j = j; l = l; j_small = hj; l_small = hl; apart = d; is = refl } in
+        let n : IsInner rows m (opposite (new_facet rows m j) l) = record { j = j; l = l; j_small = hj; l_small = hl; separate = d; is = refl } in
         made_value rows m table h c (opposite (new_facet rows m j) l) (inner_gluing rows m j l) (omega arith) v.small (inner_value rows m table h c (opposite (new_facet rows m j) l) n)

@@ -32,21 +32,21 @@ found_range (suc (suc (suc (suc (suc s))))) i l a = absurd (omega arith)
 pub record AreFacets (rows : List Row) (m : Move) : Type 0 where
   pub in_range : m.tet < length rows
   pub there : (i : ℕ) → length m.core ≤ i → i < 5 → (f : Facet) × (facet rows m i ≡ Some f) × (f.missing ≡ i)
-  pub apart : (i k : ℕ) (f g : Facet) → length m.core ≤ i → i < 5 → length m.core ≤ k → k < 5 → facet rows m i ≡ Some f → facet rows m k ≡ Some g → f.tet ≡ g.tet → i ≡ k
+  pub separate : (i k : ℕ) (f g : Facet) → length m.core ≤ i → i < 5 → length m.core ≤ k → k < 5 → facet rows m i ≡ Some f → facet rows m k ≡ Some g → f.tet ≡ g.tet → i ≡ k
   pub glued : (i k : ℕ) (f g : Facet) → length m.core ≤ i → i < 5 → length m.core ≤ k → k < 5 → i ≢ k → facet rows m i ≡ Some f → facet rows m k ≡ Some g → AreGlued rows i k f g
 
 new_tet : (rows : List Row) (m : Move) → IsCore m.core → AreFacets rows m → (i : ℕ) (f : Facet) → length m.core ≤ i → i < 4 → facet rows m i ≡ Some f → has (tets_before rows m i) f.tet ≡ false
 new_tet rows m c h i f low high e = by_test (has (tets_before rows m i) f.tet) refl
   where
     not_own : m.tet ≡ f.tet → ⊥
-    not_own t = (let last : 4 ≡ i = h.apart 4 i (own_facet m) f (let few = (core_size m.core c).1 in omega arith) (omega arith) low (omega arith) refl e t in omega arith)
+    not_own t = (let last : 4 ≡ i = h.separate 4 i (own_facet m) f (let limited = (core_size m.core c).1 in omega arith) (omega arith) low (omega arith) refl e t in omega arith)
 
     not_found : IsOf (facet rows m) (filter (λ l. nat_lt l i) (found_labels m)) f.tet → ⊥
     not_found o =
         let a : Among o.label (found_labels m) × (nat_lt o.label i ≡ true) = filter-among (λ l. nat_lt l i) o.label (found_labels m) o.among in
         let less : o.label < i = ltb-true o.label i a.1 in
         let r : (length m.core ≤ o.label) × (o.label < 4) = found_range (length m.core) o.label (core_size m.core c).1 a.0 in
-        let same : o.label ≡ i = h.apart o.label i o.facet f r.0 (let l = r.1 in omega arith) low (omega arith) o.is e o.tet in
+        let same : o.label ≡ i = h.separate o.label i o.facet f r.0 (let l = r.1 in omega arith) low (omega arith) o.is e o.tet in
         omega arith
 
     by_test : (b : Bool) → has (tets_before rows m i) f.tet ≡ b → has (tets_before rows m i) f.tet ≡ false

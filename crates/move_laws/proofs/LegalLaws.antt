@@ -5,7 +5,7 @@ use Rattle.std.proofs.lemmas.Bool.{eqb-true, lt-ltb, cases_lt, cases_eq}
 use Rattle.std.proofs.lemmas.List.{get_or-map}
 use Rattle.table_definitions.specs.Lists.{has, substitute, same_list, pairs_of}
 use Rattle.table_definitions.specs.Permutation.{image, compose}
-use Rattle.table_definitions.specs.Table.{Gluing, Row, glue, other_side, way_back, IsTable}
+use Rattle.table_definitions.specs.Table.{Gluing, Row, glue, other_side, inverse_gluing, IsTable}
 use Rattle.table_definitions.proofs.TableLaws.{Among, Among-map, Among-pairs, first_some-none}
 use Rattle.table_definitions.proofs.Listed.{Among-filter, among_has, has_among, map-among}
 use Rattle.table_definitions.proofs.InPlace.{in_place-same}
@@ -22,7 +22,7 @@ pub record IsLegal (rows : List Row) (m : Move) : Type 0 where
   pub table : IsTable rows
   pub core : IsCore m.core
   pub facet_at : (i : ℕ) → length m.core ≤ i → i < 5 → (f : Facet) × IsOldFacet rows m i f
-  pub apart : (i k : ℕ) (f g : Facet) → IsOldFacet rows m i f → IsOldFacet rows m k g → f.tet ≡ g.tet → i ≡ k
+  pub separate : (i k : ℕ) (f g : Facet) → IsOldFacet rows m i f → IsOldFacet rows m k g → f.tet ≡ g.tet → i ≡ k
   pub inner : (i k : ℕ) (f g : Facet) → IsOldFacet rows m i f → IsOldFacet rows m k g → i ≢ k → glue rows (opposite f k) ≡ Some (record { tet = g.tet; perm = label_by_label f g })
 
 -- lists of facets
@@ -50,12 +50,12 @@ label_in rows m i f a = let b = a.labelled.missing_below in let e = a.missing_is
 -- if f is glued to g label by label, g is glued to f label by label
 pub leads_by : (rows : List Row) → IsTable rows → (f g : Facet) → IsFacet f → IsFacet g → f.missing ≢ g.missing → glue rows (opposite f g.missing) ≡ Some (record { tet = g.tet; perm = label_by_label f g })
     → glue rows (opposite g f.missing) ≡ Some (record { tet = f.tet; perm = label_by_label g f })
-leads_by rows table f g F G apart e =
+leads_by rows table f g F G separate e =
     let to : Gluing = record { tet = g.tet; perm = label_by_label f g } in
-    let back : glue rows (other_side (opposite f g.missing) to) ≡ Some (way_back (opposite f g.missing) to) = table.leads_back (opposite f g.missing) to e in
+    let back : glue rows (other_side (opposite f g.missing) to) ≡ Some (inverse_gluing (opposite f g.missing) to) = table.leads_back (opposite f g.missing) to e in
     let at : image (label_by_label f g) (vertex_of f g.missing) ≡ vertex_of g f.missing =
-    vertex_by f g g.missing F G.missing_below (λ q. apart (sym q)) ∙ ap (vertex_of g) (in_place-same g.missing f.missing g.missing refl) in
-    ap (λ v. glue rows (record { tet = g.tet; face = v })) (sym at) ∙ back ∙ ap (λ (p : List ℕ). Some (record { tet = f.tet; perm = p })) (by_back f g F G apart)
+    vertex_by f g g.missing F G.missing_below (λ q. separate (sym q)) ∙ ap (vertex_of g) (in_place-same g.missing f.missing g.missing refl) in
+    ap (λ v. glue rows (record { tet = g.tet; face = v })) (sym at) ∙ back ∙ ap (λ (p : List ℕ). Some (record { tet = f.tet; perm = p })) (by_back f g F G separate)
 
 own_old : (rows : List Row) (m : Move) → IsCore m.core → HasNoFault rows m → IsOldFacet rows m 4 (own_facet m)
 own_old rows m core no_fault = record {
@@ -98,13 +98,13 @@ pair_matched rows f g h = by_test (is_matched f g (glue rows (opposite f g.missi
 
 matched_by : (rows : List Row) (f g : Facet) → IsTable rows → IsFacet f → IsFacet g → f.missing ≢ g.missing → (o : Option Gluing) → glue rows (opposite f g.missing) ≡ o → is_matched f g o ≡ true
     → o ≡ Some (record { tet = g.tet; perm = label_by_label f g })
-matched_by rows f g table F G apart None e h = absurd cc
-matched_by rows f g table F G apart (Some p) e h =
+matched_by rows f g table F G separate None e h = absurd cc
+matched_by rows f g table F G separate (Some p) e h =
     let b = both_true (p.tet == g.tet) (same_list (compose g.labels p.perm) (map (substitute g.missing f.missing) f.labels)) h in
     let labels : compose g.labels p.perm ≡ map (substitute g.missing f.missing) f.labels = same_list-true (compose g.labels p.perm) (map (substitute g.missing f.missing) f.labels) b.1 in
     let permutes = table.permutes (opposite f g.missing) p e in
     let perm : p.perm ≡ label_by_label f g =
-    by_is f g p.perm F G apart permutes (λ v l. image_below p.perm permutes v l) (λ v l. sym (image-compose g.labels p.perm permutes v l) ∙ ap (λ (xs : List ℕ). image xs v) labels ∙ image-labels v l) in
+    by_is f g p.perm F G separate permutes (λ v l. image_below p.perm permutes v l) (λ v l. sym (image-compose g.labels p.perm permutes v l) ∙ ap (λ (xs : List ℕ). image xs v) labels ∙ image-labels v l) in
     let mk : ℕ → List ℕ → Option Gluing = λ t q. Some (record { tet = t; perm = q }) in
     ap (λ t. mk t p.perm) (eqb-true p.tet g.tet b.0) ∙ ap (mk g.tet) perm
   where
@@ -130,30 +130,30 @@ glued_below : (rows : List Row) (m : Move) (i k : ℕ) (f g : Facet) → IsTable
     → (glue rows (opposite f k) ≡ Some (record { tet = g.tet; perm = label_by_label f g })) × (glue rows (opposite g i) ≡ Some (record { tet = f.tet; perm = label_by_label g f }))
 glued_below rows m i k f g table core no_fault less F G = by_last (cases_eq k 4)
   where
-    apart : f.missing ≢ g.missing
-    apart e = let fm = F.missing_is in let gm = G.missing_is in absurd (omega arith)
+    separate : f.missing ≢ g.missing
+    separate e = let fm = F.missing_is in let gm = G.missing_is in absurd (omega arith)
 
-    turned : (a b : Facet) → IsFacet a → IsFacet b → a.missing ≢ b.missing → (x y : ℕ) → a.missing ≡ x → b.missing ≡ y → glue rows (opposite a y) ≡ Some (record { tet = b.tet; perm = label_by_label a b })
+    backwards : (a b : Facet) → IsFacet a → IsFacet b → a.missing ≢ b.missing → (x y : ℕ) → a.missing ≡ x → b.missing ≡ y → glue rows (opposite a y) ≡ Some (record { tet = b.tet; perm = label_by_label a b })
         → glue rows (opposite b x) ≡ Some (record { tet = a.tet; perm = label_by_label b a })
-    turned a b A B d x y ax by e = ap (λ l. glue rows (opposite b l)) (sym ax) ∙ leads_by rows table a b A B d (ap (λ l. glue rows (opposite a l)) by ∙ e)
+    backwards a b A B d x y ax by e = ap (λ l. glue rows (opposite b l)) (sym ax) ∙ leads_by rows table a b A B d (ap (λ l. glue rows (opposite a l)) by ∙ e)
 
     by_last : (k ≡ 4) ⊎ (k ≢ 4) → (glue rows (opposite f k) ≡ Some (record { tet = g.tet; perm = label_by_label f g })) × (glue rows (opposite g i) ≡ Some (record { tet = f.tet; perm = label_by_label g f }))
     by_last (inl e) =
         let mine : own_facet m ≡ g = same_facet rows m 4 (own_facet m) g (own_old rows m core no_fault) (subst (λ j. IsOldFacet rows m j g) e G) in
         let there : glue rows (opposite g i) ≡ Some (record { tet = f.tet; perm = label_by_label g f }) =
         subst (λ (x : Facet). glue rows (opposite x i) ≡ Some (record { tet = f.tet; perm = label_by_label x f })) mine (own_glued rows m i f table core (omega arith) F) in
-        (turned g f G.labelled F.labelled (λ q. apart (sym q)) k i G.missing_is F.missing_is there, there)
+        (backwards g f G.labelled F.labelled (λ q. separate (sym q)) k i G.missing_is F.missing_is there, there)
     by_last (inr d) =
         let small : k < 4 = (let b = label_in rows m k g G in grind arith) in
         let there = found_glued rows m i k f g table core no_fault less small F G in
-        (there, turned f g F.labelled G.labelled apart i k F.missing_is G.missing_is there)
+        (there, backwards f g F.labelled G.labelled separate i k F.missing_is G.missing_is there)
 
 pub legal_from : (rows : List Row) (m : Move) → IsTable rows → IsCore m.core → move_fault rows m ≡ None → IsLegal rows m
 legal_from rows m table core none = record {
   table = table;
   core = core;
   facet_at = at;
-  apart = λ i k f g F G e. pick_apart i k f g F G e (cases_lt i k);
+  separate = λ i k f g F G e. pick_apart i k f g F G e (cases_lt i k);
   inner = λ i k f g F G d. pick_inner i k f g F G d (cases_lt i k);
 }
   where

@@ -16,7 +16,7 @@ use Rattle.move_definitions.specs.Undos.{taken_numbers}
 use Rattle.move_laws.specs.Facets.{IsOldFacet, AreOldFacets}
 use Rattle.move_laws.proofs.FacetLaws.{core_some, core_few}
 use Rattle.move_laws.proofs.LegalLaws.{IsLegal, has-among, among-has, same_facet, label_in}
-use Rattle.move_laws.proofs.NumberLaws.{Apart, rank-same, rank-has, picked-up, picked-has, increasing-apart}
+use Rattle.move_laws.proofs.NumberLaws.{Apart, rank-same, rank-has, picked-up, picked-has, increasing-separate}
 
 -- a list with an item for each number of a range
 
@@ -110,7 +110,7 @@ stand_old rows m i f x legal F e =
     only g a h =
         let G = from_list rows m g legal a in
         let k : ℕ = G.0 in
-        let same : k ≡ i = legal.apart k i g f G.1 F (eqb-true g.tet x.tet h ∙ e) in
+        let same : k ≡ i = legal.separate k i g f G.1 F (eqb-true g.tet x.tet h ∙ e) in
         same_facet rows m i g f (subst (λ j. IsOldFacet rows m j g) same G.1) F
 
 -- the tetrahedra that are removed
@@ -124,7 +124,7 @@ old_tets_apart rows m legal i j l b e =
     let li : i < 5 - length m.core = omega arith in
     let lj : j < 5 - length m.core = omega arith in
     let same : length m.core + i ≡ length m.core + j =
-    legal.apart (length m.core + i) (length m.core + j) (get_or (old_facets rows m) i d) (get_or (old_facets rows m) j d) (old_at rows m legal i d li) (old_at rows m legal j d lj) (sym (at i li) ∙ e ∙ at j lj) in
+    legal.separate (length m.core + i) (length m.core + j) (get_or (old_facets rows m) i d) (get_or (old_facets rows m) j d) (old_at rows m legal i d li) (old_at rows m legal j d lj) (sym (at i li) ∙ e ∙ at j lj) in
     absurd (omega arith)
 
 old_tets_within : (rows : List Row) (m : Move) → IsLegal rows m → (k : ℕ) → k < length (old_tets rows m) → get_or (old_tets rows m) k 0 < length rows
@@ -151,7 +151,7 @@ length-taken rows m legal =
 pub closed-taken : (rows : List Row) (m : Move) (t : ℕ) → IsLegal rows m → t < length rows → rank_without (taken_numbers rows m) t ≡ rank_without (old_tets rows m) t
 closed-taken rows m t legal l =
     ap (λ k. t - k)
-    (sym (rank-has (taken_numbers rows m) t (increasing-apart (taken_numbers rows m) (picked-up (has (old_tets rows m)) (length rows))))
+    (sym (rank-has (taken_numbers rows m) t (increasing-separate (taken_numbers rows m) (picked-up (has (old_tets rows m)) (length rows))))
     ∙ rank-same (has (taken_numbers rows m)) (has (old_tets rows m)) t (λ u q. taken-has rows m u (omega arith)) ∙ rank-has (old_tets rows m) t (old_tets_apart rows m legal))
 
 pub enough : (rows : List Row) (m : Move) → IsLegal rows m → 5 - length m.core ≤ length rows
@@ -170,6 +170,6 @@ are_old rows m facets legal e = subst (λ (fs : List Facet). AreOldFacets rows m
       are = refl;
       some = core_some m.core legal.core;
       count = (let l = length-old rows m legal in let f = core_few m.core legal.core in omega arith);
-      few = (let t = length-taken rows m legal in let b = core_some m.core legal.core in omega arith);
+      limited = (let t = length-taken rows m legal in let b = core_some m.core legal.core in omega arith);
       each = λ k d l. old_at rows m legal k d (let q = length-old rows m legal in omega arith);
     }

@@ -5,14 +5,14 @@ use Rattle.std.specs.List.{list_all}
 use Rattle.basic_lemmas.proofs.Numbers.{given_apart}
 use Rattle.table_definitions.specs.Lists.{below, same_list, substitute}
 use Rattle.table_definitions.specs.Permutation.{IsPermutationOfFour, image, preimage, inverse, compose}
-use Rattle.table_definitions.specs.Table.{Gluing, Row, Face, glue, other_side, way_back, same_face, IsTable}
+use Rattle.table_definitions.specs.Table.{Gluing, Row, Face, glue, other_side, inverse_gluing, same_face, IsTable}
 use Rattle.table_definitions.specs.Relabelling.{AreIsomorphic, face_under, gluing_under}
 use Rattle.table_definitions.proofs.TableLaws.{glued_tet, glued_face}
 use Rattle.move_definitions.specs.Moves.{Move, opposite, kept, new_length, new_facet, place_after, moved_gluing, inverse_move, IsMoved}
 use Rattle.move_definitions.specs.Laws.{MovesMakeTables, InversesLeadOnlyBack}
 use Rattle.table_definitions.proofs.ListFacts.{list_all-below, same_list-true}
 use Rattle.table_definitions.proofs.Permutations.{image_below, image-inverse, inverse_permutes, preimage-image, compose_permutes}
-use Rattle.table_definitions.proofs.Carried.{IsGood, not_from, same_from, carried_back as turned}
+use Rattle.table_definitions.proofs.Carried.{IsGood, not_from, same_from, carried_back as backwards}
 use Rattle.table_definitions.proofs.InPlace.{in_place-same}
 use Rattle.move_definitions.proofs.CoreTests.{core_size}
 use Rattle.table_definitions.proofs.Faces.{same_face-itself, face_at, gluing_to}
@@ -48,7 +48,7 @@ good_inner : (old : List Row) (m : Move) (new : List Row) → IsMoved old m new 
 good_inner old m new h j l hj hl d = record {
   permutes = across_permutes j l sj sl d;
   in_range = rw h.length_is (omega arith);
-  apart = not_from (same_face (other_side y g) y) (λ t. d (apart_tets (same_from (kept old m + l) (kept old m + j) (image (across j l) (preimage (ascending j) l)) (preimage (ascending j) l) t).0));
+  separate = not_from (same_face (other_side y g) y) (λ t. d (apart_tets (same_from (kept old m + l) (kept old m + j) (image (across j l) (preimage (ascending j) l)) (preimage (ascending j) l) t).0));
   leads_back = ap (glue new) over ∙ h.inner l j hl hj (λ e. d (sym e)) ∙ ap (λ (p : List ℕ). Some (gluing_to (kept old m + j) p)) (across_back j l sj sl d);
 }
   where
@@ -59,10 +59,10 @@ good_inner old m new h j l hj hl d = record {
     g = gluing_to (kept old m + l) (across j l)
 
     sj : j < 5
-    sj = let few : length m.core < 5 = (core_size m.core h.core).1 in omega arith
+    sj = let limited : length m.core < 5 = (core_size m.core h.core).1 in omega arith
 
     sl : l < 5
-    sl = let few : length m.core < 5 = (core_size m.core h.core).1 in omega arith
+    sl = let limited : length m.core < 5 = (core_size m.core h.core).1 in omega arith
 
     over : other_side y g ≡ opposite (new_facet old m l) j
     over = ap (face_at (kept old m + l)) (across_vertex j l sj sl d)
@@ -75,12 +75,12 @@ good_inner old m new h j l hj hl d = record {
 -- the gluing that replaces the gluing g of x
 good_outer : (old : List Row) (m : Move) (new : List Row) → IsTable old → IsMoved old m new → (x : Face) (s g r : Gluing) → x.tet < length old → x.face < 4 → place_after old m x ≡ Some s → glue old x ≡ Some g → place_after old m (other_side x g) ≡ Some r
     → IsGood (length new) new (face_under s x) (gluing_under s r g)
-good_outer old m new table h x s g r lt lf stands glued stands' = record {
+good_outer old m new table h x s g r lt lf occurs glued occurs' = record {
   permutes = compose_permutes r.perm (compose g.perm (inverse s.perm)) hr (compose_permutes g.perm (inverse s.perm) hg (inverse_permutes s.perm hs));
   in_range = rw h.length_is range.0;
-  apart = not_from (same_face (other_side z g') z) never;
-  leads_back = ap (glue new) over ∙ h.outer y r yt yf stands' ∙ ap (option_and_then (moved_gluing old m y r)) (table.leads_back x g glued) ∙ ap (option_map (λ q. gluing_under r q (way_back x g))) back
-      ∙ ap (λ (p : List ℕ). Some (gluing_to s.tet p)) (turned s.perm r.perm g.perm hs hr hg);
+  separate = not_from (same_face (other_side z g') z) never;
+  leads_back = ap (glue new) over ∙ h.outer y r yt yf occurs' ∙ ap (option_and_then (moved_gluing old m y r)) (table.leads_back x g glued) ∙ ap (option_map (λ q. gluing_under r q (inverse_gluing x g))) back
+      ∙ ap (λ (p : List ℕ). Some (gluing_to s.tet p)) (backwards s.perm r.perm g.perm hs hr hg);
 }
   where
     f : HasNoFault old m
@@ -99,13 +99,13 @@ good_outer old m new table h x s g r lt lf stands glued stands' = record {
     yf = image_below g.perm hg x.face lf
 
     hs : IsPermutationOfFour s.perm
-    hs = stand_permutes old m table f h.core x s lt lf stands
+    hs = stand_permutes old m table f h.core x s lt lf occurs
 
     hr : IsPermutationOfFour r.perm
-    hr = stand_permutes old m table f h.core y r yt yf stands'
+    hr = stand_permutes old m table f h.core y r yt yf occurs'
 
     range : (r.tet < new_length old m) × (image r.perm y.face < 4)
-    range = stand_in_range old m table f h.core y r yt yf stands'
+    range = stand_in_range old m table f h.core y r yt yf occurs'
 
     z : Face
     z = face_under s x
@@ -116,46 +116,46 @@ good_outer old m new table h x s g r lt lf stands glued stands' = record {
     over : other_side z g' ≡ face_under r y
     over = over_there x s r g hs hr hg lf
 
-    home : other_side y (way_back x g) ≡ x
+    home : other_side y (inverse_gluing x g) ≡ x
     home = ap (face_at x.tet) (image-inverse g.perm (image g.perm x.face) yf ∙ preimage-image g.perm hg x.face lf)
 
-    back : place_after old m (other_side y (way_back x g)) ≡ Some s
-    back = ap (place_after old m) home ∙ stands
+    back : place_after old m (other_side y (inverse_gluing x g)) ≡ Some s
+    back = ap (place_after old m) home ∙ occurs
 
     never : same_face (other_side z g') z ≡ true → ⊥
     never t =
         let q = same_from r.tet s.tet (image g'.perm (image s.perm x.face)) (image s.perm x.face) t in
         let faces : face_under r y ≡ face_under s x = sym over ∙ ap (λ u. face_at u (image g'.perm (image s.perm x.face))) q.0 ∙ ap (face_at s.tet) q.1 in
-        let same : y ≡ x = stands_for_one old m table f h.core y x (face_under r y) r s yt lt (shape old m table f h.core y r yt yf stands') (subst (λ (w : Face). IsKeptFace old m x w s ⊎ IsFacetFace old m x w s) (sym faces) (shape old m table f h.core x s lt lf stands)) in
+        let same : y ≡ x = stands_for_one old m table f h.core y x (face_under r y) r s yt lt (shape old m table f h.core y r yt yf occurs') (subst (λ (w : Face). IsKeptFace old m x w s ⊎ IsFacetFace old m x w s) (sym faces) (shape old m table f h.core x s lt lf occurs)) in
         let whole : same_face (other_side x g) x ≡ true = ap (λ (w : Face). same_face w x) same ∙ same_face-itself x in
-        let apart = table.apart x g glued in
+        let separate = table.separate x g glued in
         cc
 
 good_at : (old : List Row) (m : Move) (new : List Row) → IsTable old → IsMoved old m new → (y : Face) (g' : Gluing) → glue new y ≡ Some g' → StandsForOld old m y ⊎ IsInner old m y → IsGood (length new) new y g'
 good_at old m new table h y g' e (inr n) =
-    let inner : Some (record { tet = kept old m + n.l; perm = across n.j n.l }) ≡ Some g' = sym (h.inner n.j n.l n.j_small n.l_small n.apart) ∙ ap (glue new) n.is ∙ e in
+    let inner : Some (record { tet = kept old m + n.l; perm = across n.j n.l }) ≡ Some g' = sym (h.inner n.j n.l n.j_small n.l_small n.separate) ∙ ap (glue new) n.is ∙ e in
     let is : record { tet = kept old m + n.l; perm = across n.j n.l } ≡ g' = cc in
-    subst (λ (z : Face). IsGood (length new) new z g') n.is (subst (λ (g : Gluing). IsGood (length new) new (opposite (new_facet old m n.j) n.l) g) is (good_inner old m new h n.j n.l n.j_small n.l_small n.apart))
+    subst (λ (z : Face). IsGood (length new) new z g') n.is (subst (λ (g : Gluing). IsGood (length new) new (opposite (new_facet old m n.j) n.l) g) is (good_inner old m new h n.j n.l n.j_small n.l_small n.separate))
 good_at old m new table h y g' e (inl o) = subst (λ (z : Face). IsGood (length new) new z g') o.is (by_gluing (glue old o.old) refl)
   where
     moved : option_and_then (moved_gluing old m o.old o.by) (glue old o.old) ≡ Some g'
-    moved = sym (h.outer o.old o.by o.tet o.face o.stands) ∙ ap (glue new) o.is ∙ e
+    moved = sym (h.outer o.old o.by o.tet o.face o.occurs) ∙ ap (glue new) o.is ∙ e
 
     by_gluing : (q : Option Gluing) → glue old o.old ≡ q → IsGood (length new) new (face_under o.by o.old) g'
     by_gluing None f = absurd (let none : None ≡ Some g' = sym (ap (option_and_then (moved_gluing old m o.old o.by)) f) ∙ moved in cc)
     by_gluing (Some g) f =
-        let there : (r : Gluing) × (place_after old m (other_side o.old g) ≡ Some r) = other_stands old m table (no_fault old m h.legal) h.core o.old o.by g o.face o.stands f in
+        let there : (r : Gluing) × (place_after old m (other_side o.old g) ≡ Some r) = other_stands old m table (no_fault old m h.legal) h.core o.old o.by g o.face o.occurs f in
         let made : Some (gluing_under o.by there.0 g) ≡ Some g' = sym (ap (option_map (λ r. gluing_under o.by r g)) there.1) ∙ sym (ap (option_and_then (moved_gluing old m o.old o.by)) f) ∙ moved in
         let is : gluing_under o.by there.0 g ≡ g' = cc in
-        subst (λ (k : Gluing). IsGood (length new) new (face_under o.by o.old) k) is (good_outer old m new table h o.old o.by g there.0 o.tet o.face o.stands f there.1)
+        subst (λ (k : Gluing). IsGood (length new) new (face_under o.by o.old) k) is (good_outer old m new table h o.old o.by g there.0 o.tet o.face o.occurs f there.1)
 
 pub moves_make_tables_lem : MovesMakeTables
-moves_make_tables_lem old m new table few h = record {
-  few = few;
+moves_make_tables_lem old m new table limited h = record {
+  limited = limited;
   four_faces = h.four_faces;
   permutes = λ y g e. (good y g e).permutes;
   in_range = λ y g e. (good y g e).in_range;
-  apart = λ y g e. (good y g e).apart;
+  separate = λ y g e. (good y g e).separate;
   leads_back = λ y g e. (good y g e).leads_back;
 }
   where
@@ -164,7 +164,7 @@ moves_make_tables_lem old m new table few h = record {
 
 -- the inverse move results in nothing but a relabelling of the old table
 pub inverses_lead_only_back_lem : InversesLeadOnlyBack
-inverses_lead_only_back_lem old m new back table few h h' =
+inverses_lead_only_back_lem old m new back table limited h h' =
     let led : (found : List Row) × IsMoved new (inverse_move (length old) m) found × AreIsomorphic old found = inverses_lead_back_lem old m new table h in
-    let same : led.0 ≡ back = moves_agree_lem new (inverse_move (length old) m) led.0 back (moves_make_tables_lem old m new table few h) led.1 h' in
+    let same : led.0 ≡ back = moves_agree_lem new (inverse_move (length old) m) led.0 back (moves_make_tables_lem old m new table limited h) led.1 h' in
     subst (λ (rows : List Row). AreIsomorphic old rows) same led.2

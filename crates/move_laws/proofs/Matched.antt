@@ -5,7 +5,7 @@ use Rattle.std.proofs.lemmas.Bool.{eqb-true, lt-ltb, and_parts, cases_lt}
 use Rattle.std.proofs.lemmas.List.{ext_get_or, get_or-map, length-map}
 use Rattle.table_definitions.specs.Lists.{same_list, substitute, pairs_of}
 use Rattle.table_definitions.specs.Permutation.{four, IsPermutationOfFour, image, preimage, inverse, compose}
-use Rattle.table_definitions.specs.Table.{Gluing, Row, glue, other_side, way_back, IsTable}
+use Rattle.table_definitions.specs.Table.{Gluing, Row, glue, other_side, inverse_gluing, IsTable}
 use Rattle.table_definitions.proofs.TableLaws.{Among, Among-pairs, first_some-none}
 use Rattle.move_definitions.specs.declared.MoveFault.{MoveFault}
 use Rattle.move_definitions.specs.declared.MoveFault.TheVariants.{NotMatched}
@@ -127,8 +127,8 @@ label_across i k a b p v ha hp e l =
     sym (image-composed b p v (rw (length-permutation p hp) l)) ∙ ap (λ (xs : List ℕ). image xs v) e ∙ image-map (substitute k i) a v (rw (length-labels i a ha) l)
 
 pub glued_back : (rows : List Row) (i k : ℕ) (f g : Facet) → IsTable rows → IsFacet rows i f → IsFacet rows k g → i ≢ k → AreGlued rows i k f g → AreGlued rows k i g f
-glued_back rows i k f g table hf hg apart a = record {
-  by = way_back (opposite f k) a.by;
+glued_back rows i k f g table hf hg separate a = record {
+  by = inverse_gluing (opposite f k) a.by;
   glued = ap (glue rows) (sym there) ∙ table.leads_back (opposite f k) a.by a.glued;
   tet = refl;
   labels = turned_labels i k f.labels g.labels a.by.perm hf.labels hg.labels hp a.labels;
@@ -141,7 +141,7 @@ glued_back rows i k f g table hf hg apart a = record {
     w = preimage f.labels k
 
     at : HasVertex f.labels k
-    at = vertex_at i f.labels hf.labels k hg.labels.missing (λ e. apart (sym e))
+    at = vertex_at i f.labels hf.labels k hg.labels.missing (λ e. separate (sym e))
 
     label : image g.labels (image a.by.perm w) ≡ i
     label = label_across i k f.labels g.labels a.by.perm w hf.labels hp a.labels at.small ∙ ap (substitute k i) at.label ∙ in_place-same k i k refl
@@ -157,7 +157,7 @@ own_or : (rows : List Row) (m : Move) (i : ℕ) (f : Facet) → 4 ≤ i → i < 
 own_or rows m i f low high e = let at : i ≡ 4 = omega arith in let own : facet rows m i ≡ Some (own_facet m) = ap (facet rows m) at in (at, cc)
 
 pub old_glued : (rows : List Row) (m : Move) (i k : ℕ) (f g : Facet) → IsTable rows → HasNoFault rows m → IsCore m.core → length m.core ≤ i → i < 5 → length m.core ≤ k → k < 5 → i ≢ k → facet rows m i ≡ Some f → facet rows m k ≡ Some g → AreGlued rows i k f g
-old_glued rows m i k f g table h c low high low' high' apart ef eg = by_size (cases_lt i 4) (cases_lt k 4)
+old_glued rows m i k f g table h c low high low' high' separate ef eg = by_size (cases_lt i 4) (cases_lt k 4)
   where
     is : IsFacet rows i f
     is = facet_is rows m i f table c h.in_range high ef
@@ -167,7 +167,7 @@ old_glued rows m i k f g table h c low high low' high' apart ef eg = by_size (ca
 
     by_order : i < 4 → k < 4 → (i < k) ⊎ (k ≤ i) → AreGlued rows i k f g
     by_order li lk (inl less) = found_glued rows m i k f g table h c low less lk ef eg
-    by_order li lk (inr more) = let less : k < i = omega arith in glued_back rows k i g f table is' is (λ e. apart (sym e)) (found_glued rows m k i g f table h c low' less li eg ef)
+    by_order li lk (inr more) = let less : k < i = omega arith in glued_back rows k i g f table is' is (λ e. separate (sym e)) (found_glued rows m k i g f table h c low' less li eg ef)
 
     by_size : (i < 4) ⊎ (4 ≤ i) → (k < 4) ⊎ (4 ≤ k) → AreGlued rows i k f g
     by_size (inl li) (inl lk) = by_order li lk (cases_lt i k)
@@ -178,5 +178,5 @@ old_glued rows m i k f g table h c low high low' high' apart ef eg = by_size (ca
         let own : (k ≡ 4) × (own_facet m ≡ g) = own_or rows m k g mk high' eg in
         let there : AreGlued rows 4 i (own_facet m) f = own_glued rows m i f table c li ef in
         let here : AreGlued rows k i g f = subst (λ j. AreGlued rows j i g f) (sym own.0) (subst (λ (x : Facet). AreGlued rows 4 i x f) own.1 there) in
-        glued_back rows k i g f table is' is (λ e. apart (sym e)) here
-    by_size (inr mi) (inr mk) = absurd (apart (omega arith))
+        glued_back rows k i g f table is' is (λ e. separate (sym e)) here
+    by_size (inr mi) (inr mk) = absurd (separate (omega arith))

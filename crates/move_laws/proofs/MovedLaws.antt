@@ -6,7 +6,7 @@ use Rattle.std.proofs.lemmas.Bool.{lt-ltb, le-ltb, cases_lt}
 use Rattle.basic_lemmas.proofs.Options.{both_none}
 use Rattle.table_definitions.specs.Lists.{has, rank_without}
 use Rattle.table_definitions.specs.Permutation.{image, IsPermutationOfFour}
-use Rattle.table_definitions.specs.Table.{max_tets, Gluing, Row, Face, glue, other_side, way_back, IsTable}
+use Rattle.table_definitions.specs.Table.{max_tets, Gluing, Row, Face, glue, other_side, inverse_gluing, IsTable}
 use Rattle.table_definitions.specs.Replacing.{Replacement, replaced, number_of_kept, kept_gluing, back_to_fresh}
 use Rattle.table_definitions.specs.Relabelling.{face_under, gluing_under}
 use Rattle.table_definitions.proofs.Permutations.{image_below, identity_permutes, image-identity}
@@ -18,13 +18,13 @@ use Rattle.table_definitions.proofs.FreshRows.{back_is}
 use Rattle.table_definitions.proofs.Replaced.{replaced_is_table}
 use Rattle.move_definitions.specs.declared.MoveFault.TheVariants.{TooMany}
 use Rattle.move_definitions.specs.Moves.{Move, Facet, old_facets, old_tets, vertex_of, opposite, move_fault, IsCore, kept, new_length, new_facet, kept_place_after, place_after, moved_gluing, IsMoved, Plays, facet_gluing}
-use Rattle.move_definitions.proofs.StandIns.{stand_in-kept}
+use Rattle.move_definitions.proofs.StandIns.{image_after-kept}
 use Rattle.move_laws.specs.Facets.{IsOldFacet, AreOldFacets, CanPlay, put_rows, exchange}
 use Rattle.move_laws.proofs.LegalLaws.{IsLegal, legal_from}
 use Rattle.move_laws.proofs.ListedLaws.{old_of_tet, taken-has, are_old}
 use Rattle.move_laws.proofs.NumberLaws.{picked-within}
 use Rattle.move_definitions.specs.Undos.{taken_numbers}
-use Rattle.move_laws.proofs.StandLaws.{side_under, way_under, under_kept, closes, StandsKept, StandsPut, stands, stand_put, put_permutes, put_face, face_at, outer_label}
+use Rattle.move_laws.proofs.StandLaws.{side_under, way_under, under_kept, closes, StandsKept, StandsPut, occurs, stand_put, put_permutes, put_face, face_at, outer_label}
 use Rattle.move_laws.proofs.PutLaws.{put-length, is-put, not-put, glue-inner, glue-outer}
 use Rattle.move_laws.proofs.ExchangeLaws.{number-kept, can_exchange}
 
@@ -56,23 +56,23 @@ to_old rows m x g i j f legal can l free glued F new at =
     let s : Gluing = kept_place_after rows m x.tet in
     let r : Gluing = facet_gluing rows m f j in
     let permutes = legal.table.permutes x g glued in
-    let back : glue rows (opposite f j) ≡ Some (way_back x g) = ap (glue rows) (sym at) ∙ legal.table.leads_back x g glued in
-    let home : other_side (opposite f j) (way_back x g) ≡ x = ap (λ (y : Face). other_side y (way_back x g)) (sym at) ∙ there_and_back x g permutes l in
+    let back : glue rows (opposite f j) ≡ Some (inverse_gluing x g) = ap (glue rows) (sym at) ∙ legal.table.leads_back x g glued in
+    let home : other_side (opposite f j) (inverse_gluing x g) ≡ x = ap (λ (y : Face). other_side y (inverse_gluing x g)) (sym at) ∙ there_and_back x g permutes l in
     let hr = put_permutes rows m i j f legal F new in
     let small : (opposite f j).face < 4 = subst (λ (y : Face). y.face < 4) at (image_below g.perm permutes x.face l) in
-    let back_permutes = legal.table.permutes (opposite f j) (way_back x g) back in
+    let back_permutes = legal.table.permutes (opposite f j) (inverse_gluing x g) back in
     let own : Face = opposite (new_facet rows m j) i in
-    let carried : Gluing = gluing_under r s (way_back x g) in
-    let stand : place_after rows m x ≡ Some s = stand_in-kept rows m x free in
+    let carried : Gluing = gluing_under r s (inverse_gluing x g) in
+    let represented : place_after rows m x ≡ Some s = image_after-kept rows m x free in
     let fresh : fresh_glue (exchange rows m) own ≡ Some carried =
     glue-outer rows m i j f legal F new ∙ ap (option_and_then (moved_gluing rows m (opposite f j) r)) back
-    ∙ ap (λ (y : Face). option_map (λ t. gluing_under r t (way_back x g)) (place_after rows m y)) home ∙ ap (option_map (λ t. gluing_under r t (way_back x g))) stand in
+    ∙ ap (λ (y : Face). option_map (λ t. gluing_under r t (inverse_gluing x g)) (place_after rows m y)) home ∙ ap (option_map (λ t. gluing_under r t (inverse_gluing x g))) represented in
     let place : own ≡ face_under r (opposite f j) = sym (put_face rows m i j f legal F new) in
     let side : other_side own carried ≡ kept_place rows m x =
-    ap (λ (y : Face). other_side y carried) place ∙ side_under r s (way_back x g) (opposite f j) hr identity_permutes back_permutes small ∙ ap (face_under s) home ∙ kept_under rows m x l in
-    let again : way_back (opposite f j) (way_back x g) ≡ g = ap (λ (y : Face). way_back y (way_back x g)) (sym at) ∙ back_again x g permutes in
-    let way : way_back own carried ≡ gluing_under s r g =
-    ap (λ (y : Face). way_back y carried) place ∙ way_under r s (way_back x g) (opposite f j) hr identity_permutes back_permutes ∙ ap (gluing_under s r) again in
+    ap (λ (y : Face). other_side y carried) place ∙ side_under r s (inverse_gluing x g) (opposite f j) hr identity_permutes back_permutes small ∙ ap (face_under s) home ∙ kept_under rows m x l in
+    let again : inverse_gluing (opposite f j) (inverse_gluing x g) ≡ g = ap (λ (y : Face). inverse_gluing y (inverse_gluing x g)) (sym at) ∙ back_again x g permutes in
+    let way : inverse_gluing own carried ≡ gluing_under s r g =
+    ap (λ (y : Face). inverse_gluing y carried) place ∙ way_under r s (inverse_gluing x g) (opposite f j) hr identity_permutes back_permutes ∙ ap (gluing_under s r) again in
     let fewer = (closes rows m x.tet legal (glued_tet rows x g glued) free).fewer in
     let to_kept : has (fresh_numbers (exchange rows m)) carried.tet ≡ false = not-put rows m (rank_without (old_tets rows m) x.tet) fewer in
     ap (back_to_fresh (exchange rows m)) (sym side) ∙ back_is rows (exchange rows m) can own carried fresh to_kept ∙ ap (λ (k : Gluing). Some k) way
@@ -103,10 +103,10 @@ kept_moved rows m x (Some g) legal can lt l free e = by_test (has (old_tets rows
         let f : Facet = q.1 in
         let y : Face = other_side x g in
         let ly : y.face < 4 = image_below g.perm permutes x.face l in
-        let new : image f.labels y.face < length m.core = outer_label rows m i f y (way_back x g) legal q.2 (sym q.3) ly (legal.table.leads_back x g e) free in
+        let new : image f.labels y.face < length m.core = outer_label rows m i f y (inverse_gluing x g) legal q.2 (sym q.3) ly (legal.table.leads_back x g e) free in
         shown true h ∙ to_old rows m x g i (image f.labels y.face) f legal can l free e q.2 new (face_at f y q.2.labelled (sym q.3) ly)
     by_test false h =
-        let there : place_after rows m (other_side x g) ≡ Some (kept_place_after rows m g.tet) = stand_in-kept rows m (other_side x g) h in
+        let there : place_after rows m (other_side x g) ≡ Some (kept_place_after rows m g.tet) = image_after-kept rows m (other_side x g) h in
         shown false h ∙ ap (λ n. Some (record { tet = n; perm = g.perm })) (number-kept rows m g.tet legal inside h)
         ∙ ap (λ (k : Gluing). Some k) (sym (under_kept (rank_without (old_tets rows m) x.tet) (rank_without (old_tets rows m) g.tet) g permutes))
         ∙ ap (option_map (λ t. gluing_under (kept_place_after rows m x.tet) t g)) (sym there)
@@ -117,8 +117,8 @@ moves rows m c = record {
   legal = c.fault;
   length_is = length-replaced rows (exchange rows m) ∙ put-length rows m c.legal;
   four_faces = (replaced_is_table rows (exchange rows m) c.legal.table can).four_faces;
-  inner = λ j l hj hl apart. put_in rows m j (vertex_of (new_facet rows m j) l) c.legal hj ∙ glue-inner rows m j l c.legal hj hl (λ e. apart (sym e));
-  outer = λ x s lt l e. outer_at x s lt l (stands rows m x s c.legal l e);
+  inner = λ j l hj hl separate. put_in rows m j (vertex_of (new_facet rows m j) l) c.legal hj ∙ glue-inner rows m j l c.legal hj hl (λ e. separate (sym e));
+  outer = λ x s lt l e. outer_at x s lt l (occurs rows m x s c.legal l e);
 }
   where
     can : CanReplace rows (exchange rows m)

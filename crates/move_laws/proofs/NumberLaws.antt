@@ -65,10 +65,10 @@ not-has xs u never = by_test (has xs u) refl
 
 -- the count of numbers below t that are in the list is the count of items of the list below t
 pub rank-has : (xs : List ℕ) (t : ℕ) → Apart xs → rank (has xs) t ≡ gone_before xs t
-rank-has [] t apart = rank-nothing t
-rank-has (x ∷ xs) t apart =
-    let free : has xs x ≡ false = not-has xs x (λ h. (let t = there xs x h in apart 0 (suc t.0) (omega arith) (omega (arith, t.1)) (t.2 ∙ get_or-any xs t.0 x 0 t.1))) in
-    let rest : rank (has xs) t ≡ gone_before xs t = rank-has xs t (λ i j d l. apart (suc i) (suc j) (omega arith) (omega arith)) in
+rank-has [] t separate = rank-nothing t
+rank-has (x ∷ xs) t separate =
+    let free : has xs x ≡ false = not-has xs x (λ h. (let t = there xs x h in separate 0 (suc t.0) (omega arith) (omega (arith, t.1)) (t.2 ∙ get_or-any xs t.0 x 0 t.1))) in
+    let rest : rank (has xs) t ≡ gone_before xs t = rank-has xs t (λ i j d l. separate (suc i) (suc j) (omega arith) (omega arith)) in
     let b : gone_before (x ∷ xs) t ≡ one_if (nat_lt x t) + gone_before xs t = sum_by-cons (λ u. one_if (nat_lt u t)) x xs in
     omega (arith, rank-or x xs t free, rank-one x t)
 
@@ -100,8 +100,8 @@ range-within a n limit fits k d l =
     let x = get_or-range_with_len a n k d m in
     omega arith
 
-pub increasing-apart : (xs : List ℕ) → IsStrictlyIncreasing xs → Apart xs
-increasing-apart xs up i j d l e = absurd (let less : get_or xs i 0 < get_or xs j 0 = AllPairs-from_increasing xs up i j 0 d l in omega arith)
+pub increasing-separate : (xs : List ℕ) → IsStrictlyIncreasing xs → Apart xs
+increasing-separate xs up i j d l e = absurd (let less : get_or xs i 0 < get_or xs j 0 = AllPairs-from_increasing xs up i j 0 d l in omega arith)
 
 -- the numbers below n that pass
 
@@ -142,8 +142,8 @@ picked-within p n limit fits k d l =
     let o = of_rank p n k m in
     let t : ℕ = o.0 in
     let small : t < n = o.1 in
-    let stands : get_or (picked p n) (rank p t) 0 ≡ t = (at_rank p n t o.1 o.2).is in
-    let at : get_or (picked p n) k d ≡ t = get_or-any (picked p n) k d 0 l ∙ ap (λ i. get_or (picked p n) i 0) (sym o.3) ∙ stands in
+    let occurs : get_or (picked p n) (rank p t) 0 ≡ t = (at_rank p n t o.1 o.2).is in
+    let at : get_or (picked p n) k d ≡ t = get_or-any (picked p n) k d 0 l ∙ ap (λ i. get_or (picked p n) i 0) (sym o.3) ∙ occurs in
     omega arith
 
 pub picked-has : (p : ℕ → Bool) (n t : ℕ) → t < n → has (picked p n) t ≡ p t

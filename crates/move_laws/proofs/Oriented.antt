@@ -29,8 +29,8 @@ module _ (old : List Row) (m : Move) (new : List Row) (table : IsTable old) (h :
   fine : HasNoFault old m
   fine = no_fault old m h.legal
 
-  few : length m.core < 5
-  few = (core_size m.core h.core).1
+  limited : length m.core < 5
+  limited = (core_size m.core h.core).1
 
   abbrev own : List ℕ
   own = (own_facet m).labels
@@ -70,7 +70,7 @@ module _ (old : List Row) (m : Move) (new : List Row) (table : IsTable old) (h :
 
       same : (o : StandsForOld old m (face_at s.tet 0)) → o.old ≡ face_at x.tet 0
       same o = stands_for_one old m table fine h.core o.old (face_at x.tet 0) (face_at s.tet 0) o.by (kept_place_after old m x.tet) o.tet lt
-          (subst (λ (y : Face). IsKeptFace old m o.old y o.by ⊎ IsFacetFace old m o.old y o.by) o.is (shape old m table fine h.core o.old o.by o.tet o.face o.stands)) (inl here)
+          (subst (λ (y : Face). IsKeptFace old m o.old y o.by ⊎ IsFacetFace old m o.old y o.by) o.is (shape old m table fine h.core o.old o.by o.tet o.face o.occurs)) (inl here)
 
       at : (c : (s.tet < kept old m) ⊎ (kept old m ≤ s.tet)) → sign_by s.tet c ≡ sign_of signs x.tet
       at (inl l) = unfold sign_by in ap (λ (y : Face). sign_of signs y.tet) (same (kept_as s.tet l))
@@ -87,7 +87,7 @@ module _ (old : List Row) (m : Move) (new : List Row) (table : IsTable old) (h :
           let a : AreGlued old 4 i (own_facet m) f = old_glued old m 4 i (own_facet m) f table fine h.core (omega arith) (omega arith) low high (λ z. absurd (omega arith)) (facet-four old m) e in
           let hp : IsPermutationOfFour a.by.perm = table.permutes (opposite (own_facet m) i) a.by a.glued in
           let sign : sign_of signs a.by.tet ≡ behind (is_odd a.by.perm) (sign_of signs m.tet) = are.agree (opposite (own_facet m) i) a.by a.glued in
-          old_sign own a.by.perm f.labels i j own_is hp is.labels small (omega (arith, few)) (λ z. absurd (omega arith)) a.labels (sign_of signs m.tet)
+          old_sign own a.by.perm f.labels i j own_is hp is.labels small (omega (arith, limited)) (λ z. absurd (omega arith)) a.labels (sign_of signs m.tet)
           ∙ ap (flip (is_odd (crossing i j f.labels))) (sym sign ∙ ap (sign_of signs) a.tet)
       by_case (inr more) =
           let at : i ≡ 4 = omega arith in
@@ -98,7 +98,7 @@ module _ (old : List Row) (m : Move) (new : List Row) (table : IsTable old) (h :
   even = unfold is_odd inversions in refl
 
   standing : (x : Face) (s : Gluing) → x.tet < length old → x.face < 4 → place_after old m x ≡ Some s → new_sign s.tet ≡ flip (is_odd s.perm) (sign_of signs x.tet)
-  standing x s lt lf stands = elim (shape old m table fine h.core x s lt lf stands) [
+  standing x s lt lf occurs = elim (shape old m table fine h.core x s lt lf occurs) [
     | inl k ↦ kept_value x s lt k ∙ sym (ap (λ (g : Gluing). flip (is_odd g.perm) (sign_of signs x.tet)) k.by ∙ ap (λ o. flip o (sign_of signs x.tet)) even)
     | inr f ↦ ap (λ (g : Gluing). new_sign g.tet) f.by ∙ put_value f.j ∙ facet_sign f.i f.j f.facet_of f.low f.high f.less f.found f.facet_is
         ∙ ap (λ n. flip (is_odd (crossing n f.j f.facet_of.labels)) (sign_of signs f.facet_of.tet)) (sym f.facet_is.missing)
@@ -112,7 +112,7 @@ module _ (old : List Row) (m : Move) (new : List Row) (table : IsTable old) (h :
 
   both_put_in : (j l : ℕ) → j < length m.core → l < length m.core → j ≢ l → put_in l ≡ behind (is_odd (across j l)) (put_in j)
   unfolding put_in
-  both_put_in j l lj ll d = inner_sign own own_is j l (omega (arith, few)) (omega (arith, few)) d (sign_of signs m.tet)
+  both_put_in j l lj ll d = inner_sign own own_is j l (omega (arith, limited)) (omega (arith, limited)) d (sign_of signs m.tet)
 
   inner_agrees : (j l : ℕ) → j < length m.core → l < length m.core → j ≢ l → Agrees (opposite (new_facet old m j) l) (record { tet = kept old m + l; perm = across j l })
   inner_agrees j l lj ll d = (
@@ -122,34 +122,34 @@ module _ (old : List Row) (m : Move) (new : List Row) (table : IsTable old) (h :
 
   outer_agrees : (x : Face) (s g r : Gluing) → x.tet < length old → x.face < 4 → place_after old m x ≡ Some s → glue old x ≡ Some g → place_after old m (other_side x g) ≡ Some r
       → Agrees (face_under s x) (gluing_under s r g)
-  outer_agrees x s g r lt lf stands glued stands' =
+  outer_agrees x s g r lt lf occurs glued occurs' =
       let hg : IsPermutationOfFour g.perm = table.permutes x g glued in
       let yt : g.tet < length old = table.in_range x g glued in
       let yf : image g.perm x.face < 4 = image_below g.perm hg x.face lf in
-      let hs = stand_permutes old m table fine h.core x s lt lf stands in
-      let hr = stand_permutes old m table fine h.core (other_side x g) r yt yf stands' in (
-        (stand_in_range old m table fine h.core (other_side x g) r yt yf stands').0,
-        standing (other_side x g) r yt yf stands' ∙ ap (flip (is_odd r.perm)) (are.agree x g glued) ∙ across_sign r.perm g.perm s.perm hr hg hs (sign_of signs x.tet)
-            ∙ ap (behind (is_odd (compose r.perm (compose g.perm (inverse s.perm))))) (sym (standing x s lt lf stands)),
+      let hs = stand_permutes old m table fine h.core x s lt lf occurs in
+      let hr = stand_permutes old m table fine h.core (other_side x g) r yt yf occurs' in (
+        (stand_in_range old m table fine h.core (other_side x g) r yt yf occurs').0,
+        standing (other_side x g) r yt yf occurs' ∙ ap (flip (is_odd r.perm)) (are.agree x g glued) ∙ across_sign r.perm g.perm s.perm hr hg hs (sign_of signs x.tet)
+            ∙ ap (behind (is_odd (compose r.perm (compose g.perm (inverse s.perm))))) (sym (standing x s lt lf occurs)),
       )
 
   agrees_at : (y : Face) (g' : Gluing) → glue new y ≡ Some g' → StandsForOld old m y ⊎ IsInner old m y → Agrees y g'
   agrees_at y g' e (inr n) =
-      let inner : Some (record { tet = kept old m + n.l; perm = across n.j n.l }) ≡ Some g' = sym (h.inner n.j n.l n.j_small n.l_small n.apart) ∙ ap (glue new) n.is ∙ e in
+      let inner : Some (record { tet = kept old m + n.l; perm = across n.j n.l }) ≡ Some g' = sym (h.inner n.j n.l n.j_small n.l_small n.separate) ∙ ap (glue new) n.is ∙ e in
       let is : record { tet = kept old m + n.l; perm = across n.j n.l } ≡ g' = cc in
-      subst (λ (z : Face). Agrees z g') n.is (subst (λ (g : Gluing). Agrees (opposite (new_facet old m n.j) n.l) g) is (inner_agrees n.j n.l n.j_small n.l_small n.apart))
+      subst (λ (z : Face). Agrees z g') n.is (subst (λ (g : Gluing). Agrees (opposite (new_facet old m n.j) n.l) g) is (inner_agrees n.j n.l n.j_small n.l_small n.separate))
   agrees_at y g' e (inl o) = subst (λ (z : Face). Agrees z g') o.is (by_gluing (glue old o.old) refl)
     where
       moved : option_and_then (moved_gluing old m o.old o.by) (glue old o.old) ≡ Some g'
-      moved = sym (h.outer o.old o.by o.tet o.face o.stands) ∙ ap (glue new) o.is ∙ e
+      moved = sym (h.outer o.old o.by o.tet o.face o.occurs) ∙ ap (glue new) o.is ∙ e
 
       by_gluing : (q : Option Gluing) → glue old o.old ≡ q → Agrees (face_under o.by o.old) g'
       by_gluing None f = absurd (let none : None ≡ Some g' = sym (ap (option_and_then (moved_gluing old m o.old o.by)) f) ∙ moved in cc)
       by_gluing (Some g) f =
-          let there : (r : Gluing) × (place_after old m (other_side o.old g) ≡ Some r) = other_stands old m table fine h.core o.old o.by g o.face o.stands f in
+          let there : (r : Gluing) × (place_after old m (other_side o.old g) ≡ Some r) = other_stands old m table fine h.core o.old o.by g o.face o.occurs f in
           let made : Some (gluing_under o.by there.0 g) ≡ Some g' = sym (ap (option_map (λ r. gluing_under o.by r g)) there.1) ∙ sym (ap (option_and_then (moved_gluing old m o.old o.by)) f) ∙ moved in
           let is : gluing_under o.by there.0 g ≡ g' = cc in
-          subst (λ (k : Gluing). Agrees (face_under o.by o.old) k) is (outer_agrees o.old o.by g there.0 o.tet o.face o.stands f there.1)
+          subst (λ (k : Gluing). Agrees (face_under o.by o.old) k) is (outer_agrees o.old o.by g there.0 o.tet o.face o.occurs f there.1)
 
   abbrev new_signs : List Bool
   new_signs = map new_sign (below (new_length old m))

@@ -50,11 +50,11 @@ pub relabelled_from_orientable : RelabelledFromOrientable
 relabelled_from_orientable old new table (by, is, c) (signs, are) = (old_signs old new table by is c signs are, old_are old new table by is c signs are)
 
 pub moves_come_from_orientable : MovesComeFromOrientable
-moves_come_from_orientable old m new table few h o =
+moves_come_from_orientable old m new table limited h o =
     let led = inverses_lead_back_lem old m new table h in
-    relabelled_from_orientable old led.0 table led.2 (moves_keep_orientable_lem new (inverse_move (length old) m) led.0 (moves_make_tables_lem old m new table few h) led.1 o)
+    relabelled_from_orientable old led.0 table led.2 (moves_keep_orientable_lem new (inverse_move (length old) m) led.0 (moves_make_tables_lem old m new table limited h) led.1 o)
 
 pub plays_come_from_orientable : PlaysComeFromOrientable
 plays_come_from_orientable old [] new p o = subst (λ (rows : List Row). IsOrientable rows) (sym p) o
 plays_come_from_orientable old (m ∷ ms) new (next, p, rest) o =
-    moves_come_from_orientable old m next p.table (played_table old m next p).few p.moved (plays_come_from_orientable next ms new rest o)
+    moves_come_from_orientable old m next p.table (played_table old m next p).limited p.moved (plays_come_from_orientable next ms new rest o)

@@ -158,14 +158,14 @@ length-below n = length-range_with_len 0 n
 mapped : {A : Type 0} (f : ℕ → A) (n t : ℕ) (d : A) → t < n → get_or (map f (below n)) t d ≡ f t
 mapped f n t d l = get_or-map f (below n) t 0 d (rw (length-below n) l) ∙ ap f (below_at n t 0 l)
 
-pub stand_in-placed : (old : List Row) (m : Move) (t : ℕ) → t < length old → relabelled_place (relabelling old m) t ≡ place old m t
-stand_in-placed old m t l =
+pub image_after-placed : (old : List Row) (m : Move) (t : ℕ) → t < length old → relabelled_place (relabelling old m) t ≡ place old m t
+image_after-placed old m t l =
     ap (λ u. gluing_to u (slice_index_or (relabelling old m).perms t [])) (mapped (λ t. (place old m t).tet) (length old) t 0 l)
     ∙ ap (gluing_to (place old m t).tet) (mapped (λ t. (place old m t).perm) (length old) t [] l)
 
 pub is_relabelling : (old : List Row) (m : Move) → IsTable old → HasNoFault old m → IsCore m.core → IsRelabelling (length old) (relabelling old m)
 is_relabelling old m table h c = record {
-  images = onto n images length-images small (IsDistinct-from_before images apart);
+  images = onto n images length-images small (IsDistinct-from_before images separate);
   perms = length-map (below n) (λ t. (place old m t).perm) ∙ length-below n;
   permutes = All-from_get_or IsPermutationOfFour (relabelling old m).perms [] (λ k l. (let l' : k < n = omega (arith, length-map (below n) (λ t. (place old m t).perm), length-below n) in rw (mapped (λ t. (place old m t).perm) n k [] l') (place_permutes old m k table h c l')));
 }
@@ -182,8 +182,8 @@ is_relabelling old m table h c = record {
     small : (k : ℕ) → k < n → get_or images k 0 < n
     small k l = rw (mapped (λ t. (place old m t).tet) n k 0 l) (place_below old m k table h c l)
 
-    apart : (i j : ℕ) → i < j → j < length images → get_or images i 0 ≢ get_or images j 0
-    apart i j l k e =
+    separate : (i j : ℕ) → i < j → j < length images → get_or images i 0 ≢ get_or images j 0
+    separate i j l k e =
         let lj : j < n = omega (arith, length-images) in
         let li : i < n = omega arith in
         let same : i ≡ j = place_apart old m i j table h c li lj (sym (mapped (λ t. (place old m t).tet) n i 0 li) ∙ e ∙ mapped (λ t. (place old m t).tet) n j 0 lj) in

@@ -50,26 +50,26 @@ row-is rows m j l =
 
 -- the gluing of a face of a new facet
 pub glue-put : (rows : List Row) (m : Move) (j v : ℕ) → j < length m.core → length m.core < 5 → v < 4 → fresh_glue (exchange rows m) (record { tet = kept rows m + j; face = v }) ≡ fresh_gluing rows m j (image (new_facet rows m j).labels v)
-glue-put rows m j v l few small =
+glue-put rows m j v l limited small =
     ap (λ (row : Row). get_or row v None) (row-is rows m j l)
     ∙ get_or-map (fresh_gluing rows m j) (new_facet rows m j).labels v 0 None (let q = (new_is_facet rows m j (omega arith)).four_labels in omega arith)
 
 pub glue-opposite : (rows : List Row) (m : Move) (j l : ℕ) → j < length m.core → length m.core < 5 → l < 5 → l ≢ j → fresh_glue (exchange rows m) (opposite (new_facet rows m j) l) ≡ fresh_gluing rows m j l
-glue-opposite rows m j l new few small other =
+glue-opposite rows m j l new limited small other =
     let N = new_is_facet rows m j (omega arith) in
-    glue-put rows m j (vertex_of (new_facet rows m j) l) new few (N.vertex_below l small other) ∙ ap (fresh_gluing rows m j) (N.label_back l small other)
+    glue-put rows m j (vertex_of (new_facet rows m j) l) new limited (N.vertex_below l small other) ∙ ap (fresh_gluing rows m j) (N.label_back l small other)
 
 pub glue-inner : (rows : List Row) (m : Move) (j l : ℕ) → IsLegal rows m → j < length m.core → l < length m.core → l ≢ j → fresh_glue (exchange rows m) (opposite (new_facet rows m j) l) ≡ Some (facet_gluing rows m (new_facet rows m j) l)
 glue-inner rows m j l legal nj nl other =
-    let few = core_few m.core legal.core in
-    glue-opposite rows m j l nj few (omega arith) other
+    let limited = core_few m.core legal.core in
+    glue-opposite rows m j l nj limited (omega arith) other
     ∙ ap (λ b. if◌then◌else◌ {A = Option Gluing} b (Some (facet_gluing rows m (new_facet rows m j) l)) (option_and_then (λ f. outer_gluing rows m f j) (facet rows m l))) (lt-ltb l (length m.core) nl)
 
 pub glue-outer : (rows : List Row) (m : Move) (i j : ℕ) (f : Facet) → IsLegal rows m → IsOldFacet rows m i f → j < length m.core → fresh_glue (exchange rows m) (opposite (new_facet rows m j) i) ≡ outer_gluing rows m f j
 glue-outer rows m i j f legal F nj =
-    let few = core_few m.core legal.core in
+    let limited = core_few m.core legal.core in
     let low = F.old_label in
-    glue-opposite rows m j i nj few (label_in rows m i f F) (λ e. absurd (omega arith))
+    glue-opposite rows m j i nj limited (label_in rows m i f F) (λ e. absurd (omega arith))
     ∙ ap (λ b. if◌then◌else◌ {A = Option Gluing} b (Some (facet_gluing rows m (new_facet rows m j) i)) (option_and_then (λ f. outer_gluing rows m f j) (facet rows m i))) (le-ltb i (length m.core) low)
     ∙ ap (option_and_then (λ f. outer_gluing rows m f j)) F.found
 
@@ -94,7 +94,7 @@ pub record LeadsOut (rows : List Row) (m : Move) (x : Face) (g : Gluing) : Type 
   pub own : j < length m.core
   pub at : x ≡ opposite (new_facet rows m j) i
   pub glued : glue rows (opposite f j) ≡ Some before
-  pub stands : place_after rows m (other_side (opposite f j) before) ≡ Some there
+  pub occurs : place_after rows m (other_side (opposite f j) before) ≡ Some there
   pub is : g ≡ gluing_under (facet_gluing rows m f j) there before
 
 abbrev pub Leads : List Row → Move → Face → Gluing → Type 0
@@ -107,7 +107,7 @@ leads_by rows m x g j l legal e N own small other at = by_label (cases_lt l (len
         → option_map (λ r. gluing_under (facet_gluing rows m f j) r h) o ≡ Some g → Leads rows m x g
     by_stand f h None F glued q s = absurd cc
     by_stand f h (Some r) F glued q s =
-        inr (record { i = l; j = j; f = f; before = h; there = r; old = F; own = own; at = at; glued = glued; stands = q; is = cc })
+        inr (record { i = l; j = j; f = f; before = h; there = r; old = F; own = own; at = at; glued = glued; occurs = q; is = cc })
 
     by_glue : (f : Facet) (o : Option Gluing) → IsOldFacet rows m l f → glue rows (opposite f j) ≡ o → option_and_then (moved_gluing rows m (opposite f j) (facet_gluing rows m f j)) o ≡ Some g → Leads rows m x g
     by_glue f None F q s = absurd cc
@@ -132,13 +132,13 @@ leads_own rows m x g j legal e N own tet = by_size (cases_lt x.face 4)
     by_size (inr b) =
         let long : length (put_row rows m j) ≡ 4 = length-map (new_facet rows m j).labels (fresh_gluing rows m j) ∙ N.four_labels in
         let row : fresh_row (exchange rows m) x.tet ≡ put_row rows m j = ap (fresh_row (exchange rows m)) tet ∙ row-is rows m j own in
-        let past : get_or (put_row rows m j) x.face None ≡ None = get_or_past (put_row rows m j) x.face None (omega arith) in
-        let n : fresh_glue (exchange rows m) x ≡ None = ap (λ (w : Row). get_or w x.face None) row ∙ past in
+        let exceeded : get_or (put_row rows m j) x.face None ≡ None = get_or_past (put_row rows m j) x.face None (omega arith) in
+        let n : fresh_glue (exchange rows m) x ≡ None = ap (λ (w : Row). get_or w x.face None) row ∙ exceeded in
         absurd cc
 
 pub leads : (rows : List Row) (m : Move) (x : Face) (g : Gluing) → IsLegal rows m → fresh_glue (exchange rows m) x ≡ Some g → Leads rows m x g
 leads rows m x g legal e =
-    let few = core_few m.core legal.core in
+    let limited = core_few m.core legal.core in
     let range = put-is rows m x.tet (fresh_tet (exchange rows m) x g e) in
     let low = range.0 in
     let high = range.1 in

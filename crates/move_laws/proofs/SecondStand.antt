@@ -8,10 +8,10 @@ use Rattle.basic_lemmas.proofs.Numbers.{given_apart}
 use Rattle.basic_lemmas.proofs.Truths.{one_if}
 use Rattle.table_definitions.specs.Lists.{below, has, same_list, substitute, rank_without}
 use Rattle.table_definitions.specs.Permutation.{IsPermutationOfFour, is_permutation, image, preimage, identity, compose}
-use Rattle.table_definitions.specs.Table.{Gluing, Row, Face, glue, other_side, way_back, IsTable}
+use Rattle.table_definitions.specs.Table.{Gluing, Row, Face, glue, other_side, inverse_gluing, IsTable}
 use Rattle.table_definitions.specs.Relabelling.{face_under}
 use Rattle.move_definitions.specs.Moves.{Move, IsCore, Facet, opposite, facet, kept, kept_place_after, facet_place_after, place_after, facet_gluing, old_tets}
-use Rattle.move_definitions.proofs.StandIns.{facet_stand_in-new, facet_stand_in-old, stand_in-kept}
+use Rattle.move_definitions.proofs.StandIns.{facet_image_after-new, facet_image_after-old, image_after-kept}
 use Rattle.table_definitions.proofs.ListFacts.{list_all-below, same_list-true}
 use Rattle.table_definitions.proofs.Permutations.{image_below, preimage-image, image-inverse, identity_permutes}
 use Rattle.table_definitions.specs.Replaceable.{gone_before}
@@ -20,7 +20,7 @@ use Rattle.table_definitions.proofs.Faces.{face_at}
 use Rattle.move_laws.proofs.ListedFacets.{same_some}
 use Rattle.move_laws.proofs.Labels.{AreLabels, ascending, new_labels, on_labels, label_tests, HasLabel, label_at, HasVertex, vertex_at, length-labels, image-map}
 use Rattle.move_laws.proofs.Legal.{IsFacet, facet_is, HasNoFault, no_fault, OldFacet, old_tet_facet, old_facet}
-use Rattle.move_laws.proofs.Covered.{stand_in-old, crossed}
+use Rattle.move_laws.proofs.Covered.{image_after-old, crossed}
 use Rattle.move_laws.proofs.Matched.{AreGlued, old_glued, label_across}
 use Rattle.move_laws.proofs.Renamed.{renamed, renamed-old, renamed-new, renamed_below, new_as_old_labels, renamed_labels, given_le, given_lt}
 use Rattle.move_laws.proofs.InverseFacets.{inverse_of, new_as_old, IsPlayed, facet-inverse, IsNewLabel, new_label, inverse_legal}
@@ -69,7 +69,7 @@ inverse_fine : (old : List Row) (m : Move) (new : List Row) → IsPlayed old m n
 inverse_fine old m new p = no_fault new (inverse_of old m) (inverse_legal old m new p)
 
 pub kept-inverse : (old : List Row) (m : Move) (new : List Row) → IsPlayed old m new → kept new (inverse_of old m) ≡ kept old m
-kept-inverse old m new p = let some = p.some in let few = p.few in let fits = p.fits in omega (arith, p.moved.length_is, p.inverse_core.size)
+kept-inverse old m new p = let some = p.some in let limited = p.limited in let fits = p.fits in omega (arith, p.moved.length_is, p.inverse_core.size)
 
 old_tets_high : (old : List Row) (m : Move) (new : List Row) → IsPlayed old m new → (u : ℕ) → has (old_tets new (inverse_of old m)) u ≡ true → kept old m ≤ u
 old_tets_high old m new p u h =
@@ -105,7 +105,7 @@ closed_up_low old m new p u l =
 -- the replacement, under the inverse move, of what replaces the tetrahedron of x
 pub record StandsAgain (old : List Row) (m : Move) (new : List Row) (x : Face) (s : Gluing) : Type 0 where
   pub second : Gluing
-  pub stands : place_after new (inverse_of old m) (face_under s x) ≡ Some second
+  pub occurs : place_after new (inverse_of old m) (face_under s x) ≡ Some second
   pub tet : second.tet ≡ (place old m x.tet).tet
   pub perm : compose second.perm s.perm ≡ (place old m x.tet).perm
   pub first_permutes : IsPermutationOfFour s.perm
@@ -118,7 +118,7 @@ identity_twice = refl
 again-kept : (old : List Row) (m : Move) (new : List Row) → IsPlayed old m new → (x : Face) → x.tet < length old → x.face < 4 → has (old_tets old m) x.tet ≡ false → StandsAgain old m new x (kept_place_after old m x.tet)
 again-kept old m new p x lt lf e = record {
   second = kept_place_after new (inverse_of old m) u;
-  stands = stand_in-kept new (inverse_of old m) (face_under (kept_place_after old m x.tet) x) (stays_low old m new p u small);
+  occurs = image_after-kept new (inverse_of old m) (face_under (kept_place_after old m x.tet) x) (stays_low old m new p u small);
   tet = closed_up_low old m new p u small ∙ sym (ap (λ (g : Gluing). g.tet) (place-kept old m x.tet e));
   perm = identity_twice ∙ sym (ap (λ (g : Gluing). g.perm) (place-kept old m x.tet e));
   first_permutes = identity_permutes;
@@ -136,30 +136,30 @@ again-new : (old : List Row) (m : Move) (new : List Row) → IsPlayed old m new 
     → StandsAgain old m new (face_at f.tet (preimage f.labels j)) (facet_gluing old m f j)
 again-new old m new p i j f low high less e is = record {
   second = facet_gluing new (inverse_of old m) (new_as_old old m j) (i - s);
-  stands = ap (λ v. place_after new (inverse_of old m) (face_at (kept old m + j) v)) (crossed old m i j f is small apart) ∙ there;
+  occurs = ap (λ v. place_after new (inverse_of old m) (face_at (kept old m + j) v)) (crossed old m i j f is small separate) ∙ there;
   tet = ap (λ k. k + (i - s)) (kept-inverse old m new p) ∙ sym (ap (λ (g : Gluing). g.tet) at);
-  perm = ap (λ k. compose (crossing (renamed s j) (i - s) (new_as_old_labels s j)) (crossing k j f.labels)) is.missing ∙ crossed_twice s i j f.labels is.labels few low less ∙ sym (ap (λ (g : Gluing). g.perm) at);
-  first_permutes = (let Permutes : ℕ → Type 0 = λ k. IsPermutationOfFour (crossing k j f.labels) in subst Permutes (sym is.missing) (crossing_permutes i j f.labels is.labels small apart));
-  second_permutes = crossing_permutes (renamed s j) (i - s) (new_as_old_labels s j) (renamed_labels s j few small) (omega arith) behind;
+  perm = ap (λ k. compose (crossing (renamed s j) (i - s) (new_as_old_labels s j)) (crossing k j f.labels)) is.missing ∙ crossed_twice s i j f.labels is.labels limited low less ∙ sym (ap (λ (g : Gluing). g.perm) at);
+  first_permutes = (let Permutes : ℕ → Type 0 = λ k. IsPermutationOfFour (crossing k j f.labels) in subst Permutes (sym is.missing) (crossing_permutes i j f.labels is.labels small separate));
+  second_permutes = crossing_permutes (renamed s j) (i - s) (new_as_old_labels s j) (renamed_labels s j limited small) (omega arith) behind;
 }
   where
     s : ℕ
     s = length m.core
 
-    few : length m.core < 5
-    few = p.few
+    limited : length m.core < 5
+    limited = p.limited
 
     small : j < 5
     small = omega arith
 
-    apart : j ≢ i
-    apart = λ e. absurd (omega arith)
+    separate : j ≢ i
+    separate = λ e. absurd (omega arith)
 
     at : place old m f.tet ≡ facet_place old m i f.labels
     at = place-old old m i f p.table (no_fault old m p.moved.legal) p.core low high e
 
     behind : i - s ≢ renamed s j
-    behind = λ e. (let r : 5 - s ≤ renamed s j = renamed-new s j p.few less in absurd (omega arith))
+    behind = λ e. (let r : 5 - s ≤ renamed s j = renamed-new s j p.limited less in absurd (omega arith))
 
     -- the label i, renamed
     label : image (new_as_old_labels s j) (preimage (ascending j) i) ≡ i - s
@@ -169,9 +169,9 @@ again-new old m new p i j f low high less e is = record {
 
     there : place_after new (inverse_of old m) (face_at (kept old m + j) (preimage (ascending j) i)) ≡ Some (facet_gluing new (inverse_of old m) (new_as_old old m j) (i - s))
     there =
-        stand_in-old new (inverse_of old m) (renamed s j) (new_as_old old m j) (preimage (ascending j) i) (inverse_fine old m new p) p.inverse_core.is_core (rw p.inverse_core.size (renamed-new s j p.few less)) (renamed_below s j p.few small) (facet-inverse old m new p j less)
+        image_after-old new (inverse_of old m) (renamed s j) (new_as_old old m j) (preimage (ascending j) i) (inverse_fine old m new p) p.inverse_core.is_core (rw p.inverse_core.size (renamed-new s j p.limited less)) (renamed_below s j p.limited small) (facet-inverse old m new p j less)
         ∙ ap (facet_place_after new (inverse_of old m) (new_as_old old m j)) label
-        ∙ facet_stand_in-new new (inverse_of old m) (new_as_old old m j) (i - s) (rw p.inverse_core.size (omega arith))
+        ∙ facet_image_after-new new (inverse_of old m) (new_as_old old m j) (i - s) (rw p.inverse_core.size (omega arith))
 
 -- a face of an old facet that is replaced in the new table has the label of a new facet
 pub record HasNewLabel (old : List Row) (m : Move) (f : Facet) (v : ℕ) (s : Gluing) : Type 0 where
@@ -179,20 +179,20 @@ pub record HasNewLabel (old : List Row) (m : Move) (f : Facet) (v : ℕ) (s : Gl
   pub is : s ≡ facet_gluing old m f (image f.labels v)
 
 pub has_new_label : (old : List Row) (m : Move) (i : ℕ) (f : Facet) (v : ℕ) (s : Gluing) → HasNoFault old m → IsCore m.core → length m.core ≤ i → i < 5 → facet old m i ≡ Some f → place_after old m (face_at f.tet v) ≡ Some s → HasNewLabel old m f v s
-has_new_label old m i f v s h c low high e stands = by_size (cases_lt (image f.labels v) (length m.core))
+has_new_label old m i f v s h c low high e occurs = by_size (cases_lt (image f.labels v) (length m.core))
   where
     here : facet_place_after old m f (image f.labels v) ≡ Some s
-    here = sym (stand_in-old old m i f v h c low high e) ∙ stands
+    here = sym (image_after-old old m i f v h c low high e) ∙ occurs
 
     none : (o : Option Gluing) → o ≡ None → o ≡ Some s → ⊥
     none o a b = cc
 
     by_size : (image f.labels v < length m.core) ⊎ (length m.core ≤ image f.labels v) → HasNewLabel old m f v s
-    by_size (inl l) = record { small = l; is = same_some (facet_place_after old m f (image f.labels v)) s (facet_gluing old m f (image f.labels v)) here (facet_stand_in-new old m f (image f.labels v) l) }
-    by_size (inr g) = absurd (none (facet_place_after old m f (image f.labels v)) (facet_stand_in-old old m f (image f.labels v) g) here)
+    by_size (inl l) = record { small = l; is = same_some (facet_place_after old m f (image f.labels v)) s (facet_gluing old m f (image f.labels v)) here (facet_image_after-new old m f (image f.labels v) l) }
+    by_size (inr g) = absurd (none (facet_place_after old m f (image f.labels v)) (facet_image_after-old old m f (image f.labels v) g) here)
 
 pub stands_again : (old : List Row) (m : Move) (new : List Row) → IsPlayed old m new → (x : Face) (s : Gluing) → x.tet < length old → x.face < 4 → place_after old m x ≡ Some s → StandsAgain old m new x s
-stands_again old m new p x s lt lf stands = by_test (has (old_tets old m) x.tet) refl
+stands_again old m new p x s lt lf occurs = by_test (has (old_tets old m) x.tet) refl
   where
     h : HasNoFault old m
     h = no_fault old m p.moved.legal
@@ -202,20 +202,20 @@ stands_again old m new p x s lt lf stands = by_test (has (old_tets old m) x.tet)
         let f : Facet = o.facet_of in
         let is : IsFacet old o.label f = facet_is old m o.label f p.table p.core h.in_range o.high o.is in
         let same : face_at f.tet x.face ≡ x = ap (λ t. face_at t x.face) o.tet in
-        let n : HasNewLabel old m f x.face s = has_new_label old m o.label f x.face s h p.core o.low o.high o.is (ap (place_after old m) same ∙ stands) in
+        let n : HasNewLabel old m f x.face s = has_new_label old m o.label f x.face s h p.core o.low o.high o.is (ap (place_after old m) same ∙ occurs) in
         let there : StandsAgain old m new (face_at f.tet (preimage f.labels (image f.labels x.face))) (facet_gluing old m f (image f.labels x.face)) = again-new old m new p o.label (image f.labels x.face) f o.low o.high n.small o.is is in
         let face : face_at f.tet (preimage f.labels (image f.labels x.face)) ≡ x = ap (face_at f.tet) (label_at o.label f.labels is.labels x.face lf).vertex ∙ same in
         subst (λ (g : Gluing). StandsAgain old m new x g) (sym n.is) (subst (λ (y : Face). StandsAgain old m new y (facet_gluing old m f (image f.labels x.face))) face there)
 
     by_test : (b : Bool) → has (old_tets old m) x.tet ≡ b → StandsAgain old m new x s
-    by_test false e = subst (λ (g : Gluing). StandsAgain old m new x g) (same_some (place_after old m x) (kept_place_after old m x.tet) s (stand_in-kept old m x e) stands) (again-kept old m new p x lt lf e)
+    by_test false e = subst (λ (g : Gluing). StandsAgain old m new x g) (same_some (place_after old m x) (kept_place_after old m x.tet) s (image_after-kept old m x e) occurs) (again-kept old m new p x lt lf e)
     by_test true e = by_facet (old_tet_facet old m x.tet p.core e)
 
 -- if a face is replaced in the new table, so is the face that it is glued to
 
 pub other_stands : (old : List Row) (m : Move) → IsTable old → HasNoFault old m → IsCore m.core → (x : Face) (s g : Gluing) → x.face < 4 → place_after old m x ≡ Some s → glue old x ≡ Some g
     → (r : Gluing) × (place_after old m (other_side x g) ≡ Some r)
-other_stands old m table h c x s g lf stands glued = by_test (has (old_tets old m) g.tet) refl
+other_stands old m table h c x s g lf occurs glued = by_test (has (old_tets old m) g.tet) refl
   where
     y : Face
     y = other_side x g
@@ -230,16 +230,16 @@ other_stands old m table h c x s g lf stands glued = by_test (has (old_tets old 
     never : (k l : ℕ) (f f' : Facet) → length m.core ≤ k → k < 5 → length m.core ≤ l → l < 5 → facet old m k ≡ Some f → facet old m l ≡ Some f' → IsFacet old k f → IsFacet old l f' → f.tet ≡ g.tet → image f.labels y.face ≡ l → ⊥
     never k l f f' low high low' high' ef ef' is is' t label =
         let here : HasLabel k f.labels y.face = label_at k f.labels is.labels y.face yf in
-        let apart : k ≢ l = λ e. here.present (label ∙ sym e) in
-        let a : AreGlued old k l f f' = old_glued old m k l f f' table h c low high low' high' apart ef ef' in
+        let separate : k ≢ l = λ e. here.present (label ∙ sym e) in
+        let a : AreGlued old k l f f' = old_glued old m k l f f' table h c low high low' high' separate ef ef' in
         let face : opposite f l ≡ y = ap (face_at f.tet) (ap (preimage f.labels) (sym label) ∙ here.vertex) ∙ ap (λ u. face_at u y.face) t in
-        let back : a.by ≡ way_back x g = same_some (glue old y) a.by (way_back x g) (ap (glue old) (sym face) ∙ a.glued) (table.leads_back x g glued) in
+        let back : a.by ≡ inverse_gluing x g = same_some (glue old y) a.by (inverse_gluing x g) (ap (glue old) (sym face) ∙ a.glued) (table.leads_back x g glued) in
         let tets : f'.tet ≡ x.tet = sym a.tet ∙ ap (λ (b : Gluing). b.tet) back in
         let to : image a.by.perm y.face ≡ x.face = ap (λ (b : Gluing). image b.perm y.face) back ∙ image-inverse g.perm y.face yf ∙ preimage-image g.perm hp x.face lf in
         let across : image f'.labels (image a.by.perm y.face) ≡ substitute l k (image f.labels y.face) =
         label_across k l f.labels f'.labels a.by.perm y.face is.labels (table.permutes (opposite f l) a.by a.glued) a.labels yf in
         let there : image f'.labels x.face ≡ k = ap (image f'.labels) (sym to) ∙ across ∙ ap (substitute l k) label ∙ in_place-same l k l refl in
-        let n : HasNewLabel old m f' x.face s = has_new_label old m l f' x.face s h c low' high' ef' (ap (λ u. place_after old m (face_at u x.face)) tets ∙ stands) in
+        let n : HasNewLabel old m f' x.face s = has_new_label old m l f' x.face s h c low' high' ef' (ap (λ u. place_after old m (face_at u x.face)) tets ∙ occurs) in
         let small = n.small in
         absurd (omega arith)
 
@@ -253,15 +253,15 @@ other_stands old m table h c x s g lf stands glued = by_test (has (old_tets old 
         is = facet_is old m o.label f table c h.in_range o.high o.is
 
         at : place_after old m y ≡ facet_place_after old m f (image f.labels y.face)
-        at = ap (λ u. place_after old m (face_at u y.face)) (sym o.tet) ∙ stand_in-old old m o.label f y.face h c o.low o.high o.is
+        at = ap (λ u. place_after old m (face_at u y.face)) (sym o.tet) ∙ image_after-old old m o.label f y.face h c o.low o.high o.is
 
         by_size : (image f.labels y.face < length m.core) ⊎ (length m.core ≤ image f.labels y.face) → (r : Gluing) × (place_after old m y ≡ Some r)
-        by_size (inl l) = (facet_gluing old m f (image f.labels y.face), at ∙ facet_stand_in-new old m f (image f.labels y.face) l)
+        by_size (inl l) = (facet_gluing old m f (image f.labels y.face), at ∙ facet_image_after-new old m f (image f.labels y.face) l)
         by_size (inr l) =
             let here : HasLabel o.label f.labels y.face = label_at o.label f.labels is.labels y.face yf in
             let other : (f' : Facet) × (facet old m (image f.labels y.face) ≡ Some f') = old_facet old m (image f.labels y.face) h c l here.small in
             absurd (never o.label (image f.labels y.face) f other.0 o.low o.high l here.small o.is other.1 is (facet_is old m (image f.labels y.face) other.0 table c h.in_range here.small other.1) o.tet refl)
 
     by_test : (b : Bool) → has (old_tets old m) g.tet ≡ b → (r : Gluing) × (place_after old m y ≡ Some r)
-    by_test false e = (kept_place_after old m g.tet, stand_in-kept old m y e)
+    by_test false e = (kept_place_after old m g.tet, image_after-kept old m y e)
     by_test true e = by_facet (old_tet_facet old m g.tet c e)

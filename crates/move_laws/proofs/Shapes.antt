@@ -10,7 +10,7 @@ use Rattle.table_definitions.proofs.Permutations.{image_below, identity_permutes
 use Rattle.table_definitions.proofs.Ranks.{rank, stays, ranks_apart}
 use Rattle.table_definitions.proofs.Faces.{face_at}
 use Rattle.move_definitions.proofs.CoreTests.{core_size}
-use Rattle.move_definitions.proofs.StandIns.{stand_in-kept}
+use Rattle.move_definitions.proofs.StandIns.{image_after-kept}
 use Rattle.move_laws.proofs.Labels.{ascending, new_labels, HasLabel, label_at, vertex_at}
 use Rattle.move_laws.proofs.ListedFacets.{same_some, closed_up-rank}
 use Rattle.move_laws.proofs.Legal.{IsFacet, facet_is, HasNoFault, old_tets_distinct, OldFacet, old_tet_facet}
@@ -42,14 +42,14 @@ pub record IsFacetFace (rows : List Row) (m : Move) (x y : Face) (s : Gluing) : 
 
 pub shape : (rows : List Row) (m : Move) → IsTable rows → HasNoFault rows m → IsCore m.core → (x : Face) (s : Gluing) → x.tet < length rows → x.face < 4 → place_after rows m x ≡ Some s
     → IsKeptFace rows m x (face_under s x) s ⊎ IsFacetFace rows m x (face_under s x) s
-shape rows m table h c x s lt lf stands = by_test (has (old_tets rows m) x.tet) refl
+shape rows m table h c x s lt lf occurs = by_test (has (old_tets rows m) x.tet) refl
   where
     by_facet : OldFacet rows m x.tet → IsFacetFace rows m x (face_under s x) s
     by_facet o =
         let f : Facet = o.facet_of in
         let is : IsFacet rows o.label f = facet_is rows m o.label f table c h.in_range o.high o.is in
         let same : face_at f.tet x.face ≡ x = ap (λ t. face_at t x.face) o.tet in
-        let n : HasNewLabel rows m f x.face s = has_new_label rows m o.label f x.face s h c o.low o.high o.is (ap (place_after rows m) same ∙ stands) in
+        let n : HasNewLabel rows m f x.face s = has_new_label rows m o.label f x.face s h c o.low o.high o.is (ap (place_after rows m) same ∙ occurs) in
         let j : ℕ = image f.labels x.face in
         let l : HasLabel o.label f.labels x.face = label_at o.label f.labels is.labels x.face lf in
         let old_is : face_at f.tet (preimage f.labels j) ≡ x = ap (face_at f.tet) l.vertex ∙ same in
@@ -70,7 +70,7 @@ shape rows m table h c x s lt lf stands = by_test (has (old_tets rows m) x.tet) 
 
     by_kept : has (old_tets rows m) x.tet ≡ false → IsKeptFace rows m x (face_under s x) s
     by_kept e =
-        let by : s ≡ kept_place_after rows m x.tet = same_some (place_after rows m x) s (kept_place_after rows m x.tet) stands (stand_in-kept rows m x e) in
+        let by : s ≡ kept_place_after rows m x.tet = same_some (place_after rows m x) s (kept_place_after rows m x.tet) occurs (image_after-kept rows m x e) in
         let t : rank_without (old_tets rows m) x.tet ≡ s.tet = ap (λ (g : Gluing). g.tet) (sym by) in
         record {
           stays = e;
@@ -87,7 +87,7 @@ shape rows m table h c x s lt lf stands = by_test (has (old_tets rows m) x.tet) 
 -- the map to a new facet permutes the vertices
 new_permutes : (rows : List Row) (m : Move) (x y : Face) (s : Gluing) → IsCore m.core → IsFacetFace rows m x y s → IsPermutationOfFour s.perm
 new_permutes rows m x y s c f =
-    let few : length m.core < 5 = (core_size m.core c).1 in
+    let limited : length m.core < 5 = (core_size m.core c).1 in
     let less = f.less in
     let low = f.low in
     let crosses : IsPermutationOfFour (crossing f.facet_of.missing f.j f.facet_of.labels) =
@@ -95,8 +95,8 @@ new_permutes rows m x y s c f =
     subst (λ (g : Gluing). IsPermutationOfFour g.perm) (sym f.by) crosses
 
 pub stand_permutes : (rows : List Row) (m : Move) → IsTable rows → HasNoFault rows m → IsCore m.core → (x : Face) (s : Gluing) → x.tet < length rows → x.face < 4 → place_after rows m x ≡ Some s → IsPermutationOfFour s.perm
-stand_permutes rows m table h c x s lt lf stands =
-    elim (shape rows m table h c x s lt lf stands) [
+stand_permutes rows m table h c x s lt lf occurs =
+    elim (shape rows m table h c x s lt lf occurs) [
       | inl k ↦ subst (λ (g : Gluing). IsPermutationOfFour g.perm) (sym k.by) identity_permutes
       | inr f ↦ new_permutes rows m x (face_under s x) s c f
     ]
@@ -104,12 +104,12 @@ stand_permutes rows m table h c x s lt lf stands =
 -- the face that replaces another is in range
 pub stand_in_range : (rows : List Row) (m : Move) → IsTable rows → HasNoFault rows m → IsCore m.core → (x : Face) (s : Gluing) → x.tet < length rows → x.face < 4 → place_after rows m x ≡ Some s
     → (s.tet < new_length rows m) × (image s.perm x.face < 4)
-stand_in_range rows m table h c x s lt lf stands = (
-  elim (shape rows m table h c x s lt lf stands) [
+stand_in_range rows m table h c x s lt lf occurs = (
+  elim (shape rows m table h c x s lt lf occurs) [
     | inl k ↦ (let small : s.tet < kept rows m = k.small in omega arith)
     | inr f ↦ (let t : s.tet ≡ kept rows m + f.j = ap (λ (g : Gluing). g.tet) f.by in let less = f.less in omega arith)
   ],
-  image_below s.perm (stand_permutes rows m table h c x s lt lf stands) x.face lf,
+  image_below s.perm (stand_permutes rows m table h c x s lt lf occurs) x.face lf,
 )
 
 -- a face of a new facet is given by one pair of labels
@@ -135,7 +135,7 @@ stands_for_one rows m table h c x x' y s s' lt lt' (inl k) (inl k') =
 stands_for_one rows m table h c x x' y s s' lt lt' (inl k) (inr f) = absurd (kept_not_facet rows m x x' y s s' k f)
 stands_for_one rows m table h c x x' y s s' lt lt' (inr f) (inl k) = absurd (kept_not_facet rows m x' x y s' s k f)
 stands_for_one rows m table h c x x' y s s' lt lt' (inr f) (inr f') =
-    let few : length m.core < 5 = (core_size m.core c).1 in
+    let limited : length m.core < 5 = (core_size m.core c).1 in
     let less = f.less in
     let less' = f'.less in
     let low = f.low in
@@ -154,26 +154,26 @@ inner_stands_for_none rows m c x y s (inl k) n =
     let small = k.small in
     omega arith
 inner_stands_for_none rows m c x y s (inr f) n =
-    let few : length m.core < 5 = (core_size m.core c).1 in
+    let limited : length m.core < 5 = (core_size m.core c).1 in
     let less = f.less in
     let low = f.low in
     let nj = n.j_small in
     let nl = n.l_small in
-    let apart = n.apart in
+    let separate = n.separate in
     let tets : kept rows m + f.j ≡ kept rows m + n.j = (λ i. (f.new_is i).tet) ∙ sym (λ i. (n.is i).tet) in
     let j : f.j ≡ n.j = omega arith in
     let vertices : preimage (ascending f.j) f.i ≡ preimage (ascending n.j) n.l = (λ i. (f.new_is i).face) ∙ sym (λ i. (n.is i).face) in
-    let i : f.i ≡ n.l = same_label f.j f.i n.l (omega arith) f.high (omega arith) (λ e. absurd (omega arith)) (λ e. apart (sym j ∙ sym e)) (vertices ∙ ap (λ q. preimage (ascending q) n.l) (sym j)) in
+    let i : f.i ≡ n.l = same_label f.j f.i n.l (omega arith) f.high (omega arith) (λ e. absurd (omega arith)) (λ e. separate (sym j ∙ sym e)) (vertices ∙ ap (λ q. preimage (ascending q) n.l) (sym j)) in
     omega arith
 
 -- a face lies between one pair of new facets alone
 pub inner_once : (rows : List Row) (m : Move) → IsCore m.core → (y : Face) (n n' : IsInner rows m y) → (n.j ≡ n'.j) × (n.l ≡ n'.l)
 inner_once rows m c y n n' =
-    let few : length m.core < 5 = (core_size m.core c).1 in
+    let limited : length m.core < 5 = (core_size m.core c).1 in
     let hj = n.j_small in
     let hl = n.l_small in
     let hl' = n'.l_small in
     let tets : kept rows m + n.j ≡ kept rows m + n'.j = (λ i. (n.is i).tet) ∙ sym (λ i. (n'.is i).tet) in
     let j : n.j ≡ n'.j = omega arith in
     let vertices : preimage (ascending n.j) n.l ≡ preimage (ascending n'.j) n'.l = (λ i. (n.is i).face) ∙ sym (λ i. (n'.is i).face) in
-    (j, same_label n.j n.l n'.l (omega arith) (omega arith) (omega arith) (λ e. n.apart (sym e)) (λ e. n'.apart (sym (e ∙ j))) (vertices ∙ ap (λ q. preimage (ascending q) n'.l) (sym j)))
+    (j, same_label n.j n.l n'.l (omega arith) (omega arith) (omega arith) (λ e. n.separate (sym e)) (λ e. n'.separate (sym (e ∙ j))) (vertices ∙ ap (λ q. preimage (ascending q) n'.l) (sym j)))

@@ -4,14 +4,14 @@ use Rattle.std.specs.Prelude.{◌⊎◌, ◌≢◌, not}
 use Rattle.std.proofs.lemmas.Bool.{cases_lt}
 use Rattle.table_definitions.specs.Lists.{has, rank_without}
 use Rattle.table_definitions.specs.Permutation.{image, inverse, compose, identity, IsPermutationOfFour}
-use Rattle.table_definitions.specs.Table.{Gluing, Row, Face, glue, other_side, way_back}
+use Rattle.table_definitions.specs.Table.{Gluing, Row, Face, glue, other_side, inverse_gluing}
 use Rattle.table_definitions.specs.Relabelling.{face_under, gluing_under}
 use Rattle.table_definitions.proofs.Permutations.{inverse_permutes, compose_permutes, identity-compose, compose-identity, inverse-identity}
 use Rattle.table_definitions.proofs.Ranks.{rank, stays, closed_up-rank, at_rank, ranks_apart, stays-count}
 use Rattle.std.proofs.lemmas.List.Kept.{AllPairs-from_increasing}
 use Rattle.move_definitions.specs.Moves.{Move, Facet, vertex_of, opposite, kept, new_facet, label_by_label, facet_place_after, kept_place_after, place_after, facet_gluing, old_tets}
 use Rattle.move_definitions.specs.Undos.{taken_numbers}
-use Rattle.move_definitions.proofs.StandIns.{facet_stand_in-new, facet_stand_in-old, stand_in-kept}
+use Rattle.move_definitions.proofs.StandIns.{facet_image_after-new, facet_image_after-old, image_after-kept}
 use Rattle.move_laws.specs.Facets.{IsFacet, IsOldFacet}
 use Rattle.move_laws.proofs.LabelLaws.{by_permutes, vertex_by}
 use Rattle.move_laws.proofs.FacetLaws.{new_is_facet, core_few}
@@ -32,7 +32,7 @@ pub side_under : (s r g : Gluing) (x : Face) → IsPermutationOfFour s.perm → 
 side_under s r g x hs hr hg l = ap (λ v. record { tet = r.tet; face = v }) (image_under s.perm r.perm g.perm x.face hs hr hg l)
 
 -- the inverse of the image of a gluing is the image of its inverse
-pub way_under : (s r g : Gluing) (x : Face) → IsPermutationOfFour s.perm → IsPermutationOfFour r.perm → IsPermutationOfFour g.perm → way_back (face_under s x) (gluing_under s r g) ≡ gluing_under r s (way_back x g)
+pub way_under : (s r g : Gluing) (x : Face) → IsPermutationOfFour s.perm → IsPermutationOfFour r.perm → IsPermutationOfFour g.perm → inverse_gluing (face_under s x) (gluing_under s r g) ≡ gluing_under r s (inverse_gluing x g)
 way_under s r g x hs hr hg = ap (λ (p : List ℕ). record { tet = s.tet; perm = p }) (sym (back_under s.perm r.perm g.perm hs hr hg))
 
 -- between retained tetrahedra permutations stay
@@ -61,9 +61,9 @@ closes rows m t legal l free =
     let c = length-taken rows m legal in
     record { rank_is = r; fewer = omega arith }
 
-pub closed-apart : (rows : List Row) (m : Move) (t u : ℕ) → IsLegal rows m → t < length rows → u < length rows → has (old_tets rows m) t ≡ false → has (old_tets rows m) u ≡ false
+pub closed-separate : (rows : List Row) (m : Move) (t u : ℕ) → IsLegal rows m → t < length rows → u < length rows → has (old_tets rows m) t ≡ false → has (old_tets rows m) u ≡ false
     → rank_without (old_tets rows m) t ≡ rank_without (old_tets rows m) u → t ≡ u
-closed-apart rows m t u legal lt lu ft fu e =
+closed-separate rows m t u legal lt lu ft fu e =
     ranks_apart (stays (taken_numbers rows m)) (length rows) t u lt lu (stays_on rows m t lt ft) (stays_on rows m u lu fu)
     ((closes rows m t legal lt ft).rank_is ∙ e ∙ sym (closes rows m u legal lu fu).rank_is)
 
@@ -87,15 +87,15 @@ face_at f x F e l =
     let mk : ℕ → ℕ → Face = λ t v. record { tet = t; face = v } in
     ap (λ t. mk t x.face) e ∙ ap (mk f.tet) (sym (F.vertex_back x.face l))
 
-pub stands : (rows : List Row) (m : Move) (x : Face) (s : Gluing) → IsLegal rows m → x.face < 4 → place_after rows m x ≡ Some s → StandsKept rows m x s ⊎ StandsPut rows m x s
-stands rows m x s legal l e = by_test (has (old_tets rows m) x.tet) refl
+pub occurs : (rows : List Row) (m : Move) (x : Face) (s : Gluing) → IsLegal rows m → x.face < 4 → place_after rows m x ≡ Some s → StandsKept rows m x s ⊎ StandsPut rows m x s
+occurs rows m x s legal l e = by_test (has (old_tets rows m) x.tet) refl
   where
     by_label : (i : ℕ) (f : Facet) → IsOldFacet rows m i f → f.tet ≡ x.tet → (image f.labels x.face < length m.core) ⊎ (length m.core ≤ image f.labels x.face) → StandsPut rows m x s
     by_label i f F t (inl b) =
-        let z : Some (facet_gluing rows m f (image f.labels x.face)) ≡ Some s = sym (facet_stand_in-new rows m f (image f.labels x.face) b) ∙ sym (stand_old rows m i f x legal F (sym t)) ∙ e in
+        let z : Some (facet_gluing rows m f (image f.labels x.face)) ≡ Some s = sym (facet_image_after-new rows m f (image f.labels x.face) b) ∙ sym (stand_old rows m i f x legal F (sym t)) ∙ e in
         record { i = i; j = image f.labels x.face; f = f; old = F; new = b; at = face_at f x F.labelled (sym t) l; is = cc }
     by_label i f F t (inr b) =
-        let z : None ≡ Some s = sym (facet_stand_in-old rows m f (image f.labels x.face) b) ∙ sym (stand_old rows m i f x legal F (sym t)) ∙ e in
+        let z : None ≡ Some s = sym (facet_image_after-old rows m f (image f.labels x.face) b) ∙ sym (stand_old rows m i f x legal F (sym t)) ∙ e in
         absurd cc
 
     by_test : (b : Bool) → has (old_tets rows m) x.tet ≡ b → StandsKept rows m x s ⊎ StandsPut rows m x s
@@ -103,31 +103,31 @@ stands rows m x s legal l e = by_test (has (old_tets rows m) x.tet) refl
         let o = old_of_tet rows m x.tet legal h in
         let f : Facet = o.1 in
         inr (by_label o.0 f o.2 o.3 (cases_lt (image f.labels x.face) (length m.core)))
-    by_test false h = let z : Some (kept_place_after rows m x.tet) ≡ Some s = sym (stand_in-kept rows m x h) ∙ e in inl (record { free = h; is = cc })
+    by_test false h = let z : Some (kept_place_after rows m x.tet) ≡ Some s = sym (image_after-kept rows m x h) ∙ e in inl (record { free = h; is = cc })
 
 -- an old face opposite a new label
 
 pub vertex_small : (rows : List Row) (m : Move) (i j : ℕ) (f : Facet) → IsLegal rows m → IsOldFacet rows m i f → j < length m.core → vertex_of f j < 4
 vertex_small rows m i j f legal F l =
-    let few = core_few m.core legal.core in
+    let limited = core_few m.core legal.core in
     let a = F.missing_is in
     let b = F.old_label in
     F.labelled.vertex_below j (omega arith) (λ e. absurd (omega arith))
 
 pub label_again : (rows : List Row) (m : Move) (i j : ℕ) (f : Facet) → IsLegal rows m → IsOldFacet rows m i f → j < length m.core → image f.labels (vertex_of f j) ≡ j
 label_again rows m i j f legal F l =
-    let few = core_few m.core legal.core in
+    let limited = core_few m.core legal.core in
     let a = F.missing_is in
     let b = F.old_label in
     F.labelled.label_back j (omega arith) (λ e. absurd (omega arith))
 
 pub stand_put : (rows : List Row) (m : Move) (i j : ℕ) (f : Facet) → IsLegal rows m → IsOldFacet rows m i f → j < length m.core → place_after rows m (opposite f j) ≡ Some (facet_gluing rows m f j)
 stand_put rows m i j f legal F l =
-    stand_old rows m i f (opposite f j) legal F refl ∙ ap (facet_place_after rows m f) (label_again rows m i j f legal F l) ∙ facet_stand_in-new rows m f j l
+    stand_old rows m i f (opposite f j) legal F refl ∙ ap (facet_place_after rows m f) (label_again rows m i j f legal F l) ∙ facet_image_after-new rows m f j l
 
 pub put_permutes : (rows : List Row) (m : Move) (i j : ℕ) (f : Facet) → IsLegal rows m → IsOldFacet rows m i f → j < length m.core → IsPermutationOfFour (facet_gluing rows m f j).perm
 put_permutes rows m i j f legal F l =
-    let few = core_few m.core legal.core in
+    let limited = core_few m.core legal.core in
     let a = F.missing_is in
     let b = F.old_label in
     by_permutes f (new_facet rows m j) F.labelled (new_is_facet rows m j (omega arith)) (λ e. absurd (omega arith))
@@ -135,7 +135,7 @@ put_permutes rows m i j f legal F l =
 -- an old face is replaced by the face of the new facet opposite the old label
 pub put_face : (rows : List Row) (m : Move) (i j : ℕ) (f : Facet) → IsLegal rows m → IsOldFacet rows m i f → j < length m.core → face_under (facet_gluing rows m f j) (opposite f j) ≡ opposite (new_facet rows m j) i
 put_face rows m i j f legal F l =
-    let few = core_few m.core legal.core in
+    let limited = core_few m.core legal.core in
     let a = F.missing_is in
     let b = F.old_label in
     let at : image (label_by_label f (new_facet rows m j)) (vertex_of f j) ≡ vertex_of (new_facet rows m j) i =

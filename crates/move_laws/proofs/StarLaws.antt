@@ -11,7 +11,7 @@ use Rattle.table_definitions.specs.Table.{Gluing, Row, glue, IsTable}
 use Rattle.table_definitions.proofs.ListFacts.{list_all-below}
 use Rattle.table_definitions.proofs.Permutations.{image_below, preimage_below, image-preimage, preimage-image, length-permutation}
 use Rattle.move_definitions.specs.Moves.{Move, IsCore, Facet, own_facet, opposite, facet_across, facet}
-use Rattle.move_laws.specs.Stars.{StandsFor, MeetsByLabels, IsOldLabel, IsStar, LegalExactlyByStars, StarsAreTakenOut}
+use Rattle.move_laws.specs.Stars.{RepresentsFacet, MeetsByLabels, IsOldLabel, IsStar, LegalExactlyByStars, StarsAreTakenOut}
 use Rattle.move_definitions.proofs.CoreTests.{core_size}
 use Rattle.move_laws.proofs.Labels.{HasLabel, label_at, length-labels, image-map}
 use Rattle.move_laws.proofs.ListedFacets.{same_some}
@@ -22,7 +22,7 @@ use Rattle.move_laws.proofs.LegalFacets.{AreFacets, legal_from}
 
 -- ---- from legal moves
 
-stands_for : (rows : List Row) (i : ℕ) (f : Facet) → IsFacet rows i f → StandsFor rows i f
+stands_for : (rows : List Row) (i : ℕ) (f : Facet) → IsFacet rows i f → RepresentsFacet rows i f
 stands_for rows i f h = record {
   in_range = h.in_range;
   missing = h.missing;
@@ -63,8 +63,8 @@ module _ (rows : List Row) (m : Move) (table : IsTable rows) (c : IsCore m.core)
   legal_star : IsStar rows m star
   legal_star = record {
     own = refl;
-    stand = λ i l. stands_for rows i (star i) (star_at i l).1;
-    apart = λ i k l n other e. other (facets_apart rows m h c i k (star i) (star k) (old_label (length m.core) i (core_size m.core c).1 l.0 l.1)
+    represented = λ i l. stands_for rows i (star i) (star_at i l).1;
+    separate = λ i k l n other e. other (facets_apart rows m h c i k (star i) (star k) (old_label (length m.core) i (core_size m.core c).1 l.0 l.1)
         (old_label (length m.core) k (core_size m.core c).1 n.0 n.1) (star_at i l).0 (star_at k n).0 e);
     meet = λ i k l n other. meets rows i k (star i) (star k) table (star_at i l).1 (star_at k n).1 (old_glued rows m i k (star i) (star k) table h c l.0 l.1 n.0 n.1 other (star_at i l).0 (star_at k n).0);
   }
@@ -109,11 +109,11 @@ four_of_five i l a b c d hi hl ha hb hc hd il ia la ib lb ab ic lc ac bc id ld a
     let t8 : (c == d) ≡ true = given_apart b d (c == d) (given_apart a d ((b == d) || (c == d)) (given_apart l d ((a == d) || ((b == d) || (c == d))) (given_apart i d ((l == d) || ((a == d) || ((b == d) || (c == d)))) t7 id) ld) ad) bd in
     cd (eqb-true c d t8)
 
-distinct : (rows : List Row) (i : ℕ) (f : Facet) → StandsFor rows i f → (v w : ℕ) → v < 4 → w < 4 → v ≢ w → image f.labels v ≢ image f.labels w
+distinct : (rows : List Row) (i : ℕ) (f : Facet) → RepresentsFacet rows i f → (v w : ℕ) → v < 4 → w < 4 → v ≢ w → image f.labels v ≢ image f.labels w
 distinct rows i f h v w l m other e = other (h.once v w l m e)
 
 -- each label but the missing one has a vertex
-vertex_with : (rows : List Row) (i : ℕ) (f : Facet) → StandsFor rows i f → i < 5 → (l : ℕ) → l < 5 → l ≢ i → (v : ℕ) × (v < 4) × (image f.labels v ≡ l)
+vertex_with : (rows : List Row) (i : ℕ) (f : Facet) → RepresentsFacet rows i f → i < 5 → (l : ℕ) → l < 5 → l ≢ i → (v : ℕ) × (v < 4) × (image f.labels v ≡ l)
 vertex_with rows i f h small l low other = elim (cases_eq l (at 0)) [
   | inl e ↦ (0, omega arith, sym e)
   | inr n0 ↦ elim (cases_eq l (at 1)) [
@@ -123,9 +123,9 @@ vertex_with rows i f h small l low other = elim (cases_eq l (at 0)) [
       | inr n2 ↦ elim (cases_eq l (at 3)) [
         | inl e ↦ (3, omega arith, sym e)
         | inr n3 ↦ absurd (four_of_five i l (at 0) (at 1) (at 2) (at 3) small low (h.labels 0 (omega arith)).0 (h.labels 1 (omega arith)).0 (h.labels 2 (omega arith)).0 (h.labels 3 (omega arith)).0
-            (λ e. other (sym e)) (not_i 0 (omega arith)) n0 (not_i 1 (omega arith)) n1 (apart 0 1 (omega arith) (omega arith) (omega arith))
-            (not_i 2 (omega arith)) n2 (apart 0 2 (omega arith) (omega arith) (omega arith)) (apart 1 2 (omega arith) (omega arith) (omega arith))
-            (not_i 3 (omega arith)) n3 (apart 0 3 (omega arith) (omega arith) (omega arith)) (apart 1 3 (omega arith) (omega arith) (omega arith)) (apart 2 3 (omega arith) (omega arith) (omega arith)))
+            (λ e. other (sym e)) (not_i 0 (omega arith)) n0 (not_i 1 (omega arith)) n1 (separate 0 1 (omega arith) (omega arith) (omega arith))
+            (not_i 2 (omega arith)) n2 (separate 0 2 (omega arith) (omega arith) (omega arith)) (separate 1 2 (omega arith) (omega arith) (omega arith))
+            (not_i 3 (omega arith)) n3 (separate 0 3 (omega arith) (omega arith) (omega arith)) (separate 1 3 (omega arith) (omega arith) (omega arith)) (separate 2 3 (omega arith) (omega arith) (omega arith)))
       ]
     ]
   ]
@@ -137,11 +137,11 @@ vertex_with rows i f h small l low other = elim (cases_eq l (at 0)) [
     not_i : (v : ℕ) → v < 4 → i ≢ at v
     not_i v lv e = (h.labels v lv).1 (sym e)
 
-    apart : (v w : ℕ) → v < 4 → w < 4 → (v ≡ w → ⊥) → at v ≢ at w
-    apart v w lv lw n = distinct rows i f h v w lv lw n
+    separate : (v w : ℕ) → v < 4 → w < 4 → (v ≡ w → ⊥) → at v ≢ at w
+    separate v w lv lw n = distinct rows i f h v w lv lw n
 
 -- the vertex opposite the face is mapped to the vertex opposite the other face
-module _ (rows : List Row) (i k : ℕ) (f g : Facet) (by : Gluing) (hf : StandsFor rows i f) (hg : StandsFor rows k g) (permutes : IsPermutationOfFour by.perm) (i_small : i < 5) (k_small : k < 5) (i_not_k : i ≢ k)
+module _ (rows : List Row) (i k : ℕ) (f g : Facet) (by : Gluing) (hf : RepresentsFacet rows i f) (hg : RepresentsFacet rows k g) (permutes : IsPermutationOfFour by.perm) (i_small : i < 5) (k_small : k < 5) (i_not_k : i ≢ k)
     (keeps : (v : ℕ) → v < 4 → image f.labels v ≢ k → image g.labels (image by.perm v) ≡ image f.labels v) where
   across : (v : ℕ) → v < 4 → image f.labels v ≡ k → image g.labels (image by.perm v) ≡ i
   across v l e = elim (cases_eq (image g.labels (image by.perm v)) i) [
@@ -171,7 +171,7 @@ module _ (rows : List Row) (i k : ℕ) (f g : Facet) (by : Gluing) (hf : StandsF
       ∙ sym (image-map (substitute k i) f.labels v (let n = hf.four in omega arith)))
 
 -- facets that meet label by label are glued
-glued : (rows : List Row) (i k : ℕ) (f g : Facet) → IsTable rows → StandsFor rows i f → StandsFor rows k g → i < 5 → k < 5 → i ≢ k → MeetsByLabels rows f g → AreGlued rows i k f g
+glued : (rows : List Row) (i k : ℕ) (f g : Facet) → IsTable rows → RepresentsFacet rows i f → RepresentsFacet rows k g → i < 5 → k < 5 → i ≢ k → MeetsByLabels rows f g → AreGlued rows i k f g
 glued rows i k f g table hf hg li lk other h =
     let there : glue rows (opposite f k) ≡ Some h.by = ap (λ l. glue rows (opposite f l)) (sym hg.missing) ∙ h.glued in
     record {
@@ -197,16 +197,16 @@ module _ (rows : List Row) (m : Move) (facets : ℕ → Facet) (table : IsTable 
   four_old : IsOldLabel m 4
   four_old = (let l = (core_size m.core c).1 in omega arith, omega arith)
 
-  own_stands : StandsFor rows 4 (own_facet m)
-  own_stands = subst (StandsFor rows 4) s.own (s.stand 4 four_old)
+  own_stands : RepresentsFacet rows 4 (own_facet m)
+  own_stands = subst (RepresentsFacet rows 4) s.own (s.represented 4 four_old)
 
   facet_from : (i : ℕ) → IsOldLabel m i → i < 4 → facet rows m i ≡ Some (facets i)
   facet_from i l less =
       let there : AreGlued rows 4 i (own_facet m) (facets i) = subst (λ (f : Facet). AreGlued rows 4 i f (facets i)) s.own
-      (glued rows 4 i (facets 4) (facets i) table (s.stand 4 four_old) (s.stand i l) (omega arith) l.1 (λ e. absurd (omega arith)) (s.meet 4 i four_old l (λ e. absurd (omega arith)))) in
+      (glued rows 4 i (facets 4) (facets i) table (s.represented 4 four_old) (s.represented i l) (omega arith) l.1 (λ e. absurd (omega arith)) (s.meet 4 i four_old l (λ e. absurd (omega arith)))) in
       let permutes : IsPermutationOfFour there.by.perm = table.permutes (opposite (own_facet m) i) there.by there.glued in
-      let labels = behind_labels_are i (own_facet m).labels (facets i).labels there.by.perm permutes own_stands.four (s.stand i l).four there.labels in
-      let is : facet_across (own_facet m) i there.by ≡ facets i = λ j. record { tet = there.tet j; missing = sym (s.stand i l).missing j; labels = labels j } in
+      let labels = behind_labels_are i (own_facet m).labels (facets i).labels there.by.perm permutes own_stands.four (s.represented i l).four there.labels in
+      let is : facet_across (own_facet m) i there.by ≡ facets i = λ j. record { tet = there.tet j; missing = sym (s.represented i l).missing j; labels = labels j } in
       facet-found rows m i less ∙ ap (option_map (facet_across (own_facet m) i)) there.glued ∙ ap (λ (f : Facet). Some f) is
 
   facet_in_star : (i : ℕ) → IsOldLabel m i → facet rows m i ≡ Some (facets i)
@@ -221,13 +221,13 @@ module _ (rows : List Row) (m : Move) (facets : ℕ → Facet) (table : IsTable 
   star_facets : AreFacets rows m
   star_facets = record {
     in_range = own_stands.in_range;
-    there = λ i low high. (facets i, facet_in_star i (low, high), (s.stand i (low, high)).missing);
-    apart = λ i k f g li hi lk hk ef eg t. elim (cases_eq i k) [
+    there = λ i low high. (facets i, facet_in_star i (low, high), (s.represented i (low, high)).missing);
+    separate = λ i k f g li hi lk hk ef eg t. elim (cases_eq i k) [
       | inl e ↦ e
-      | inr other ↦ absurd (s.apart i k (li, hi) (lk, hk) other (ap (λ (x : Facet). x.tet) (is_at i f (li, hi) ef) ∙ t ∙ ap (λ (x : Facet). x.tet) (sym (is_at k g (lk, hk) eg))))
+      | inr other ↦ absurd (s.separate i k (li, hi) (lk, hk) other (ap (λ (x : Facet). x.tet) (is_at i f (li, hi) ef) ∙ t ∙ ap (λ (x : Facet). x.tet) (sym (is_at k g (lk, hk) eg))))
     ];
     glued = λ i k f g li hi lk hk other ef eg. subst (λ (y : Facet). AreGlued rows i k f y) (is_at k g (lk, hk) eg) (subst (λ (x : Facet). AreGlued rows i k x (facets k)) (is_at i f (li, hi) ef)
-        (glued rows i k (facets i) (facets k) table (s.stand i (li, hi)) (s.stand k (lk, hk)) hi hk other (s.meet i k (li, hi) (lk, hk) other)));
+        (glued rows i k (facets i) (facets k) table (s.represented i (li, hi)) (s.represented k (lk, hk)) hi hk other (s.meet i k (li, hi) (lk, hk) other)));
   }
 
 pub legal_by_stars : LegalExactlyByStars

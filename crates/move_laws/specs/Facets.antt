@@ -30,7 +30,7 @@ pub record AreOldFacets (rows : List Row) (m : Move) (facets : List Facet) : Typ
   pub are : facets ≡ old_facets rows m
   pub some : 0 < length m.core
   pub count : length facets + length m.core ≡ 5
-  pub few : length (taken_numbers rows m) ≤ 4
+  pub limited : length (taken_numbers rows m) ≤ 4
   pub each : (k : ℕ) (d : Facet) → k < length facets → IsOldFacet rows m (length m.core + k) (slice_index_or facets k d)
 
 -- the gluing of the face of the new facet j that replaces the face of the old facet f opposite label j

@@ -6,7 +6,7 @@ use Rattle.table_definitions.specs.Table.{Gluing, Row, glue, IsTable}
 use Rattle.move_definitions.specs.Moves.{Move, IsCore, Facet, own_facet, opposite, facet, move_fault}
 
 -- a tetrahedron of the table is facet i: its four vertices have the labels 0 to 4 without i, each once
-pub record StandsFor (rows : List Row) (i : ℕ) (f : Facet) : Type 0 where
+pub record RepresentsFacet (rows : List Row) (i : ℕ) (f : Facet) : Type 0 where
   pub in_range : f.tet < length rows
   pub missing : f.missing ≡ i
   pub four : length f.labels ≡ 4
@@ -29,8 +29,8 @@ IsOldLabel m i = (length m.core ≤ i) × (i < 5)
 -- in different tetrahedra, and any two of them meet label by label
 pub record IsStar (rows : List Row) (m : Move) (facets : ℕ → Facet) : Type 0 where
   pub own : facets 4 ≡ own_facet m
-  pub stand : (i : ℕ) → IsOldLabel m i → StandsFor rows i (facets i)
-  pub apart : (i k : ℕ) → IsOldLabel m i → IsOldLabel m k → i ≢ k → (facets i).tet ≢ (facets k).tet
+  pub represented : (i : ℕ) → IsOldLabel m i → RepresentsFacet rows i (facets i)
+  pub separate : (i k : ℕ) → IsOldLabel m i → IsOldLabel m k → i ≢ k → (facets i).tet ≢ (facets k).tet
   pub meet : (i k : ℕ) → IsOldLabel m i → IsOldLabel m k → i ≢ k → MeetsByLabels rows (facets i) (facets k)
 
 -- a move on a core is legal exactly if the star of the core is such a part

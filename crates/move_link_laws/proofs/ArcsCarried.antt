@@ -24,7 +24,7 @@ use Rattle.move_link_laws.proofs.CurvesMatched.{Partners, curves_correspond}
 -- arc b is the image of arc a under the replacement of its tetrahedron at its face
 pub record CarriesArc (rows : List Row) (m : Move) (a b : LinkSide) : Type 0 where
   pub by : Gluing
-  pub stands : place_after rows m (face_at a.tet a.face) ≡ Some by
+  pub occurs : place_after rows m (face_at a.tet a.face) ≡ Some by
   pub tet : b.tet ≡ by.tet
   pub vertex : b.vertex ≡ image by.perm a.vertex
   pub face : b.face ≡ image by.perm a.face
@@ -53,11 +53,11 @@ module _ (s : Skeleton) (m : Move) (s' : Skeleton) (k : IsSkeleton s) (k' : IsSk
       let z = forth s.rows m s'.rows k.table h k'.table s.vertices.classes s.vertices.count k.vertices s'.vertices.classes s'.vertices.count k'.vertices c c' match (arc_number a) (is_arc s k c a is) in
       let g : Gluing = z.2.0 in
       let p : HasParts a.tet a.vertex a.face = parts_of s c a is in
-      let stands : place_after s.rows m (face_at a.tet a.face) ≡ Some z.2.0 = (λ i. place_after s.rows m (face_at (sym p.tet i) (sym p.face i))) ∙ z.2.1 in
+      let occurs : place_after s.rows m (face_at a.tet a.face) ≡ Some z.2.0 = (λ i. place_after s.rows m (face_at (sym p.tet i) (sym p.face i))) ∙ z.2.1 in
       let same : side_number z.2.0.tet (image z.2.0.perm a.vertex) (image z.2.0.perm a.face) ≡ z.0 =
       (λ i. side_number z.2.0.tet (image z.2.0.perm (sym p.vertex i)) (image z.2.0.perm (sym p.face i))) ∙ z.2.2 in
-      let q = carried_parts z.2.0 a.vertex a.face z.0 (permutes a z.2.0 is stands) is.is_vertex is.is_face same in
-      (arc_of z.0, record { one = is; other = arc_is s' k' c' z.0 z.1; related = record { by = g; stands = stands; tet = q.0; vertex = q.1; face = q.2 } })
+      let q = carried_parts z.2.0 a.vertex a.face z.0 (permutes a z.2.0 is occurs) is.is_vertex is.is_face same in
+      (arc_of z.0, record { one = is; other = arc_is s' k' c' z.0 z.1; related = record { by = g; occurs = occurs; tet = q.0; vertex = q.1; face = q.2 } })
 
   arc_back : (b : LinkSide) → IsBoundaryArc s' c' b → (a : LinkSide) × Pair a b
   unfolding StandsSide
@@ -67,7 +67,7 @@ module _ (s : Skeleton) (m : Move) (s' : Skeleton) (k : IsSkeleton s) (k' : IsSk
       let p : HasParts b.tet b.vertex b.face = parts_of s' c' b is in
       let here : IsBoundaryArc s c (arc_of z.0) = arc_is s k c z.0 z.1 in
       let q = carried_parts z.2.0 (z.0 / 4 % 4) (z.0 % 4) (arc_number b) (permutes (arc_of z.0) z.2.0 here z.2.1) here.is_vertex here.is_face z.2.2 in
-      (arc_of z.0, record { one = here; other = is; related = record { by = g; stands = z.2.1; tet = sym p.tet ∙ q.0; vertex = sym p.vertex ∙ q.1; face = sym p.face ∙ q.2 } })
+      (arc_of z.0, record { one = here; other = is; related = record { by = g; occurs = z.2.1; tet = sym p.tet ∙ q.0; vertex = sym p.vertex ∙ q.1; face = sym p.face ∙ q.2 } })
 
   -- the ends of the image of an arc are the images of its ends
   module _ (a b : LinkSide) (t : Pair a b) where
@@ -75,7 +75,7 @@ module _ (s : Skeleton) (m : Move) (s' : Skeleton) (k : IsSkeleton s) (k' : IsSk
     g = t.related.by
 
     hg : IsPermutationOfFour t.related.by.perm
-    hg = permutes a t.related.by t.one t.related.stands
+    hg = permutes a t.related.by t.one t.related.occurs
 
     abbrev end_at : LinkSide → ℕ → Place
     end_at x w = record { tet = x.tet; vertices = x.vertex ∷ w ∷ [] }
@@ -88,7 +88,7 @@ module _ (s : Skeleton) (m : Move) (s' : Skeleton) (k : IsSkeleton s) (k' : IsSk
       place = (t.one.is_vertex, (lw, tt));
       low = t.one.is_face;
       off = (λ i. ne_eqb a.vertex a.face t.one.off_vertex i || (ne_eqb w a.face off i || false));
-      stands = t.related.stands;
+      occurs = t.related.occurs;
       is = (λ i. record { tet = t.related.tet i; vertices = t.related.vertex i ∷ image t.related.by.perm w ∷ [] });
     }
 

@@ -4,7 +4,7 @@ use Rattle.std.specs.Prelude.{slice_index}
 use Rattle.std.specs.List.{AllPairs}
 use Rattle.table_definitions.specs.Table.{Row, IsTable}
 use Rattle.table_definitions.specs.Classes.{IsNumbering, least}
-use Rattle.table_definitions.specs.Places.{Place, IsPlace, edge, edge_number, turned, IsJoined, SameEdge, IsInvalidEdge}
+use Rattle.table_definitions.specs.Places.{Place, IsPlace, edge, edge_number, backwards, IsJoined, SameEdge, IsInvalidEdge}
 use Rattle.table_definitions.proofs.ChainLaws.{joined_turned, joined_sym, joined_trans}
 use Rattle.table_definitions.proofs.DistinctLists.{AreApart, apart_from}
 use Rattle.skeleton_class_laws.specs.Crossings.{pair}
@@ -15,7 +15,7 @@ use Rattle.table_definitions.proofs.ClassLaws.{least_class}
 
 -- p is joined to edge i in one direction or the other
 abbrev pub EitherWay : List Row → Place → ℕ → Type 0
-EitherWay rows p i = IsJoined rows p (edge i) ⊎ IsJoined rows p (turned (edge i))
+EitherWay rows p i = IsJoined rows p (edge i) ⊎ IsJoined rows p (backwards (edge i))
 
 pub apart_from_ascending : (xs : List ℕ) → AllPairs ◌<◌ xs → AreApart xs
 apart_from_ascending xs up = apart_from 0 xs (λ i j l m e. (let a : get_or xs i 0 < get_or xs j 0 = up i j 0 l m in absurd (omega arith)))
@@ -31,13 +31,13 @@ module _ (rows : List Row) (table : IsTable rows) (es : List ℕ) (e : ℕ) (edg
     pub way : EitherWay rows p (least es c)
 
   pub class_of_arrow : (p : Place) → IsArrow (length rows) p → ClassOf p
-  class_of_arrow p a = record { c = c; below = lc; way = go (pair_either p.tet a.v a.w a.low_v a.low_w a.apart) same }
+  class_of_arrow p a = record { c = c; below = lc; way = go (pair_either p.tet a.v a.w a.low_v a.low_w a.separate) same }
     where
       j : ℕ
       j = 6 * p.tet + edge_number a.v a.w
 
       lj : j < 6 * length rows
-      lj = edge_below p.tet a.v a.w (length rows) a.low_v a.low_w a.apart a.below
+      lj = edge_below p.tet a.v a.w (length rows) a.low_v a.low_w a.separate a.below
 
       c : ℕ
       c = slice_index es j
@@ -51,25 +51,25 @@ module _ (rows : List Row) (table : IsTable rows) (es : List ℕ) (e : ℕ) (edg
       from : (q r : Place) → pair p.tet a.v a.w ≡ q → IsJoined rows q r → IsJoined rows p r
       from q r f g = subst (λ (x : Place). IsJoined rows x r) (sym (a.is ∙ f)) g
 
-      go : (pair p.tet a.v a.w ≡ edge j) ⊎ (pair p.tet a.v a.w ≡ turned (edge j)) → SameEdge rows j (least es c) → EitherWay rows p (least es c)
+      go : (pair p.tet a.v a.w ≡ edge j) ⊎ (pair p.tet a.v a.w ≡ backwards (edge j)) → SameEdge rows j (least es c) → EitherWay rows p (least es c)
       go (inl f) (inl g) = inl (from (edge j) (edge (least es c)) f g)
-      go (inl f) (inr g) = inr (from (edge j) (turned (edge (least es c))) f g)
-      go (inr f) (inl g) = inr (from (turned (edge j)) (turned (edge (least es c))) f (joined_turned rows (edge j) (edge (least es c)) g))
-      go (inr f) (inr g) = inl (from (turned (edge j)) (edge (least es c)) f (subst (λ (q : Place). IsJoined rows (turned (edge j)) q) (turned_twice (least es c)) (joined_turned rows (edge j) (turned (edge (least es c))) g)))
+      go (inl f) (inr g) = inr (from (edge j) (backwards (edge (least es c))) f g)
+      go (inr f) (inl g) = inr (from (backwards (edge j)) (backwards (edge (least es c))) f (joined_turned rows (edge j) (edge (least es c)) g))
+      go (inr f) (inr g) = inl (from (backwards (edge j)) (edge (least es c)) f (subst (λ (q : Place). IsJoined rows (backwards (edge j)) q) (turned_twice (least es c)) (joined_turned rows (edge j) (backwards (edge (least es c))) g)))
 
   -- a directed edge that is joined to its own reverse is of an invalid class
-  pub invalid_class : (p : Place) → IsPlace p → (turned (turned p) ≡ p) → (i : ℕ) → EitherWay rows p i → IsJoined rows p (turned p) → IsInvalidEdge rows i
-  invalid_class p place twice i (inl w) j = joined_trans rows (edge i) p (turned (edge i)) (joined_sym rows p (edge i) table place w) (joined_trans rows p (turned p) (turned (edge i)) j (joined_turned rows p (edge i) w))
+  pub invalid_class : (p : Place) → IsPlace p → (backwards (backwards p) ≡ p) → (i : ℕ) → EitherWay rows p i → IsJoined rows p (backwards p) → IsInvalidEdge rows i
+  invalid_class p place twice i (inl w) j = joined_trans rows (edge i) p (backwards (edge i)) (joined_sym rows p (edge i) table place w) (joined_trans rows p (backwards p) (backwards (edge i)) j (joined_turned rows p (edge i) w))
   invalid_class p place twice i (inr w) j =
-      let back : IsJoined rows (turned p) (edge i) = subst (λ (q : Place). IsJoined rows (turned p) q) (turned_twice i) (joined_turned rows p (turned (edge i)) w) in
-      let whole : IsJoined rows (turned (edge i)) (edge i) = joined_trans rows (turned (edge i)) p (edge i) (joined_sym rows p (turned (edge i)) table place w) (joined_trans rows p (turned p) (edge i) j back) in
-      subst (λ (q : Place). IsJoined rows q (turned (edge i))) (turned_twice i) (joined_turned rows (turned (edge i)) (edge i) whole)
+      let back : IsJoined rows (backwards p) (edge i) = subst (λ (q : Place). IsJoined rows (backwards p) q) (turned_twice i) (joined_turned rows p (backwards (edge i)) w) in
+      let whole : IsJoined rows (backwards (edge i)) (edge i) = joined_trans rows (backwards (edge i)) p (edge i) (joined_sym rows p (backwards (edge i)) table place w) (joined_trans rows p (backwards p) (edge i) j back) in
+      subst (λ (q : Place). IsJoined rows q (backwards (edge i))) (turned_twice i) (joined_turned rows (backwards (edge i)) (edge i) whole)
 
   -- directed edges that are joined to one edge are joined, in one direction or the other
-  pub both_ways : (p q : Place) → IsPlace q → (turned (turned q) ≡ q) → (i : ℕ) → EitherWay rows p i → EitherWay rows q i → IsJoined rows p q ⊎ IsJoined rows p (turned q)
+  pub both_ways : (p q : Place) → IsPlace q → (backwards (backwards q) ≡ q) → (i : ℕ) → EitherWay rows p i → EitherWay rows q i → IsJoined rows p q ⊎ IsJoined rows p (backwards q)
   both_ways p q place twice i (inl a) (inl b) = inl (joined_trans rows p (edge i) q a (joined_sym rows q (edge i) table place b))
-  both_ways p q place twice i (inr a) (inr b) = inl (joined_trans rows p (turned (edge i)) q a (joined_sym rows q (turned (edge i)) table place b))
+  both_ways p q place twice i (inr a) (inr b) = inl (joined_trans rows p (backwards (edge i)) q a (joined_sym rows q (backwards (edge i)) table place b))
   both_ways p q place twice i (inl a) (inr b) =
-      let c : IsJoined rows (turned (turned (edge i))) (turned q) = joined_turned rows (turned (edge i)) q (joined_sym rows q (turned (edge i)) table place b) in
-      inr (joined_trans rows p (edge i) (turned q) a (subst (λ (x : Place). IsJoined rows x (turned q)) (turned_twice i) c))
-  both_ways p q place twice i (inr a) (inl b) = inr (joined_trans rows p (turned (edge i)) (turned q) a (joined_turned rows (edge i) q (joined_sym rows q (edge i) table place b)))
+      let c : IsJoined rows (backwards (backwards (edge i))) (backwards q) = joined_turned rows (backwards (edge i)) q (joined_sym rows q (backwards (edge i)) table place b) in
+      inr (joined_trans rows p (edge i) (backwards q) a (subst (λ (x : Place). IsJoined rows x (backwards q)) (turned_twice i) c))
+  both_ways p q place twice i (inr a) (inl b) = inr (joined_trans rows p (backwards (edge i)) (backwards q) a (joined_turned rows (edge i) q (joined_sym rows q (edge i) table place b)))

@@ -17,7 +17,7 @@ use Rattle.move_laws.proofs.Legal.{OldFacet, old_tet_facet}
 use Rattle.move_laws.proofs.Covered.{StandsForOld, IsInner, covered}
 use Rattle.move_laws.proofs.Shapes.{stand_permutes}
 use Rattle.move_link_laws.proofs.Labelled.{in_facet, Below5, labels_below, labels_off, vertices_again}
-use Rattle.move_link_laws.proofs.Ties.{fine, few, new_at, small_label, IsOld, is_old, old_at, Ties}
+use Rattle.move_link_laws.proofs.Ties.{fine, limited, new_at, small_label, IsOld, is_old, old_at, Ties}
 use Rattle.move_link_laws.proofs.TieShapes.{kept_tie, facet_tie}
 use Rattle.move_link_laws.proofs.JoinedBack.{there_again}
 
@@ -112,13 +112,13 @@ module _ (old : List Row) (m : Move) (new : List Row) (table : IsTable old) (h :
       place = images_below (inverse o.by.perm) q.vertices hi place;
       low = o.face;
       off = ap (has vs) face_is ∙ has-images (inverse o.by.perm) q.vertices f hi place lf ∙ off;
-      stands = o.stands;
+      occurs = o.occurs;
       is = λ i. record { tet = (sym o.is i).tet; vertices = sym (there_again o.by.perm q.vertices hs place) i };
     },
   )
     where
       hs : IsPermutationOfFour o.by.perm
-      hs = stand_permutes old m table (fine old m new table h) h.core o.old o.by o.tet o.face o.stands
+      hs = stand_permutes old m table (fine old m new table h) h.core o.old o.by o.tet o.face o.occurs
 
       hi : IsPermutationOfFour (inverse o.by.perm)
       hi = inverse_permutes o.by.perm hs
@@ -137,7 +137,7 @@ module _ (old : List Row) (m : Move) (new : List Row) (table : IsTable old) (h :
     where
       in_star : IsInner old m (face_at q.tet f) → ((p : Place) × Tie p q) ⊎ ((ls : List ℕ) × NewBuried ls q)
       in_star n = elim (fails_or_all (λ k. has ls (length m.core + k)) (5 - length m.core)) [
-        | inl w ↦ inl (lacking (length m.core + w.0) (omega arith) (let l = w.1 in let s = few old m new table h in omega arith) w.2)
+        | inl w ↦ inl (lacking (length m.core + w.0) (omega arith) (let l = w.1 in let s = limited old m new table h in omega arith) w.2)
         | inr all ↦ inr (
           ls,
           record {

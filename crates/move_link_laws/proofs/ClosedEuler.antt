@@ -101,12 +101,12 @@ module _ (s : Skeleton) (k : IsSkeleton s) (valid : HasValidEdges s.rows) (all :
 -- a sum over links by their numbers
 listed_sum : (links : List Link) (k : ℕ) (Y E : ℕ → ℕ) → ((c : ℕ) (l : Link) → c < length links → l ≡ slice_index_or links c l → l.euler ≡ pos (Y (k + c)) -ℤ pos (E (k + c)))
     → integer_sum (map (λ (l : Link). pos 2 -ℤ l.euler) links) ≡ pos (sum_by (λ c. 2 + E c) (range_with_len k (length links))) -ℤ pos (sum_by Y (range_with_len k (length links)))
-listed_sum [] k Y E told = refl
-listed_sum (l ∷ ls) k Y E told =
+listed_sum [] k Y E reported = refl
+listed_sum (l ∷ ls) k Y E reported =
     let here : k + 0 ≡ k = omega arith in
-    let first : l.euler ≡ pos (Y k) -ℤ pos (E k) = subst (λ i. l.euler ≡ pos (Y i) -ℤ pos (E i)) here (told 0 l (omega arith) refl) in
+    let first : l.euler ≡ pos (Y k) -ℤ pos (E k) = subst (λ i. l.euler ≡ pos (Y i) -ℤ pos (E i)) here (reported 0 l (omega arith) refl) in
     let more : integer_sum (map (λ (l : Link). pos 2 -ℤ l.euler) ls) ≡ pos (sum_by (λ c. 2 + E c) (range_with_len (k + 1) (length ls))) -ℤ pos (sum_by Y (range_with_len (k + 1) (length ls))) =
-    listed_sum ls (k + 1) Y E (λ c m lc is. (let up : k + suc c ≡ k + 1 + c = omega arith in subst (λ i. m.euler ≡ pos (Y i) -ℤ pos (E i)) up (told (suc c) m (omega arith) is))) in
+    listed_sum ls (k + 1) Y E (λ c m lc is. (let up : k + suc c ≡ k + 1 + c = omega arith in subst (λ i. m.euler ≡ pos (Y i) -ℤ pos (E i)) up (reported (suc c) m (omega arith) is))) in
     let a : sum_by (λ c. 2 + E c) (range_with_len k (suc (length ls))) ≡ (2 + E k) + sum_by (λ c. 2 + E c) (range_with_len (k + 1) (length ls)) = sum_by-cons (λ c. 2 + E c) k (range_with_len (k + 1) (length ls)) in
     let b : sum_by Y (range_with_len k (suc (length ls))) ≡ Y k + sum_by Y (range_with_len (k + 1) (length ls)) = sum_by-cons Y k (range_with_len (k + 1) (length ls)) in
     added l.euler (integer_sum (map (λ (l : Link). pos 2 -ℤ l.euler) ls)) (Y k) (E k) (sum_by Y (range_with_len (k + 1) (length ls))) (sum_by (λ c. 2 + E c) (range_with_len (k + 1) (length ls))) first more
@@ -119,10 +119,10 @@ doubled : (v e p q : ℕ) → 2 * v + p ≡ 2 * e + q → (pos v -ℤ pos e) +�
 doubled v e p q h = omega (arith, ints)
 
 pub closed_characteristics : ClosedCharacteristicsAreOfLinks
-closed_characteristics s links k (directions, count, arrows, told) closed valid =
+closed_characteristics s links k (directions, count, arrows, reported) closed valid =
     let Y : ℕ → ℕ = λ c. link_vertices s.vertices.classes directions c + times_in s.vertices.classes c in
     let E : ℕ → ℕ = λ c. link_edges s.rows s.vertices.classes c in
     doubled (s.vertices.count + s.faces.count) (s.edges.count + length s.rows) (sum_by Y (below s.vertices.count)) (sum_by (λ c. 2 + E c) (below s.vertices.count))
     (links_add_up s k valid (all_glued s.rows closed) directions count arrows)
-    ∙ (λ i. pos (sum_by (λ c. 2 + link_edges s.rows s.vertices.classes c) (below (sym told.one_each i))) -ℤ pos (sum_by (λ c. link_vertices s.vertices.classes directions c + times_in s.vertices.classes c) (below (sym told.one_each i))))
-    ∙ sym (listed_sum links 0 Y E (λ c l lc is. (let n = told.one_each in let t = told.told c l (omega arith) is in let z : c ≡ 0 + c = omega arith in subst (λ j. l.euler ≡ pos (Y j) -ℤ pos (E j)) z (t.euler ∙ (λ i. euler_of (t.vertices i) (t.edges i) (t.triangles i))))))
+    ∙ (λ i. pos (sum_by (λ c. 2 + link_edges s.rows s.vertices.classes c) (below (sym reported.one_each i))) -ℤ pos (sum_by (λ c. link_vertices s.vertices.classes directions c + times_in s.vertices.classes c) (below (sym reported.one_each i))))
+    ∙ sym (listed_sum links 0 Y E (λ c l lc is. (let n = reported.one_each in let t = reported.reported c l (omega arith) is in let z : c ≡ 0 + c = omega arith in subst (λ j. l.euler ≡ pos (Y j) -ℤ pos (E j)) z (t.euler ∙ (λ i. euler_of (t.vertices i) (t.edges i) (t.triangles i))))))

@@ -57,11 +57,11 @@ twice_none : (x y : ℤ) → x +ℤ x ≡ y → x ≡ pos 0 → y ≡ pos 0
 twice_none x y e z = omega (arith, ints)
 
 pub closed_manifolds : ClosedManifoldsHaveCharacteristicZero
-closed_manifolds s links k (directions, count, arrows, told) closed valid =
-    let sum : characteristic s +ℤ characteristic s ≡ lacking links = closed_characteristics s links k (directions, count, arrows, told) closed valid in
-    let most : AllByRecursion AtMostTwo links = recursion_from_All AtMostTwo links (λ c d l. (let n = told.one_each in
+closed_manifolds s links k (directions, count, arrows, reported) closed valid =
+    let sum : characteristic s +ℤ characteristic s ≡ lacking links = closed_characteristics s links k (directions, count, arrows, reported) closed valid in
+    let most : AllByRecursion AtMostTwo links = recursion_from_All AtMostTwo links (λ c d l. (let n = reported.one_each in
     link_at_most_two s c (slice_index_or links c d) k (no_first_invalid s k valid) (omega arith)
-    (record { directions = directions; count = count; numbered = arrows; is_link = told.told c (slice_index_or links c d) (omega arith) (get_or_default links c d (slice_index_or links c d) l) }))) in (
+    (record { directions = directions; count = count; numbered = arrows; is_link = reported.reported c (slice_index_or links c d) (omega arith) (get_or_default links c d (slice_index_or links c d) l) }))) in (
       half (characteristic s) (lacking links) sum (never_less links most),
       (
         (λ e. All-from_recursion IsTwo links (all_two links most (twice_none (characteristic s) (lacking links) sum e))),

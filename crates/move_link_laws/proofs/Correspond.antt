@@ -11,7 +11,7 @@ use Rattle.skeleton_definitions.specs.Links.{vertex_number}
 use Rattle.skeleton_definitions.specs.Skeleton.{Skeleton, IsSkeleton}
 use Rattle.move_definitions.specs.Moves.{Move, IsMoved, vertex_of, kept, inverse_move}
 use Rattle.move_link_laws.specs.Links.{IsTakenAway}
-use Rattle.move_link_laws.proofs.Ties.{few, some, new_at, Ties}
+use Rattle.move_link_laws.proofs.Ties.{limited, some, new_at, Ties}
 use Rattle.move_link_laws.proofs.Buried.{Buried, NewBuried}
 use Rattle.move_link_laws.proofs.BuriedChains.{buried_joined, new_buried_joined}
 use Rattle.skeleton_laws.proofs.Spots.{class_of, IsSpot, one_class}
@@ -21,7 +21,7 @@ use Rattle.move_link_laws.proofs.Lone.{lone_core, one_has}
 use Rattle.move_link_laws.proofs.TakenAway.{core_buried, core_is_spot}
 
 core_of_back : (s : ℕ) → length (drop (s - 1) four) ≡ 1 → s < 5 → 0 < s → s ≡ 4
-core_of_back s e few some = elim (cases_lt s 4) [
+core_of_back s e limited some = elim (cases_lt s 4) [
   | inr more ↦ omega arith
   | inl less ↦ absurd (elim (cases_lt s 2) [
     | inl a ↦ (let z : s ≡ 1 = omega arith in let w : length (drop (1 - 1) four) ≡ 1 = subst (λ k. length (drop (k - 1) four) ≡ 1) z e in let f : length (drop (1 - 1) four) ≡ 4 = refl in omega arith)
@@ -96,7 +96,7 @@ module _ (s : Skeleton) (m : Move) (s' : Skeleton) (k : IsSkeleton s) (k' : IsSk
 
   back_taken : (c : ℕ) → IsTakenAway s' (inverse_move (length s.rows) m) c → (length m.core ≡ 4) × (class_of s'.vertices.classes (one_vertex (kept s.rows m) 3) ≡ c)
   back_taken c (one, at) =
-      let e : length m.core ≡ 4 = core_of_back (length m.core) one (few s.rows m s'.rows k.table h) (some s.rows m s'.rows k.table h) in
+      let e : length m.core ≡ 4 = core_of_back (length m.core) one (limited s.rows m s'.rows k.table h) (some s.rows m s'.rows k.table h) in
       let core : slice_index (drop (length m.core - 1) four) 0 ≡ 3 = ap (λ z. slice_index (drop (z - 1) four) 0) e in
       (e, (λ i. slice_index s'.vertices.classes (vertex_number (kept s.rows m) (sym core i))) ∙ at)
 
@@ -109,7 +109,7 @@ module _ (s : Skeleton) (m : Move) (s' : Skeleton) (k : IsSkeleton s) (k' : IsSk
   lone_added n q ls sq b = alone ls (ap (λ (r : Place). r.vertices) (sym sq.is ∙ b.to)) b.all
     where
       small : length m.core < 5
-      small = few s.rows m s'.rows k.table h
+      small = limited s.rows m s'.rows k.table h
 
       alone : (ls : List ℕ) → sq.v ∷ [] ≡ map (vertex_of (new_at s.rows m s'.rows k.table h b.j)) ls → ((i : ℕ) → length m.core ≤ i → i < 5 → has ls i ≡ true) → (length m.core ≡ 4) × (ls ≡ 4 ∷ [])
       alone [] e all = absurd cc

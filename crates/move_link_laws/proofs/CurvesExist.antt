@@ -64,7 +64,7 @@ module _ (s : Skeleton) (k : IsSkeleton s) (c : ℕ) (d : HasClasses Directions 
     below = subst (λ (r : Place). r.tet < length s.rows) (sym e.is) is.in_range;
     low_v = is.is_vertex;
     low_w = e.is_vertex;
-    apart = λ z. e.off_vertex (sym z);
+    separate = λ z. e.off_vertex (sym z);
   }
 
   -- two directed edges are of one class if and only if they are joined

@@ -64,7 +64,7 @@ module _ (s s' : Skeleton) (c c' : ℕ) (R : LinkSide → LinkSide → Type 0) (
       chosen : (i : ℕ) → (b : LinkSide) × (i < n → Partners s s' c c' R (h.arc i) b)
       chosen i = elim (cases_lt i n) [
         | inl l ↦ (let u = k.forth (h.arc i) (h.are_arcs i l) in (u.0, λ _. u.1))
-        | inr past ↦ (h.arc i, λ l. absurd (omega arith))
+        | inr exceeded ↦ (h.arc i, λ l. absurd (omega arith))
       ]
 
 pub curves_correspond : (s s' : Skeleton) (c c' : ℕ) (R : LinkSide → LinkSide → Type 0) → ArcsCorrespond s s' c c' R → (n : ℕ) → HasBoundaryCurves s c n ↔ HasBoundaryCurves s' c' n

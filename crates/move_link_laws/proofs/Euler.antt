@@ -13,7 +13,7 @@ use Rattle.skeleton_definitions.specs.Links.{SameDirected, IsLink, link_vertices
 use Rattle.skeleton_definitions.specs.declared.Link.{Link}
 use Rattle.move_definitions.specs.Moves.{Move, IsMoved}
 use Rattle.skeleton_class_laws.proofs.TallyLemmas.{count_same}
-use Rattle.move_link_laws.proofs.Ties.{few, some}
+use Rattle.move_link_laws.proofs.Ties.{limited, some}
 use Rattle.move_link_laws.proofs.TiedSpots.{Match}
 use Rattle.move_link_laws.proofs.StarLabels.{in_both, label_in, core_label}
 use Rattle.move_link_laws.proofs.LabelPairs.{old_pair, new_pair}
@@ -73,17 +73,17 @@ balance_4 : on_five (balance_test 4) ≡ true
 balance_4 = unfold balance_test balances inside_old inside_new old_pair new_pair in refl
 
 all_balance : (s : ℕ) → 0 < s → s < 5 → on_five (balance_test s) ≡ true
-all_balance zero some few = absurd (omega arith)
-all_balance (suc zero) some few = balance_1
-all_balance (suc (suc zero)) some few = balance_2
-all_balance (suc (suc (suc zero))) some few = balance_3
-all_balance (suc (suc (suc (suc zero)))) some few = balance_4
-all_balance (suc (suc (suc (suc (suc s))))) some few = absurd (omega arith)
+all_balance zero some limited = absurd (omega arith)
+all_balance (suc zero) some limited = balance_1
+all_balance (suc (suc zero)) some limited = balance_2
+all_balance (suc (suc (suc zero))) some limited = balance_3
+all_balance (suc (suc (suc (suc zero)))) some limited = balance_4
+all_balance (suc (suc (suc (suc (suc s))))) some limited = absurd (omega arith)
 
-module _ (s : ℕ) (x : ℕ → Bool) (some : 0 < s) (few : s < 5) (first : (s == 1) && x 0 ≡ false) (last : (s == 4) && x 4 ≡ false) where
+module _ (s : ℕ) (x : ℕ → Bool) (some : 0 < s) (limited : s < 5) (first : (s == 1) && x 0 ≡ false) (last : (s == 4) && x 4 ≡ false) where
   listed : balances s (looked (five x)) ≡ true
   unfolding balance_test
-  listed = through ((s == 1) && x 0) ((s == 4) && x 4) (balances s (looked (five x))) first last (at_five (balance_test s) (all_balance s some few) (x 0) (x 1) (x 2) (x 3) (x 4))
+  listed = through ((s == 1) && x 0) ((s == 4) && x 4) (balances s (looked (five x))) first last (at_five (balance_test s) (all_balance s some limited) (x 0) (x 1) (x 2) (x 3) (x 4))
     where
       through : (a b c : Bool) → a ≡ false → b ≡ false → (a || (b || c)) ≡ true → c ≡ true
       through a b c p q t = (λ i. sym p i || (sym q i || c)) ∙ t
@@ -146,7 +146,7 @@ module _ (old : List Row) (m : Move) (new : List Row) (table : IsTable old) (tab
   eulers_match =
       let v = vertices_match old m new table table' h vs n numbered vs' n' numbered' c c' match ds d arrows ds' d' arrows' in
       let t = triangles_match old m new table h vs n numbered vs' n' numbered' c c' match in
-      let b = balanced (length m.core) x (some old m new table h) (few old m new table h) no_first no_last in
+      let b = balanced (length m.core) x (some old m new table h) (limited old m new table h) no_first no_last in
       let e : 2 * link_edges old vs c ≡ 3 * times_in vs c + free_count old table vs n numbered c = twice_edges old table vs n numbered c in
       let e' : 2 * link_edges new vs' c' ≡ 3 * times_in vs' c' + free_count new table' vs' n' numbered' c' = twice_edges new table' vs' n' numbered' c' in
       let f = frees_same in

@@ -13,11 +13,11 @@ use Rattle.table_definitions.proofs.TableLaws.{Among}
 use Rattle.table_definitions.proofs.Permutations.{image_below}
 use Rattle.table_definitions.proofs.PermutationLaws.{images_apart}
 use Rattle.move_definitions.specs.Moves.{Move, Facet, IsMoved, old_tets, place_after, kept_place_after, facet_gluing, moved_gluing}
-use Rattle.move_definitions.proofs.StandIns.{facet_stand_in-new, stand_in-kept}
+use Rattle.move_definitions.proofs.StandIns.{facet_image_after-new, image_after-kept}
 use Rattle.move_laws.proofs.Labels.{HasLabel, label_at}
 use Rattle.move_laws.proofs.Legal.{IsFacet, facet_is, OldFacet, old_tet_facet, old_facet}
 use Rattle.move_laws.proofs.Matched.{AreGlued, old_glued}
-use Rattle.move_laws.proofs.Covered.{stand_in-old}
+use Rattle.move_laws.proofs.Covered.{image_after-old}
 use Rattle.move_laws.proofs.Shapes.{stand_permutes, stand_in_range}
 use Rattle.skeleton_laws.proofs.Sides.{side_face, is_side}
 use Rattle.skeleton_laws.proofs.SideParts.{IsSideAt, side_is, is_side_from, HasParts, has_parts, side_number}
@@ -31,11 +31,11 @@ use Rattle.move_link_laws.proofs.StarLabels.{off_one}
 module _ (old : List Row) (m : Move) (new : List Row) (table : IsTable old) (h : IsMoved old m new) where
   -- a boundary face is replaced in the new table
   free_stands : (x : Face) → x.tet < length old → x.face < 4 → glue old x ≡ None → (s : Gluing) × (place_after old m x ≡ Some s)
-  free_stands x lt lf none = by_bool (has (old_tets old m) x.tet) (λ e. of_facet (old_tet_facet old m x.tet h.core e)) (λ e. (kept_place_after old m x.tet, stand_in-kept old m x e))
+  free_stands x lt lf none = by_bool (has (old_tets old m) x.tet) (λ e. of_facet (old_tet_facet old m x.tet h.core e)) (λ e. (kept_place_after old m x.tet, image_after-kept old m x e))
     where
       of_facet : OldFacet old m x.tet → (s : Gluing) × (place_after old m x ≡ Some s)
       of_facet o = elim (cases_lt j (length m.core)) [
-        | inl less ↦ (facet_gluing old m f j, ap (place_after old m) (sym same) ∙ stand_in-old old m o.label f x.face (fine old m new table h) h.core o.low o.high o.is ∙ facet_stand_in-new old m f j less)
+        | inl less ↦ (facet_gluing old m f j, ap (place_after old m) (sym same) ∙ image_after-old old m o.label f x.face (fine old m new table h) h.core o.low o.high o.is ∙ facet_image_after-new old m f j less)
         | inr more ↦ absurd (glued more)
       ]
         where
@@ -85,7 +85,7 @@ module _ (old : List Row) (m : Move) (new : List Row) (table : IsTable old) (h :
 
     -- the vertex of a side has an image in the face of the side
     pub tie_at : (x : Face) (v : ℕ) (s : Gluing) → x.tet < length old → x.face < 4 → v < 4 → v ≢ x.face → place_after old m x ≡ Some s → Tie (one_vertex x.tet v) (one_vertex s.tet (image s.perm v))
-    tie_at x v s lt lf lv ne e = record { face = x.face; by = s; tet = lt; place = (lv, tt); low = lf; off = off_one v x.face ne; stands = e; is = refl }
+    tie_at x v s lt lf lv ne e = record { face = x.face; by = s; tet = lt; place = (lv, tt); low = lf; off = off_one v x.face ne; occurs = e; is = refl }
 
     pub spot_at : (t v : ℕ) → t < length old → v < 4 → IsSpot (length old) (one_vertex t v)
     spot_at t v lt lv = record { v = v; is = refl; below = lt; low = lv }
@@ -101,7 +101,7 @@ module _ (old : List Row) (m : Move) (new : List Row) (table : IsTable old) (h :
 
     pub forth : (k : ℕ) → Among k olds → (k' : ℕ) × Among k' news × StandsSide k k'
     unfolding StandsSide
-    forth k a = (under s k, is_free new table' vs' n' numbered' c' (under s k) small (is_side_from vs' c' (under s k) off at) none, (s, stands, refl))
+    forth k a = (under s k, is_free new table' vs' n' numbered' c' (under s k) small (is_side_from vs' c' (under s k) off at) none, (s, occurs, refl))
       where
         f : (k < 4 * (4 * length old)) × (is_side vs c k ≡ true) × (glue old (side_face k) ≡ None)
         f = free_is old table vs n numbered c k a
@@ -118,11 +118,11 @@ module _ (old : List Row) (m : Move) (new : List Row) (table : IsTable old) (h :
         s : Gluing
         s = found.0
 
-        stands : place_after old m (side_face k) ≡ Some s
-        stands = found.1
+        occurs : place_after old m (side_face k) ≡ Some s
+        occurs = found.1
 
         hs : IsPermutationOfFour s.perm
-        hs = permutes (side_face k) s lt (low_f k) stands
+        hs = permutes (side_face k) s lt (low_f k) occurs
 
         lv : image s.perm (k / 4 % 4) < 4
         lv = image_below s.perm hs (k / 4 % 4) (low_v k)
@@ -135,7 +135,7 @@ module _ (old : List Row) (m : Move) (new : List Row) (table : IsTable old) (h :
 
         small : under s k < 4 * (4 * length new)
         small =
-            let r : s.tet < _ = (stand_in_range old m table (fine old m new table h) h.core (side_face k) s lt (low_f k) stands).0 in
+            let r : s.tet < _ = (stand_in_range old m table (fine old m new table h) h.core (side_face k) s lt (low_f k) occurs).0 in
             let e = h.length_is in
             let a : image s.perm (k / 4 % 4) < 4 = lv in
             let b : image s.perm (k % 4) < 4 = lf in
@@ -146,7 +146,7 @@ module _ (old : List Row) (m : Move) (new : List Row) (table : IsTable old) (h :
 
         at : slice_index vs' (under s k / 4) ≡ c'
         at = ap (slice_index vs') parts.place ∙ class_over old m new table h vs n numbered vs' n' numbered' c c' match (one_vertex (k / 4 / 4) (k / 4 % 4)) (one_vertex s.tet (image s.perm (k / 4 % 4))) (spot_at (k / 4 / 4) (k / 4 % 4) lt (low_v k))
-            (tie_at (side_face k) (k / 4 % 4) s lt (low_f k) (low_v k) side.off stands) (ap (slice_index vs) (place_of k) ∙ side.at)
+            (tie_at (side_face k) (k / 4 % 4) s lt (low_f k) (low_v k) side.off occurs) (ap (slice_index vs) (place_of k) ∙ side.at)
 
         none : glue new (side_face (under s k)) ≡ None
-        none = (λ i. glue new (face_at (parts.tet i) (parts.face i))) ∙ h.outer (side_face k) s lt (low_f k) stands ∙ ap (option_and_then (moved_gluing old m (side_face k) s)) f.2
+        none = (λ i. glue new (face_at (parts.tet i) (parts.face i))) ∙ h.outer (side_face k) s lt (low_f k) occurs ∙ ap (option_and_then (moved_gluing old m (side_face k) s)) f.2

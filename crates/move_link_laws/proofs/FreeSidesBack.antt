@@ -58,10 +58,10 @@ module _ (old : List Row) (m : Move) (new : List Row) (table : IsTable old) (h :
         y = side_face k'
 
         inside : IsInner old m y → ⊥
-        inside i = let z : None ≡ Some _ = sym f.2 ∙ ap (glue new) (sym i.is) ∙ h.inner i.j i.l i.j_small i.l_small i.apart in cc
+        inside i = let z : None ≡ Some _ = sym f.2 ∙ ap (glue new) (sym i.is) ∙ h.inner i.j i.l i.j_small i.l_small i.separate in cc
 
         outside : StandsForOld old m y → (k : ℕ) × Among k olds × StandsSide old m new table h table' vs n numbered vs' n' numbered' c c' match k k'
-        outside o = (k, is_free old table vs n numbered c k small (is_side_from vs c k off at) none, (s, stands, again))
+        outside o = (k, is_free old table vs n numbered c k small (is_side_from vs c k off at) none, (s, occurs, again))
           where
             x : Face
             x = o.old
@@ -70,7 +70,7 @@ module _ (old : List Row) (m : Move) (new : List Row) (table : IsTable old) (h :
             s = o.by
 
             hs : IsPermutationOfFour s.perm
-            hs = permutes old m new table h table' vs n numbered vs' n' numbered' c c' match x s o.tet o.face o.stands
+            hs = permutes old m new table h table' vs n numbered vs' n' numbered' c c' match x s o.tet o.face o.occurs
 
             v' : ℕ
             v' = k' / 4 % 4
@@ -105,11 +105,11 @@ module _ (old : List Row) (m : Move) (new : List Row) (table : IsTable old) (h :
             face : side_face k ≡ x
             face = λ i. face_at (parts.tet i) (parts.face i)
 
-            stands : place_after old m (side_face k) ≡ Some s
-            stands = ap (place_after old m) face ∙ o.stands
+            occurs : place_after old m (side_face k) ≡ Some s
+            occurs = ap (place_after old m) face ∙ o.occurs
 
             tie : Tie (one_vertex x.tet v) (one_vertex s.tet (image s.perm v))
-            tie = tie_at old m new table h table' vs n numbered vs' n' numbered' c c' match x v s o.tet o.face lv ne o.stands
+            tie = tie_at old m new table h table' vs n numbered vs' n' numbered' c c' match x v s o.tet o.face lv ne o.occurs
 
             spots : one_vertex s.tet (image s.perm v) ≡ one_vertex (k' / 4 / 4) v'
             spots = λ i. one_vertex ((o.is i).tet) (there i)
@@ -121,8 +121,8 @@ module _ (old : List Row) (m : Move) (new : List Row) (table : IsTable old) (h :
             none_from : (q : Option Gluing) → glue old x ≡ q → glue old x ≡ None
             none_from None e = e
             none_from (Some g) e =
-                let r = other_stands old m table (fine old m new table h) h.core x s g o.face o.stands e in
-                let made : glue new (face_under s x) ≡ Some (gluing_under s r.0 g) = h.outer x s o.tet o.face o.stands ∙ ap (option_and_then (moved_gluing old m x s)) e ∙ ap (option_map (λ q. gluing_under s q g)) r.1 in
+                let r = other_stands old m table (fine old m new table h) h.core x s g o.face o.occurs e in
+                let made : glue new (face_under s x) ≡ Some (gluing_under s r.0 g) = h.outer x s o.tet o.face o.occurs ∙ ap (option_and_then (moved_gluing old m x s)) e ∙ ap (option_map (λ q. gluing_under s q g)) r.1 in
                 let z : None ≡ Some (gluing_under s r.0 g) = sym f.2 ∙ ap (glue new) (sym o.is) ∙ made in
                 absurd cc
 

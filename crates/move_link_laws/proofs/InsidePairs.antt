@@ -23,7 +23,7 @@ each_below p n all = list_all-from_AllPass p (below n) (λ k d l. all _ (below-a
 pub record IsInside (x : ℕ → Bool) (k : ℕ) : Type 0 where
   pub first : k / 5 < 5
   pub second : k % 5 < 5
-  pub apart : k / 5 ≢ k % 5
+  pub separate : k / 5 ≢ k % 5
   pub at : x (k / 5) ≡ true
 
 module _ (s : ℕ) (x : ℕ → Bool) where
@@ -32,7 +32,7 @@ module _ (s : ℕ) (x : ℕ → Bool) where
   inside_old_is k l h =
       let p = and_parts (not (k / 5 == k % 5)) (list_all (has (k / 5 ∷ k % 5 ∷ [])) (below s) && x (k / 5)) h in
       let q = and_parts (list_all (has (k / 5 ∷ k % 5 ∷ [])) (below s)) (x (k / 5)) p.1 in
-      (list_all-below (has (k / 5 ∷ k % 5 ∷ [])) s q.0, record { first = omega arith; second = omega arith; apart = eqb-false (k / 5) (k % 5) (not-true (k / 5 == k % 5) p.0); at = q.1 })
+      (list_all-below (has (k / 5 ∷ k % 5 ∷ [])) s q.0, record { first = omega arith; second = omega arith; separate = eqb-false (k / 5) (k % 5) (not-true (k / 5 == k % 5) p.0); at = q.1 })
 
   pub is_inside_old : (a b : ℕ) → b < 5 → a ≢ b → ((j : ℕ) → j < s → has (a ∷ b ∷ []) j ≡ true) → x a ≡ true → inside_old s x (5 * a + b) ≡ true
   unfolding inside_old
@@ -47,7 +47,7 @@ module _ (s : ℕ) (x : ℕ → Bool) where
       let p = and_parts (not (k / 5 == k % 5)) (list_all (λ i. nat_lt i s || has (k / 5 ∷ k % 5 ∷ []) i) (below 5) && x (k / 5)) h in
       let q = and_parts (list_all (λ i. nat_lt i s || has (k / 5 ∷ k % 5 ∷ []) i) (below 5)) (x (k / 5)) p.1 in (
         (λ i low high. at_least i low (list_all-below (λ i. nat_lt i s || has (k / 5 ∷ k % 5 ∷ []) i) 5 q.0 i high)),
-        record { first = omega arith; second = omega arith; apart = eqb-false (k / 5) (k % 5) (not-true (k / 5 == k % 5) p.0); at = q.1 },
+        record { first = omega arith; second = omega arith; separate = eqb-false (k / 5) (k % 5) (not-true (k / 5 == k % 5) p.0); at = q.1 },
       )
     where
       at_least : (i : ℕ) → s ≤ i → (nat_lt i s || has (k / 5 ∷ k % 5 ∷ []) i) ≡ true → has (k / 5 ∷ k % 5 ∷ []) i ≡ true

@@ -2,7 +2,7 @@
 use Rattle.std.proofs.Common.{◌≡◌, ℕ, ◌*◌, ◌/◌, ◌<◌, List, length, inl, inr, sym, ap, ◌∙◌, subst, subst₂, arith}
 use Rattle.table_definitions.specs.Table.{Row}
 use Rattle.table_definitions.specs.Classes.{least}
-use Rattle.table_definitions.specs.Places.{Place, IsPlace, edge, turned, IsJoined, SameEdge, IsInvalidEdge}
+use Rattle.table_definitions.specs.Places.{Place, IsPlace, edge, backwards, IsJoined, SameEdge, IsInvalidEdge}
 use Rattle.table_definitions.proofs.ChainLaws.{joined_refl, joined_turned, joined_sym, joined_trans}
 use Rattle.table_definitions.proofs.Listed.{among_contains, contains_among}
 use Rattle.skeleton_definitions.specs.Skeleton.{Skeleton, IsSkeleton}
@@ -29,10 +29,10 @@ module _ (s : Skeleton) (m : Move) (s' : Skeleton) (k : IsSkeleton s) (k' : IsSk
   Corresponds c d = (q : Place) × Tie (edge (least s.edges.classes c)) q × EitherWay s'.rows q (least s'.edges.classes d)
 
   edge_arrow : (rows : List Row) (i : ℕ) → i < 6 * length rows → IsArrow (length rows) (edge i)
-  edge_arrow rows i l = let e : EdgeAt i = edge_ends_at i in let t : e.t ≡ i / 6 = e.tet in record { v = e.a; w = e.b; is = e.is ∙ (λ z. pair (sym e.is z).tet e.a e.b); below = omega arith; low_v = e.low_a; low_w = e.low_b; apart = e.apart }
+  edge_arrow rows i l = let e : EdgeAt i = edge_ends_at i in let t : e.t ≡ i / 6 = e.tet in record { v = e.a; w = e.b; is = e.is ∙ (λ z. pair (sym e.is z).tet e.a e.b); below = omega arith; low_v = e.low_a; low_w = e.low_b; separate = e.separate }
 
-  twice : (n : ℕ) (p : Place) → IsArrow n p → turned (turned p) ≡ p
-  twice n p a = ap (λ (q : Place). turned (turned q)) a.is ∙ sym a.is
+  twice : (n : ℕ) (p : Place) → IsArrow n p → backwards (backwards p) ≡ p
+  twice n p a = ap (λ (q : Place). backwards (backwards q)) a.is ∙ sym a.is
 
   place_of : (n : ℕ) (p : Place) → IsArrow n p → IsPlace p
   place_of n p a = subst IsPlace (sym a.is) (a.low_v, (a.low_w, tt))
@@ -44,13 +44,13 @@ module _ (s : Skeleton) (m : Move) (s' : Skeleton) (k : IsSkeleton s) (k' : IsSk
   below' c l = (start_is s'.rows k'.table s'.edges.classes s'.edges.count k'.edges c l).0
 
   -- the reverse of an image is the image of the reverse
-  turned_tie : (p q : Place) → IsArrow (length s.rows) p → Tie p q → Tie (turned p) (turned q)
-  turned_tie p q a t = subst (λ (r : Place). Tie r (turned q)) (ap turned (sym a.is)) (tie_turned s.rows m s'.rows k.table h p.tet a.v a.w q (subst (λ (r : Place). Tie r q) a.is t))
+  turned_tie : (p q : Place) → IsArrow (length s.rows) p → Tie p q → Tie (backwards p) (backwards q)
+  turned_tie p q a t = subst (λ (r : Place). Tie r (backwards q)) (ap backwards (sym a.is)) (tie_turned s.rows m s'.rows k.table h p.tet a.v a.w q (subst (λ (r : Place). Tie r q) a.is t))
 
   forth : (c : ℕ) → c < s.edges.count → IsInvalidEdge s.rows (least s.edges.classes c) → (d : ℕ) × (d < s'.edges.count) × IsInvalidEdge s'.rows (least s'.edges.classes d) × Corresponds c d
   forth c l invalid = elim (tied_or_buried s.rows m s'.rows k.table h (pair p.tet a.v a.w) a.below (a.low_v, (a.low_w, tt)) (free_of_two a.v a.w)) [
     | inl t ↦ tied t.0 (subst (λ (r : Place). Tie r t.0) (sym a.is) t.1)
-    | inr b ↦ absurd (a.apart (buried_forward s.rows m s'.rows k.table h b.0 p.tet a.v a.w b.1 (subst₂ (IsJoined s.rows) a.is (ap turned a.is) invalid)))
+    | inr b ↦ absurd (a.separate (buried_forward s.rows m s'.rows k.table h b.0 p.tet a.v a.w b.1 (subst₂ (IsJoined s.rows) a.is (ap backwards a.is) invalid)))
   ]
     where
       p : Place
@@ -63,13 +63,13 @@ module _ (s : Skeleton) (m : Move) (s' : Skeleton) (k : IsSkeleton s) (k' : IsSk
       tied q t =
           let b : IsArrow (length s'.rows) q = tie_arrow s.rows m s'.rows k.table h p q a t in
           let d = class_of_arrow s'.rows k'.table s'.edges.classes s'.edges.count k'.edges q b in
-          let there : IsJoined s'.rows q (turned q) = joined_over s.rows m s'.rows k.table h p (turned p) q (turned q) t (turned_tie p q a t) invalid in
+          let there : IsJoined s'.rows q (backwards q) = joined_over s.rows m s'.rows k.table h p (backwards p) q (backwards q) t (turned_tie p q a t) invalid in
           (d.c, d.below, invalid_class s'.rows k'.table s'.edges.classes s'.edges.count k'.edges q (place_of (length s'.rows) q b) (twice (length s'.rows) q b) (least s'.edges.classes d.c) d.way there, (q, t, d.way))
 
   back : (d : ℕ) → d < s'.edges.count → IsInvalidEdge s'.rows (least s'.edges.classes d) → (c : ℕ) × (c < s.edges.count) × IsInvalidEdge s.rows (least s.edges.classes c) × Corresponds c d
   back d l invalid = elim (new_tied_or_buried s.rows m s'.rows k.table h (pair q.tet b.v b.w) b.below (b.low_v, (b.low_w, tt)) (free_of_two b.v b.w)) [
     | inl t ↦ tied t.0 (subst (λ (r : Place). Tie t.0 r) (sym b.is) t.1)
-    | inr z ↦ absurd (b.apart (new_buried_forward s.rows m s'.rows k.table h z.0 q.tet b.v b.w z.1 (subst₂ (IsJoined s'.rows) b.is (ap turned b.is) invalid)))
+    | inr z ↦ absurd (b.separate (new_buried_forward s.rows m s'.rows k.table h z.0 q.tet b.v b.w z.1 (subst₂ (IsJoined s'.rows) b.is (ap backwards b.is) invalid)))
   ]
     where
       q : Place
@@ -82,7 +82,7 @@ module _ (s : Skeleton) (m : Move) (s' : Skeleton) (k : IsSkeleton s) (k' : IsSk
       tied p t =
           let a : IsArrow (length s.rows) p = pulled_arrow s.rows m s'.rows k.table h p q b t in
           let c = class_of_arrow s.rows k.table s.edges.classes s.edges.count k.edges p a in
-          let here : IsJoined s.rows p (turned p) = joined_under s.rows m s'.rows k.table h p (turned p) q (turned q) t (turned_tie p q a t) invalid in
+          let here : IsJoined s.rows p (backwards p) = joined_under s.rows m s'.rows k.table h p (backwards p) q (backwards q) t (turned_tie p q a t) invalid in
           let bad = invalid_class s.rows k.table s.edges.classes s.edges.count k.edges p (place_of (length s.rows) p a) (twice (length s.rows) p a) (least s.edges.classes c.c) c.way here in
           (c.c, c.below, bad, reach c.c c.below p t a c.way)
         where
@@ -93,10 +93,10 @@ module _ (s : Skeleton) (m : Move) (s' : Skeleton) (k : IsSkeleton s) (k' : IsSk
               (z.0, z.1, inl (joined_sym s'.rows q z.0 k'.table (place_of (length s'.rows) q b) j))
           reach c lc p t a (inr w) =
               let ta = turned_tie p q a t in
-              let w' : IsJoined s.rows (turned p) (edge (least s.edges.classes c)) = subst (λ (x : Place). IsJoined s.rows (turned p) x) (turned_twice (least s.edges.classes c)) (joined_turned s.rows p (turned (edge (least s.edges.classes c))) w) in
-              let z = tie_follows s.rows m s'.rows k.table h (turned p) (edge (least s.edges.classes c)) (turned q) ta w' in
-              let j : IsJoined s'.rows (turned q) z.0 = joined_over s.rows m s'.rows k.table h (turned p) (edge (least s.edges.classes c)) (turned q) z.0 ta z.1 w' in
-              (z.0, z.1, inr (joined_sym s'.rows (turned q) z.0 k'.table (tie_place s.rows m s'.rows k.table h (turned p) (turned q) ta) j))
+              let w' : IsJoined s.rows (backwards p) (edge (least s.edges.classes c)) = subst (λ (x : Place). IsJoined s.rows (backwards p) x) (turned_twice (least s.edges.classes c)) (joined_turned s.rows p (backwards (edge (least s.edges.classes c))) w) in
+              let z = tie_follows s.rows m s'.rows k.table h (backwards p) (edge (least s.edges.classes c)) (backwards q) ta w' in
+              let j : IsJoined s'.rows (backwards q) z.0 = joined_over s.rows m s'.rows k.table h (backwards p) (edge (least s.edges.classes c)) (backwards q) z.0 ta z.1 w' in
+              (z.0, z.1, inr (joined_sym s'.rows (backwards q) z.0 k'.table (tie_place s.rows m s'.rows k.table h (backwards p) (backwards q) ta) j))
 
   -- different classes of one table correspond to different classes of the other
   once : (c c' d : ℕ) → c < s.edges.count → c' < s.edges.count → Corresponds c d → Corresponds c' d → c ≡ c'
@@ -107,14 +107,14 @@ module _ (s : Skeleton) (m : Move) (s' : Skeleton) (k : IsSkeleton s) (k' : IsSk
       let same : SameEdge s.rows (least s.edges.classes c) (least s.edges.classes c') =
       elim (both_ways s'.rows k'.table s'.edges.classes s'.edges.count k'.edges q r (place_of (length s'.rows) r b') (twice (length s'.rows) r b') (least s'.edges.classes d) w v) [
         | inl j ↦ inl (joined_under s.rows m s'.rows k.table h (edge (least s.edges.classes c)) (edge (least s.edges.classes c')) q r t u j)
-        | inr j ↦ inr (joined_under s.rows m s'.rows k.table h (edge (least s.edges.classes c)) (turned (edge (least s.edges.classes c'))) q (turned r) t (turned_tie (edge (least s.edges.classes c')) r a' u) j)
+        | inr j ↦ inr (joined_under s.rows m s'.rows k.table h (edge (least s.edges.classes c)) (backwards (edge (least s.edges.classes c'))) q (backwards r) t (turned_tie (edge (least s.edges.classes c')) r a' u) j)
       ] in
       sym (start_is s.rows k.table s.edges.classes s.edges.count k.edges c l).1 ∙ (k.edges.together (least s.edges.classes c) (least s.edges.classes c') (below c l) (below c' l')).1 same ∙ (start_is s.rows k.table s.edges.classes s.edges.count k.edges c' l').1
 
   once' : (c d d' : ℕ) → d < s'.edges.count → d' < s'.edges.count → Corresponds c d → Corresponds c d' → d ≡ d'
   once' c d d' l l' (q, t, w) (r, u, v) =
       let j : IsJoined s'.rows q r = joined_over s.rows m s'.rows k.table h (edge (least s.edges.classes c)) (edge (least s.edges.classes c)) q r t u (joined_refl s.rows (edge (least s.edges.classes c))) in
-      let lead : EitherWay s'.rows q (least s'.edges.classes d') = elim v [ inl g ↦ inl (joined_trans s'.rows q r (edge (least s'.edges.classes d')) j g) | inr g ↦ inr (joined_trans s'.rows q r (turned (edge (least s'.edges.classes d'))) j g) ] in
+      let lead : EitherWay s'.rows q (least s'.edges.classes d') = elim v [ inl g ↦ inl (joined_trans s'.rows q r (edge (least s'.edges.classes d')) j g) | inr g ↦ inr (joined_trans s'.rows q r (backwards (edge (least s'.edges.classes d'))) j g) ] in
       let same : SameEdge s'.rows (least s'.edges.classes d) (least s'.edges.classes d') = meet w lead in
       sym (start_is s'.rows k'.table s'.edges.classes s'.edges.count k'.edges d l).1 ∙ (k'.edges.together (least s'.edges.classes d) (least s'.edges.classes d') (below' d l) (below' d' l')).1 same ∙ (start_is s'.rows k'.table s'.edges.classes s'.edges.count k'.edges d' l').1
     where
@@ -123,13 +123,13 @@ module _ (s : Skeleton) (m : Move) (s' : Skeleton) (k : IsSkeleton s) (k' : IsSk
 
       meet : EitherWay s'.rows q (least s'.edges.classes d) → EitherWay s'.rows q (least s'.edges.classes d') → SameEdge s'.rows (least s'.edges.classes d) (least s'.edges.classes d')
       meet (inl a) (inl b) = inl (joined_trans s'.rows (edge (least s'.edges.classes d)) q (edge (least s'.edges.classes d')) (joined_sym s'.rows q (edge (least s'.edges.classes d)) k'.table place_q a) b)
-      meet (inl a) (inr b) = inr (joined_trans s'.rows (edge (least s'.edges.classes d)) q (turned (edge (least s'.edges.classes d'))) (joined_sym s'.rows q (edge (least s'.edges.classes d)) k'.table place_q a) b)
+      meet (inl a) (inr b) = inr (joined_trans s'.rows (edge (least s'.edges.classes d)) q (backwards (edge (least s'.edges.classes d'))) (joined_sym s'.rows q (edge (least s'.edges.classes d)) k'.table place_q a) b)
       meet (inr a) (inl b) =
-          let z : IsJoined s'.rows (turned (edge (least s'.edges.classes d))) (edge (least s'.edges.classes d')) = joined_trans s'.rows (turned (edge (least s'.edges.classes d))) q (edge (least s'.edges.classes d')) (joined_sym s'.rows q (turned (edge (least s'.edges.classes d))) k'.table place_q a) b in
-          inr (subst (λ (x : Place). IsJoined s'.rows x (turned (edge (least s'.edges.classes d')))) (turned_twice (least s'.edges.classes d)) (joined_turned s'.rows (turned (edge (least s'.edges.classes d))) (edge (least s'.edges.classes d')) z))
+          let z : IsJoined s'.rows (backwards (edge (least s'.edges.classes d))) (edge (least s'.edges.classes d')) = joined_trans s'.rows (backwards (edge (least s'.edges.classes d))) q (edge (least s'.edges.classes d')) (joined_sym s'.rows q (backwards (edge (least s'.edges.classes d))) k'.table place_q a) b in
+          inr (subst (λ (x : Place). IsJoined s'.rows x (backwards (edge (least s'.edges.classes d')))) (turned_twice (least s'.edges.classes d)) (joined_turned s'.rows (backwards (edge (least s'.edges.classes d))) (edge (least s'.edges.classes d')) z))
       meet (inr a) (inr b) =
-          let z : IsJoined s'.rows (turned (edge (least s'.edges.classes d))) (turned (edge (least s'.edges.classes d'))) = joined_trans s'.rows (turned (edge (least s'.edges.classes d))) q (turned (edge (least s'.edges.classes d'))) (joined_sym s'.rows q (turned (edge (least s'.edges.classes d))) k'.table place_q a) b in
-          inl (subst₂ (IsJoined s'.rows) (turned_twice (least s'.edges.classes d)) (turned_twice (least s'.edges.classes d')) (joined_turned s'.rows (turned (edge (least s'.edges.classes d))) (turned (edge (least s'.edges.classes d'))) z))
+          let z : IsJoined s'.rows (backwards (edge (least s'.edges.classes d))) (backwards (edge (least s'.edges.classes d'))) = joined_trans s'.rows (backwards (edge (least s'.edges.classes d))) q (backwards (edge (least s'.edges.classes d'))) (joined_sym s'.rows q (backwards (edge (least s'.edges.classes d))) k'.table place_q a) b in
+          inl (subst₂ (IsJoined s'.rows) (turned_twice (least s'.edges.classes d)) (turned_twice (least s'.edges.classes d')) (joined_turned s'.rows (backwards (edge (least s'.edges.classes d))) (backwards (edge (least s'.edges.classes d'))) z))
 
   pub same_number : (before after : List ℕ) → AreInvalidClasses s before → AreInvalidClasses s' after → length before ≡ length after
   same_number before after b a = related_same Corresponds before after (apart_from_ascending before b.ascending) (apart_from_ascending after a.ascending)

@@ -14,9 +14,9 @@ use Rattle.table_definitions.proofs.Faces.{face_at}
 use Rattle.table_definitions.proofs.PermutationLaws.{image-of_inverse}
 use Rattle.table_definitions.proofs.Permutations.{image_below, image-compose, compose_permutes, inverse_permutes}
 use Rattle.move_definitions.specs.Moves.{Move, Facet, IsMoved, vertex_of, place_after, kept_place_after, facet_gluing, moved_gluing}
-use Rattle.move_definitions.proofs.StandIns.{facet_stand_in-new, stand_in-kept}
+use Rattle.move_definitions.proofs.StandIns.{facet_image_after-new, image_after-kept}
 use Rattle.move_laws.proofs.Labels.{AreLabels, HasLabel, label_at}
-use Rattle.move_laws.proofs.Covered.{stand_in-old}
+use Rattle.move_laws.proofs.Covered.{image_after-old}
 use Rattle.move_laws.proofs.Shapes.{stand_permutes}
 use Rattle.move_laws.proofs.SecondStand.{other_stands}
 use Rattle.move_link_laws.proofs.Labelled.{in_facet, has-vertices}
@@ -49,15 +49,15 @@ module _ (old : List Row) (m : Move) (new : List Row) (table : IsTable old) (h :
   tie_place p q t = subst IsPlace (sym t.is) (images_below t.by.perm p.vertices (tie_permutes old m new table h p q t) t.place)
 
   -- the image of the gluing g of x, and of the places in x
-  module _ (x : Face) (s g : Gluing) (lt : x.tet < length old) (lf : x.face < 4) (stands : place_after old m x ≡ Some s) (glued : glue old x ≡ Some g) where
+  module _ (x : Face) (s g : Gluing) (lt : x.tet < length old) (lf : x.face < 4) (occurs : place_after old m x ≡ Some s) (glued : glue old x ≡ Some g) where
     pub other : (r : Gluing) × (place_after old m (other_side x g) ≡ Some r)
-    other = other_stands old m table (fine old m new table h) h.core x s g lf stands glued
+    other = other_stands old m table (fine old m new table h) h.core x s g lf occurs glued
 
     hg : IsPermutationOfFour g.perm
     hg = table.permutes x g glued
 
     hs : IsPermutationOfFour s.perm
-    hs = stand_permutes old m table (fine old m new table h) h.core x s lt lf stands
+    hs = stand_permutes old m table (fine old m new table h) h.core x s lt lf occurs
 
     lt' : g.tet < length old
     lt' = table.in_range x g glued
@@ -69,7 +69,7 @@ module _ (old : List Row) (m : Move) (new : List Row) (table : IsTable old) (h :
     hr = stand_permutes old m table (fine old m new table h) h.core (other_side x g) other.0 lt' lf' other.1
 
     made : glue new (face_under s x) ≡ Some (gluing_under s other.0 g)
-    made = h.outer x s lt lf stands ∙ ap (option_and_then (moved_gluing old m x s)) glued ∙ ap (option_map (λ r. gluing_under s r g)) other.1
+    made = h.outer x s lt lf occurs ∙ ap (option_and_then (moved_gluing old m x s)) glued ∙ ap (option_map (λ r. gluing_under s r g)) other.1
 
     module _ (vs : List ℕ) (place : AllByRecursion (λ v. v < 4) vs) (off : has vs x.face ≡ false) where
       abbrev here : Place
@@ -79,7 +79,7 @@ module _ (old : List Row) (m : Move) (new : List Row) (table : IsTable old) (h :
       over = λ i. record { tet = other.0.tet; vertices = through other.0.perm g.perm s.perm vs hr hg hs place i }
 
       pub tie_here : Tie here (carried s here)
-      tie_here = record { face = x.face; by = s; tet = lt; place = place; low = lf; off = off; stands = stands; is = refl }
+      tie_here = record { face = x.face; by = s; tet = lt; place = place; low = lf; off = off; occurs = occurs; is = refl }
 
       pub tie_there : Tie (carried g here) (carried other.0 (carried g here))
       tie_there = record {
@@ -89,7 +89,7 @@ module _ (old : List Row) (m : Move) (new : List Row) (table : IsTable old) (h :
         place = images_below g.perm vs hg place;
         low = lf';
         off = has-images g.perm vs x.face hg place lf ∙ off;
-        stands = other.1;
+        occurs = other.1;
         is = refl;
       }
 
@@ -117,13 +117,13 @@ module _ (old : List Row) (m : Move) (new : List Row) (table : IsTable old) (h :
       lf = glued_face old x st.gluing table.four_faces st.glued
 
       outside : (s : Gluing) → place_after old m x ≡ Some s → Follows p' q
-      outside s stands =
-          let there : Place = carried (other x s st.gluing t.tet lf stands st.glued).0 (carried st.gluing p) in
-          let first : IsJoined new q (carried s p) = stands_once old m new table h p q (carried s p) t (tie_here x s st.gluing t.tet lf stands st.glued p.vertices t.place st.off) in
-          let step : IsJoined new (carried s p) there = joined_step new (carried s p) (image s.perm f) there (step_new x s st.gluing t.tet lf stands st.glued p.vertices t.place st.off) in
+      outside s occurs =
+          let there : Place = carried (other x s st.gluing t.tet lf occurs st.glued).0 (carried st.gluing p) in
+          let first : IsJoined new q (carried s p) = stands_once old m new table h p q (carried s p) t (tie_here x s st.gluing t.tet lf occurs st.glued p.vertices t.place st.off) in
+          let step : IsJoined new (carried s p) there = joined_step new (carried s p) (image s.perm f) there (step_new x s st.gluing t.tet lf occurs st.glued p.vertices t.place st.off) in
           record {
             there = there;
-            tie = subst (λ (r : Place). Tie r there) (sym st.lands) (tie_there x s st.gluing t.tet lf stands st.glued p.vertices t.place st.off);
+            tie = subst (λ (r : Place). Tie r there) (sym st.lands) (tie_there x s st.gluing t.tet lf occurs st.glued p.vertices t.place st.off);
             joined = joined_trans new q (carried s p) there first step;
           }
 
@@ -144,8 +144,8 @@ module _ (old : List Row) (m : Move) (new : List Row) (table : IsTable old) (h :
 
           never : k < length m.core → ⊥
           never less =
-              let some : place_after old m x ≡ Some (facet_gluing old m a.f k) = ap (place_after old m) (sym x_is) ∙ stand_in-old old m a.i a.f f (fine old m new table h) h.core a.old_is.low a.old_is.high a.old_is.found
-              ∙ facet_stand_in-new old m a.f k less in
+              let some : place_after old m x ≡ Some (facet_gluing old m a.f k) = ap (place_after old m) (sym x_is) ∙ image_after-old old m a.i a.f f (fine old m new table h) h.core a.old_is.low a.old_is.high a.old_is.found
+              ∙ facet_image_after-new old m a.f k less in
               let z : None ≡ Some (facet_gluing old m a.f k) = sym none ∙ some in cc
 
           off_k : has a.ls k ≡ false
@@ -164,8 +164,8 @@ module _ (old : List Row) (m : Move) (new : List Row) (table : IsTable old) (h :
               }
 
       by_stand : (o : Option Gluing) → place_after old m x ≡ o → Follows p' q
-      by_stand (Some s) stands = outside s stands
+      by_stand (Some s) occurs = outside s occurs
       by_stand None none = elim (tie_shape old m new table h p q t) [
-        | inl k ↦ absurd (let z : None ≡ Some (kept_place_after old m p.tet) = sym none ∙ stand_in-kept old m x k.stays in cc)
+        | inl k ↦ absurd (let z : None ≡ Some (kept_place_after old m p.tet) = sym none ∙ image_after-kept old m x k.stays in cc)
         | inr a ↦ inside none a
       ]

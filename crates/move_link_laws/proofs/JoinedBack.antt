@@ -63,7 +63,7 @@ module _ (old : List Row) (m : Move) (new : List Row) (table : IsTable old) (h :
           s = o.by
 
           hs' : IsPermutationOfFour s.perm
-          hs' = stand_permutes old m table (fine old m new table h) h.core x s o.tet o.face o.stands
+          hs' = stand_permutes old m table (fine old m new table h) h.core x s o.tet o.face o.occurs
 
           vs : List ℕ
           vs = map (image (inverse s.perm)) q.vertices
@@ -87,20 +87,20 @@ module _ (old : List Row) (m : Move) (new : List Row) (table : IsTable old) (h :
           q_is = λ i. record { tet = (o.is i).tet; vertices = there_again s.perm q.vertices hs' place_q i }
 
           moved : option_and_then (moved_gluing old m x s) (glue old x) ≡ Some st.gluing
-          moved = sym (h.outer x s o.tet o.face o.stands) ∙ ap (glue new) o.is ∙ st.glued
+          moved = sym (h.outer x s o.tet o.face o.occurs) ∙ ap (glue new) o.is ∙ st.glued
 
           by_gluing : (c : Option Gluing) → glue old x ≡ c → Precedes q' p
           by_gluing None n = absurd (let z : None ≡ Some st.gluing = sym (ap (option_and_then (moved_gluing old m x s)) n) ∙ moved in cc)
           by_gluing (Some g) n =
-              let r : Gluing = (other old m new table h x s g o.tet o.face o.stands n).0 in
-              let step : across new (carried s p1) (image s.perm x.face) ≡ Some (carried r (carried g p1)) = step_new old m new table h x s g o.tet o.face o.stands n vs place1 off1 in
+              let r : Gluing = (other old m new table h x s g o.tet o.face o.occurs n).0 in
+              let step : across new (carried s p1) (image s.perm x.face) ≡ Some (carried r (carried g p1)) = step_new old m new table h x s g o.tet o.face o.occurs n vs place1 off1 in
               let same : Some (carried r (carried g p1)) ≡ Some q' = sym step ∙ (λ i. across new (q_is i) (f_is i)) ∙ e in
               let is : carried r (carried g p1) ≡ q' = cc in
-              let t1 : Tie p1 q = subst (λ (z : Place). Tie p1 z) q_is (tie_here old m new table h x s g o.tet o.face o.stands n vs place1 off1) in
+              let t1 : Tie p1 q = subst (λ (z : Place). Tie p1 z) q_is (tie_here old m new table h x s g o.tet o.face o.occurs n vs place1 off1) in
               record {
                 there = carried g p1;
-                tie = subst (λ (z : Place). Tie (carried g p1) z) is (tie_there old m new table h x s g o.tet o.face o.stands n vs place1 off1);
-                joined = joined_trans old p p1 (carried g p1) (stood_for_once old m new table h p p1 q t t1) (joined_step old p1 x.face (carried g p1) (step_old old m new table h x s g o.tet o.face o.stands n vs place1 off1));
+                tie = subst (λ (z : Place). Tie (carried g p1) z) is (tie_there old m new table h x s g o.tet o.face o.occurs n vs place1 off1);
+                joined = joined_trans old p p1 (carried g p1) (stood_for_once old m new table h p p1 q t t1) (joined_step old p1 x.face (carried g p1) (step_old old m new table h x s g o.tet o.face o.occurs n vs place1 off1));
               }
 
       inside : IsInner old m (face_at q.tet f) → FacetTie old m new table h p q → Precedes q' p
@@ -109,7 +109,7 @@ module _ (old : List Row) (m : Move) (new : List Row) (table : IsTable old) (h :
           let nj : n.j ≡ a.j = omega arith in
           let l_small : n.l < 5 = small_label old m new table h n.l n.l_small in
           let j_small : a.j < 5 = small_label old m new table h a.j a.less in
-          let ne : a.j ≢ n.l = λ z. n.apart (nj ∙ z) in
+          let ne : a.j ≢ n.l = λ z. n.separate (nj ∙ z) in
           let face : vertex_of (at a.j) n.l ≡ f = ap (λ j. vertex_of (at j) n.l) (sym nj) ∙ (λ i. (n.is i).face) in
           let off_l : has a.ls n.l ≡ false = sym (has-vertices a.j (ascending a.j) (new_labels a.j j_small) a.ls n.l a.small a.off_j l_small (λ z. ne (sym z))) ∙ ap (has (map (vertex_of (at a.j)) a.ls)) face
           ∙ ap (λ (r : Place). has r.vertices f) (sym a.to) ∙ st.off in

@@ -96,4 +96,4 @@ module _ (old : List Row) (m : Move) (new : List Row) (table : IsTable old) (tab
     one_value q r s t e f d =
         let u = tied r t f in
         let w = u.1 in
-        value_is u.0 q s e (record { face = w.face; by = w.by; tet = w.tet; place = w.place; low = w.low; off = w.off; stands = w.stands; is = d ∙ w.is }) ∙ sym (value_is u.0 r t f u.1)
+        value_is u.0 q s e (record { face = w.face; by = w.by; tet = w.tet; place = w.place; low = w.low; off = w.off; occurs = w.occurs; is = d ∙ w.is }) ∙ sym (value_is u.0 r t f u.1)

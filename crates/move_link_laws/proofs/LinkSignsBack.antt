@@ -101,6 +101,6 @@ module _ (old : List Row) (m : Move) (new : List Row) (table : IsTable old) (tab
         tet = subst (λ (z : Place). z.tet < length old) (sym d) w.tet;
         place = subst IsPlace (sym d) w.place;
         off = ap (λ (z : Place). has z.vertices w.face) d ∙ w.off;
-        stands = ap (λ (z : Place). place_after old m (face_at z.tet w.face)) d ∙ w.stands;
+        occurs = ap (λ (z : Place). place_after old m (face_at z.tet w.face)) d ∙ w.occurs;
         is = w.is ∙ ap (carried w.by) (sym d);
       }) ∙ sym (value_is r u.0 t f u.1)

@@ -77,7 +77,7 @@ module _ (old : List Row) (m : Move) (new : List Row) (table : IsTable old) (h :
               let tail : tail_of (directed i) ≡ in_facet z.f (w.0 ∷ []) = ap tail_of ar.is ∙ (λ j. record { tet = (z.from j).tet; vertices = sym w.3 j ∷ [] }) in
               let same = (same_old_place old m new table h z.i tail_in.i z.f tail_in.f (w.0 ∷ []) (0 ∷ []) z.old_is tail_in.old_is (small.0, tt) (omega arith, tt) (off_one w.0 z.i off) tail_in.off (sym tail ∙ tail_in.from)).2 in
               let first : w.0 ≡ 0 = cc in
-              let ne : w.0 ≢ w.1 = (λ q. ar.apart (sym w.3 ∙ ap (vertex_of z.f) q ∙ w.4)) in
+              let ne : w.0 ≢ w.1 = (λ q. ar.separate (sym w.3 ∙ ap (vertex_of z.f) q ∙ w.4)) in
               let high : w.1 < 5 = small.1.0 in
               (w.1, (let g : w.1 ≢ 0 = (λ q. ne (first ∙ sym q)) in omega arith), high, subst (λ (ks : List ℕ). In ks (directed i)) (w.2 ∙ ap (λ a. a ∷ w.1 ∷ []) first) z)
 
@@ -106,7 +106,7 @@ module _ (old : List Row) (m : Move) (new : List Row) (table : IsTable old) (h :
                 below = f.1.is.in_range;
                 low_v = va.small;
                 low_w = vb.small;
-                apart = λ e. (let q : 0 ≡ k = sym va.label ∙ ap (image f.0.labels) e ∙ vb.label in zero_off old m new table h vs n numbered p0 spot0 b0 one k low q);
+                separate = λ e. (let q : 0 ≡ k = sym va.label ∙ ap (image f.0.labels) e ∙ vb.label in zero_off old m new table h vs n numbered p0 spot0 b0 one k low q);
               } in
               let b : In (0 ∷ k ∷ []) (in_facet f.0 (0 ∷ k ∷ [])) = record {
                 i = i;

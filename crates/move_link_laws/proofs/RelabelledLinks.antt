@@ -5,7 +5,7 @@ use Rattle.table_definitions.specs.Lists.{times_in}
 use Rattle.table_definitions.specs.Permutation.{IsPermutationOfFour, image}
 use Rattle.table_definitions.specs.Table.{Row, IsTable}
 use Rattle.table_definitions.specs.Classes.{IsNumbering}
-use Rattle.table_definitions.specs.Places.{Place, IsPlace, vertex, edge_number, turned, IsJoined, SameVertex, HasValidEdges}
+use Rattle.table_definitions.specs.Places.{Place, IsPlace, vertex, edge_number, backwards, IsJoined, SameVertex, HasValidEdges}
 use Rattle.table_definitions.specs.Relabelling.{Relabelling, IsRelabelling, Carries, relabelled_place}
 use Rattle.table_definitions.proofs.ChainLaws.{joined_sym, joined_trans}
 use Rattle.table_definitions.proofs.Permutations.{image_below}
@@ -52,7 +52,7 @@ module _ (old : List Row) (new : List Row) (table : IsTable old) (table' : IsTab
         below = (within_new old new table by is carries p (arrow_within p a)).below;
         low_v = image_below (relabelled_place by p.tet).perm hp a.v a.low_v;
         low_w = image_below (relabelled_place by p.tet).perm hp a.w a.low_w;
-        apart = images_apart (relabelled_place by p.tet).perm a.v a.w hp a.low_v a.low_w a.apart;
+        separate = images_apart (relabelled_place by p.tet).perm a.v a.w hp a.low_v a.low_w a.separate;
       }
 
   -- a table has valid edges if its relabelling has
@@ -65,11 +65,11 @@ module _ (old : List Row) (new : List Row) (table : IsTable old) (table' : IsTab
       let p : Place = pair e.t e.a e.b in
       let w : IsWithin old (pair e.t e.a e.b) = record { below = lt; place = (e.low_a, (e.low_b, tt)) } in
       let v : IsWithin old (pair e.t e.b e.a) = record { below = lt; place = (e.low_b, (e.low_a, tt)) } in
-      let there = (joined_both old new table table' by is carries (pair e.t e.a e.b) (pair e.t e.b e.a) w v).0 (subst₂ (IsJoined old) e.is (ap turned e.is) j) in
+      let there = (joined_both old new table table' by is carries (pair e.t e.a e.b) (pair e.t e.b e.a) w v).0 (subst₂ (IsJoined old) e.is (ap backwards e.is) j) in
       let u : ℕ = (relabelled_place by e.t).tet in
       let x : ℕ = image s e.a in
       let y : ℕ = image s e.b in
-      let ne : image (relabelled_place by e.t).perm e.a ≢ image (relabelled_place by e.t).perm e.b = images_apart s e.a e.b hs e.low_a e.low_b e.apart in
+      let ne : image (relabelled_place by e.t).perm e.a ≢ image (relabelled_place by e.t).perm e.b = images_apart s e.a e.b hs e.low_a e.low_b e.separate in
       let lx : image (relabelled_place by e.t).perm e.a < 4 = image_below s hs e.a e.low_a in
       let ly : image (relabelled_place by e.t).perm e.b < 4 = image_below s hs e.b e.low_b in
       valid (6 * u + edge_number x y) (edge_below u x y (length new) lx ly ne (within_new old new table by is carries (pair e.t e.a e.b) w).below) (reverses_edge new u x y lx ly ne there)
@@ -109,7 +109,7 @@ module _ (old : List Row) (new : List Row) (table : IsTable old) (table' : IsTab
         let s : List ℕ = (relabelled_place by f.0.tet).perm in
         let w = two_of s f.0.vertices a.v a.w (ap (λ (r : Place). r.vertices) (f.2 ∙ a.is)) in
         let place = subst (λ (vs : List ℕ). IsPlace (record { tet = f.0.tet; vertices = vs })) w.2 f.1.place in
-        (f.0, record { v = w.0; w = w.1; is = (λ i. record { tet = f.0.tet; vertices = w.2 i }); below = f.1.below; low_v = place.0; low_w = place.1.0; apart = λ e. a.apart (sym w.3 ∙ ap (image s) e ∙ w.4) }, f.2)
+        (f.0, record { v = w.0; w = w.1; is = (λ i. record { tet = f.0.tet; vertices = w.2 i }); below = f.1.below; low_v = place.0; low_w = place.1.0; separate = λ e. a.separate (sym w.3 ∙ ap (image s) e ∙ w.4) }, f.2)
 
     pub triangles_same : times_in vs c ≡ times_in vs' c'
     triangles_same =

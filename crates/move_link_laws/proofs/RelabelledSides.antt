@@ -7,7 +7,7 @@ use Rattle.table_definitions.specs.Table.{Gluing, Row, Face, glue, IsTable}
 use Rattle.table_definitions.specs.Classes.{IsNumbering}
 use Rattle.table_definitions.specs.Places.{Place, SameVertex}
 use Rattle.table_definitions.specs.Relabelling.{Relabelling, IsRelabelling, Carries, relabelled_place, gluing_under}
-use Rattle.table_definitions.proofs.Carried.{StandsFor, stands_for}
+use Rattle.table_definitions.proofs.Carried.{RepresentsFacet, stands_for}
 use Rattle.table_definitions.proofs.Faces.{face_at}
 use Rattle.table_definitions.proofs.Permutations.{image_below, preimage_below, image-preimage}
 use Rattle.table_definitions.proofs.PermutationLaws.{images_apart}
@@ -84,7 +84,7 @@ module _ (old : List Row) (new : List Row) (table : IsTable old) (table' : IsTab
               side : IsSideAt vs' c' j
               side = side_is vs' c' j f.1
 
-              came : (x : Face) × StandsFor old new by (side_face j) x
+              came : (x : Face) × RepresentsFacet old new by (side_face j) x
               came = stands_for old new by is carries (side_face j) (let e = carries.same_length in let l = f.0 in omega arith) (low_f j)
 
               x : Face

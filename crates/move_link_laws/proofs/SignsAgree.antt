@@ -68,7 +68,7 @@ module _ (old : List Row) (m : Move) (new : List Row) (table : IsTable old) (tab
           s = o.by
 
           hs : IsPermutationOfFour s.perm
-          hs = permutes old m new table table' h vs n numbered vs' n' numbered' c c' match x s o.tet o.face o.stands
+          hs = permutes old m new table table' h vs n numbered vs' n' numbered' c c' match x s o.tet o.face o.occurs
 
           hi : IsPermutationOfFour (inverse s.perm)
           hi = inverse_permutes s.perm hs
@@ -95,15 +95,15 @@ module _ (old : List Row) (m : Move) (new : List Row) (table : IsTable old) (tab
           off = ap (has (w ∷ [])) face_is ∙ has-images (inverse s.perm) (v ∷ []) f hi (lv, tt) lf ∙ off_one v f ne
 
           tie : Tie p (one_vertex t v)
-          tie = record { face = x.face; by = s; tet = o.tet; place = (lw, tt); low = o.face; off = off; stands = o.stands; is = λ i. record { tet = (sym o.is i).tet; vertices = sym (there_again s.perm (v ∷ []) hs (lv, tt)) i } }
+          tie = record { face = x.face; by = s; tet = o.tet; place = (lw, tt); low = o.face; off = off; occurs = o.occurs; is = λ i. record { tet = (sym o.is i).tet; vertices = sym (there_again s.perm (v ∷ []) hs (lv, tt)) i } }
 
           moved : option_and_then (moved_gluing old m x s) (glue old x) ≡ Some g'
-          moved = sym (h.outer x s o.tet o.face o.stands) ∙ ap (glue new) o.is ∙ glued'
+          moved = sym (h.outer x s o.tet o.face o.occurs) ∙ ap (glue new) o.is ∙ glued'
 
           by_gluing : (a : Option Gluing) → glue old x ≡ a → Agrees
           by_gluing None e = absurd (let z : None ≡ Some g' = sym (ap (option_and_then (moved_gluing old m x s)) e) ∙ moved in cc)
           by_gluing (Some g) e =
-              let other = other_stands old m table (fine old m new table h) h.core x s g o.face o.stands e in
+              let other = other_stands old m table (fine old m new table h) h.core x s g o.face o.occurs e in
               let r : Gluing = other.0 in
               let hg : IsPermutationOfFour g.perm = table.permutes x g e in
               let lt' : g.tet < length old = table.in_range x g e in
@@ -124,7 +124,7 @@ module _ (old : List Row) (m : Move) (new : List Row) (table : IsTable old) (tab
                 place = (lw', tt);
                 low = lf';
                 off = has-images g.perm (w ∷ []) x.face hg (lw, tt) o.face ∙ off;
-                stands = other.1;
+                occurs = other.1;
                 is = sym through;
               } in
               let e0 : class_of vs p ≡ c = under old m new table table' h vs n numbered vs' n' numbered' c c' match p (one_vertex t v) spot_p tie own in
@@ -157,27 +157,27 @@ module _ (old : List Row) (m : Move) (new : List Row) (table : IsTable old) (tab
           go (inr (a, ea)) =
               let tets : kept old m + i.j ≡ kept old m + a.j = (λ z. (i.is z).tet) ∙ ap (λ (r : Place). r.tet) a.to in
               let ij : i.j ≡ a.j = omega arith in
-              let apart : a.j ≢ i.l = (λ z. i.apart (ij ∙ z)) in
+              let separate : a.j ≢ i.l = (λ z. i.separate (ij ∙ z)) in
               let lj : a.j < 5 = small_label old m new table h a.j a.less in
               let ll : i.l < 5 = small_label old m new table h i.l i.l_small in
               let face : vertex_of (at a.j) i.l ≡ f = (λ z. vertex_of (at (sym ij z)) i.l) ∙ (λ z. (i.is z).face) in
               let nl = Labels.new_labels a.j lj in
-              let off_l : has a.ls i.l ≡ false = sym (has-vertices a.j (Labels.ascending a.j) nl a.ls i.l a.small a.off_j ll (λ z. apart (sym z))) ∙ ap (has (map (vertex_of (at a.j)) a.ls)) face ∙ ap (λ (r : Place). has r.vertices f) (sym a.to) ∙ off_one v f ne in
-              let st : Steps new (in_facet (at a.j) a.ls) (vertex_of (at a.j) i.l) (in_facet (at i.l) a.ls) = steps_across new (in_facet (at a.j) a.ls) (vertex_of (at a.j) i.l) (in_facet (at i.l) a.ls) (new_step old m new table h a.j i.l a.ls a.less i.l_small apart a.small a.off_j off_l) in
+              let off_l : has a.ls i.l ≡ false = sym (has-vertices a.j (Labels.ascending a.j) nl a.ls i.l a.small a.off_j ll (λ z. separate (sym z))) ∙ ap (has (map (vertex_of (at a.j)) a.ls)) face ∙ ap (λ (r : Place). has r.vertices f) (sym a.to) ∙ off_one v f ne in
+              let st : Steps new (in_facet (at a.j) a.ls) (vertex_of (at a.j) i.l) (in_facet (at i.l) a.ls) = steps_across new (in_facet (at a.j) a.ls) (vertex_of (at a.j) i.l) (in_facet (at i.l) a.ls) (new_step old m new table h a.j i.l a.ls a.less i.l_small separate a.small a.off_j off_l) in
               let there : Some st.gluing ≡ Some g' = sym st.glued ∙ (λ z. glue new (face_at ((sym a.to z).tet) (face z))) ∙ glued' in
               let same : st.gluing ≡ g' = cc in
               let lands : in_facet (at i.l) a.ls ≡ one_vertex g'.tet (image g'.perm v) = st.lands ∙ (λ z. carried (same z) (sym a.to z)) in
               let tie0 : Tie (in_facet a.f a.ls) (in_facet (at i.l) a.ls) = facet_tie old m new table h a.i i.l a.f a.ls a.old_is i.l_small a.small a.off_i off_l in
               let by0 : tie0.by.perm ≡ crossing a.i i.l a.f.labels = facet_tie_by old m new table h a.i i.l a.f a.ls a.old_is i.l_small a.small a.off_i off_l in
-              let tie' : Tie (in_facet a.f a.ls) (one_vertex g'.tet (image g'.perm v)) = record { face = tie0.face; by = tie0.by; tet = tie0.tet; place = tie0.place; low = tie0.low; off = tie0.off; stands = tie0.stands; is = sym lands ∙ tie0.is } in
+              let tie' : Tie (in_facet a.f a.ls) (one_vertex g'.tet (image g'.perm v)) = record { face = tie0.face; by = tie0.by; tet = tie0.tet; place = tie0.place; low = tie0.low; off = tie0.off; occurs = tie0.occurs; is = sym lands ∙ tie0.is } in
               let spot_p : IsSpot (length old) (in_facet a.f a.ls) = subst (IsSpot (length old)) a.from spot_u in
               let e0 : class_of vs u.0 ≡ c = under old m new table table' h vs n numbered vs' n' numbered' c c' match u.0 (one_vertex t v) spot_u u.1 own in
               let own' : class_of vs' (one_vertex g'.tet (image g'.perm v)) ≡ c' = over old m new table table' h vs n numbered vs' n' numbered' c c' match (in_facet a.f a.ls) (one_vertex g'.tet (image g'.perm v)) spot_p tie' (ap (class_of vs) (sym a.from) ∙ e0) in
               let spot' : IsSpot (length new) (one_vertex g'.tet (image g'.perm v)) = new_spot old m new table table' h vs n numbered vs' n' numbered' c c' match (in_facet a.f a.ls) (one_vertex g'.tet (image g'.perm v)) spot_p tie' in
-              let inner : Some (record { tet = kept old m + i.l; perm = over_new i.j i.l }) ≡ Some g' = sym (h.inner i.j i.l i.j_small i.l_small i.apart) ∙ ap (glue new) i.is ∙ glued' in
+              let inner : Some (record { tet = kept old m + i.l; perm = over_new i.j i.l }) ≡ Some g' = sym (h.inner i.j i.l i.j_small i.l_small i.separate) ∙ ap (glue new) i.is ∙ glued' in
               let perm : over_new i.j i.l ≡ g'.perm = (let z : record { tet = kept old m + i.l; perm = over_new i.j i.l } ≡ g' = cc in ap (λ (r : Gluing). r.perm) z) in
               let parity : is_odd (crossing a.i i.l a.f.labels) ≡ behind (is_odd g'.perm) (is_odd (crossing a.i a.j a.f.labels)) =
-              new_parity a.i a.j i.l a.f.labels a.old_is.is.labels lj ll (core_apart old m new table table' h vs n numbered vs' n' numbered' c c' match a.i a.j a.f a.old_is a.less) (core_apart old m new table table' h vs n numbered vs' n' numbered' c c' match a.i i.l a.f a.old_is i.l_small) apart
+              new_parity a.i a.j i.l a.f.labels a.old_is.is.labels lj ll (core_apart old m new table table' h vs n numbered vs' n' numbered' c c' match a.i a.j a.f a.old_is a.less) (core_apart old m new table table' h vs n numbered vs' n' numbered' c c' match a.i i.l a.f a.old_is i.l_small) separate
               ∙ (λ z. behind (is_odd (over_new (sym ij z) i.l)) (is_odd (crossing a.i a.j a.f.labels))) ∙ (λ z. behind (is_odd (perm z)) (is_odd (crossing a.i a.j a.f.labels))) in (
                 spot',
                 own',

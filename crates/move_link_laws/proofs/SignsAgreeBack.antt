@@ -14,9 +14,9 @@ use Rattle.table_definitions.proofs.Permutations.{image_below}
 use Rattle.table_definitions.proofs.TableLaws.{glued_tet}
 use Rattle.skeleton_definitions.specs.Links.{vertex_number, AreLinkSigns, IsOrientableLink}
 use Rattle.move_definitions.specs.Moves.{Move, Facet, IsMoved, vertex_of, place_after, kept_place_after, facet_gluing, moved_gluing}
-use Rattle.move_definitions.proofs.StandIns.{facet_stand_in-new, stand_in-kept}
+use Rattle.move_definitions.proofs.StandIns.{facet_image_after-new, image_after-kept}
 use Rattle.move_laws.proofs.Labels.{AreLabels, HasLabel, label_at}
-use Rattle.move_laws.proofs.Covered.{stand_in-old}
+use Rattle.move_laws.proofs.Covered.{image_after-old}
 use Rattle.move_laws.proofs.SecondStand.{crossing, other_stands}
 use Rattle.move_laws.proofs.Parities.{flip, behind, back_sign, flip_behind}
 use Rattle.move_link_laws.proofs.Labelled.{in_facet, has-vertices}
@@ -73,14 +73,14 @@ module _ (old : List Row) (m : Move) (new : List Row) (table : IsTable old) (tab
     Agrees = value old m new table table' h vs n numbered vs' n' numbered' c c' match signs are (one_vertex g.tet (image g.perm v)) spot_p' own' ≡ behind (is_odd g.perm) (value old m new table table' h vs n numbered vs' n' numbered' c c' match signs are (one_vertex t v) spot_p own)
 
     outside : (s : Gluing) → place_after old m (face_at t f) ≡ Some s → Agrees
-    outside s stands =
-        let other = other_stands old m table (fine old m new table h) h.core (face_at t f) s g lf stands glued in
-        let hs : IsPermutationOfFour s.perm = permutes old m new table table' h vs n numbered vs' n' numbered' c c' match signs are (face_at t f) s lt lf stands in
+    outside s occurs =
+        let other = other_stands old m table (fine old m new table h) h.core (face_at t f) s g lf occurs glued in
+        let hs : IsPermutationOfFour s.perm = permutes old m new table table' h vs n numbered vs' n' numbered' c c' match signs are (face_at t f) s lt lf occurs in
         let lf' : image g.perm f < 4 = image_below g.perm hg f lf in
         let hr : IsPermutationOfFour other.0.perm = permutes old m new table table' h vs n numbered vs' n' numbered' c c' match signs are (other_side (face_at t f) g) other.0 lt' lf' other.1 in
         let q : Place = carried s (one_vertex t v) in
         let q' : Place = carried other.0 (one_vertex g.tet (image g.perm v)) in
-        let tie : Tie (one_vertex t v) (carried s (one_vertex t v)) = record { face = f; by = s; tet = lt; place = (lv, tt); low = lf; off = off_one v f ne; stands = stands; is = refl } in
+        let tie : Tie (one_vertex t v) (carried s (one_vertex t v)) = record { face = f; by = s; tet = lt; place = (lv, tt); low = lf; off = off_one v f ne; occurs = occurs; is = refl } in
         let tie' : Tie (one_vertex g.tet (image g.perm v)) (carried other.0 (one_vertex g.tet (image g.perm v))) = record {
           face = image g.perm f;
           by = other.0;
@@ -88,10 +88,10 @@ module _ (old : List Row) (m : Move) (new : List Row) (table : IsTable old) (tab
           place = (lv', tt);
           low = lf';
           off = has-images g.perm (v ∷ []) f hg (lv, tt) lf ∙ off_one v f ne;
-          stands = other.1;
+          occurs = other.1;
           is = refl;
         } in
-        let made : glue new (face_under s (face_at t f)) ≡ Some (gluing_under s other.0 g) = h.outer (face_at t f) s lt lf stands ∙ ap (option_and_then (moved_gluing old m (face_at t f) s)) glued ∙ ap (option_map (λ k. gluing_under s k g)) other.1 in
+        let made : glue new (face_under s (face_at t f)) ≡ Some (gluing_under s other.0 g) = h.outer (face_at t f) s lt lf occurs ∙ ap (option_and_then (moved_gluing old m (face_at t f) s)) glued ∙ ap (option_map (λ k. gluing_under s k g)) other.1 in
         let lands : carried (gluing_under s other.0 g) q ≡ q' = (λ i. record { tet = other.0.tet; vertices = through other.0.perm g.perm s.perm (v ∷ []) hr hg hs (lv, tt) i }) in
         let spot_q : IsSpot (length new) (carried s (one_vertex t v)) = tie_spot old m new table h (one_vertex t v) (carried s (one_vertex t v)) spot_p tie in
         let sign : S signs q' ≡ behind (is_odd (gluing_under s other.0 g).perm) (S signs q) = ap (S signs) (sym lands) ∙ agree_at new vs' c' signs are (length new) q spot_q (image s.perm f) (gluing_under s other.0 g) (image_below s.perm hs f lf)
@@ -105,7 +105,7 @@ module _ (old : List Row) (m : Move) (new : List Row) (table : IsTable old) (tab
         u = tied old m new table table' h vs n numbered vs' n' numbered' c c' match signs are (one_vertex t v) spot_p own
 
         go : (KeptTie old m new table h (one_vertex t v) u.0 × (u.1.by.perm ≡ identity)) ⊎ ((a : FacetTie old m new table h (one_vertex t v) u.0) × (u.1.by.perm ≡ crossing a.i a.j a.f.labels)) → Agrees
-        go (inl k) = absurd (let z : None ≡ Some (kept_place_after old m t) = sym none ∙ stand_in-kept old m (face_at t f) k.0.stays in cc)
+        go (inl k) = absurd (let z : None ≡ Some (kept_place_after old m t) = sym none ∙ image_after-kept old m (face_at t f) k.0.stays in cc)
         go (inr (a, ea)) = elim (cases_lt k (length m.core)) [ inl less ↦ absurd (never less) | inr more ↦ across_it more ]
           where
             hf : AreLabels a.i a.f.labels
@@ -122,8 +122,8 @@ module _ (old : List Row) (m : Move) (new : List Row) (table : IsTable old) (tab
 
             never : k < length m.core → ⊥
             never less =
-                let some : place_after old m (face_at t f) ≡ Some (facet_gluing old m a.f k) = ap (place_after old m) (sym x_is) ∙ stand_in-old old m a.i a.f f (fine old m new table h) h.core a.old_is.low a.old_is.high a.old_is.found
-                ∙ facet_stand_in-new old m a.f k less in
+                let some : place_after old m (face_at t f) ≡ Some (facet_gluing old m a.f k) = ap (place_after old m) (sym x_is) ∙ image_after-old old m a.i a.f f (fine old m new table h) h.core a.old_is.low a.old_is.high a.old_is.found
+                ∙ facet_image_after-new old m a.f k less in
                 let z : None ≡ Some (facet_gluing old m a.f k) = sym none ∙ some in cc
 
             off_k : has a.ls k ≡ false
@@ -146,7 +146,7 @@ module _ (old : List Row) (m : Move) (new : List Row) (table : IsTable old) (tab
                   tet = lt';
                   place = (lv', tt);
                   off = ap (λ (z : Place). has z.vertices tie0.face) (sym lands) ∙ tie0.off;
-                  stands = ap (λ (z : Place). place_after old m (face_at z.tet tie0.face)) (sym lands) ∙ tie0.stands;
+                  occurs = ap (λ (z : Place). place_after old m (face_at z.tet tie0.face)) (sym lands) ∙ tie0.occurs;
                   is = a.to ∙ tie0.is ∙ ap (carried tie0.by) lands;
                 } in
                 value_is old m new table table' h vs n numbered vs' n' numbered' c c' match signs are (one_vertex g.tet (image g.perm v)) u.0 spot_p' own' tie' ∙ ap (λ (o : List ℕ). flip (is_odd o) (S signs u.0)) by0 ∙ ap (λ o. flip o (S signs u.0)) (st.parity a.j a.less ∙ (λ z. behind (is_odd (same z).perm) (is_odd (crossing a.i a.j a.f.labels))))

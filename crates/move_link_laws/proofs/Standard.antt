@@ -7,7 +7,7 @@ use Rattle.basic_lemmas.proofs.Numbers.{given_apart}
 use Rattle.table_definitions.specs.Lists.{below, times_in}
 use Rattle.table_definitions.specs.Table.{Row}
 use Rattle.table_definitions.specs.Classes.{IsNumbering}
-use Rattle.table_definitions.specs.Places.{vertex, turned, IsJoined, SameVertex, HasValidEdges}
+use Rattle.table_definitions.specs.Places.{vertex, backwards, IsJoined, SameVertex, HasValidEdges}
 use Rattle.table_definitions.proofs.ClassLaws.{one_count}
 use Rattle.table_definitions.proofs.ListFacts.{list_all-below}
 use Rattle.skeleton_definitions.specs.Links.{directed, SameDirected, link_vertices, link_edges, is_closed_link}
@@ -95,15 +95,15 @@ unfolding turn_test
 sphere_valid i l j =
     let e : EdgeAt i = edge_ends_at i in
     let z : e.t ≡ 0 = (let t = e.tet in omega arith) in
-    let back : e.b ≢ e.a = (λ q. e.apart (sym q)) in
-    let there : IsJoined standard_sphere (pair 0 e.a e.b) (pair 0 e.b e.a) = subst (λ t. IsJoined standard_sphere (pair t e.a e.b) (pair t e.b e.a)) z (subst₂ (IsJoined standard_sphere) e.is (ap turned e.is) j) in
-    let arrows : IsJoined standard_sphere (directed (12 * 0 + pair_number e.a e.b)) (directed (12 * 0 + pair_number e.b e.a)) = subst₂ (IsJoined standard_sphere) (sym (pair_is 0 e.a e.b e.low_a e.low_b e.apart)) (sym (pair_is 0 e.b e.a e.low_b e.low_a back)) there in
-    let la = (pair_number-parts e.a e.b e.low_a e.low_b e.apart).0 in
+    let back : e.b ≢ e.a = (λ q. e.separate (sym q)) in
+    let there : IsJoined standard_sphere (pair 0 e.a e.b) (pair 0 e.b e.a) = subst (λ t. IsJoined standard_sphere (pair t e.a e.b) (pair t e.b e.a)) z (subst₂ (IsJoined standard_sphere) e.is (ap backwards e.is) j) in
+    let arrows : IsJoined standard_sphere (directed (12 * 0 + pair_number e.a e.b)) (directed (12 * 0 + pair_number e.b e.a)) = subst₂ (IsJoined standard_sphere) (sym (pair_is 0 e.a e.b e.low_a e.low_b e.separate)) (sym (pair_is 0 e.b e.a e.low_b e.low_a back)) there in
+    let la = (pair_number-parts e.a e.b e.low_a e.low_b e.separate).0 in
     let lb = (pair_number-parts e.b e.a e.low_b e.low_a back).0 in
     let same : slice_index arrow_classes (12 * 0 + pair_number e.a e.b) ≡ slice_index arrow_classes (12 * 0 + pair_number e.b e.a) = (arrows_numbered.together (12 * 0 + pair_number e.a e.b) (12 * 0 + pair_number e.b e.a) (omega arith) (omega arith)).1 arrows in
     let na : 12 * 0 + pair_number e.a e.b ≡ pair_number e.a e.b = omega arith in
     let nb : 12 * 0 + pair_number e.b e.a ≡ pair_number e.b e.a = omega arith in
     let t = given_apart e.a e.b (not (slice_index arrow_classes (pair_number e.a e.b) == slice_index arrow_classes (pair_number e.b e.a)))
-    (list_all-below (turn_test e.a) 4 (list_all-below (λ a. list_all (turn_test a) (below 4)) 4 turn_tests e.a e.low_a) e.b e.low_b) e.apart in
+    (list_all-below (turn_test e.a) 4 (list_all-below (λ a. list_all (turn_test a) (below 4)) 4 turn_tests e.a e.low_a) e.b e.low_b) e.separate in
     eqb-false (slice_index arrow_classes (pair_number e.a e.b)) (slice_index arrow_classes (pair_number e.b e.a)) (not-true (slice_index arrow_classes (pair_number e.a e.b) == slice_index arrow_classes (pair_number e.b e.a)) t)
     (ap (slice_index arrow_classes) (sym na) ∙ same ∙ ap (slice_index arrow_classes) nb)

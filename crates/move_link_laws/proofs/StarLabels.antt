@@ -14,7 +14,7 @@ use Rattle.move_definitions.specs.Moves.{Move, Facet, IsMoved, facet, own_facet,
 use Rattle.move_laws.proofs.ListedFacets.{same_some}
 use Rattle.move_laws.proofs.Labels.{ascending, new_labels, vertex_at}
 use Rattle.move_link_laws.proofs.Labelled.{in_facet}
-use Rattle.move_link_laws.proofs.Ties.{few, some, new_at, small_label, IsOld, old_at, old_step}
+use Rattle.move_link_laws.proofs.Ties.{limited, some, new_at, small_label, IsOld, old_at, old_step}
 use Rattle.move_link_laws.proofs.TieShapes.{facet_tie}
 use Rattle.skeleton_laws.proofs.Spots.{IsSpot, one_class, class_of}
 use Rattle.move_link_laws.proofs.TiedSpots.{tie_not_buried, tie_not_new_buried, Match, class_over, class_under, all_tied, all_tied_new}
@@ -42,8 +42,8 @@ pub record IsRep (s l : ℕ) : Type 0 where
 
 rep_is : (s l : ℕ) → 0 < s → s < 5 → l < 5 → in_both s l ≡ true → IsRep s l
 unfolding rep_test
-rep_is s l some few ll both =
-    let t = list_all-below (rep_test s) 5 (list_all-below (λ s. list_all (rep_test s) (below 5)) 5 (unfold rep_test in_both in refl) s few) l ll in
+rep_is s l some limited ll both =
+    let t = list_all-below (rep_test s) 5 (list_all-below (λ s. list_all (rep_test s) (below 5)) 5 (unfold rep_test in_both in refl) s limited) l ll in
     let t1 : (not (nat_lt (rep s l) s) && (nat_lt (rep s l) 5 && not (rep s l == l))) ≡ true = given (s == 0) (in_both s l) _ t (ne_eqb s 0 (omega arith)) both in
     let p = and_parts (not (nat_lt (rep s l) s)) (nat_lt (rep s l) 5 && not (rep s l == l)) t1 in
     let q = and_parts (nat_lt (rep s l) 5) (not (rep s l == l)) p.1 in
@@ -91,22 +91,22 @@ module _ (old : List Row) (m : Move) (new : List Row) (table : IsTable old) (h :
     unfolding label_in
     core_label l e = ap (λ b. b && (class_of vs (in_facet (found_or (facet old m (rep (length m.core) l)) (own_facet m)) (l ∷ [])) == c)) e
 
-    told : (l : ℕ) (g : Facet) → in_both (length m.core) l ≡ true → Old (rep (length m.core) l) g → label_in l ≡ (class_of vs (in_facet g (l ∷ [])) == c)
+    reported : (l : ℕ) (g : Facet) → in_both (length m.core) l ≡ true → Old (rep (length m.core) l) g → label_in l ≡ (class_of vs (in_facet g (l ∷ [])) == c)
     unfolding label_in
-    told l g e a = λ i. e i && (class_of vs (in_facet (found_or (a.found i) (own_facet m)) (l ∷ [])) == c)
+    reported l g e a = λ i. e i && (class_of vs (in_facet (found_or (a.found i) (own_facet m)) (l ∷ [])) == c)
 
     pub label_old : (i l : ℕ) (f : Facet) → Old i f → l < 5 → l ≢ i → (class_of vs (in_facet f (l ∷ [])) ≡ c) ↔ (label_in l ≡ true)
     label_old i l f a ll ne = by_bool (in_both (length m.core) l) both neither
       where
         both : in_both (length m.core) l ≡ true → (class_of vs (in_facet f (l ∷ [])) ≡ c) ↔ (label_in l ≡ true)
         both e =
-            let r = rep_is (length m.core) l (some old m new table h) (few old m new table h) ll e in
+            let r = rep_is (length m.core) l (some old m new table h) (limited old m new table h) ll e in
             let g = old_at old m new table h (rep (length m.core) l) r.low r.high in
             let off : l ≢ rep (length m.core) l = λ z. r.other (sym z) in
             let same : class_of vs (in_facet f (l ∷ [])) ≡ class_of vs (in_facet g.0 (l ∷ [])) =
             (one_class old vs n numbered (in_facet f (l ∷ [])) (in_facet g.0 (l ∷ [])) (label_spot i l f a ll ne) (label_spot (rep (length m.core) l) l g.0 g.1 ll off)).1 (label_joined i (rep (length m.core) l) l f g.0 a g.1 ll ne off) in (
-              (λ z. told l g.0 e g.1 ∙ eq-eqb (class_of vs (in_facet g.0 (l ∷ []))) c (sym same ∙ z)),
-              (λ z. same ∙ eqb-true (class_of vs (in_facet g.0 (l ∷ []))) c (sym (told l g.0 e g.1) ∙ z)),
+              (λ z. reported l g.0 e g.1 ∙ eq-eqb (class_of vs (in_facet g.0 (l ∷ []))) c (sym same ∙ z)),
+              (λ z. same ∙ eqb-true (class_of vs (in_facet g.0 (l ∷ []))) c (sym (reported l g.0 e g.1) ∙ z)),
             )
 
         only_core : in_both (length m.core) l ≡ false → (j : ℕ) → j < length m.core → has (l ∷ []) j ≡ true
@@ -127,13 +127,13 @@ module _ (old : List Row) (m : Move) (new : List Row) (table : IsTable old) (h :
       where
         both : in_both (length m.core) l ≡ true → (class_of vs' (in_facet (at j) (l ∷ [])) ≡ c') ↔ (label_in l ≡ true)
         both e =
-            let r = rep_is (length m.core) l (some old m new table h) (few old m new table h) ll e in
+            let r = rep_is (length m.core) l (some old m new table h) (limited old m new table h) ll e in
             let g = old_at old m new table h (rep (length m.core) l) r.low r.high in
             let off : l ≢ rep (length m.core) l = λ z. r.other (sym z) in
             let tie = facet_tie old m new table h (rep (length m.core) l) j g.0 (l ∷ []) g.1 lj (ll, tt) (off_one l (rep (length m.core) l) off) (off_one l j ne) in
             let spot = label_spot (rep (length m.core) l) l g.0 g.1 ll off in (
-              (λ z. told l g.0 e g.1 ∙ eq-eqb (class_of vs (in_facet g.0 (l ∷ []))) c (class_under old m new table h vs n numbered vs' n' numbered' c c' k (in_facet g.0 (l ∷ [])) (in_facet (at j) (l ∷ [])) spot tie z)),
-              (λ z. class_over old m new table h vs n numbered vs' n' numbered' c c' k (in_facet g.0 (l ∷ [])) (in_facet (at j) (l ∷ [])) spot tie (eqb-true (class_of vs (in_facet g.0 (l ∷ []))) c (sym (told l g.0 e g.1) ∙ z))),
+              (λ z. reported l g.0 e g.1 ∙ eq-eqb (class_of vs (in_facet g.0 (l ∷ []))) c (class_under old m new table h vs n numbered vs' n' numbered' c c' k (in_facet g.0 (l ∷ [])) (in_facet (at j) (l ∷ [])) spot tie z)),
+              (λ z. class_over old m new table h vs n numbered vs' n' numbered' c c' k (in_facet g.0 (l ∷ [])) (in_facet (at j) (l ∷ [])) spot tie (eqb-true (class_of vs (in_facet g.0 (l ∷ []))) c (sym (reported l g.0 e g.1) ∙ z))),
             )
 
         only_added : in_both (length m.core) l ≡ false → (i : ℕ) → length m.core ≤ i → i < 5 → has (l ∷ []) i ≡ true

@@ -12,9 +12,9 @@ use Rattle.table_definitions.proofs.Permutations.{image-identity}
 use Rattle.table_definitions.proofs.InPlace.{in_place-other}
 use Rattle.table_definitions.proofs.Ranks.{stays}
 use Rattle.move_definitions.specs.Moves.{Move, Facet, IsMoved, vertex_of, kept, new_facet, old_tets, kept_place_after, facet_place_after, facet_gluing}
-use Rattle.move_definitions.proofs.StandIns.{facet_stand_in-new, stand_in-kept}
+use Rattle.move_definitions.proofs.StandIns.{facet_image_after-new, image_after-kept}
 use Rattle.move_laws.proofs.Labels.{AreLabels, ascending, HasVertex, vertex_at, length-labels, image-map}
-use Rattle.move_laws.proofs.Covered.{stand_in-old}
+use Rattle.move_laws.proofs.Covered.{image_after-old}
 use Rattle.move_laws.proofs.Shapes.{IsFacetFace, shape}
 use Rattle.move_laws.proofs.SecondStand.{crossing}
 use Rattle.move_link_laws.proofs.Labelled.{head_off, tail_off, in_facet, Below5, has-vertices, has-labels, labels_below, labels_off, vertices_below, vertices_again, labels_again}
@@ -42,7 +42,7 @@ module _ (old : List Row) (m : Move) (new : List Row) (table : IsTable old) (h :
 
   -- which of the two it is, and by which permutation
   pub tie_shape_by : (p q : Place) (t : Ties old m new table h p q) → (KeptTie old m new table h p q × (t.by.perm ≡ identity)) ⊎ ((a : FacetTie old m new table h p q) × (t.by.perm ≡ crossing a.i a.j a.f.labels))
-  tie_shape_by p q t = elim (shape old m table (fine old m new table h) h.core (face_at p.tet t.face) t.by t.tet t.low t.stands) [
+  tie_shape_by p q t = elim (shape old m table (fine old m new table h) h.core (face_at p.tet t.face) t.by t.tet t.low t.occurs) [
     | inl k ↦ inl (
       record {
         stays = k.stays;
@@ -99,7 +99,7 @@ module _ (old : List Row) (m : Move) (new : List Row) (table : IsTable old) (h :
     place = place;
     low = lf;
     off = off;
-    stands = stand_in-kept old m (face_at p.tet f) stays;
+    occurs = image_after-kept old m (face_at p.tet f) stays;
     is = λ j. record { tet = rank_without (old_tets old m) p.tet; vertices = sym (map_identity p.vertices place) j };
   }
 
@@ -111,7 +111,7 @@ module _ (old : List Row) (m : Move) (new : List Row) (table : IsTable old) (h :
     place = vertices_below i f.labels a.is.labels ls small oi;
     low = at.small;
     off = has-vertices i f.labels a.is.labels ls j small oi (small_label old m new table h j less) ne ∙ oj;
-    stands = stand_in-old old m i f (vertex_of f j) (fine old m new table h) h.core a.low a.high a.found ∙ ap (facet_place_after old m f) at.label ∙ facet_stand_in-new old m f j less;
+    occurs = image_after-old old m i f (vertex_of f j) (fine old m new table h) h.core a.low a.high a.found ∙ ap (facet_place_after old m f) at.label ∙ facet_image_after-new old m f j less;
     is = λ k. record { tet = kept old m + j; vertices = sym (facet_carries f i j (map (vertex_of f) ls) a.is.labels (vertices_below i f.labels a.is.labels ls small oi) (ap (λ (xs : List ℕ). has xs j) again ∙ oj) ∙ ap (map (vertex_of (new_at j))) again) k };
   }
     where

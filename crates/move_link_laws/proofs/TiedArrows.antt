@@ -26,7 +26,7 @@ module _ (old : List Row) (m : Move) (new : List Row) (table : IsTable old) (h :
     by = z.by;
     tet = z.tet;
     low = z.low;
-    stands = z.stands;
+    occurs = z.occurs;
     place = (subst (λ (r : Place). slice_index r.vertices 0 < 4) (sym a.is) a.low_v, tt);
     off = (λ i. has (slice_index (a.is i).vertices 0 ∷ []) z.face) ∙ off_one a.v z.face (head_off a.v (a.w ∷ []) z.face (ap (λ (r : Place). has r.vertices z.face) (sym a.is) ∙ z.off));
     is = ap tail_of (z.is ∙ ap (carried z.by) a.is) ∙ ap (λ (r : Place). carried z.by (tail_of r)) (sym a.is);
@@ -43,7 +43,7 @@ module _ (old : List Row) (m : Move) (new : List Row) (table : IsTable old) (h :
         below = subst (λ (r : Place). r.tet < length new) (sym z.is) (tie_range old m new table h p q z);
         low_v = image_below z.by.perm hp a.v a.low_v;
         low_w = image_below z.by.perm hp a.w a.low_w;
-        apart = images_apart z.by.perm a.v a.w hp a.low_v a.low_w a.apart;
+        separate = images_apart z.by.perm a.v a.w hp a.low_v a.low_w a.separate;
       }
 
   -- a directed edge whose image is given
@@ -58,5 +58,5 @@ module _ (old : List Row) (m : Move) (new : List Row) (table : IsTable old) (h :
         below = z.tet;
         low_v = place.0;
         low_w = place.1.0;
-        apart = λ e. a.apart (sym w.3 ∙ ap (image z.by.perm) e ∙ w.4);
+        separate = λ e. a.separate (sym w.3 ∙ ap (image z.by.perm) e ∙ w.4);
       }

@@ -98,7 +98,7 @@ module _ (old : List Row) (m : Move) (new : List Row) (table : IsTable old) (tab
           let w = two_under (vertex_of z.f) ls ar.v ar.w (ap (λ (r : Place). r.vertices) (sym ar.is ∙ z.from)) in
           let la : w.0 < 5 = (subst Below5 w.2 z.small).0 in
           let lb : w.1 < 5 = (subst Below5 w.2 z.small).1.0 in
-          let ne : w.0 ≢ w.1 = (λ e. ar.apart (sym w.3 ∙ ap (vertex_of z.f) e ∙ w.4)) in
+          let ne : w.0 ≢ w.1 = (λ e. ar.separate (sym w.3 ∙ ap (vertex_of z.f) e ∙ w.4)) in
           let off : w.0 ≢ z.i = head_off w.0 (w.1 ∷ []) z.i (ap (λ (ks : List ℕ). has ks z.i) (sym w.2) ∙ z.off) in
           let tail : tail_of (directed i) ≡ in_facet z.f (w.0 ∷ []) = ap tail_of ar.is ∙ (λ j. record { tet = (z.from j).tet; vertices = sym w.3 j ∷ [] }) in
           let on : x w.0 ≡ true = (label_old old m new table h vs n numbered vs' n' numbered' c c' match z.i w.0 z.f z.old_is la off).0 (ap (class_of vs) (sym tail) ∙ k.here) in
@@ -134,7 +134,7 @@ module _ (old : List Row) (m : Move) (new : List Row) (table : IsTable old) (tab
             below = (let e = h.length_is in omega arith);
             low_v = va.small;
             low_w = vb.small;
-            apart = λ e. p.apart (sym va.label ∙ ap (image (ascending j)) e ∙ vb.label);
+            separate = λ e. p.separate (sym va.label ∙ ap (image (ascending j)) e ∙ vb.label);
           } in
           let there : class_of vs' (tail_of q) ≡ c' = (label_new old m new table h vs n numbered vs' n' numbered' c c' match j (k / 5) less p.first off_a).1 p.at in
           let f : Found' q = found' old m new table table' h vs n numbered vs' n' numbered' c c' match ds d arrows ds' d' arrows' q ar there in

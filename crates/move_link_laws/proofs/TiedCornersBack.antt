@@ -13,7 +13,7 @@ use Rattle.move_definitions.specs.Moves.{Move, Facet, IsMoved, vertex_of}
 use Rattle.move_laws.proofs.Labels.{vertex_at}
 use Rattle.skeleton_laws.proofs.Matchings.{passing_is, is_passing, first_kind, second_kind, is_first_kind, is_second_kind, passing, both}
 use Rattle.move_link_laws.proofs.Labelled.{in_facet, Below5, head_off, tail_off}
-use Rattle.move_link_laws.proofs.Ties.{few, new_at, old_at, Ties}
+use Rattle.move_link_laws.proofs.Ties.{limited, new_at, old_at, Ties}
 use Rattle.move_link_laws.proofs.JoinedBack.{joined_over, tie_follows}
 use Rattle.move_link_laws.proofs.Buried.{fails_or_all, IsFree, one_of_two, no_three, free_of_two, Buried, NewBuried, new_tied_or_buried}
 use Rattle.move_link_laws.proofs.BuriedChains.{buried_along}
@@ -96,7 +96,7 @@ module _ (old : List Row) (m : Move) (new : List Row) (table : IsTable old) (tab
           let w = two_under (vertex_of (at z.j)) ls ar.v ar.w (ap (λ (r : Place). r.vertices) (sym ar.is ∙ z.to)) in
           let la : w.0 < 5 = (subst Below5 w.2 z.small).0 in
           let lb : w.1 < 5 = (subst Below5 w.2 z.small).1.0 in
-          let ne : w.0 ≢ w.1 = (λ e. ar.apart (sym w.3 ∙ ap (vertex_of (at z.j)) e ∙ w.4)) in
+          let ne : w.0 ≢ w.1 = (λ e. ar.separate (sym w.3 ∙ ap (vertex_of (at z.j)) e ∙ w.4)) in
           let off : w.0 ≢ z.j = head_off w.0 (w.1 ∷ []) z.j (ap (λ (ks : List ℕ). has ks z.j) (sym w.2) ∙ z.off) in
           let tail : tail_of (directed i) ≡ in_facet (at z.j) (w.0 ∷ []) = ap tail_of ar.is ∙ (λ j. record { tet = (z.to j).tet; vertices = sym w.3 j ∷ [] }) in
           let on : x w.0 ≡ true = (label_new old m new table h vs n numbered vs' n' numbered' c c' match z.j w.0 z.less la off).0 (ap (class_of vs') (sym tail) ∙ k.here) in
@@ -123,7 +123,7 @@ module _ (old : List Row) (m : Move) (new : List Row) (table : IsTable old) (tab
           ]
       go covers p (inl (i, less, off)) =
           let o : ℕ = length m.core + i in
-          let g = old_at old m new table h (length m.core + i) (omega arith) (let f = few old m new table h in omega arith) in
+          let g = old_at old m new table h (length m.core + i) (omega arith) (let f = limited old m new table h in omega arith) in
           let q : Place = in_facet g.0 (k / 5 ∷ k % 5 ∷ []) in
           let b : In (k / 5 ∷ k % 5 ∷ []) (in_facet g.0 (k / 5 ∷ k % 5 ∷ [])) = record { i = o; f = g.0; old_is = g.1; small = (p.first, (p.second, tt)); off = off; all = covers; from = refl } in
           let off_a : k / 5 ≢ o = head_off (k / 5) (k % 5 ∷ []) o off in
@@ -137,7 +137,7 @@ module _ (old : List Row) (m : Move) (new : List Row) (table : IsTable old) (tab
             below = g.1.is.in_range;
             low_v = va.small;
             low_w = vb.small;
-            apart = λ e. p.apart (sym va.label ∙ ap (image g.0.labels) e ∙ vb.label);
+            separate = λ e. p.separate (sym va.label ∙ ap (image g.0.labels) e ∙ vb.label);
           } in
           let here : class_of vs (tail_of q) ≡ c = (label_old old m new table h vs n numbered vs' n' numbered' c c' match o (k / 5) g.0 g.1 p.first off_a).1 p.at in
           let f : Found q = found old m new table table' h vs n numbered vs' n' numbered' c c' match ds d arrows ds' d' arrows' q ar here in

@@ -21,8 +21,8 @@ module _ (old : List Row) (m : Move) (new : List Row) (table : IsTable old) (h :
   pub fine : HasNoFault old m
   fine = no_fault old m h.legal
 
-  pub few : length m.core < 5
-  few = (core_size m.core h.core).1
+  pub limited : length m.core < 5
+  limited = (core_size m.core h.core).1
 
   pub some : 0 < length m.core
   some = (core_size m.core h.core).0
@@ -45,25 +45,25 @@ module _ (old : List Row) (m : Move) (new : List Row) (table : IsTable old) (h :
 
   pub one_facet : (i k : ℕ) (f g : Facet) → IsOld i f → IsOld k g → f.tet ≡ g.tet → (i ≡ k) × (f ≡ g)
   one_facet i k f g a b e =
-      let same : i ≡ k = facets_apart old m fine h.core i k f g (old_label (length m.core) i few a.low a.high) (old_label (length m.core) k few b.low b.high) a.found b.found e in
+      let same : i ≡ k = facets_apart old m fine h.core i k f g (old_label (length m.core) i limited a.low a.high) (old_label (length m.core) k limited b.low b.high) a.found b.found e in
       (same, same_some (facet old m k) f g (ap (facet old m) (sym same) ∙ a.found) b.found)
 
   pub old_has : (i : ℕ) (f : Facet) → IsOld i f → has (old_tets old m) f.tet ≡ true
-  old_has i f a = has_tet (facet old m) (old_labels m) i f (old_label (length m.core) i few a.low a.high) a.found
+  old_has i f a = has_tet (facet old m) (old_labels m) i f (old_label (length m.core) i limited a.low a.high) a.found
 
   pub small_label : (j : ℕ) → j < length m.core → j < 5
-  small_label j l = let f = few in omega arith
+  small_label j l = let f = limited in omega arith
 
   -- the step across the face between two facets
   pub old_step : (i k : ℕ) (f g : Facet) (ls : List ℕ) → IsOld i f → IsOld k g → i ≢ k → Below5 ls → has ls i ≡ false → has ls k ≡ false → across old (in_facet f ls) (vertex_of f k) ≡ Some (in_facet g ls)
-  old_step i k f g ls a b apart small oi ok =
-      let e : AreGlued old i k f g = old_glued old m i k f g table fine h.core a.low a.high b.low b.high apart a.found b.found in
+  old_step i k f g ls a b separate small oi ok =
+      let e : AreGlued old i k f g = old_glued old m i k f g table fine h.core a.low a.high b.low b.high separate a.found b.found in
       let hp : IsPermutationOfFour e.by.perm = table.permutes (opposite f k) e.by e.glued in
-      meet_step old i k f g e.by ls a.is.labels b.high (λ z. apart (sym z)) e.glued e.tet (old_meets i k f g e.by.perm a.is.labels b.is.labels hp e.labels) small oi ok
+      meet_step old i k f g e.by ls a.is.labels b.high (λ z. separate (sym z)) e.glued e.tet (old_meets i k f g e.by.perm a.is.labels b.is.labels hp e.labels) small oi ok
 
   pub new_step : (j l : ℕ) (ls : List ℕ) → j < length m.core → l < length m.core → j ≢ l → Below5 ls → has ls j ≡ false → has ls l ≡ false → across new (in_facet (new_at j) ls) (vertex_of (new_at j) l) ≡ Some (in_facet (new_at l) ls)
-  new_step j l ls lj ll apart small oj ol =
-      meet_step new j l (new_at j) (new_at l) _ ls (new_labels j (small_label j lj)) (small_label l ll) (λ z. apart (sym z)) (h.inner j l lj ll apart) refl (new_meets j l (small_label j lj)) small oj ol
+  new_step j l ls lj ll separate small oj ol =
+      meet_step new j l (new_at j) (new_at l) _ ls (new_labels j (small_label j lj)) (small_label l ll) (λ z. separate (sym z)) (h.inner j l lj ll separate) refl (new_meets j l (small_label j lj)) small oj ol
 
   -- all vertices of place p lie in a face that is replaced in the new table, and q is the image of p there
   pub record Ties (p q : Place) : Type 0 where
@@ -73,11 +73,11 @@ module _ (old : List Row) (m : Move) (new : List Row) (table : IsTable old) (h :
     pub place : IsPlace p
     pub low : face < 4
     pub off : has p.vertices face ≡ false
-    pub stands : place_after old m (face_at p.tet face) ≡ Some by
+    pub occurs : place_after old m (face_at p.tet face) ≡ Some by
     pub is : q ≡ carried by p
 
   pub tie_permutes : (p q : Place) (t : Ties p q) → IsPermutationOfFour t.by.perm
-  tie_permutes p q t = stand_permutes old m table fine h.core (face_at p.tet t.face) t.by t.tet t.low t.stands
+  tie_permutes p q t = stand_permutes old m table fine h.core (face_at p.tet t.face) t.by t.tet t.low t.occurs
 
   -- in a retained tetrahedron, or from an old facet to a new one
   pub record KeptTie (p q : Place) : Type 0 where

@@ -174,9 +174,9 @@ module _ (old : List Row) (m : Move) (new : List Row) (table : IsTable old) (h :
           let is : vertex j ≡ in_facet (at i) (l ∷ []) = (λ z. record { tet = tet z; vertices = sym label.vertex z ∷ [] }) in
           let on : x l ≡ true = (label_new old m new table h vs n numbered vs' n' numbered' c c' match i l less label.small label.present).0 (ap (class_of vs') (sym is) ∙ p.1) in
           let e = parts_of_pair i l label.small in
-          let few : 5 * i + l < 25 = (let a1 : image (ascending (j / 4 - kept old m)) (j % 4) < 5 = label.small in omega arith) in
+          let limited : 5 * i + l < 25 = (let a1 : image (ascending (j / 4 - kept old m)) (j % 4) < 5 = label.small in omega arith) in
           let there : vertex j ≡ in_facet (at ((5 * i + l) / 5)) ((5 * i + l) % 5 ∷ []) = is ∙ (λ z. in_facet (at (sym e.0 z)) (sym e.1 z ∷ [])) in (
             inr (5 * i + l),
-            second_kind members new_pairs (5 * i + l) (is_passing (new_pair (length m.core) x) 25 (5 * i + l) few (is_new_pair (length m.core) x i l label.small less label.present on)),
+            second_kind members new_pairs (5 * i + l) (is_passing (new_pair (length m.core) x) 25 (5 * i + l) limited (is_new_pair (length m.core) x i l label.small less label.present on)),
             (subst (λ z. z < length m.core) (sym e.0) less, subst (λ z. z < 5) (sym e.1) label.small, (λ q. label.present (sym e.1 ∙ q ∙ e.0)), there),
           )

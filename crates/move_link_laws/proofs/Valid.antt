@@ -5,7 +5,7 @@ use Rattle.std.specs.Prelude.{◌==◌, ◌||◌}
 use Rattle.std.proofs.lemmas.Bool.{or_parts, or_from}
 use Rattle.table_definitions.specs.Permutation.{image}
 use Rattle.table_definitions.specs.Table.{Row, IsTable}
-use Rattle.table_definitions.specs.Places.{Place, IsPlace, edge_number, turned, IsJoined, HasValidEdges}
+use Rattle.table_definitions.specs.Places.{Place, IsPlace, edge_number, backwards, IsJoined, HasValidEdges}
 use Rattle.move_definitions.specs.Moves.{Move, Facet, IsMoved, vertex_of}
 use Rattle.skeleton_class_laws.specs.Crossings.{pair}
 use Rattle.table_definitions.proofs.Faces.{face_at}
@@ -31,7 +31,7 @@ module _ (old : List Row) (m : Move) (new : List Row) (table : IsTable old) (h :
   Tie p q = Ties old m new table h p q
 
   -- the reverse of an image is the image of the reverse
-  pub tie_turned : (t a b : ℕ) (q : Place) → Tie (pair t a b) q → Tie (pair t b a) (turned q)
+  pub tie_turned : (t a b : ℕ) (q : Place) → Tie (pair t a b) q → Tie (pair t b a) (backwards q)
   tie_turned t a b q z = record {
     face = z.face;
     by = z.by;
@@ -40,18 +40,18 @@ module _ (old : List Row) (m : Move) (new : List Row) (table : IsTable old) (h :
     low = z.low;
     off = (let o = or_parts (a == z.face) ((b == z.face) || false) z.off in
         let p = or_parts (b == z.face) false o.1 in or_from (b == z.face) ((a == z.face) || false) p.0 (or_from (a == z.face) false o.0 refl));
-    stands = z.stands;
-    is = ap turned z.is;
+    occurs = z.occurs;
+    is = ap backwards z.is;
   }
 
   pub tie_range : (p q : Place) (z : Tie p q) → z.by.tet < length new
-  tie_range p q z = let l = (stand_in_range old m table (fine old m new table h) h.core (face_at p.tet z.face) z.by z.tet z.low z.stands).0 in let n = h.length_is in omega arith
+  tie_range p q z = let l = (stand_in_range old m table (fine old m new table h) h.core (face_at p.tet z.face) z.by z.tet z.low z.occurs).0 in let n = h.length_is in omega arith
 
-  pub reverses_over : (t a b : ℕ) (q : Place) → Tie (pair t a b) q → Reverses old t a b → IsJoined new q (turned q)
-  reverses_over t a b q z j = joined_over old m new table h (pair t a b) (pair t b a) q (turned q) z (tie_turned t a b q z) j
+  pub reverses_over : (t a b : ℕ) (q : Place) → Tie (pair t a b) q → Reverses old t a b → IsJoined new q (backwards q)
+  reverses_over t a b q z j = joined_over old m new table h (pair t a b) (pair t b a) q (backwards q) z (tie_turned t a b q z) j
 
-  pub reverses_under : (t a b : ℕ) (q : Place) → Tie (pair t a b) q → IsJoined new q (turned q) → Reverses old t a b
-  reverses_under t a b q z j = joined_under old m new table h (pair t a b) (pair t b a) q (turned q) z (tie_turned t a b q z) j
+  pub reverses_under : (t a b : ℕ) (q : Place) → Tie (pair t a b) q → IsJoined new q (backwards q) → Reverses old t a b
+  reverses_under t a b q z j = joined_under old m new table h (pair t a b) (pair t b a) q (backwards q) z (tie_turned t a b q z) j
 
   pub buried_forward : (ls : List ℕ) (t a b : ℕ) → Buried old m new table h ls (pair t a b) → Reverses old t a b → a ≡ b
   buried_forward ls t a b z j =
@@ -72,7 +72,7 @@ module _ (old : List Row) (m : Move) (new : List Row) (table : IsTable old) (h :
   valid_forth : HasValidEdges old → HasValidEdges new
   valid_forth valid i l j = elim (new_tied_or_buried old m new table h (pair e.t e.a e.b) lt (e.low_a, (e.low_b, tt)) (free_of_two e.a e.b)) [
     | inl w ↦ tied w.0 w.1
-    | inr w ↦ e.apart (new_buried_forward w.0 e.t e.a e.b w.1 there)
+    | inr w ↦ e.separate (new_buried_forward w.0 e.t e.a e.b w.1 there)
   ]
     where
       e : EdgeAt i
@@ -82,7 +82,7 @@ module _ (old : List Row) (m : Move) (new : List Row) (table : IsTable old) (h :
       lt = let q = e.tet in omega arith
 
       there : Reverses new e.t e.a e.b
-      there = subst₂ (IsJoined new) e.is (ap turned e.is) j
+      there = subst₂ (IsJoined new) e.is (ap backwards e.is) j
 
       tied : (p : Place) → Tie p (pair e.t e.a e.b) → ⊥
       tied p z =
@@ -91,14 +91,14 @@ module _ (old : List Row) (m : Move) (new : List Row) (table : IsTable old) (h :
           let y : ℕ = w.1 in
           let is : p ≡ pair p.tet w.0 w.1 = (λ k. record { tet = p.tet; vertices = w.2 k }) in
           let place : IsPlace (pair p.tet w.0 w.1) = subst IsPlace is z.place in
-          let ne : w.0 ≢ w.1 = (λ k. e.apart (sym w.3 ∙ ap (image z.by.perm) k ∙ w.4)) in
+          let ne : w.0 ≢ w.1 = (λ k. e.separate (sym w.3 ∙ ap (image z.by.perm) k ∙ w.4)) in
           valid (6 * p.tet + edge_number x y) (edge_below p.tet x y (length old) place.0 place.1.0 ne z.tet)
           (reverses_edge old p.tet x y place.0 place.1.0 ne (reverses_under p.tet x y (pair e.t e.a e.b) (subst (λ (r : Place). Tie r (pair e.t e.a e.b)) is z) there))
 
   valid_back : HasValidEdges new → HasValidEdges old
   valid_back valid i l j = elim (tied_or_buried old m new table h (pair e.t e.a e.b) lt (e.low_a, (e.low_b, tt)) (free_of_two e.a e.b)) [
     | inl w ↦ tied w.0 w.1
-    | inr w ↦ e.apart (buried_forward w.0 e.t e.a e.b w.1 there)
+    | inr w ↦ e.separate (buried_forward w.0 e.t e.a e.b w.1 there)
   ]
     where
       e : EdgeAt i
@@ -108,7 +108,7 @@ module _ (old : List Row) (m : Move) (new : List Row) (table : IsTable old) (h :
       lt = let q = e.tet in omega arith
 
       there : Reverses old e.t e.a e.b
-      there = subst₂ (IsJoined old) e.is (ap turned e.is) j
+      there = subst₂ (IsJoined old) e.is (ap backwards e.is) j
 
       tied : (q : Place) → Tie (pair e.t e.a e.b) q → ⊥
       tied q z =
@@ -116,11 +116,11 @@ module _ (old : List Row) (m : Move) (new : List Row) (table : IsTable old) (h :
           let x : ℕ = image z.by.perm e.a in
           let y : ℕ = image z.by.perm e.b in
           let u : z.by.tet < length new = tie_range (pair e.t e.a e.b) q z in
-          let ne : image z.by.perm e.a ≢ image z.by.perm e.b = images_apart z.by.perm e.a e.b hp e.low_a e.low_b e.apart in
+          let ne : image z.by.perm e.a ≢ image z.by.perm e.b = images_apart z.by.perm e.a e.b hp e.low_a e.low_b e.separate in
           let lx : image z.by.perm e.a < 4 = image_below z.by.perm hp e.a e.low_a in
           let ly : image z.by.perm e.b < 4 = image_below z.by.perm hp e.b e.low_b in
           valid (6 * z.by.tet + edge_number x y) (edge_below z.by.tet x y (length new) lx ly ne u)
-          (reverses_edge new z.by.tet x y lx ly ne (subst₂ (IsJoined new) z.is (ap turned z.is) (reverses_over e.t e.a e.b q z there)))
+          (reverses_edge new z.by.tet x y lx ly ne (subst₂ (IsJoined new) z.is (ap backwards z.is) (reverses_over e.t e.a e.b q z there)))
 
 pub moves_keep_valid_lem : MovesKeepValid
 moves_keep_valid_lem old m new table h = (valid_forth old m new table h, valid_back old m new table h)

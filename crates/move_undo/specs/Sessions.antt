@@ -9,6 +9,6 @@ session_of s = record { first = first_table s.undos.items s.table; moves = s.mov
 
 pub record IsKept (s : Inside) : Type 0 where
   pub recorded : Recorded (first_table s.undos.items s.table) s.moves.items s.undos.items s.table
-  pub few : length s.moves.items < 2 ^ 32
+  pub limited : length s.moves.items < 2 ^ 32
   -- each recorded move can be played again without an allocation
   pub room : length s.moves.items ≤ vec_capacity s.undos

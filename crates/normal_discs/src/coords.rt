@@ -33,7 +33,7 @@ pub fn has_octagons(coords: Coords) -> bool
 /// The number of triangle columns of a tetrahedron in the coordinates `coords`, which come before its quads.
 pub fn triangles_each(coords: Coords) -> u32
     ensures value { result ≡ coordinates.triangles_each coords }
-    ensures few { result ≤ 4 }
+    ensures limited { result ≤ 4 }
 {
     if has_triangles(coords) { 4 } else { 0 }
 }
@@ -42,7 +42,7 @@ pub fn triangles_each(coords: Coords) -> u32
 /// quads.
 pub fn before_octagons(coords: Coords) -> u32
     ensures value { result ≡ coordinates.before_octagons coords }
-    ensures few { result ≤ 7 }
+    ensures limited { result ≤ 7 }
 {
     triangles_each(coords) + 3
 }
@@ -50,7 +50,7 @@ pub fn before_octagons(coords: Coords) -> u32
 /// The number of octagon columns of a tetrahedron in the coordinates `coords`.
 pub fn octagons_each(coords: Coords) -> u32
     ensures value { result ≡ coordinates.octagons_each coords }
-    ensures few { result ≤ 3 }
+    ensures limited { result ≤ 3 }
 {
     if has_octagons(coords) { 3 } else { 0 }
 }
@@ -59,7 +59,7 @@ pub fn octagons_each(coords: Coords) -> u32
 pub fn columns_each(coords: Coords) -> u32
     ensures value { result ≡ coordinates.columns_each coords }
     ensures some { 1 ≤ result }
-    ensures few { result ≤ 10 }
+    ensures limited { result ≤ 10 }
 {
     before_octagons(coords) + octagons_each(coords)
 }
@@ -68,7 +68,7 @@ pub fn columns_each(coords: Coords) -> u32
 pub fn columns(coords: Coords, tets: u32) -> u32
     requires { tets ≤ max_tets }
     ensures value { result ≡ coordinates.columns coords tets }
-    ensures few { result ≤ 10000 }
+    ensures limited { result ≤ 10000 }
 {
     first_column(coords, tets)
 }
@@ -77,7 +77,7 @@ pub fn columns(coords: Coords, tets: u32) -> u32
 pub fn first_column(coords: Coords, tet: u32) -> u32
     requires { tet ≤ max_tets }
     ensures value { result ≡ coordinates.columns_each coords * tet }
-    ensures few { result ≤ 10000 }
+    ensures limited { result ≤ 10000 }
 {
     columns_each(coords) * tet
 }

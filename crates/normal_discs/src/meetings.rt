@@ -17,7 +17,7 @@ pub fn octagon_arcs(coords: Coords, tet: u32, face: u8, vertex: u8) -> ArrayVec<
     requires tet { tet ≤ max_tets }
     requires a_vertex { vertex < 4 }
     requires a_face { face < 4 }
-    requires apart { vertex ≢ face }
+    requires separate { vertex ≢ face }
     ensures { result.items ≡ coordinates.octagon_arcs coords tet face vertex }
 {
     let mut columns = ArrayVec::new();
@@ -35,7 +35,7 @@ pub fn arc_columns(coords: DiscCoords, tet: u32, face: u8, vertex: u8) -> ArrayV
     requires tet { tet ≤ max_tets }
     requires a_vertex { vertex < 4 }
     requires a_face { face < 4 }
-    requires apart { vertex ≢ face }
+    requires separate { vertex ≢ face }
     ensures { result.items ≡ coordinates.arc_columns coords.system tet face vertex }
 {
     let mut columns = ArrayVec::new();
@@ -54,7 +54,7 @@ pub fn edge_columns(coords: DiscCoords, tet: u32, vertex: u8, other: u8) -> Arra
     requires tet { tet ≤ max_tets }
     requires a_vertex { vertex < 4 }
     requires another { other < 4 }
-    requires apart { vertex ≢ other }
+    requires separate { vertex ≢ other }
     ensures { result.items ≡ crossings coords.system tet vertex other }
 {
     let kind = keeping(vertex, other);

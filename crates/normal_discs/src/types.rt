@@ -8,7 +8,7 @@ ghost use Rattle.surface_definitions.specs.Coordinates.{three};
 pub fn keeping(vertex: u8, other: u8) -> u8
     requires a_vertex { vertex < 4 }
     requires another { other < 4 }
-    requires apart { vertex ≢ other }
+    requires separate { vertex ≢ other }
     ensures value { result ≡ coordinates.keeping vertex other }
     ensures in_range { result < 3 }
 {

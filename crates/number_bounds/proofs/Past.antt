@@ -34,33 +34,33 @@ pub is_within : (most n limit : ℕ) → most ≡ n → IsTrue (nat_le most limi
 is_within most n limit is = (λ yes. grind (arith, nat_tests), λ within. grind (arith, nat_tests))
 
 pub is_past : (n limit most : ℕ) → limit < most → most ≤ n → IsTrue false ↔ (n ≤ limit)
-is_past n limit most small past = (λ no. absurd (false≢true no), λ within. absurd (omega arith))
+is_past n limit most small exceeded = (λ no. absurd (false≢true no), λ within. absurd (omega arith))
 
 -- if the terms so far and the next one reach the bound, the row does
 pub size_past : (row : Row) (i old n most : ℕ) → i < length row → old ≡ row_size (take i row) → n ≡ unsigned_abs (get_or row i (0, pos 0)).1 → most ≤ old + n → most ≤ row_size row
-size_past row i old n most l so_far one past =
+size_past row i old n most l so_far one exceeded =
     let whole = sum_by_more_le (λ (term : ℕ × ℤ). magnitude term.1) row i (0, pos 0) l in
     let m : n ≡ magnitude (get_or row i (0, pos 0)).1 = one ∙ magnitude_is (get_or row i (0, pos 0)).1 in
-    omega (arith, whole, m, so_far, past)
+    omega (arith, whole, m, so_far, exceeded)
 
 pub square_past : (old start : List ℕ) (row : Row) (i n most : ℕ) → AllPairs (λ (one other : ℕ × ℤ). one.0 < other.0) row → i < length row →
     ((j : ℕ) → get_or old j 0 ≡ get_or start j 0 + row_square j (take i row)) → n ≡ magnitude (get_or row i (0, pos 0)).1 * magnitude (get_or row i (0, pos 0)).1 →
     most ≤ get_or old (get_or row i (0, pos 0)).0 0 + n →
     most ≤ get_or start (get_or row i (0, pos 0)).0 0 + row_weight (get_or row i (0, pos 0)).0 row * row_weight (get_or row i (0, pos 0)).0 row
-square_past old start row i n most ascending l so_far one past =
+square_past old start row i n most ascending l so_far one exceeded =
     let column : ℕ = (get_or row i (0, pos 0)).0 in
     let z : ℤ = (get_or row i (0, pos 0)).1 in
     let whole : row_square column (take i row) + (if column == column then magnitude z * magnitude z else 0) ≤ row_square column row =
     sum_by_more_le (λ (term : ℕ × ℤ). if term.0 == column then magnitude term.1 * magnitude term.1 else 0) row i (0, pos 0) l in
-    omega (arith, whole, one, own column column (magnitude z * magnitude z) refl, so_far column, past, row_square_is column row ascending)
+    omega (arith, whole, one, own column column (magnitude z * magnitude z) refl, so_far column, exceeded, row_square_is column row ascending)
 
 pub column_past : (rows : List Row) (i j most : ℕ) (row : Row) (old lent : List ℕ) → i < length rows → row ≡ get_or rows i [] → get_or old j 0 ≡ sum_of_squares (take i rows) j → lent ≡ old →
     most ≤ get_or lent j 0 + row_weight j row * row_weight j row → most ≤ sum_of_squares rows j
-column_past rows i j most row old lent l same so_far is past =
+column_past rows i j most row old lent l same so_far is exceeded =
     let whole = sum_by_more_le (λ r. row_weight j r * row_weight j r) rows i [] l in
     let a : get_or lent j 0 ≡ sum_of_squares (take i rows) j = ap (λ xs. get_or xs j 0) is ∙ so_far in
     let b : row_weight j row * row_weight j row ≡ row_weight j (get_or rows i []) * row_weight j (get_or rows i []) = ap (λ r. row_weight j r * row_weight j r) same in
-    omega (arith, whole, a, b, past)
+    omega (arith, whole, a, b, exceeded)
 
 -- what holds at an index of the rows holds of some row
 pub any_at : (P : Row → Type 0) (rows : List Row) (k : ℕ) → k < length rows → P (get_or rows k []) → Any P rows
@@ -103,10 +103,10 @@ caps_up cap some n (suc m) l = elim (cases_lt m n) [
 -- if the product so far and the next factor reach the bound, the whole product does
 pub product_past : (squares : List ℕ) (i old factor most : ℕ) → i < length squares → old ≡ caps_product (cap_by squares) i → factor ≡ cap_by squares i → most ≤ old * factor →
     most ≤ caps_product (cap_by squares) (length squares)
-product_past squares i old factor most l so_far one past =
+product_past squares i old factor most l so_far one exceeded =
     let here = product_more (cap_by squares) i old (old * factor) factor so_far one refl in
     let up = caps_up (cap_by squares) (some_cap squares) (i + 1) (length squares) (omega arith) in
-    omega (arith, here, up, past)
+    omega (arith, here, up, exceeded)
 
 -- the computed product is that of the columns
 pub squares_are : (system : System) (squares : List ℕ) → AreSquares system squares → caps_product (cap_by squares) (length squares) ≡ squares_product system
@@ -135,15 +135,15 @@ no_product system none = ones (λ column. max (sum_of_squares system.rows column
 
 -- a positive multiple of a product that exceeds the limit exceeds the limit
 pub large_past : (size product limit : ℕ) → 1 ≤ size → limit < product → limit < size * product
-large_past size product limit some past = let more : 1 * product ≤ size * product = mul-le 1 product size product some (omega arith) in omega (arith, more, past)
+large_past size product limit some exceeded = let more : 1 * product ≤ size * product = mul-le 1 product size product some (omega arith) in omega (arith, more, exceeded)
 
 -- if the greatest size times a product exceeds the limit, the size of some row does
 pub past_limit : (rows : List Row) (limit size product whole : ℕ) → (size ≡ 0) ⊎ Any (λ row. row_size row ≡ size) rows → product ≡ whole → limit < size * product →
     Any (λ row. limit < row_size row * whole) rows
-past_limit rows limit size product whole attained is past = elim attained [
-  | inl none ↦ absurd (let l : limit < 0 * product = subst (λ s. limit < s * product) none past in omega (arith, l))
+past_limit rows limit size product whole attained is exceeded = elim attained [
+  | inl none ↦ absurd (let l : limit < 0 * product = subst (λ s. limit < s * product) none exceeded in omega (arith, l))
   | inr some ↦
-      let one : limit < size * whole = subst (λ p. limit < size * p) is past in
+      let one : limit < size * whole = subst (λ p. limit < size * p) is exceeded in
       (some.0, some.1, some.2, some.3, subst (λ s. limit < s * whole) (sym some.4) one)
 ]
 

@@ -28,7 +28,7 @@ greatest_more rows i old new size row before most is same k l = elim (cases_eq k
 ]
 
 pub all_small : (rows : List Row) (i greatest : ℕ) → ((k : ℕ) → k < i → row_size (get_or rows k []) ≤ greatest) → length rows ≤ i → All (λ row. row_size row ≤ greatest) rows
-all_small rows i greatest before past k d l = subst (λ r. row_size r ≤ greatest) (get_or_default rows k [] d l) (before k (omega arith))
+all_small rows i greatest before exceeded k d l = subst (λ r. row_size r ≤ greatest) (get_or_default rows k [] d l) (before k (omega arith))
 
 pub own : (column j n : ℕ) → j ≡ column → (if column == j then n else 0) ≡ n
 own column j n e = grind (arith, nat_tests)

@@ -41,10 +41,10 @@ bounded system limit squares size product whole summed small is most = record {
 -- if the product of the groups so far and the next one reaches the bound, that of all groups does
 pub product_past : (squares : List ℕ) (i old factor most : ℕ) → i < length squares / 3 → old ≡ caps_product (triple_cap squares) i → factor ≡ triple_cap squares i → most ≤ old * factor →
     most ≤ caps_product (triple_cap squares) (length squares / 3)
-product_past squares i old factor most l so_far one past =
+product_past squares i old factor most l so_far one exceeded =
     let here = product_more (triple_cap squares) i old (old * factor) factor so_far one refl in
     let up = caps_up (triple_cap squares) (some_cap squares) (i + 1) (length squares / 3) (omega arith) in
-    omega (arith, here, up, past)
+    omega (arith, here, up, exceeded)
 
 pub product_is : (system : System) (squares : List ℕ) → AreSquares system squares → caps_product (triple_cap squares) (length squares / 3) ≡ triples_product system
 product_is system squares summed =

@@ -30,7 +30,7 @@ triples_product system =
     (system.columns / 3)
 
 -- a row's size or a column's sum of squares exceeds 2^64 - 1, or a row's size times that product exceeds the limit
-abbrev pub ArePastTriples : System → ℕ → Type 0
-ArePastTriples system limit =
+abbrev pub TriplesExceed : System → ℕ → Type 0
+TriplesExceed system limit =
     Any (λ row. 2 ^ 64 ≤ row_size row) system.rows
     ⊎ (HasHeavyColumn system ⊎ Any (λ row. limit < row_size row * triples_product system) system.rows)

@@ -2,7 +2,7 @@
 
 ghost use Rattle.std.specs.Prelude.{◌≡◌, ◌*◌, ◌/◌, ◌^◌, ◌<◌, ◌≤◌, IsTrue, IsFalse, IfOk, IfSome, IfNone, length};
 ghost use Rattle.cone_bound_laws.specs.Caps.{caps_product};
-ghost use Rattle.number_bounds.specs.Triples.{triple_cap, AreTriplesBounded, ArePastTriples};
+ghost use Rattle.number_bounds.specs.Triples.{triple_cap, AreTriplesBounded, TriplesExceed};
 
 use crate::sizes::{greatest_size, is_product_within};
 use crate::squares::column_squares;
@@ -39,7 +39,7 @@ fn product_of_triples(squares: &[u64]) -> Option<u128>
 pub fn triples_fit(alloc: Global, system: &System, limit: u128) -> Result<bool, NoMemory>
     requires { 3 * (system.now.columns / 3) ≡ system.now.columns }
     ensures bounded { IfOk result (λ fit. IsTrue fit → AreTriplesBounded system.now limit) }
-    ensures past { IfOk result (λ fit. IsFalse fit → ArePastTriples system.now limit) }
+    ensures exceeded { IfOk result (λ fit. IsFalse fit → TriplesExceed system.now limit) }
 {
     let Some(size) = greatest_size(system) else {
         return Ok(false);

@@ -6,16 +6,16 @@ use Rattle.certificate_definitions.specs.Answers.{CheckAnswer, DescentAnswer}
 use Rattle.outcome_definitions.specs.Outcomes.{Outcome, IsOwnStatus}
 use Rattle.outcome_definitions.specs.Certificates.{check_outcome, IsCheckAnswer, descend_outcome, IsDescendAnswer}
 
-told_check : (told : CheckAnswer) → IsOwnStatus (check_outcome told).status
+told_check : (reported : CheckAnswer) → IsOwnStatus (check_outcome reported).status
 told_check (Ok u) = tt
 told_check (Err fault) = tt
 
 pub check_own : (d : List Row × List Move) (o : Outcome) → IsCheckAnswer d o → IsOwnStatus o.status
-check_own d o h = subst (λ (q : Outcome). IsOwnStatus q.status) (sym h.outcome) (told_check h.told)
+check_own d o h = subst (λ (q : Outcome). IsOwnStatus q.status) (sym h.outcome) (told_check h.reported)
 
-told_descent : (told : DescentAnswer) → IsOwnStatus (descend_outcome told).status
+told_descent : (reported : DescentAnswer) → IsOwnStatus (descend_outcome reported).status
 told_descent (Ok d) = tt
 told_descent (Err t) = tt
 
 pub descend_own : (rows : List Row) (o : Outcome) → IsDescendAnswer rows o → IsOwnStatus o.status
-descend_own rows o h = subst (λ (q : Outcome). IsOwnStatus q.status) (sym h.outcome) (told_descent h.told)
+descend_own rows o h = subst (λ (q : Outcome). IsOwnStatus q.status) (sym h.outcome) (told_descent h.reported)

@@ -55,7 +55,7 @@ not_connected_own : (k : ℕ) (rows : List Row) (o : Outcome) → IsNotConnected
 not_connected_own k rows o h = is_own o _ h.2 tt
 
 signature_own : (rows : List Row) (o : Outcome) → IsSignatureAnswer rows o → IsOwnStatus o.status
-signature_own rows o (inl h) = is_own o _ h.told tt
+signature_own rows o (inl h) = is_own o _ h.reported tt
 signature_own rows o (inr h) = not_connected_own 0 rows o h
 
 compared_own : (first second : List Row) (o : Outcome) → IsCompared first second o → IsOwnStatus o.status
@@ -68,8 +68,8 @@ same_own pair o (inr (inl h)) = not_connected_own 1 pair.1 o h.1
 same_own pair o (inr (inr h)) = compared_own pair.0 pair.1 o h.2
 
 group_own : (tables : List (List Row)) (o : Outcome) → IsGroupAnswer tables o → IsOwnStatus o.status
-group_own tables o (inl h) = is_own o _ h.told tt
-group_own tables o (inr h) = not_connected_own h.table _ o h.told
+group_own tables o (inl h) = is_own o _ h.reported tt
+group_own tables o (inr h) = not_connected_own h.table _ o h.reported
 
 refusal_own : (v : ℕ) (r : Refusal) → IsOwnStatus (refusal_outcome v r).status
 refusal_own v (Unfit (faults.Length n)) = tt
@@ -81,15 +81,15 @@ refusal_own v (TooManyPieces n) = tt
 refusal_own v LargeLift = tt
 refusal_own v (NoLift c) = tt
 
-crush_own : (told : Result (List Row) Refusal) → IsOwnStatus (crush_outcome told).status
+crush_own : (reported : Result (List Row) Refusal) → IsOwnStatus (crush_outcome reported).status
 crush_own (Ok rows) = tt
 crush_own (Err r) = refusal_own 0 r
 
-lift_own : (told : Result (List (List ℕ)) (ℕ × Refusal)) → IsOwnStatus (lift_outcome told).status
+lift_own : (reported : Result (List (List ℕ)) (ℕ × Refusal)) → IsOwnStatus (lift_outcome reported).status
 lift_own (Ok lifts) = tt
 lift_own (Err p) = refusal_own p.0 p.1
 
-describe_text_own : (s : Skeleton) (coords : Coords) (told : Result (List Description) (ℕ × Refusal)) → IsOwnStatus (describe_outcome s coords told).status
+describe_text_own : (s : Skeleton) (coords : Coords) (reported : Result (List Description) (ℕ × Refusal)) → IsOwnStatus (describe_outcome s coords reported).status
 describe_text_own s coords (Ok descriptions) = tt
 describe_text_own s coords (Err p) = refusal_own p.0 p.1
 
@@ -97,9 +97,9 @@ invalid_own : (s : Skeleton) (o : Outcome) → IsInvalidAnswered s o → IsOwnSt
 invalid_own s o h = is_own o _ h.2 tt
 
 describe_own : (coords : Coords) (d : List Row × List (List ℕ)) (o : Outcome) → IsDescribeAnswer coords d o → IsOwnStatus o.status
-describe_own coords d o h = elim h.told [
+describe_own coords d o h = elim h.reported [
   | inl invalid ↦ invalid_own h.skeleton o invalid
-  | inr g ↦ is_own o (describe_outcome h.skeleton coords (g.1).told) (g.1).outcome (describe_text_own h.skeleton coords (g.1).told)
+  | inr g ↦ is_own o (describe_outcome h.skeleton coords (g.1).reported) (g.1).outcome (describe_text_own h.skeleton coords (g.1).reported)
 ]
 
 sum_refusal_own : (v : ℕ) (r : SumRefusal) → IsOwnStatus (sum_refusal_outcome v r).status
@@ -116,20 +116,20 @@ sum_refusal_own v (NoSum ZeroTimes) = tt
 sum_refusal_own v (NoSum (adding.Large column)) = tt
 sum_refusal_own v (NoSum (NotEqual column)) = tt
 
-sums_own : (rows : List Row) (told : Result (List Block) (ℕ × LargeTurn)) → IsOwnStatus (sums_outcome rows told).status
+sums_own : (rows : List Row) (reported : Result (List Block) (ℕ × LargeTurn)) → IsOwnStatus (sums_outcome rows reported).status
 sums_own rows (Ok blocks) = tt
 sums_own rows (Err large) = tt
 
 decomposed_own : (most : ℕ) (e : Enumeration) (rows : List Row) (vectors : List (List ℕ)) (checked : Result (List (Unit {0})) (ℕ × VectorFault)) (o : Outcome)
     → IsDecomposed most e rows vectors checked o → IsOwnStatus o.status
-decomposed_own most e rows vectors (Ok passed) o (inl h) = is_own o (sums_outcome rows h.told) h.outcome (sums_own rows h.told)
+decomposed_own most e rows vectors (Ok passed) o (inl h) = is_own o (sums_outcome rows h.reported) h.outcome (sums_own rows h.reported)
 decomposed_own most e rows vectors (Ok passed) o (inr h) = is_own o _ h.3 tt
 decomposed_own most e rows vectors (Err unfit) o h = is_own o _ h (sum_refusal_own unfit.0 (sums.Unfit unfit.1))
 
 decompose_own : (coords : Coords) (most : ℕ) (d : List Row × List (List ℕ)) (o : Outcome) → IsDecomposeAnswer coords most d o → IsOwnStatus o.status
-decompose_own coords most d o h = decomposed_own most _ d.0 d.1 h.checked o h.told
+decompose_own coords most d o h = decomposed_own most _ d.0 d.1 h.checked o h.reported
 
-addup_own : (told : Result (List (Unit {0})) (ℕ × SumRefusal)) → IsOwnStatus (addup_outcome told).status
+addup_own : (reported : Result (List (Unit {0})) (ℕ × SumRefusal)) → IsOwnStatus (addup_outcome reported).status
 addup_own (Ok accepted) = tt
 addup_own (Err p) = sum_refusal_own p.0 p.1
 
@@ -143,11 +143,11 @@ presented_own s o (inr (inl h)) = invalid_own s o h.1
 presented_own s o (inr (inr h)) = is_own o _ (h.1).2 tt
 
 same_parts_own : (pair : List Row × List Row) (o : Outcome) → IsSamePartsAnswer pair o → IsOwnStatus o.status
-same_parts_own pair o (inl h) = is_own o _ h.told tt
+same_parts_own pair o (inl h) = is_own o _ h.reported tt
 same_parts_own pair o (inr h) = is_own o _ h.1 tt
 
 bulk_own : (seed moves : ℕ) (o : Outcome) → IsBulkAnswer seed moves o → IsOwnStatus o.status
-bulk_own seed moves o h = elim h.summary.told [
+bulk_own seed moves o h = elim h.summary.reported [
   | inl g ↦ is_own o _ g.outcome tt
   | inr g ↦ is_own o _ g.3 tt
 ]
@@ -168,8 +168,8 @@ each_own Info = λ rows o h. is_own o _ h.2 tt
 each_own (Surfaces coords order most) = λ rows o h. enumeration_own (codes "surfaces") _ o h.2
 each_own (Rays order most) = λ cone o h. enumeration_own (codes "rays") (ray_enumeration order most cone) o h
 each_own (Describe coords) = describe_own coords
-each_own Lift = λ d o h. is_own o (lift_outcome h.told) h.outcome (lift_own h.told)
-each_own Crush = λ d o h. is_own o (crush_outcome h.told) h.outcome (crush_own h.told)
+each_own Lift = λ d o h. is_own o (lift_outcome h.reported) h.outcome (lift_own h.reported)
+each_own Crush = λ d o h. is_own o (crush_outcome h.reported) h.outcome (crush_own h.reported)
 each_own Play = λ d o h. is_own o _ h.5 tt
 each_own Sig = signature_own
 each_own Same = same_own
@@ -179,10 +179,10 @@ each_own Descend = descend_own
 each_own (Make seed moves) = λ o h. is_own o _ h.outcome tt
 each_own (Bulk seed moves) = bulk_own seed moves
 each_own (Decompose coords most) = decompose_own coords most
-each_own (Addup coords) = λ d o h. is_own o (addup_outcome h.told) h.outcome (addup_own h.told)
+each_own (Addup coords) = λ d o h. is_own o (addup_outcome h.reported) h.outcome (addup_own h.reported)
 each_own Cover = λ rows. cover_own (cover_fault rows) rows
-each_own Pi1 = λ rows o h. presented_own h.skeleton o h.told
-each_own Csig = λ rows o h. is_own o _ h.told tt
+each_own Pi1 = λ rows o h. presented_own h.skeleton o h.reported
+each_own Csig = λ rows o h. is_own o _ h.reported tt
 each_own Csame = same_parts_own
 
 pub answer_own : (request : Request) (bytes : List ℕ) (o : Outcome) → IsAnswerTo request bytes o → IsOwnStatus o.status

@@ -32,7 +32,7 @@ pub record IsSigned (rows : List Row) (o : Outcome) : Type 0 where
   pub connected : IsConnected rows
   pub text : List ℕ
   pub signature : IsSignature rows text
-  pub told : o ≡ done (line text)
+  pub reported : o ≡ done (line text)
 
 -- the answer of `sig` to a table
 abbrev pub IsSignatureAnswer : List Row → Outcome → Type 0
@@ -80,14 +80,14 @@ pub record IsGrouped (tables : List (List Row)) (o : Outcome) : Type 0 where
   pub classes : List ℕ
   pub signatures : List (List ℕ)
   pub census : IsCensus tables classes signatures
-  pub told : o ≡ done (census_text classes signatures)
+  pub reported : o ≡ done (census_text classes signatures)
 
 -- the answer names the first table that is disconnected
 pub record IsFirstNotConnected (tables : List (List Row)) (o : Outcome) : Type 0 where
   pub table : ℕ
   pub in_range : table < length tables
   pub before : (k : ℕ) → k < table → IsConnected (table_in tables k)
-  pub told : IsNotConnected table (table_in tables table) o
+  pub reported : IsNotConnected table (table_in tables table) o
 
 -- the answer of `group` to tables
 abbrev pub IsGroupAnswer : List (List Row) → Outcome → Type 0

@@ -29,9 +29,9 @@ check_outcome (Err fault) = record { status = Refused; text = check_line fault }
 
 -- the answer of `check` to a table and moves
 pub record IsCheckAnswer (d : List Row × List Move) (o : Outcome) : Type 0 where
-  pub told : CheckAnswer
-  pub checked : IsChecked d.0 d.1 told
-  pub outcome : o ≡ check_outcome told
+  pub reported : CheckAnswer
+  pub checked : IsChecked d.0 d.1 reported
+  pub outcome : o ≡ check_outcome reported
 
 -- one line for each move
 unfoldable pub moves_text : List Move → List ℕ
@@ -56,6 +56,6 @@ descend_outcome (Err t) = not_connected_outcome 0 t
 
 -- the answer of `descend` to a table
 pub record IsDescendAnswer (rows : List Row) (o : Outcome) : Type 0 where
-  pub told : DescentAnswer
-  pub descended : IsDescentAnswer rows told
-  pub outcome : o ≡ descend_outcome told
+  pub reported : DescentAnswer
+  pub descended : IsDescentAnswer rows reported
+  pub outcome : o ≡ descend_outcome reported

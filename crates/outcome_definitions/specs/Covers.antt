@@ -7,7 +7,7 @@ use Rattle.cover_definitions.specs.Cover.{over, sheet, cover, cover_fault}
 use Rattle.text_definitions.specs.Written.{line}
 use Rattle.outcome_definitions.specs.declared.Status.TheVariants.{Refused}
 use Rattle.outcome_definitions.specs.Outcomes.{Outcome}
-use Rattle.outcome_definitions.specs.Information.{told, classes_text}
+use Rattle.outcome_definitions.specs.Information.{reported, classes_text}
 use Rattle.outcome_definitions.specs.Canonical.{done}
 
 -- a tetrahedron of the cover of n tetrahedra: the one below it, and its sheet
@@ -16,7 +16,7 @@ sheet_line n u = line (codes "# tet " ++ decimal u ++ codes " over " ++ decimal 
 
 -- the cover as a table, with its projection and whether it is connected as comments
 abbrev pub cover_text : List Row → Bool → List ℕ
-cover_text rows connected = table_text (cover rows) ++ classes_text (sheet_line (length rows)) (2 * length rows) ++ told (codes "# connected ") connected
+cover_text rows connected = table_text (cover rows) ++ classes_text (sheet_line (length rows)) (2 * length rows) ++ reported (codes "# connected ") connected
 
 unfoldable pub large_cover_line : List ℕ
 large_cover_line = line (codes "refused: cover too-many")

@@ -2,7 +2,7 @@
 use Rattle.std.specs.Prelude.{◌≡◌, ℕ, ◌-◌, ◌≤◌, List, ◌++◌, length, codes, decimal, ◌⊎◌, slice_index, All}
 use Rattle.cone_definitions.specs.Rows.{Row as EquationRow}
 use Rattle.cone_definitions.specs.Elimination.{Named}
-use Rattle.cone_definitions.specs.Listings.{Enumeration, IsListed, IsPastLimit, without_pairs}
+use Rattle.cone_definitions.specs.Listings.{Enumeration, IsListed, ExceedsLimit, without_pairs}
 use Rattle.cone_definitions.specs.declared.Order.{Order}
 use Rattle.cone_definitions.specs.declared.LargeKind.TheVariants.{Value, Pair}
 use Rattle.cone_text_definitions.specs.ConeText.{Cone as ConeText, system_of}
@@ -40,7 +40,7 @@ large_outcome taken kind = record {
 
 -- the answer names the first step of an enumeration of which a number exceeds the limit
 abbrev pub IsLargeAnswered : Enumeration → Outcome → Type 0
-IsLargeAnswered e o = (taken : List ℕ) × (kind : Named) × IsPastLimit e taken kind × (o ≡ large_outcome taken kind)
+IsLargeAnswered e o = (taken : List ℕ) × (kind : Named) × ExceedsLimit e taken kind × (o ≡ large_outcome taken kind)
 
 -- the answer of an enumeration whose vectors go by this name
 abbrev pub IsEnumerationAnswer : List ℕ → Enumeration → Outcome → Type 0

@@ -42,8 +42,8 @@ pub record IsInformation (rows : List Row) (i : Information) : Type 0 where
   pub connected : IsTrue i.connected ↔ IsConnected rows
   pub orientable : IsTrue i.orientable ↔ IsOrientable rows
 
-abbrev pub told : List ℕ → Bool → List ℕ
-told name b = line (name ++ yes_or_no b)
+abbrev pub reported : List ℕ → Bool → List ℕ
+reported name b = line (name ++ yes_or_no b)
 
 abbrev pub kind_word : LinkKind → List ℕ
 kind_word Sphere = codes "sphere"
@@ -62,7 +62,7 @@ characteristic s = pos (s.vertices.count + s.faces.count) -ℤ pos (s.edges.coun
 
 abbrev pub flags_text : Skeleton → Bool → Bool → List ℕ
 flags_text s connected orientable =
-    number_line (codes "tetrahedra ") (length s.rows) ++ told (codes "connected ") connected ++ told (codes "orientable ") orientable ++ told (codes "closed ") (is_closed s.rows)
+    number_line (codes "tetrahedra ") (length s.rows) ++ reported (codes "connected ") connected ++ reported (codes "orientable ") orientable ++ reported (codes "closed ") (is_closed s.rows)
 
 abbrev pub counts_text : Skeleton → List ℕ
 counts_text s =

@@ -64,7 +64,7 @@ pub record AreSummedUp (n : Numbers) (e : Enumeration) (o : Outcome) : Type 0 wh
 pub record IsSummary (n : Numbers) (table : List Row) (o : Outcome) : Type 0 where
   pub equations : List EquationRow
   pub of_table : AreEquations Standard table equations
-  pub told : AreSummedUp n (table_enumeration Standard Given limit table equations) o ⊎ IsLargeAnswered (table_enumeration Standard Given limit table equations) o
+  pub reported : AreSummedUp n (table_enumeration Standard Given limit table equations) o ⊎ IsLargeAnswered (table_enumeration Standard Given limit table equations) o
 
 -- the answer of `bulk` to a seed and a number of moves: a table is made, its certificate is one, and its surfaces are
 -- summed up

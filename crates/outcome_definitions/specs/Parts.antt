@@ -12,13 +12,13 @@ use Rattle.outcome_definitions.specs.Canonical.{done, relabelling_text, differen
 pub record IsComponentSignatureAnswer (rows : List Row) (o : Outcome) : Type 0 where
   pub text : List ℕ
   pub signature : IsComponentSignature rows text
-  pub told : o ≡ done (line text)
+  pub reported : o ≡ done (line text)
 
 -- the answer is the relabelling that carries the components of the first table to those of the second
 pub record AreSameParts (first second : List Row) (o : Outcome) : Type 0 where
   pub by : Relabelling
   pub same : IsSameParts first second by
-  pub told : o ≡ done (relabelling_text by)
+  pub reported : o ≡ done (relabelling_text by)
 
 -- the answer of `csame` to two tables: such a relabelling, or that none carries the first to the second
 abbrev pub IsSamePartsAnswer : List Row × List Row → Outcome → Type 0

@@ -50,4 +50,4 @@ pub record IsPresentationAnswer (rows : List Row) (o : Outcome) : Type 0 where
   pub skeleton : Skeleton
   pub of_rows : skeleton.rows ≡ rows
   pub is_skeleton : IsSkeleton skeleton
-  pub told : IsNotConnected 0 skeleton.rows o ⊎ (IsConnected skeleton.rows × IsInvalidAnswered skeleton o) ⊎ (HasGroup skeleton × IsPresented skeleton o)
+  pub reported : IsNotConnected 0 skeleton.rows o ⊎ (IsConnected skeleton.rows × IsInvalidAnswered skeleton o) ⊎ (HasGroup skeleton × IsPresented skeleton o)

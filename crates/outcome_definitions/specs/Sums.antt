@@ -32,19 +32,19 @@ pub record IsFirst {A : Type 0} (Passes Fails : A → Type 0) (list : List A) (n
   pub before : List A
   pub value : A
   pub after : List A
-  pub stands : list ≡ before ++ value ∷ after
+  pub occurs : list ≡ before ++ value ∷ after
   pub number_is : number ≡ length before
   pub passed : All Passes before
   pub fails : Fails value
 
 -- number v of a list is the first that is refused, and this is why
 abbrev pub IsFirstRefused : {A B E : Type 0} → (A → Result B E → Type 0) → List A → ℕ → E → Type 0
-IsFirstRefused {A} {B} IsTold list v refusal = IsFirst (λ x. (answer : B) × IsTold x (Ok answer)) (λ x. IsTold x (Err refusal)) list v
+IsFirstRefused {A} {B} IsResult list v refusal = IsFirst (λ x. (answer : B) × IsResult x (Ok answer)) (λ x. IsResult x (Err refusal)) list v
 
 -- the answer for a list: the result of each element, or the index of the first that is refused, with the reason
 abbrev pub AreAnswered : {A B E : Type 0} → (A → Result B E → Type 0) → List A → Result (List B) (ℕ × E) → Type 0
-AreAnswered IsTold list (Ok answers) = AllZip (λ x answer. IsTold x (Ok answer)) list answers
-AreAnswered IsTold list (Err refusal) = IsFirstRefused IsTold list refusal.0 refusal.1
+AreAnswered IsResult list (Ok answers) = AllZip (λ x answer. IsResult x (Ok answer)) list answers
+AreAnswered IsResult list (Err refusal) = IsFirstRefused IsResult list refusal.0 refusal.1
 
 -- a number is too large, or the vector does not allow what is asked
 abbrev pub unfit_status : VectorFault → Status
@@ -100,9 +100,9 @@ pub record AreSums (most : ℕ) (e : Enumeration) (rows : List Row) (vectors : L
   pub taken : List ℕ
   pub list : List (List ℕ)
   pub listed : IsListed e taken list
-  pub told : Result (List Block) (ℕ × LargeTurn)
-  pub sums : AreAnswered (IsSummed most list) vectors told
-  pub outcome : o ≡ sums_outcome rows told
+  pub reported : Result (List Block) (ℕ × LargeTurn)
+  pub sums : AreAnswered (IsSummed most list) vectors reported
+  pub outcome : o ≡ sums_outcome rows reported
 
 -- vectors that pass the check are answered as sums of the vertex surfaces, unless a number of the enumeration exceeds
 -- the limit
@@ -116,7 +116,7 @@ pub record IsDecomposeAnswer (coords : Coords) (most : ℕ) (d : List Row × Lis
   pub of_table : AreEquations coords d.0 equations
   pub checked : Result (List (Unit {0})) (ℕ × VectorFault)
   pub verdicts : AreAnswered (IsVerdict coords d.0 equations) d.1 checked
-  pub told : IsDecomposed most (table_enumeration coords Given most d.0 equations) d.0 d.1 checked o
+  pub reported : IsDecomposed most (table_enumeration coords Given most d.0 equations) d.0 d.1 checked o
 
 -- the verdict on a term
 abbrev pub IsTermVerdict : Coords → List Row → List EquationRow → Term → Verdict → Type 0
@@ -148,6 +148,6 @@ addup_outcome (Err refusal) = sum_refusal_outcome refusal.0 refusal.1
 pub record IsAddupAnswer (coords : Coords) (d : List Row × List Block) (o : Outcome) : Type 0 where
   pub equations : List EquationRow
   pub of_table : AreEquations coords d.0 equations
-  pub told : Result (List (Unit {0})) (ℕ × SumRefusal)
-  pub added : AreAnswered (IsAddedUp coords d.0 equations) d.1 told
-  pub outcome : o ≡ addup_outcome told
+  pub reported : Result (List (Unit {0})) (ℕ × SumRefusal)
+  pub added : AreAnswered (IsAddedUp coords d.0 equations) d.1 reported
+  pub outcome : o ≡ addup_outcome reported

@@ -42,9 +42,9 @@ crush_outcome (Err refusal) = refusal_outcome 0 refusal
 pub record IsCrushAnswer (d : List Row × List ℕ) (o : Outcome) : Type 0 where
   pub equations : List EquationRow
   pub of_table : AreEquations Standard d.0 equations
-  pub told : Result (List Row) Refusal
-  pub crushed : IsCrushedAlong d.0 equations d.1 told
-  pub outcome : o ≡ crush_outcome told
+  pub reported : Result (List Row) Refusal
+  pub crushed : IsCrushedAlong d.0 equations d.1 reported
+  pub outcome : o ≡ crush_outcome reported
 
 -- the lift of each vector, or the first that is refused
 abbrev pub lift_outcome : Result (List (List ℕ)) (ℕ × Refusal) → Outcome
@@ -58,9 +58,9 @@ pub record IsLiftsAnswer (d : List Row × List (List ℕ)) (o : Outcome) : Type 
   pub is_skeleton : IsSkeleton skeleton
   pub equations : List EquationRow
   pub of_table : AreEquations Quad d.0 equations
-  pub told : Result (List (List ℕ)) (ℕ × Refusal)
-  pub lifted : AreAnswered (IsLifted skeleton equations) d.1 told
-  pub outcome : o ≡ lift_outcome told
+  pub reported : Result (List (List ℕ)) (ℕ × Refusal)
+  pub lifted : AreAnswered (IsLifted skeleton equations) d.1 reported
+  pub outcome : o ≡ lift_outcome reported
 
 -- the lines of each vector, or the first that is refused
 abbrev pub describe_outcome : Skeleton → Coords → Result (List Description) (ℕ × Refusal) → Outcome
@@ -71,9 +71,9 @@ describe_outcome s coords (Err refusal) = refusal_outcome refusal.0 refusal.1
 pub record AreDescribed (s : Skeleton) (coords : Coords) (vectors : List (List ℕ)) (o : Outcome) : Type 0 where
   pub equations : List EquationRow
   pub of_table : AreEquations coords s.rows equations
-  pub told : Result (List Description) (ℕ × Refusal)
-  pub described : AreAnswered (IsDescription s coords equations) vectors told
-  pub outcome : o ≡ describe_outcome s coords told
+  pub reported : Result (List Description) (ℕ × Refusal)
+  pub described : AreAnswered (IsDescription s coords equations) vectors reported
+  pub outcome : o ≡ describe_outcome s coords reported
 
 -- an edge class is invalid: the answer names the least such class
 abbrev pub IsInvalidAnswered : Skeleton → Outcome → Type 0
@@ -84,4 +84,4 @@ pub record IsDescribeAnswer (coords : Coords) (d : List Row × List (List ℕ)) 
   pub skeleton : Skeleton
   pub of_rows : skeleton.rows ≡ d.0
   pub is_skeleton : IsSkeleton skeleton
-  pub told : IsInvalidAnswered skeleton o ⊎ (IsFirstInvalid skeleton None × AreDescribed skeleton coords d.1 o)
+  pub reported : IsInvalidAnswered skeleton o ⊎ (IsFirstInvalid skeleton None × AreDescribed skeleton coords d.1 o)

@@ -86,8 +86,8 @@ link_short rows classes directions c link l m h =
         let short : count_by starts (below (length directions)) ≤ length (below (length directions)) = count_by-le-length starts (below (length directions)) in
         omega (arith, length-range_with_len 0 (length directions))
 
-    few : length (members classes c) ≤ 4000
-    few = omega (arith, length-filter (λ i. slice_index classes i == c) (below (length classes)), count_by-le-length (λ i. slice_index classes i == c) (below (length classes)), length-range_with_len 0 (length classes))
+    limited : length (members classes c) ≤ 4000
+    limited = omega (arith, length-filter (λ i. slice_index classes i == c) (below (length classes)), count_by-le-length (λ i. slice_index classes i == c) (below (length classes)), length-range_with_len 0 (length classes))
 
     side_face : ℕ → ℕ → Face
     side_face i f = record { tet = i / 4; face = f }
@@ -103,4 +103,4 @@ link_short rows classes directions c link l m h =
         let all : length (sides classes c) ≤ 4 * length (members classes c) = flat_within 4 side (members classes c) side_within in
         let counted : link.edges ≡ count_by (λ (x : Face). is_first_side x (glue rows x)) (sides classes c) = h.edges in
         let short : count_by (λ (x : Face). is_first_side x (glue rows x)) (sides classes c) ≤ length (sides classes c) = count_by-le-length (λ (x : Face). is_first_side x (glue rows x)) (sides classes c) in
-        omega (arith, few)
+        omega (arith, limited)

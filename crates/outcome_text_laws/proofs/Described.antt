@@ -14,7 +14,7 @@ use Rattle.surface_vector_definitions.specs.Components.{Component}
 use Rattle.surface_vector_definitions.specs.Answers.{Description, IsDescription}
 use Rattle.surface_vector_definitions.specs.Texts.{sides_word, properties_line, component_line, description_text}
 use Rattle.outcome_definitions.specs.Outcomes.{Outcome}
-use Rattle.outcome_text_laws.specs.Descriptions.{AreSameComponents, AreSameDescriptions, DescriptionTextsTell}
+use Rattle.outcome_text_laws.specs.Descriptions.{AreSameComponents, AreSameDescriptions, DescriptionTextsDetermine}
 use Rattle.outcome_text_laws.proofs.SplitWords.{IsPlain, number_is_plain, signed_is_plain, same_number, same_integer, never_empty, first_byte}
 use Rattle.outcome_text_laws.proofs.Listings.{entries_are_plain, same_entries, split_vector}
 use Rattle.outcome_text_laws.proofs.InformationLines.{Words, ArePlain, line_of, word_at, split_words, same_answer, yes_or_no_is_plain}
@@ -162,7 +162,7 @@ same_vectors s t coords other [] (e ∷ es) z = absurd z
 same_vectors s t coords other (d ∷ ds) [] z = absurd z
 same_vectors s t coords other (d ∷ ds) (e ∷ es) z = ap₂ (λ (y : List ℕ) (ys : List (List ℕ)). y ∷ ys) z.0.vectors (same_vectors s t coords other ds es z.1)
 
-pub descriptions_told : DescriptionTextsTell
+pub descriptions_told : DescriptionTextsDetermine
 descriptions_told coords other d e o p h k same =
     let zipped : AllZip (AreSameDescriptions h.skeleton k.skeleton coords other) h.descriptions k.descriptions =
     split_descriptions h.skeleton k.skeleton coords other h.descriptions k.descriptions

@@ -116,7 +116,7 @@ pub record IsShortDescription (s : Skeleton) (coords : Coords) (d : Description)
   pub components : length d.components < 10 ^ 64
   pub each : AllByRecursion (IsShortComponent s coords) d.components
 
-module _ (s : Skeleton) (coords : Coords) (xs : List ℕ) (none : first_large limit s coords xs ≡ None) (few : sum xs ≤ 100000) where
+module _ (s : Skeleton) (coords : Coords) (xs : List ℕ) (none : first_large limit s coords xs ≡ None) (limited : sum xs ≤ 100000) where
   short_vector : (ys : List ℕ) → ((c : ℕ) → slice_index ys c ≤ slice_index xs c) → AreShort ys × IsShortInteger (characteristic s coords ys)
   short_vector ys h =
       let sums : sum ys ≤ sum xs = sum_within ys xs h in
@@ -143,7 +143,7 @@ pub short_description : (s : Skeleton) (coords : Coords) (equations : List Equat
 short_description s coords equations xs d h =
     let none : first_large limit s coords xs ≡ None = h.2.0 in
     let p : AreProperties s coords xs d.properties = h.2.1 in
-    let few : sum xs ≤ 100000 = h.3.0 in
+    let limited : sum xs ≤ 100000 = h.3.0 in
     let c : AreListedComponents s.rows coords xs d.components = h.3.1 in
     let count : c.count ≤ length (discs_of xs) = count_within (length (discs_of xs)) (SamePiece s.rows coords xs) c.classes c.count c.numbered in
     let many : length (below c.count) ≡ length d.components = same_length (IsComponent s.rows coords xs c.classes) (below c.count) d.components c.each in
@@ -151,8 +151,8 @@ short_description s coords equations xs d h =
     let arcs : d.properties.arcs ≤ limit = omega (arith, p.arcs, few_arcs s coords xs none) in
     let pieces : d.properties.pieces ≤ 100000 = omega (arith, p.pieces) in
     record {
-      vector = subst AreShort (sym h.1) (entries_short xs few);
+      vector = subst AreShort (sym h.1) (entries_short xs limited);
       euler = subst IsShortInteger (sym p.euler) (short_euler d.properties.points d.properties.arcs d.properties.pieces points arcs pieces);
       components = omega (arith, length-range_with_len 0 c.count, discs_are_counted xs);
-      each = short_components s coords xs none few c.classes c.numbered.one_each (below c.count) d.components c.each;
+      each = short_components s coords xs none limited c.classes c.numbered.one_each (below c.count) d.components c.each;
     }

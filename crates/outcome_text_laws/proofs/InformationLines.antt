@@ -107,7 +107,7 @@ split_classes f g ws vs (suc n) r s fw gv h k e =
     let last : (ws n ≡ vs n) × (r ≡ s) = split_words (ws n) (vs n) r s (h n) (k n) (ap (λ (t : List ℕ). t ++ r) (sym (fw n)) ∙ more.1 ∙ ap (λ (t : List ℕ). t ++ s) (gv n)) in (
       λ c l. elim (cases_lt c n) [
         | inl less ↦ more.0 c less
-        | inr past ↦ let is : n ≡ c = omega arith in subst (λ m. ws m ≡ vs m) is last.0
+        | inr exceeded ↦ let is : n ≡ c = omega arith in subst (λ m. ws m ≡ vs m) is last.0
       ],
       last.1,
     )

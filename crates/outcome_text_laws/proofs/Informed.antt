@@ -8,7 +8,7 @@ use Rattle.skeleton_definitions.specs.declared.Link.{Link}
 use Rattle.skeleton_definitions.specs.Skeleton.{Skeleton, IsSkeleton}
 use Rattle.outcome_definitions.specs.Outcomes.{Outcome}
 use Rattle.outcome_definitions.specs.Information.{Information, IsInformation, vertex_text, edge_text, classes_text, information_text, no_link}
-use Rattle.outcome_text_laws.specs.Information.{AreSameVertices, AreSameEdges, AreSameInformation, InformationTextsTell}
+use Rattle.outcome_text_laws.specs.Information.{AreSameVertices, AreSameEdges, AreSameInformation, InformationTextsDetermine}
 use Rattle.outcome_text_laws.proofs.SplitWords.{IsShortInteger, same_number, same_integer}
 use Rattle.outcome_text_laws.proofs.Bounds.{count_within, degree_within, link_short}
 use Rattle.outcome_text_laws.proofs.InformationLines.{Words, word_at, header, header_is_plain, vertex_words, vertex_is_plain, vertex_text_is, edge_words, edge_is_plain, edge_text_is, vertices_text, edges_text, information_lines, split_lines, split_classes, same_answer, same_place, same_kind}
@@ -26,11 +26,11 @@ pub record AreShortNumbers (i : Information) : Type 0 where
 short_numbers : (rows : List Row) (i : Information) → IsInformation rows i → AreShortNumbers i
 short_numbers rows i h = record {
   tetrahedra = omega arith;
-  vertices = (let l : s.vertices.count ≤ 4 * n = count_within (4 * n) (SameVertex s.rows) s.vertices.classes s.vertices.count k.vertices in omega (arith, few));
-  edges = (let l : s.edges.count ≤ 6 * n = count_within (6 * n) (SameEdge s.rows) s.edges.classes s.edges.count k.edges in omega (arith, few));
-  faces = (let l : s.faces.count ≤ 4 * n = count_within (4 * n) (SameFace s.rows) s.faces.classes s.faces.count k.faces in omega (arith, few));
-  vertex_degrees = λ c. (let l : degree s.vertices.classes c ≤ 4 * n = degree_within (4 * n) (SameVertex s.rows) s.vertices.classes s.vertices.count k.vertices c in omega (arith, few));
-  edge_degrees = λ c. (let l : degree s.edges.classes c ≤ 6 * n = degree_within (6 * n) (SameEdge s.rows) s.edges.classes s.edges.count k.edges c in omega (arith, few));
+  vertices = (let l : s.vertices.count ≤ 4 * n = count_within (4 * n) (SameVertex s.rows) s.vertices.classes s.vertices.count k.vertices in omega (arith, limited));
+  edges = (let l : s.edges.count ≤ 6 * n = count_within (6 * n) (SameEdge s.rows) s.edges.classes s.edges.count k.edges in omega (arith, limited));
+  faces = (let l : s.faces.count ≤ 4 * n = count_within (4 * n) (SameFace s.rows) s.faces.classes s.faces.count k.faces in omega (arith, limited));
+  vertex_degrees = λ c. (let l : degree s.vertices.classes c ≤ 4 * n = degree_within (4 * n) (SameVertex s.rows) s.vertices.classes s.vertices.count k.vertices c in omega (arith, limited));
+  edge_degrees = λ c. (let l : degree s.edges.classes c ≤ 6 * n = degree_within (6 * n) (SameEdge s.rows) s.edges.classes s.edges.count k.edges c in omega (arith, limited));
   links = link;
 }
   where
@@ -43,8 +43,8 @@ short_numbers rows i h = record {
     n : ℕ
     n = length s.rows
 
-    few : n ≤ 1000
-    few = k.table.few
+    limited : n ≤ 1000
+    limited = k.table.limited
 
     one : ℕ → Link
     one c = slice_index_or i.links c no_link
@@ -55,7 +55,7 @@ short_numbers rows i h = record {
         let inside : c < length i.links = omega arith in
         let classes : length s.vertices.classes ≡ 4 * n = k.vertices.one_each in
         let directed : length h.links.0 ≡ 12 * n = h.links.2.one_each in
-        link_short s.rows s.vertices.classes h.links.0 c (one c) (omega (arith, few)) (omega (arith, few)) (h.links.3.told c (one c) inside (get_or_default i.links c no_link (one c) inside))
+        link_short s.rows s.vertices.classes h.links.0 c (one c) (omega (arith, limited)) (omega (arith, limited)) (h.links.3.reported c (one c) inside (get_or_default i.links c no_link (one c) inside))
 
 module _ (i j : Information) (p : AreShortNumbers i) (q : AreShortNumbers j) (e : information_text i ≡ information_text j) where
   first : (header i ≡ header j) × (vertices_text i ++ edges_text i ≡ vertices_text j ++ edges_text j)
@@ -112,7 +112,7 @@ module _ (i j : Information) (p : AreShortNumbers i) (q : AreShortNumbers j) (e 
     each_edge = edge;
   }
 
-pub information_told : InformationTextsTell
+pub information_told : InformationTextsDetermine
 information_told rows others o p h k e =
     same_information h.0 k.0 (short_numbers rows h.0 h.1) (short_numbers others k.0 k.1)
     (sym (ap (λ (q : Outcome). q.text) h.2) ∙ e ∙ ap (λ (q : Outcome). q.text) k.2)

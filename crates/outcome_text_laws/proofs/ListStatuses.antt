@@ -5,7 +5,7 @@ use Rattle.cone_definitions.specs.Listings.{Enumeration}
 use Rattle.outcome_definitions.specs.declared.Status.TheVariants.{Done, Large}
 use Rattle.outcome_definitions.specs.Outcomes.{Outcome}
 use Rattle.outcome_definitions.specs.Enumerations.{listing, large_outcome, IsEnumerationAnswer}
-use Rattle.outcome_text_laws.specs.Lists.{EnumerationTextsTellStatus}
+use Rattle.outcome_text_laws.specs.Lists.{EnumerationTextsDetermineStatus}
 
 -- the first byte of a text, or 0 of an empty one
 abbrev first : List ℕ → ℕ
@@ -34,7 +34,7 @@ statuses o p (inl h) (inr k) e = absurd (different o.text p.text e h.0 k.0)
 statuses o p (inr h) (inl k) e = absurd (different p.text o.text (sym e) k.0 h.0)
 statuses o p (inr h) (inr k) e = h.1 ∙ sym k.1
 
-pub list_statuses_told : EnumerationTextsTellStatus
+pub list_statuses_told : EnumerationTextsDetermineStatus
 list_statuses_told name e f o p h k same =
     let status : o.status ≡ p.status = statuses o p (kind_of name e o h) (kind_of name f p k) same in
     λ i. record { status = status i; text = same i }

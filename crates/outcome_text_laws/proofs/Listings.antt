@@ -7,7 +7,7 @@ use Rattle.std.proofs.lemmas.List.Elements.{recursion_from_All}
 use Rattle.text_definitions.specs.Written.{limit, line}
 use Rattle.cone_text_definitions.specs.VectorText.{vector_text, list_text}
 use Rattle.outcome_definitions.specs.Enumerations.{AreUpTo}
-use Rattle.outcome_text_laws.specs.Lists.{ListTextsTell}
+use Rattle.outcome_text_laws.specs.Lists.{ListTextsDetermine}
 use Rattle.outcome_text_laws.proofs.SplitWords.{IsPlain, AreSplit, split_word, AreLinesSplit, split_line, same_number, number_is_plain, never_empty}
 
 -- numbers of at most 64 digits
@@ -58,7 +58,7 @@ short_vectors (x ∷ list) h = (short_entries x (recursion_from_All (λ entry. e
 pub within_limit : (list : List (List ℕ)) → AreUpTo limit list → AllByRecursion AreShort list
 within_limit list h = short_vectors list (recursion_from_All (λ (x : List ℕ). All (λ entry. entry ≤ limit) x) list h)
 
-pub lists_told : ListTextsTell
+pub lists_told : ListTextsDetermine
 lists_told name list others h k e =
     let behind : decimal (length list) ++ 10 ∷ list_text list ≡ decimal (length others) ++ 10 ∷ list_text others =
     append_cancel_left (codes "# " ++ name ++ codes " ") _ _ (sym (first_line name (list_text list) (length list)) ∙ e ∙ first_line name (list_text others) (length others)) in

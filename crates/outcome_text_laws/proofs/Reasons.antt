@@ -11,7 +11,7 @@ use Rattle.surface_vector_definitions.specs.declared.SurfaceSum.TheVariants.{Poi
 use Rattle.surface_vector_definitions.specs.declared.Refusal.{Refusal}
 use Rattle.surface_vector_definitions.specs.declared.Refusal.TheVariants.{Unfit, LargeSum, TooManyPieces, LargeLift, NoLift}
 use Rattle.surface_vector_definitions.specs.Texts.{sum_word, fault_text, refusal_line, invalid_edge_line}
-use Rattle.outcome_text_laws.specs.Refusals.{IsShortNumber, IsShortRefusal, RefusalTextsTell, InvalidEdgeTextsTell}
+use Rattle.outcome_text_laws.specs.Refusals.{IsShortNumber, IsShortRefusal, RefusalTextsDetermine, InvalidEdgeTextsDetermine}
 use Rattle.outcome_text_laws.proofs.SplitWords.{AreSplit, split_word, number_is_plain, same_number}
 use Rattle.outcome_text_laws.proofs.InformationLines.{Words, ArePlain, line_of, word_at, split_words}
 
@@ -113,7 +113,7 @@ split_refusal v w f g e =
     split_word (decimal v) (decimal w) 32 32 (fault_text f) (fault_text g) (number_is_plain v) (number_is_plain w) refl refl
     (append_cancel_left (codes "refused: vector ") _ _ (sym (parts v (fault_text f)) ∙ e ∙ parts w (fault_text g)))
 
-pub refusals_told : RefusalTextsTell
+pub refusals_told : RefusalTextsDetermine
 refusals_told v w f g p q h k e =
     let s : AreSplit (decimal v) (decimal w) 32 32 (fault_text f) (fault_text g) = split_refusal v w f g e in
     let same : (words_of f ≡ words_of g) × (◌≡◌ {A = List ℕ} [] []) =
@@ -123,7 +123,7 @@ refusals_told v w f g p q h k e =
 edge_parts : (c : ℕ) → (codes "refused: invalid-edge " ++ decimal c) ++ 10 ∷ [] ≡ codes "refused: invalid-edge " ++ (decimal c ++ 10 ∷ [])
 edge_parts c = simp append_assoc
 
-pub invalid_edges_told : InvalidEdgeTextsTell
+pub invalid_edges_told : InvalidEdgeTextsDetermine
 unfolding invalid_edge_line
 invalid_edges_told b c p q e =
     let s : AreSplit (decimal b) (decimal c) 10 10 [] [] =

@@ -15,7 +15,7 @@ use Rattle.outcome_definitions.specs.declared.Status.{Status}
 use Rattle.outcome_definitions.specs.declared.Status.TheVariants.{Done, Refused, Large}
 use Rattle.outcome_definitions.specs.Outcomes.{Outcome}
 use Rattle.outcome_definitions.specs.Vectors.{refusal_status, IsInvalidAnswered, AreDescribed, IsDescribeAnswer, describe_outcome}
-use Rattle.outcome_text_laws.specs.Descriptions.{HasDescriptions, DoneHasDescriptions, DescribeTextsTellStatus}
+use Rattle.outcome_text_laws.specs.Descriptions.{HasDescriptions, DoneHasDescriptions, DescribeTextsDetermineStatus}
 use Rattle.outcome_text_laws.proofs.Described.{first_bytes}
 use Rattle.outcome_text_laws.proofs.Reasons.{split_refusal}
 
@@ -48,10 +48,10 @@ not_done true e = absurd cc
 not_done false e = absurd cc
 
 pub done_has_descriptions : DoneHasDescriptions
-done_has_descriptions coords d o h done = by h.told
+done_has_descriptions coords d o h done = by h.reported
   where
-    by_told : (a : AreDescribed h.skeleton coords d.1 o) (told : Result (List Description) (ℕ × Refusal)) → AreAnswered (IsDescription h.skeleton coords a.equations) d.1 told
-        → o ≡ describe_outcome h.skeleton coords told → HasDescriptions coords d o
+    by_told : (a : AreDescribed h.skeleton coords d.1 o) (reported : Result (List Description) (ℕ × Refusal)) → AreAnswered (IsDescription h.skeleton coords a.equations) d.1 reported
+        → o ≡ describe_outcome h.skeleton coords reported → HasDescriptions coords d o
     by_told a (Ok descriptions) described outcome = record {
       skeleton = h.skeleton;
       of_rows = h.of_rows;
@@ -66,7 +66,7 @@ done_has_descriptions coords d o h done = by h.told
 
     by : IsInvalidAnswered h.skeleton o ⊎ (IsFirstInvalid h.skeleton None × AreDescribed h.skeleton coords d.1 o) → HasDescriptions coords d o
     by (inl invalid) = (let z : Refused ≡ Done = sym (ap (λ (q : Outcome). q.status) invalid.2) ∙ done in absurd cc)
-    by (inr a) = by_told a.1 a.1.told a.1.described a.1.outcome
+    by (inr a) = by_told a.1 a.1.reported a.1.described a.1.outcome
 
 same_status : (v w : ℕ) (f g : Refusal) → refusal_line v f ≡ refusal_line w g → refusal_status f ≡ refusal_status g
 same_status v w f g e = sym (status_is f) ∙ ap status_of (split_refusal v w f g e).rests ∙ status_is g
@@ -87,9 +87,9 @@ Kind o =
     ⊎ ((c : ℕ) × (o.text ≡ invalid_edge_line c) × (o.status ≡ Refused))
 
 kind_of : (coords : Coords) (d : List Row × List (List ℕ)) (o : Outcome) → IsDescribeAnswer coords d o → Kind o
-kind_of coords d o h = by h.told
+kind_of coords d o h = by h.reported
   where
-    by_told : (told : Result (List Description) (ℕ × Refusal)) → o ≡ describe_outcome h.skeleton coords told → Kind o
+    by_told : (reported : Result (List Description) (ℕ × Refusal)) → o ≡ describe_outcome h.skeleton coords reported → Kind o
     by_told (Ok descriptions) e = inl (
       λ z. first_bytes h.skeleton coords descriptions (ap (byte 0) (sym (ap (λ (q : Outcome). q.text) e)) ∙ z),
       ap (λ (q : Outcome). q.status) e,
@@ -98,7 +98,7 @@ kind_of coords d o h = by h.told
 
     by : IsInvalidAnswered h.skeleton o ⊎ (IsFirstInvalid h.skeleton None × AreDescribed h.skeleton coords d.1 o) → Kind o
     by (inl invalid) = inr (inr (invalid.0, ap (λ (q : Outcome). q.text) invalid.2, ap (λ (q : Outcome). q.status) invalid.2))
-    by (inr a) = by_told a.1.told a.1.outcome
+    by (inr a) = by_told a.1.reported a.1.outcome
 
 not_both : (a b : List ℕ) → a ≡ b → byte 9 a ≡ 118 → byte 9 b ≡ 105 → ⊥
 not_both a b e h k = (let z : byte 9 a ≡ byte 9 b = ap (byte 9) e in omega arith)
@@ -114,7 +114,7 @@ statuses o p (inr (inr h)) (inl k) e = absurd (k.0 (ap (byte 0) (sym e ∙ h.1) 
 statuses o p (inr (inr h)) (inr (inl k)) e = absurd (not_both (refusal_line k.0 k.1) (invalid_edge_line h.0) (sym k.2 ∙ sym e ∙ h.1) (refusal_bytes k.0 k.1).1 (invalid_bytes h.0).1)
 statuses o p (inr (inr h)) (inr (inr k)) e = h.2 ∙ sym k.2
 
-pub statuses_told : DescribeTextsTellStatus
+pub statuses_told : DescribeTextsDetermineStatus
 statuses_told coords other d e o p h k same =
     let status : o.status ≡ p.status = statuses o p (kind_of coords d o h) (kind_of other e p k) same in
     λ i. record { status = status i; text = same i }

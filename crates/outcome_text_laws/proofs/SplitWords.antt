@@ -45,8 +45,8 @@ split_word (b ∷ w) (c ∷ v) d e r s h k p q same =
 abbrev pub AreLinesSplit : List (List ℕ) → List (List ℕ) → List ℕ → List ℕ → Type 0
 AreLinesSplit ws vs r s = (ws ≡ vs) × (r ≡ s)
 
-apart : (a b : ℕ) → a < b → a ≡ b → ⊥
-apart a b l e = omega arith
+separate : (a b : ℕ) → a < b → a ≡ b → ⊥
+separate a b l e = omega arith
 
 pub split_line : (w : List ℕ) (ws : List (List ℕ)) (v : List ℕ) (vs : List (List ℕ)) (r s : List ℕ) → IsPlain w → AllByRecursion IsPlain ws → IsPlain v → AllByRecursion IsPlain vs
     → spaced (w ∷ ws) ++ r ≡ spaced (v ∷ vs) ++ s → AreLinesSplit (w ∷ ws) (v ∷ vs) r s
@@ -55,10 +55,10 @@ split_line w [] v [] r s h hs k ks same =
     (ap (λ (x : List ℕ). x ∷ []) p.words, p.rests)
 split_line w [] v (y ∷ ys) r s h hs k ks same =
     let p : AreSplit w v 10 32 r (spaced (y ∷ ys) ++ s) = split_word w v 10 32 r (spaced (y ∷ ys) ++ s) h k refl refl (sym (append_assoc w (10 ∷ []) r) ∙ same ∙ append_assoc v (32 ∷ spaced (y ∷ ys)) s) in
-    absurd (apart 10 32 (omega arith) p.ends)
+    absurd (separate 10 32 (omega arith) p.ends)
 split_line w (x ∷ xs) v [] r s h hs k ks same =
     let p : AreSplit w v 32 10 (spaced (x ∷ xs) ++ r) s = split_word w v 32 10 (spaced (x ∷ xs) ++ r) s h k refl refl (sym (append_assoc w (32 ∷ spaced (x ∷ xs)) r) ∙ same ∙ append_assoc v (10 ∷ []) s) in
-    absurd (apart 10 32 (omega arith) (sym p.ends))
+    absurd (separate 10 32 (omega arith) (sym p.ends))
 split_line w (x ∷ xs) v (y ∷ ys) r s h hs k ks same =
     let p : AreSplit w v 32 32 (spaced (x ∷ xs) ++ r) (spaced (y ∷ ys) ++ s) =
     split_word w v 32 32 (spaced (x ∷ xs) ++ r) (spaced (y ∷ ys) ++ s) h k refl refl (sym (append_assoc w (32 ∷ spaced (x ∷ xs)) r) ∙ same ∙ append_assoc v (32 ∷ spaced (y ∷ ys)) s) in

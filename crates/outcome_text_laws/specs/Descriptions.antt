@@ -44,12 +44,12 @@ pub record AreSameDescriptions (s t : Skeleton) (coords other : Coords) (d e : D
   pub components : AllZip (AreSameComponents s t coords other) d.components e.components
 
 -- Theorem: answers of `describe` with the same text have the same vectors, and say the same of them
-abbrev pub DescriptionTextsTell : Type 0
-DescriptionTextsTell =
+abbrev pub DescriptionTextsDetermine : Type 0
+DescriptionTextsDetermine =
     (coords other : Coords) (d e : List Row × List (List ℕ)) (o p : Outcome) (h : HasDescriptions coords d o) (k : HasDescriptions other e p) → o.text ≡ p.text
     → (d.1 ≡ e.1) × AllZip (AreSameDescriptions h.skeleton k.skeleton coords other) h.descriptions k.descriptions
 
 -- Theorem: answers of `describe` with the same text have the same status, whether vectors are described or one is
 -- refused
-abbrev pub DescribeTextsTellStatus : Type 0
-DescribeTextsTellStatus = (coords other : Coords) (d e : List Row × List (List ℕ)) (o p : Outcome) → IsDescribeAnswer coords d o → IsDescribeAnswer other e p → o.text ≡ p.text → o ≡ p
+abbrev pub DescribeTextsDetermineStatus : Type 0
+DescribeTextsDetermineStatus = (coords other : Coords) (d e : List Row × List (List ℕ)) (o p : Outcome) → IsDescribeAnswer coords d o → IsDescribeAnswer other e p → o.text ≡ p.text → o ≡ p

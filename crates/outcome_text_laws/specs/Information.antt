@@ -38,5 +38,5 @@ pub record AreSameInformation (i j : Information) : Type 0 where
   pub each_edge : (c : ℕ) → c < i.skeleton.edges.count → AreSameEdges i j c
 
 -- Theorem: answers of `info` with the same text say the same of their tables
-abbrev pub InformationTextsTell : Type 0
-InformationTextsTell = (rows others : List Row) (o p : Outcome) (h : IsInformationAnswer rows o) (k : IsInformationAnswer others p) → o.text ≡ p.text → AreSameInformation h.0 k.0
+abbrev pub InformationTextsDetermine : Type 0
+InformationTextsDetermine = (rows others : List Row) (o p : Outcome) (h : IsInformationAnswer rows o) (k : IsInformationAnswer others p) → o.text ≡ p.text → AreSameInformation h.0 k.0

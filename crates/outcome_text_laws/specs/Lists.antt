@@ -6,9 +6,9 @@ use Rattle.outcome_definitions.specs.Outcomes.{Outcome}
 use Rattle.outcome_definitions.specs.Enumerations.{AreUpTo, listing, IsEnumerationAnswer}
 
 -- Theorem: lists within the limit that are printed as the same text are equal
-abbrev pub ListTextsTell : Type 0
-ListTextsTell = (name : List ℕ) (list others : List (List ℕ)) → AreUpTo limit list → AreUpTo limit others → listing name list ≡ listing name others → list ≡ others
+abbrev pub ListTextsDetermine : Type 0
+ListTextsDetermine = (name : List ℕ) (list others : List (List ℕ)) → AreUpTo limit list → AreUpTo limit others → listing name list ≡ listing name others → list ≡ others
 
 -- Theorem: answers of two enumerations with the same text, a list or a refusal, have the same status
-abbrev pub EnumerationTextsTellStatus : Type 0
-EnumerationTextsTellStatus = (name : List ℕ) (e f : Enumeration) (o p : Outcome) → IsEnumerationAnswer name e o → IsEnumerationAnswer name f p → o.text ≡ p.text → o ≡ p
+abbrev pub EnumerationTextsDetermineStatus : Type 0
+EnumerationTextsDetermineStatus = (name : List ℕ) (e f : Enumeration) (o p : Outcome) → IsEnumerationAnswer name e o → IsEnumerationAnswer name f p → o.text ≡ p.text → o ≡ p

@@ -21,9 +21,9 @@ IsShortRefusal LargeLift = ⊤
 IsShortRefusal (NoLift c) = IsShortNumber c
 
 -- Theorem: refusals of vectors with the same line refuse the vector with the same number, for the same reason
-abbrev pub RefusalTextsTell : Type 0
-RefusalTextsTell = (v w : ℕ) (f g : Refusal) → IsShortNumber v → IsShortNumber w → IsShortRefusal f → IsShortRefusal g → refusal_line v f ≡ refusal_line w g → (v ≡ w) × (f ≡ g)
+abbrev pub RefusalTextsDetermine : Type 0
+RefusalTextsDetermine = (v w : ℕ) (f g : Refusal) → IsShortNumber v → IsShortNumber w → IsShortRefusal f → IsShortRefusal g → refusal_line v f ≡ refusal_line w g → (v ≡ w) × (f ≡ g)
 
 -- Theorem: refusals for an invalid edge with the same line name the same edge class
-abbrev pub InvalidEdgeTextsTell : Type 0
-InvalidEdgeTextsTell = (b c : ℕ) → IsShortNumber b → IsShortNumber c → invalid_edge_line b ≡ invalid_edge_line c → b ≡ c
+abbrev pub InvalidEdgeTextsDetermine : Type 0
+InvalidEdgeTextsDetermine = (b c : ℕ) → IsShortNumber b → IsShortNumber c → invalid_edge_line b ≡ invalid_edge_line c → b ≡ c

@@ -6,10 +6,10 @@
 //! type of each tetrahedron.
 #![tactic(auto)]
 
-ghost use Rattle.outcome_text_laws.specs.Descriptions.{DoneHasDescriptions, DescriptionTextsTell, DescribeTextsTellStatus};
-ghost use Rattle.outcome_text_laws.specs.Information.{InformationTextsTell};
-ghost use Rattle.outcome_text_laws.specs.Lists.{ListTextsTell, EnumerationTextsTellStatus};
-ghost use Rattle.outcome_text_laws.specs.Refusals.{RefusalTextsTell, InvalidEdgeTextsTell};
+ghost use Rattle.outcome_text_laws.specs.Descriptions.{DoneHasDescriptions, DescriptionTextsDetermine, DescribeTextsDetermineStatus};
+ghost use Rattle.outcome_text_laws.specs.Information.{InformationTextsDetermine};
+ghost use Rattle.outcome_text_laws.specs.Lists.{ListTextsDetermine, EnumerationTextsDetermineStatus};
+ghost use Rattle.outcome_text_laws.specs.Refusals.{RefusalTextsDetermine, InvalidEdgeTextsDetermine};
 
 /// Theorem:
 ///
@@ -18,8 +18,8 @@ ghost use Rattle.outcome_text_laws.specs.Refusals.{RefusalTextsTell, InvalidEdge
 /// 2. If answers of `surfaces` to two triangulations, or of `rays` to two cones, have the same text, of a list or of a
 ///    refusal, they have the same status.
 pub fn list_texts_are_distinct()
-    ensures lists { ListTextsTell }
-    ensures status { EnumerationTextsTellStatus }
+    ensures lists { ListTextsDetermine }
+    ensures status { EnumerationTextsDetermineStatus }
 {}
 
 /// Theorem: let an answer of `info` to T and one to T' have the same text. Then T and T' have equally many tetrahedra,
@@ -28,7 +28,7 @@ pub fn list_texts_are_distinct()
 /// closed or neither. Edge classes with the same number have the same degree; both lie in the boundary or neither, and
 /// both are valid or neither.
 pub fn information_texts_are_distinct()
-    ensures { InformationTextsTell }
+    ensures { InformationTextsDetermine }
 {}
 
 /// Theorem: let an answer of `describe` to T and a list L of vectors be given, and one to T' and L'.
@@ -41,8 +41,8 @@ pub fn information_texts_are_distinct()
 /// 3. If the texts are equal, of descriptions or of refusals, the answers have the same status.
 pub fn description_texts_are_distinct()
     ensures done { DoneHasDescriptions }
-    ensures same { DescriptionTextsTell }
-    ensures status { DescribeTextsTellStatus }
+    ensures same { DescriptionTextsDetermine }
+    ensures status { DescribeTextsDetermineStatus }
 {}
 
 /// Theorem: let all numbers in two refusals be below 10^64.
@@ -51,6 +51,6 @@ pub fn description_texts_are_distinct()
 ///    v = w, and the reasons are equal.
 /// 2. If `describe` refuses two inputs for an invalid edge with the same line, the edge classes have the same number.
 pub fn refusal_texts_are_distinct()
-    ensures vectors { RefusalTextsTell }
-    ensures edges { InvalidEdgeTextsTell }
+    ensures vectors { RefusalTextsDetermine }
+    ensures edges { InvalidEdgeTextsDetermine }
 {}

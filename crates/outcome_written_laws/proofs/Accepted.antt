@@ -20,19 +20,19 @@ use Rattle.outcome_written_laws.specs.Certificates.{AcceptedAreCertificates, Cer
 use Rattle.outcome_written_laws.proofs.WrittenMoves.{written_moves_read}
 
 accepted_there : (rows : List Row) (moves : List Move) (o : Outcome) → IsCertificate rows moves → o ≡ done accepted_text → IsCheckAnswer (rows, moves) o
-accepted_there rows moves o c e = record { told = Ok tt; checked = c; outcome = e }
+accepted_there rows moves o c e = record { reported = Ok tt; checked = c; outcome = e }
 
 -- the status of an error is not that of success
 refused_not_done : (fault : CheckFault (List ℕ)) → check_outcome (Err fault) ≡ done accepted_text → ⊥
 refused_not_done fault e = let same : Refused ≡ Done = ap (λ (o : Outcome). o.status) e in cc
 
-accepted_certifies : (rows : List Row) (moves : List Move) (o : Outcome) (told : CheckAnswer) → IsChecked rows moves told → o ≡ check_outcome told → o ≡ done accepted_text → IsCertificate rows moves
+accepted_certifies : (rows : List Row) (moves : List Move) (o : Outcome) (reported : CheckAnswer) → IsChecked rows moves reported → o ≡ check_outcome reported → o ≡ done accepted_text → IsCertificate rows moves
 accepted_certifies rows moves o (Ok u) c e accepted = c
 accepted_certifies rows moves o (Err fault) c e accepted = absurd (refused_not_done fault (sym e ∙ accepted))
 
 pub accepted_are_certificates : AcceptedAreCertificates
 accepted_are_certificates rows moves o table h = (
-  λ e. accepted_certifies rows moves o h.told h.checked h.outcome e,
+  λ e. accepted_certifies rows moves o h.reported h.checked h.outcome e,
   λ c. one_check (rows, moves) o (done accepted_text) table h (accepted_there rows moves (done accepted_text) c refl),
 )
 

@@ -42,8 +42,8 @@ check_accepts_certificates rows moves table c short = accepted_by_check (table_t
 
 -- the text of at most `max_tets` moves is within the limit of an input
 short_by : (rows : List Row) (moves : List Move) → IsTable rows → IsCertificate rows moves → length moves ≤ max_tets → length (table_then_moves rows moves) ≤ most_bytes
-short_by rows moves table c few =
-    let n : length rows ≤ max_tets = table.few in
+short_by rows moves table c limited =
+    let n : length rows ≤ max_tets = table.limited in
     let s : length (table_then_moves rows moves) ≤ 9 + 37 * length rows + 28 * length moves = written_moves_short rows moves c.0 table c.1 in
     omega arith
 
@@ -51,11 +51,11 @@ pub check_accepts_descents : CheckAcceptsDescents
 check_accepts_descents rows d table h r =
     let c : IsCertificate rows d.moves = descents_certify_lem rows d.moves d.table table h.descent (h.reached.0 r) in
     let ends : length d.table + length d.moves ≤ length rows = descents_end_lem rows d.moves d.table table h.descent in
-    let n : length rows ≤ max_tets = table.few in
+    let n : length rows ≤ max_tets = table.limited in
     check_accepts_certificates rows d.moves table c (short_by rows d.moves table c (omega arith))
 
 made_short : (seed most : ℕ) (rows : List Row) (certificate : List Move) → most ≤ most_moves → IsMade seed most rows certificate → length certificate ≤ max_tets
-made_short seed most rows certificate few (moves, making, (end, by, back)) =
+made_short seed most rows certificate limited (moves, making, (end, by, back)) =
     let same : length certificate ≡ length moves = (ways_back_lead_lem standard_sphere moves rows certificate end by sphere_table back).3 in
     let m : length moves ≤ most = making_short most seed standard_sphere moves rows making in
     omega arith
@@ -63,8 +63,8 @@ made_short seed most rows certificate few (moves, making, (end, by, back)) =
 pub check_accepts_made : CheckAcceptsMade
 check_accepts_made words bytes o seed most asked outcome =
     let h : IsMakeAnswer seed most o = subst (λ (r : Option Request). IsOutcomeOf r bytes o) asked outcome in
-    let few : most ≤ most_moves = accepted_in_range words (Make seed most) asked in
+    let limited : most ≤ most_moves = accepted_in_range words (Make seed most) asked in
     let table : IsTable h.table = made_table seed most h.table h.certificate h.made in
     let c : IsCertificate h.table h.certificate = made_are_certified_lem seed most h.table h.certificate h.made in
     let is : o.text ≡ table_then_moves h.table h.certificate = ap (λ (p : Outcome). p.text) h.outcome in
-    subst IsAcceptedByCheck (sym is) (check_accepts_certificates h.table h.certificate table c (short_by h.table h.certificate table c (made_short seed most h.table h.certificate few h.made)))
+    subst IsAcceptedByCheck (sym is) (check_accepts_certificates h.table h.certificate table c (short_by h.table h.certificate table c (made_short seed most h.table h.certificate limited h.made)))

@@ -75,13 +75,13 @@ module _ (coords : Coords) (rows : List Row) (equations : List EquationRow) wher
 
   block_is_refused : (block : Block) (i row : ℕ) → IsSumBlock coords rows equations block → IsLargeBlock equations (i, row) block → IsAddedUp coords rows equations block (Err (UnfitTerm i (Large row)))
   block_is_refused block i row b f =
-      let surfaces = parted IsTermSurface f.before f.value f.after (subst (λ (ts : List Term). AllByRecursion IsTermSurface ts) f.stands b.terms) in (
+      let surfaces = parted IsTermSurface f.before f.value f.after (subst (λ (ts : List Term). AllByRecursion IsTermSurface ts) f.occurs b.terms) in (
         b.vector,
         record {
           before = f.before;
           value = f.value;
           after = f.after;
-          stands = f.stands;
+          occurs = f.occurs;
           number_is = f.number_is;
           passed = All-weaker IsTermFit (λ (term : Term). (answer : Unit {0}) × IsTermVerdict coords rows equations term (Ok answer)) (λ term fit. (tt, fit)) f.before
               (All-from_recursion IsTermFit f.before (terms_are_fit f.before surfaces.0 (recursion_from_All (IsSmallTerm equations) f.before f.passed)));
@@ -95,22 +95,22 @@ module _ (coords : Coords) (rows : List Row) (equations : List EquationRow) wher
 
     refused_told : (v : ℕ) (at : ℕ × ℕ) → AreLarge equations blocks v at → IsFirstRefused (IsAddedUp coords rows equations) blocks v (UnfitTerm at.0 (Large at.1))
     refused_told v at f =
-        let parts = parted (IsSumBlock coords rows equations) f.before f.value f.after (subst (λ (bs : List Block). AllByRecursion (IsSumBlock coords rows equations) bs) f.stands b) in
+        let parts = parted (IsSumBlock coords rows equations) f.before f.value f.after (subst (λ (bs : List Block). AllByRecursion (IsSumBlock coords rows equations) bs) f.occurs b) in
         record {
           before = f.before;
           value = f.value;
           after = f.after;
-          stands = f.stands;
+          occurs = f.occurs;
           number_is = f.number_is;
           passed = All-from_recursion Passes f.before (all_accepted f.before parts.0 (recursion_from_All (IsSmallBlock equations) f.before f.passed)).0;
           fails = block_is_refused f.value at.0 at.1 parts.1 f.fails;
         }
 
     accepted_there : AreEquations coords rows equations → All (IsSmallBlock equations) blocks → IsAddupAnswer coords (rows, blocks) accepted_outcome
-    accepted_there e h = record { equations = equations; of_table = e; told = Ok (map (λ (block : Block). tt) blocks); added = accepted_told h; outcome = refl }
+    accepted_there e h = record { equations = equations; of_table = e; reported = Ok (map (λ (block : Block). tt) blocks); added = accepted_told h; outcome = refl }
 
     refused_there : AreEquations coords rows equations → (v : ℕ) (at : ℕ × ℕ) → AreLarge equations blocks v at → IsAddupAnswer coords (rows, blocks) (sum_refusal_outcome v (UnfitTerm at.0 (Large at.1)))
-    refused_there e v at f = record { equations = equations; of_table = e; told = Err (v, UnfitTerm at.0 (Large at.1)); added = refused_told v at f; outcome = refl }
+    refused_there e v at f = record { equations = equations; of_table = e; reported = Err (v, UnfitTerm at.0 (Large at.1)); added = refused_told v at f; outcome = refl }
 
     answer_found : AreEquations coords rows equations → (o : Outcome) → IsAddupAnswer coords (rows, blocks) o → IsAcceptedUnlessLarge equations blocks o
     answer_found e o h = elim (blocks_or_large equations blocks) [

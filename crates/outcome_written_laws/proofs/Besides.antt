@@ -21,11 +21,11 @@ one_of_three xs t (suc (suc (suc k))) l = absurd (omega arith)
 
 -- distinct items of a list have at most the sum of the list
 pub apart_sum : {A : Type 0} (f : A → ℕ) (xs ys : List A) → AreApart xs → ((x : A) → Among x xs → Among x ys) → sum_by f xs ≤ sum_by f ys
-apart_sum f [] ys apart inside = let z : sum_by f [] ≡ 0 = refl in omega arith
-apart_sum {A} f (x ∷ xs) ys apart inside =
+apart_sum f [] ys separate inside = let z : sum_by f [] ≡ 0 = refl in omega arith
+apart_sum {A} f (x ∷ xs) ys separate inside =
     let r = taken_out x ys (inside x (inl refl)) in
     let w : IsWithout x ys r.0 = r.1 in
-    let more : sum_by f xs ≤ sum_by f r.0 = apart_sum f xs r.0 apart.1 (λ z a. ⊎_elim (λ q. absurd (apart.0 (subst (λ (u : A). Among u xs) q a))) (λ g. g) (w.others z (inside z (inr a)))) in
+    let more : sum_by f xs ≤ sum_by f r.0 = apart_sum f xs r.0 separate.1 (λ z a. ⊎_elim (λ q. absurd (separate.0 (subst (λ (u : A). Among u xs) q a))) (λ g. g) (w.others z (inside z (inr a)))) in
     omega (arith, sum_by-cons f x xs, w.sums f)
 
 beside_is : (xs : List ℕ) (t i : ℕ) → i / 4 ≡ t → beside xs i ≡ three_of xs t

@@ -15,7 +15,7 @@ use Rattle.text_document_laws.proofs.Documents.{table_document_read}
 use Rattle.text_definitions.proofs.Decimals.{has_no_feed, decimal_no_feed}
 use Rattle.table_definitions.proofs.WrittenLines.{comment_line}
 use Rattle.outcome_written_laws.proofs.WrittenTables.{BeginsWithTable, table_lines}
-use Rattle.outcome_definitions.specs.Information.{classes_text, told}
+use Rattle.outcome_definitions.specs.Information.{classes_text, reported}
 use Rattle.outcome_definitions.specs.Covers.{sheet_line, cover_text}
 
 no_feed : (xs ys : List ℕ) → has_no_feed xs ≡ true → has_no_feed ys ≡ true → has_no_feed (xs ++ ys) ≡ true
@@ -48,22 +48,22 @@ sheets_passed n m (suc k) rest =
     ∙ ap (λ j. lines_from j (pieces rest)) (omega arith)
 
 -- the last line is skipped as well
-last_passed : (m : ℕ) (b : Bool) → lines_from m (pieces (told (codes "# connected ") b)) ≡ []
+last_passed : (m : ℕ) (b : Bool) → lines_from m (pieces (reported (codes "# connected ") b)) ≡ []
 unfolding lines_from
 last_passed m b = comment_line m (codes " connected " ++ yes_or_no b) [] (connected_no_feed b)
 
 pub cover_read : (rows : List Row) (connected : Bool) → IsTable rows → 2 * length rows ≤ max_tets → table_document (cover_text rows connected) ≡ Ok (cover rows)
-cover_read rows connected table few = (table_document_read (cover_text rows connected) (cover rows)).1 (inl (subst (λ (ls : List Line). AreTriLines ls (cover rows)) (sym all) b.are))
+cover_read rows connected table limited = (table_document_read (cover_text rows connected) (cover rows)).1 (inl (subst (λ (ls : List Line). AreTriLines ls (cover rows)) (sym all) b.are))
   where
     is_table : IsTable (cover rows)
-    is_table = cover_is_table rows table few
+    is_table = cover_is_table rows table limited
 
-    b : BeginsWithTable (cover rows) is_table (table_text (cover rows) ++ (classes_text (sheet_line (length rows)) (2 * length rows) ++ told (codes "# connected ") connected)) (classes_text (sheet_line (length rows)) (2 * length rows) ++ told (codes "# connected ") connected)
-    b = table_lines (cover rows) is_table (classes_text (sheet_line (length rows)) (2 * length rows) ++ told (codes "# connected ") connected)
+    b : BeginsWithTable (cover rows) is_table (table_text (cover rows) ++ (classes_text (sheet_line (length rows)) (2 * length rows) ++ reported (codes "# connected ") connected)) (classes_text (sheet_line (length rows)) (2 * length rows) ++ reported (codes "# connected ") connected)
+    b = table_lines (cover rows) is_table (classes_text (sheet_line (length rows)) (2 * length rows) ++ reported (codes "# connected ") connected)
 
-    passed : lines_from (2 + length (cover rows)) (pieces (classes_text (sheet_line (length rows)) (2 * length rows) ++ told (codes "# connected ") connected)) ≡ []
-    passed = sheets_passed (length rows) (2 + length (cover rows)) (2 * length rows) (told (codes "# connected ") connected) ∙ last_passed (2 + length (cover rows) + 2 * length rows) connected
+    passed : lines_from (2 + length (cover rows)) (pieces (classes_text (sheet_line (length rows)) (2 * length rows) ++ reported (codes "# connected ") connected)) ≡ []
+    passed = sheets_passed (length rows) (2 + length (cover rows)) (2 * length rows) (reported (codes "# connected ") connected) ∙ last_passed (2 + length (cover rows) + 2 * length rows) connected
 
     all : lines_of (cover_text rows connected) ≡ b.lines
-    all = ap (λ (bytes : List ℕ). lines_of bytes) (append_assoc (table_text (cover rows)) (classes_text (sheet_line (length rows)) (2 * length rows)) (told (codes "# connected ") connected))
+    all = ap (λ (bytes : List ℕ). lines_of bytes) (append_assoc (table_text (cover rows)) (classes_text (sheet_line (length rows)) (2 * length rows)) (reported (codes "# connected ") connected))
         ∙ b.split ∙ ap (λ (ls : List Line). b.lines ++ ls) passed ∙ append-nil b.lines

@@ -51,7 +51,7 @@ module _ (rows : List Row) (table : IsTable rows) where
   entry_short : (x : Face) (e : Option Gluing) → glue rows x ≡ e → IsShort (entry_text e)
   entry_short x None is = omega arith
   entry_short x (Some g) is =
-      let few : length rows ≤ max_tets = table.few in
+      let limited : length rows ≤ max_tets = table.limited in
       let low : g.tet < length rows = table.in_range x g is in
       let tet : length (decimal g.tet) ≤ 3 = three_digits g.tet (omega arith) in
       let four : length (digits_of g.perm) ≡ length g.perm = length-map g.perm (λ v. 48 + v) in
@@ -78,7 +78,7 @@ module _ (rows : List Row) (table : IsTable rows) where
   pub table_short : length (table_text rows) ≤ 9 + 37 * length rows
   unfolding table_text
   table_short =
-      let few : length rows ≤ max_tets = table.few in
+      let limited : length rows ≤ max_tets = table.limited in
       let number : length (decimal (length rows)) ≤ 4 = length-decimal-le 4 (length rows) (omega arith) (omega arith) (omega arith) in
       let lines : length (flat_map (λ (row : Row). spaced (map entry_text row)) rows) ≤ 37 * length rows =
       each_short 37 (λ (row : Row). spaced (map entry_text row)) rows (each_from_places (λ (row : Row). length (spaced (map entry_text row)) ≤ 37) [] rows row_short) in
@@ -111,7 +111,7 @@ move_short m low core =
     let t = and_parts (nat_lt (length (core_words (length m.core) m.core).0) 9) (list_all (λ w. nat_lt (length w) 9) (core_words (length m.core) m.core).1 && nat_lt (length (core_words (length m.core) m.core).1) 2) (on_cores word_test word_tests m.core core) in
     let u = and_parts (list_all (λ w. nat_lt (length w) 9) (core_words (length m.core) m.core).1) (nat_lt (length (core_words (length m.core) m.core).1) 2) t.1 in
     let kind : length (core_words (length m.core) m.core).0 < 9 = ltb-true (length (core_words (length m.core) m.core).0) 9 t.0 in
-    let few : length (core_words (length m.core) m.core).1 < 2 = ltb-true (length (core_words (length m.core) m.core).1) 2 u.1 in
+    let limited : length (core_words (length m.core) m.core).1 < 2 = ltb-true (length (core_words (length m.core) m.core).1) 2 u.1 in
     let tet : length (decimal m.tet) ≤ 3 = three_digits m.tet low in
     let s : length (spaced ((core_words (length m.core) m.core).0 ∷ decimal m.tet ∷ (core_words (length m.core) m.core).1)) ≤ 1 + 9 * length ((core_words (length m.core) m.core).0 ∷ decimal m.tet ∷ (core_words (length m.core) m.core).1) =
     spaced_short (words.0 ∷ decimal m.tet ∷ words.1) ((let k : length (core_words (length m.core) m.core).0 ≤ 8 = omega arith in k), ((let k : length (decimal m.tet) ≤ 8 = omega arith in k), tested_short words.1 u.0)) in
@@ -122,7 +122,7 @@ played_short rows [] last led = tt
 played_short rows (m ∷ ms) last (next, plays, rest) =
     let fine : HasNoFault rows m = no_fault rows m plays.moved.legal in
     let low : m.tet < length rows = fine.in_range in
-    let few : length rows ≤ max_tets = plays.table.few in
+    let limited : length rows ≤ max_tets = plays.table.limited in
     (move_short m (omega arith) plays.moved.core, played_short next ms last rest)
 
 pub written_moves_short : WrittenMovesAreShort

@@ -116,7 +116,7 @@ module _ (s : Skeleton) (xs ys : List ℕ) (k : IsSkeleton s) (width : length xs
 
   entry_within : (column : ℕ) → slice_index ys column ≤ 4 * sum xs
   entry_within column = elim (cases_lt column (7 * length s.rows)) [
-    | inr past ↦ (let none : slice_index ys column ≡ 0 = entry_past ys (7 * length s.rows) column lift.width past in omega arith)
+    | inr exceeded ↦ (let none : slice_index ys column ≡ 0 = entry_past ys (7 * length s.rows) column lift.width exceeded in omega arith)
     | inl within ↦ elim (cases_lt (column % 7) 4) [
       | inl triangle ↦ (let at : tri_column Standard (column / 7) (column % 7) ≡ column = omega arith in
           subst (λ j. slice_index ys j ≤ 4 * sum xs) at (subst (λ n. n ≤ 4 * sum xs) (triangles_at ys (column / 7) (column % 7) triangle) (triangle_within (vertex_number (column / 7) (column % 7)) (omega arith))))

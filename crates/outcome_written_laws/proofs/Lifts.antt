@@ -85,8 +85,8 @@ module _ (s : Skeleton) (k : IsSkeleton s) (equations : List EquationRow) where
       let more = all_lifts xs ys t.1 in
       ((first.0, more.0), All-cons (λ (v : List ℕ). All (λ entry. entry ≤ limit) v) y ys first.1 more.1, All-cons (IsSurface s.rows Standard) y ys first.2 more.2)
 
-  lifts_read : (rows : List Row) → s.rows ≡ rows → IsTable rows → (vectors : List (List ℕ)) (o : Outcome) (told : Result (List (List ℕ)) (ℕ × Refusal))
-      → AreAnswered (IsLifted s equations) vectors told → o ≡ lift_outcome told → o.status ≡ Done → IsReadAsLifts rows vectors o.text
+  lifts_read : (rows : List Row) → s.rows ≡ rows → IsTable rows → (vectors : List (List ℕ)) (o : Outcome) (reported : Result (List (List ℕ)) (ℕ × Refusal))
+      → AreAnswered (IsLifted s equations) vectors reported → o ≡ lift_outcome reported → o.status ≡ Done → IsReadAsLifts rows vectors o.text
   lifts_read rows of_rows table vectors o (Err refusal) t e done = absurd (never_done refusal.1 (sym (ap (λ (q : Outcome). q.status) e) ∙ done))
   lifts_read rows of_rows table vectors o (Ok lifts) t e done =
       let all = all_lifts vectors lifts t in record {
@@ -102,7 +102,7 @@ module _ (s : Skeleton) (k : IsSkeleton s) (equations : List EquationRow) where
 pub lifts_are_read_lem : LiftsAreRead
 lifts_are_read_lem words bytes o rows vectors asked spelled done =
     let a : IsLiftsAnswer (rows, vectors) o = answer_to_value (vectors_document bytes) (rows, vectors) IsLiftsAnswer o spelled (answer_to Lift words bytes o asked) in
-    lifts_read a.skeleton a.is_skeleton a.equations rows a.of_rows (table_with_lines vector_at bytes (rows, vectors) spelled) vectors o a.told a.lifted a.outcome done
+    lifts_read a.skeleton a.is_skeleton a.equations rows a.of_rows (table_with_lines vector_at bytes (rows, vectors) spelled) vectors o a.reported a.lifted a.outcome done
 
 verified : (rows : List Row) (lifts : List (List ℕ)) (p : Outcome) → All (IsSurface rows Standard) lifts → IsVerdictsAnswer Standard (rows, lifts) p → AreVerifiedLifts rows lifts p
 verified rows lifts p surfaces h = record {

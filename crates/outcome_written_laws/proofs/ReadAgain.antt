@@ -48,8 +48,8 @@ module _ (coords : Coords) (most : ℕ) (rows : List Row) (equations : List Equa
   abbrev Listing : Enumeration
   Listing = table_enumeration coords Given most rows equations
 
-  told_sums : All (IsFit coords rows equations) vectors → (taken : List ℕ) (list : List (List ℕ)) → IsListed Listing taken list → (told : Result (List Block) (ℕ × LargeTurn)) → AreAnswered (IsSummed most list) vectors told
-      → o ≡ sums_outcome rows told → AreAnsweredAsSums coords most rows vectors o.text
+  told_sums : All (IsFit coords rows equations) vectors → (taken : List ℕ) (list : List (List ℕ)) → IsListed Listing taken list → (reported : Result (List Block) (ℕ × LargeTurn)) → AreAnswered (IsSummed most list) vectors reported
+      → o ≡ sums_outcome rows reported → AreAnsweredAsSums coords most rows vectors o.text
   told_sums fit taken list listed (Ok blocks) sums same = record {
     equations = equations;
     blocks = blocks;
@@ -58,20 +58,20 @@ module _ (coords : Coords) (most : ℕ) (rows : List Row) (equations : List Equa
   }
   told_sums fit taken list listed (Err large) sums same = (let z : statuses.Large ≡ statuses.Done = sym (ap (λ (p : Outcome). p.status) same) ∙ done in absurd cc)
 
-  told : (checked : Result (List (Unit {0})) (ℕ × VectorFault)) → AreAnswered (IsVerdict coords rows equations) vectors checked → IsDecomposed most Listing rows vectors checked o → AreAnsweredAsSums coords most rows vectors o.text
-  told (Ok passed) v (inl h) = told_sums (All-from_recursion (IsFit coords rows equations) vectors (verdicts_fit coords rows equations vectors passed v)) h.taken h.list h.listed h.told h.sums h.outcome
-  told (Ok passed) v (inr h) = (let z : statuses.Large ≡ statuses.Done = sym (ap (λ (p : Outcome). p.status) h.3) ∙ done in absurd cc)
-  told (Err unfit) v h = absurd (unfit_is_not_done unfit.1 (sym (ap (λ (p : Outcome). p.status) h) ∙ done))
+  reported : (checked : Result (List (Unit {0})) (ℕ × VectorFault)) → AreAnswered (IsVerdict coords rows equations) vectors checked → IsDecomposed most Listing rows vectors checked o → AreAnsweredAsSums coords most rows vectors o.text
+  reported (Ok passed) v (inl h) = told_sums (All-from_recursion (IsFit coords rows equations) vectors (verdicts_fit coords rows equations vectors passed v)) h.taken h.list h.listed h.reported h.sums h.outcome
+  reported (Ok passed) v (inr h) = (let z : statuses.Large ≡ statuses.Done = sym (ap (λ (p : Outcome). p.status) h.3) ∙ done in absurd cc)
+  reported (Err unfit) v h = absurd (unfit_is_not_done unfit.1 (sym (ap (λ (p : Outcome). p.status) h) ∙ done))
 
 pub decomposed_told : DecompositionsAreAnswered
-decomposed_told coords most rows vectors o h done = told coords most rows h.equations vectors o h.of_table done h.checked h.verdicts h.told
+decomposed_told coords most rows vectors o h done = reported coords most rows h.equations vectors o h.of_table done h.checked h.verdicts h.reported
 
 -- ---- the sums are read again
 
 few_columns : (coords : Coords) (rows : List Row) → IsTable rows → columns coords (length rows) ≤ most_terms
-few_columns Standard rows table = let few = table.few in omega arith
-few_columns Quad rows table = let few = table.few in omega arith
-few_columns Octagon rows table = let few = table.few in omega arith
+few_columns Standard rows table = let limited = table.limited in omega arith
+few_columns Quad rows table = let limited = table.limited in omega arith
+few_columns Octagon rows table = let limited = table.limited in omega arith
 
 pub written_sums_read : WrittenSumsAreRead
 written_sums_read coords most rows equations vectors blocks table low h =

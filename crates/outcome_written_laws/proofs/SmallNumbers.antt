@@ -12,7 +12,7 @@ use Rattle.sum_definitions.specs.Sums.{Term, State, IsSum, ReachesState, HasRays
 use Rattle.sum_definitions.specs.Adding.{sum_at}
 use Rattle.sum_laws.specs.Laws.{IsSumOfRays}
 use Rattle.sum_laws.proofs.Turns.{led_reached, listed_ray}
-use Rattle.sum_laws.proofs.Runs.{few_turns, sum_is_right}
+use Rattle.sum_laws.proofs.Runs.{bounded_steps, sum_is_right}
 use Rattle.sum_laws.proofs.OneTerm.{terms_are_turns}
 use Rattle.text_document_definitions.specs.Blocks.{Block, most_terms}
 use Rattle.outcome_written_laws.proofs.WrittenBlocks.{FitsTerm, FitsBlock}
@@ -65,7 +65,7 @@ module _ (columns : ℕ) (rows : List Row) (list : List (List ℕ)) (x : List �
 
   pub few_terms : length terms ≤ columns
   few_terms = let e : length terms ≡ s.turns = terms_are_turns columns rows list x h most s.turns last s.led in
-      let l : s.turns ≤ columns = few_turns columns rows list x h most s.turns last s.led in omega arith
+      let l : s.turns ≤ columns = bounded_steps columns rows list x h most s.turns last s.led in omega arith
 
   -- a term with each multiple of an entry within the limit can be written
   term_fits : (term : Term) → most ≤ limit → Contains list term.vector → 1 ≤ term.count → ((j : ℕ) → term.count * slice_index term.vector j ≤ most) → FitsTerm term
@@ -99,10 +99,10 @@ widened (entry ∷ x) a b l h = (let m = h.0 in omega arith, widened x a b l h.1
 -- a block of a sum can be written
 pub block_fits : (columns : ℕ) (rows : List Row) (list : List (List ℕ)) (most : ℕ) (block : Block) → HasRays columns rows list block.vector → most ≤ limit → columns ≤ most_terms
     → IsSum most list block.vector block.times block.terms → FitsBlock block
-block_fits columns rows list most block h low few s = record {
+block_fits columns rows list most block h low limited s = record {
   entries = widened block.vector most limit low (entries_within columns rows list block.vector h most block.times block.terms s);
   times = times_low;
-  few = (let l : length block.terms ≤ columns = few_terms columns rows list block.vector h most block.times block.terms s in omega arith);
+  limited = (let l : length block.terms ≤ columns = few_terms columns rows list block.vector h most block.times block.terms s in omega arith);
   terms = terms_fit columns rows list block.vector h most block.times block.terms s low;
 }
   where

@@ -31,15 +31,15 @@ use Rattle.outcome_written_laws.proofs.Verdicts.{surfaces_are_solutions}
 large_not_done : (o : Outcome) (taken : List ℕ) (kind : Named) → o ≡ large_outcome taken kind → o.status ≡ Done → ⊥
 large_not_done o taken kind e done = let same : Large ≡ Done = sym (ap (λ (q : Outcome). q.status) e) ∙ done in cc
 
-module _ (coords : Coords) (order : Order) (most : ℕ) (rows : List Row) (table : IsTable rows) (few : most ≤ limit) (o : Outcome) where
+module _ (coords : Coords) (order : Order) (most : ℕ) (rows : List Row) (table : IsTable rows) (limited : most ≤ limit) (o : Outcome) where
   listed_read : (equations : List EquationRow) → AreEquations coords rows equations → (taken : List ℕ) (list : List (List ℕ))
       → IsListed (table_enumeration coords order most rows equations) taken list → o ≡ list_outcome (codes "surfaces") list → IsReadAsSurfaces coords rows o.text
-  listed_read equations of_table taken list listed told = record {
+  listed_read equations of_table taken list listed reported = record {
     equations = equations;
     list = list;
     all = record { of_table = of_table; surfaces = listed.surfaces };
-    read = ap (λ (q : Outcome). vectors_document (table_text rows ++ q.text)) told
-        ∙ written_answer_read rows list table (listed_within (table_enumeration coords order most rows equations) taken list limit listed few (omega arith));
+    read = ap (λ (q : Outcome). vectors_document (table_text rows ++ q.text)) reported
+        ∙ written_answer_read rows list table (listed_within (table_enumeration coords order most rows equations) taken list limit listed limited (omega arith));
   }
 
   answer_read : IsSurfacesAnswer coords order most rows o → o.status ≡ Done → IsReadAsSurfaces coords rows o.text
@@ -51,7 +51,7 @@ module _ (coords : Coords) (order : Order) (most : ℕ) (rows : List Row) (table
 pub surfaces_are_read_lem : SurfacesAreRead
 surfaces_are_read_lem words bytes o coords order most rows asked spelled done =
     let range = accepted_in_range words (Surfaces coords order most) asked.accepted in
-    answer_read coords order most rows (table_alone bytes rows spelled) range.few o
+    answer_read coords order most rows (table_alone bytes rows spelled) range.limited o
     (answer_to_value (table_document bytes) rows (IsSurfacesAnswer coords order most) o spelled (answer_to (Surfaces coords order most) words bytes o asked)) done
 
 module _ (coords : Coords) (rows : List Row) (text : List ℕ) (read : IsReadAsSurfaces coords rows text) (p : Outcome) where

@@ -28,15 +28,15 @@ use Rattle.outcome_written_laws.specs.Tables.{IsReadAsCrushed, CrushedAreRead, I
 
 module _ (rows : List Row) (xs : List ℕ) (table : IsTable rows) (o : Outcome) where
   crushed_read : (new : List Row) → IsCrushed rows xs new → o ≡ crush_outcome (Ok new) → IsReadAsCrushed rows xs o.text
-  crushed_read new c told = record {
+  crushed_read new c reported = record {
     new = new;
     crushed = c;
-    read = ap (λ (q : Outcome). table_document q.text) told ∙ written_table_read new (crushed_is_table rows xs table new c);
+    read = ap (λ (q : Outcome). table_document q.text) reported ∙ written_table_read new (crushed_is_table rows xs table new c);
     whole = λ quads. nothing_else_is_crushed rows new xs table quads c;
   }
 
   -- the status of a refusal is not that of success
-  told_read : (equations : List EquationRow) (told : Result (List Row) Refusal) → IsCrushedAlong rows equations xs told → o ≡ crush_outcome told → o.status ≡ Done → IsReadAsCrushed rows xs o.text
+  told_read : (equations : List EquationRow) (reported : Result (List Row) Refusal) → IsCrushedAlong rows equations xs reported → o ≡ crush_outcome reported → o.status ≡ Done → IsReadAsCrushed rows xs o.text
   told_read equations (Ok new) c e done = crushed_read new c.1 e
   told_read equations (Err (Unfit (faults.Length n))) c e done = absurd (let same : Refused ≡ Done = sym (ap (λ (q : Outcome). q.status) e) ∙ done in cc)
   told_read equations (Err (Unfit (faults.Large i))) c e done = absurd (let same : Large ≡ Done = sym (ap (λ (q : Outcome). q.status) e) ∙ done in cc)
@@ -50,9 +50,9 @@ module _ (rows : List Row) (xs : List ℕ) (table : IsTable rows) (o : Outcome) 
 pub crushed_are_read_lem : CrushedAreRead
 crushed_are_read_lem words bytes o rows xs asked spelled done =
     let a : IsCrushAnswer (rows, xs) o = answer_to_value (vector_document bytes) (rows, xs) IsCrushAnswer o spelled (answer_to Crush words bytes o asked) in
-    told_read rows xs (table_with_vector bytes (rows, xs) spelled) o a.equations a.told a.crushed a.outcome done
+    told_read rows xs (table_with_vector bytes (rows, xs) spelled) o a.equations a.reported a.crushed a.outcome done
 
-descent_read : (rows : List Row) (table : IsTable rows) (o : Outcome) (told : DescentAnswer) → IsDescentAnswer rows told → o ≡ descend_outcome told → o.status ≡ Done → IsDescentRead rows o
+descent_read : (rows : List Row) (table : IsTable rows) (o : Outcome) (reported : DescentAnswer) → IsDescentAnswer rows reported → o ≡ descend_outcome reported → o.status ≡ Done → IsDescentRead rows o
 descent_read rows table o (Err t) d e done = absurd (let same : Refused ≡ Done = sym (ap (λ (q : Outcome). q.status) e) ∙ done in cc)
 descent_read rows table o (Ok descended) d e done =
     let led = descent_leads rows descended.moves descended.table table d.1.descent in record {
@@ -67,4 +67,4 @@ descent_read rows table o (Ok descended) d e done =
 pub descents_are_read_lem : DescentsAreRead
 descents_are_read_lem words bytes o rows asked spelled done =
     let a : IsDescendAnswer rows o = answer_to_value (table_document bytes) rows IsDescendAnswer o spelled (answer_to Descend words bytes o asked) in
-    descent_read rows (table_alone bytes rows spelled) o a.told a.descended a.outcome done
+    descent_read rows (table_alone bytes rows spelled) o a.reported a.descended a.outcome done

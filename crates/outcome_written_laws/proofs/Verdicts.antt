@@ -7,7 +7,7 @@ use Rattle.std.proofs.lemmas.List.Elements.{All-cons, All-get_or, All-nil}
 use Rattle.text_definitions.specs.Written.{limit}
 use Rattle.cone_definitions.specs.Rows.{Row as EquationRow, IsZeroAt, IsSolution}
 use Rattle.cone_definitions.specs.Elimination.{HasLargePart, HasPartsWithin}
-use Rattle.cone_definitions.specs.Met.{HoldsWithin}
+use Rattle.cone_definitions.specs.HoldingRows.{HoldsWithin}
 use Rattle.cone_definitions.specs.Surfaces.{IsAdmissible}
 use Rattle.cone_definitions.proofs.Decided.{parts_or_large}
 use Rattle.table_definitions.specs.Table.{Row}
@@ -28,7 +28,7 @@ module _ {A W : Type 0} (Passes : A → Type 0) (Fails : W → A → Type 0) (de
   pub all_or_first : (list : List A) → All Passes list ⊎ FirstOf list
   all_or_first [] = inl (All-nil Passes)
   all_or_first (x ∷ xs) = elim (decide x) [
-    | inr f ↦ inr (0, f.0, record { before = []; value = x; after = xs; stands = refl; number_is = refl; passed = All-nil Passes; fails = f.1 })
+    | inr f ↦ inr (0, f.0, record { before = []; value = x; after = xs; occurs = refl; number_is = refl; passed = All-nil Passes; fails = f.1 })
     | inl p ↦ elim (all_or_first xs) [
       | inl all ↦ inl (All-cons Passes x xs p all)
       | inr f ↦ let first = f.2 in
@@ -39,7 +39,7 @@ module _ {A W : Type 0} (Passes : A → Type 0) (Fails : W → A → Type 0) (de
               before = x ∷ first.before;
               value = first.value;
               after = first.after;
-              stands = ap (λ (ys : List A). x ∷ ys) first.stands;
+              occurs = ap (λ (ys : List A). x ∷ ys) first.occurs;
               number_is = ap suc first.number_is;
               passed = All-cons Passes x first.before p first.passed;
               fails = first.fails;
@@ -72,22 +72,22 @@ module _ (coords : Coords) (rows : List Row) (equations : List EquationRow) (x :
 
   pub large_is_unfit : (row : ℕ) → IsFirstLarge equations x row → IsUnfit coords rows equations x (Large row)
   large_is_unfit row f = large_told limit (columns coords (length rows)) equations (clash_list coords (length rows)) x row s.solves.width in_range
-      (λ j l. met j (let e = f.number_is in omega arith)) past
+      (λ j l. met j (let e = f.number_is in omega arith)) exceeded
     where
       in_range : row < length equations
       in_range =
-          let e : length equations ≡ length (f.before ++ f.value ∷ f.after) = ap (λ (es : List EquationRow). length es) f.stands in
+          let e : length equations ≡ length (f.before ++ f.value ∷ f.after) = ap (λ (es : List EquationRow). length es) f.occurs in
           let l : length (f.before ++ f.value ∷ f.after) ≡ length f.before + length (f.value ∷ f.after) = length-append f.before (f.value ∷ f.after) in
           let n = f.number_is in omega arith
 
-      past : HasLargePart limit (slice_index_or equations row []) x
-      past = subst (λ (equation : EquationRow). HasLargePart limit equation x) (sym (ap (λ (es : List EquationRow). slice_index_or es row []) f.stands
+      exceeded : HasLargePart limit (slice_index_or equations row []) x
+      exceeded = subst (λ (equation : EquationRow). HasLargePart limit equation x) (sym (ap (λ (es : List EquationRow). slice_index_or es row []) f.occurs
           ∙ ap (λ n. slice_index_or (f.before ++ f.value ∷ f.after) n []) f.number_is ∙ get_or-append_seam f.before f.value f.after [])) f.fails
 
       met : (j : ℕ) → j < length f.before → HoldsWithin limit x (slice_index_or equations j [])
       met j l =
           let same : slice_index_or equations j [] ≡ slice_index_or f.before j [] =
-          ap (λ (es : List EquationRow). slice_index_or es j []) f.stands ∙ get_or_append_left f.before (f.value ∷ f.after) [] j l in
+          ap (λ (es : List EquationRow). slice_index_or es j []) f.occurs ∙ get_or_append_left f.before (f.value ∷ f.after) [] j l in
           let parts : HasPartsWithin limit (slice_index_or f.before j []) x = All-get_or (λ (equation : EquationRow). HasPartsWithin limit equation x) f.before j [] l f.passed in
           let here : j < length equations = (let n = f.number_is in let r = in_range in omega arith) in
           let zero : IsZeroAt (slice_index_or equations j []) x = All-get_or (λ (equation : EquationRow). IsZeroAt equation x) equations j [] here s.solves.zero in

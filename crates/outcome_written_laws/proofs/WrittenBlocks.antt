@@ -20,7 +20,7 @@ pub record FitsTerm (term : Term) : Type 0 where
 pub record FitsBlock (block : Block) : Type 0 where
   pub entries : AreEntries block.vector
   pub times : block.times ≤ limit
-  pub few : length block.terms ≤ most_terms
+  pub limited : length block.terms ≤ most_terms
   pub terms : AllByRecursion FitsTerm block.terms
 
 term_is_text : IsText (codes "term")
@@ -52,9 +52,9 @@ term_line n term rest h =
 
 times_line : (n times many : ℕ) (rest : List ℕ) → times ≤ limit → many ≤ most_terms → BeginsLine (λ line. IsTimesLine line times many) n (times_text times many) rest
 times_line n times many rest t m =
-    let few : many < 10 ^ 64 = omega arith in
+    let limited : many < 10 ^ 64 = omega arith in
     let words : List (List ℕ) = decimal times ∷ decimal many ∷ [] in
-    let texts : AllByRecursion IsText words = (decimal_is_text times (entry_small times t), (decimal_is_text many few, tt)) in (
+    let texts : AllByRecursion IsText words = (decimal_is_text times (entry_small times t), (decimal_is_text many limited, tt)) in (
       line_of n (codes "times" ++ behind_spaces words),
       written_line n (codes "times") words rest times_is_text texts refl,
       record {
@@ -62,7 +62,7 @@ times_line n times many rest t m =
         t = decimal many;
         are_words = line_words n (codes "times") words times_is_text texts;
         number = record { value = decimal_value-decimal times (entry_small times t); up_to = t };
-        counted = record { value = decimal_value-decimal many few; up_to = m };
+        counted = record { value = decimal_value-decimal many limited; up_to = m };
       },
     )
 
@@ -78,7 +78,7 @@ block_lines n block rest h =
     let terms : List ℕ = flat_map term_text block.terms in
     let times : List ℕ = times_text block.times (length block.terms) in
     let first = vector_line n block.vector (times ++ (terms ++ rest)) h.entries in
-    let second = times_line (n + 1) block.times (length block.terms) (terms ++ rest) h.times h.few in
+    let second = times_line (n + 1) block.times (length block.terms) (terms ++ rest) h.times h.limited in
     let others : BeginsWith IsTermLine (n + 1 + 1) (terms ++ rest) block.terms rest = each_line IsTermLine term_text FitsTerm term_line (n + 1 + 1) block.terms rest h.terms in
     record {
       lines = first.0 ∷ second.0 ∷ others.lines;

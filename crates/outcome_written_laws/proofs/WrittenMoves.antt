@@ -21,7 +21,7 @@ played_writable rows [] last led = tt
 played_writable rows (m ∷ ms) last (next, plays, rest) =
     let fine : HasNoFault rows m = no_fault rows m plays.moved.legal in
     let low : m.tet < length rows = fine.in_range in
-    let few = plays.table.few in
+    let limited = plays.table.limited in
     ((omega arith, plays.moved.core), played_writable next ms last rest)
 
 pub written_moves_read : WrittenMovesAreRead

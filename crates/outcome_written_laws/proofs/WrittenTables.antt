@@ -104,7 +104,7 @@ each_from_places P d (x ∷ xs) h = (h 0 (omega arith), each_from_places P d xs 
 module _ (rows : List Row) (table : IsTable rows) where
   gluing_plain : (x : Face) (g : Gluing) → glue rows x ≡ Some g → IsPlain g
   gluing_plain x g e =
-      let few : length rows ≤ max_tets = table.few in
+      let limited : length rows ≤ max_tets = table.limited in
       let within : g.tet < length rows = table.in_range x g e in
       record { permutes = table.permutes x g e; narrow = omega arith }
 
@@ -118,7 +118,7 @@ module _ (rows : List Row) (table : IsTable rows) where
   rows_plain = each_from_places IsPlainRow [] rows row_plain
 
   number_small : length rows < 10 ^ 64
-  number_small = let few : length rows ≤ max_tets = table.few in omega arith
+  number_small = let limited : length rows ≤ max_tets = table.limited in omega arith
 
   tri_is_text : IsText (codes "tri")
   tri_is_text = record { bytes = refl; some = omega arith }

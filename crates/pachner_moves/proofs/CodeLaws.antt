@@ -63,7 +63,7 @@ few_taken rows m facets so t old so_far l h =
     let a : length so ≡ rank p t = ap length so_far ∙ length-picked p t in
     let b = (at_rank p (length rows) t l h).fewer in
     let c : rank p (length rows) ≡ length (taken_numbers rows m) = sym (length-picked p (length rows)) ∙ ap (λ (fs : List Facet). length (filter (has (map (λ (f : Facet). f.tet) fs)) (below (length rows)))) old.are in
-    let d = old.few in
+    let d = old.limited in
     omega arith
 
 -- the replacement of a face

@@ -89,7 +89,7 @@ fn label_across(labels: &[u8; 4], label: u8, perm: Perm4, v: u8) -> u8
 }
 
 /// The facet across the face of `own` opposite label `label`, whose gluing is `glue`.
-pub fn facet_behind(own: Facet, label: u8, glue: Glue) -> Facet
+pub fn facet_beyond(own: Facet, label: u8, glue: Glue) -> Facet
     ensures { result ≡ moves.facet_across own label glue }
 {
     Facet {
@@ -114,7 +114,7 @@ pub fn facet_at(table: &Table, m: Move, label: u8) -> Option<Facet>
         return Some(own);
     }
     match glue_opposite(table, own, label) {
-        Some(glue) => Some(facet_behind(own, label, glue)),
+        Some(glue) => Some(facet_beyond(own, label, glue)),
         None => None,
     }
 }
@@ -140,7 +140,7 @@ pub fn replace_label(label: u8, old: u8, new: u8) -> u8
 }
 
 /// The labels to which the gluing of `f` to `g` has to map.
-fn labels_wanted(f: Facet, g: Facet) -> [u8; 4]
+fn required_labels(f: Facet, g: Facet) -> [u8; 4]
     ensures { result ≡ map (substitute g.missing f.missing) f.labels }
 {
     let [a, b, c, d] = f.labels;
@@ -158,7 +158,7 @@ pub fn is_matched(table: &Table, f: Facet, g: Facet) -> bool
 {
     match glue_opposite(table, f, g.missing) {
         Some(glue) => {
-            glue.tet == g.tet && labels_reached(&g.labels, glue.perm) == labels_wanted(f, g)
+            glue.tet == g.tet && labels_reached(&g.labels, glue.perm) == required_labels(f, g)
         }
         None => false,
     }

@@ -50,7 +50,7 @@ pub fn other_labels(label: Label) -> [u8; 4]
 /// The number of tetrahedra of `table` that move `m` retains.
 pub fn retained_in(table: &Table, m: &Move) -> u32
     ensures value { result ≡ moves.kept table.now m.now }
-    ensures few { result ≤ max_tets }
+    ensures limited { result ≤ max_tets }
     ensures is_table { IsTable table.now }
 {
     retained(table.len(), m.core)
@@ -105,7 +105,7 @@ pub fn glue_to_new(table: &Table, m: &Move, f: Facet, label: Label) -> Glue
 
 /// The image of the old facet `f` at its face opposite `label`, or `None` if that face is not on the boundary of the
 /// moved region.
-fn facet_stand_in(table: &Table, m: &Move, f: Facet, label: u8) -> Option<Glue>
+fn facet_image_after(table: &Table, m: &Move, f: Facet, label: u8) -> Option<Glue>
     requires { IsFacet f }
     ensures { result ≡ moves.facet_place_after table.now m.now f label }
 {
@@ -125,7 +125,7 @@ pub fn closed_number(facets: &[Facet], tet: u32) -> u32
 }
 
 /// The image of `tet`, a tetrahedron that the move retains.
-fn retained_stand_in(taken: RemovedFacets<'_>, tet: u32) -> Glue
+fn retained_image_after(taken: RemovedFacets<'_>, tet: u32) -> Glue
     ensures { result ≡ moves.kept_place_after taken.entry.table.now taken.entry.m.now tet }
 {
     Glue {
@@ -147,12 +147,12 @@ pub fn facet_of(facets: &[Facet], tet: u32) -> Option<Facet>
 }
 
 /// The image, at face `x`, of its tetrahedron.
-fn stand_in(taken: RemovedFacets<'_>, x: Face) -> Option<Glue>
+fn image_after(taken: RemovedFacets<'_>, x: Face) -> Option<Glue>
     ensures { result ≡ moves.place_after taken.entry.table.now taken.entry.m.now x }
 {
     match facet_of(taken.facets, x.tet) {
-        Some(f) => facet_stand_in(taken.table, taken.m, f, f.labels[x.face as usize]),
-        None => Some(retained_stand_in(taken, x.tet)),
+        Some(f) => facet_image_after(taken.table, taken.m, f, f.labels[x.face as usize]),
+        None => Some(retained_image_after(taken, x.tet)),
     }
 }
 
@@ -170,6 +170,6 @@ fn glue_under(s: Glue, r: Glue, glue: Glue) -> Glue
 pub fn moved_glue(taken: RemovedFacets<'_>, x: Face, s: Glue, glue: Glue) -> Option<Glue>
     ensures { result ≡ moves.moved_gluing taken.entry.table.now taken.entry.m.now x s glue }
 {
-    let r = stand_in(taken, glue.other_side(x))?;
+    let r = image_after(taken, glue.other_side(x))?;
     Some(glue_under(s, r, glue))
 }

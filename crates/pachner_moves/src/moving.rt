@@ -132,7 +132,7 @@ fn row_of(table: &Table, tet: u32) -> Row
 
 /// The rows of the tetrahedra `numbers`, with their numbers.
 fn saved_rows(table: &Table, numbers: &[u32]) -> ArrayVec<(u32, Row), 4>
-    requires few { length numbers.now ≤ 4 }
+    requires limited { length numbers.now ≤ 4 }
     requires in_range { All (λ t. t < length table.now) numbers.now }
     ensures { result.items ≡ map (λ t. (t, slice_index_or table.now t [])) numbers.now }
 {
@@ -241,7 +241,7 @@ impl Undo {
     /// The number of tetrahedra that the move retained.
     fn retained_by_move(&self) -> u32
         ensures value { result ≡ self.now.tets - (5 - length self.now.played.core) }
-        ensures few { result ≤ max_tets }
+        ensures limited { result ≤ max_tets }
     {
         retained(self.tets, self.played.core)
     }

@@ -34,12 +34,12 @@ nearest (suc n) rows (d ∷ ds) = nearest n rows (nearer rows (d ∷ ds))
 abbrev pub distances : List Row → List ℕ
 distances rows = nearest (length rows) rows (map (λ t. length rows * min t 1) (below (length rows)))
 
-abbrev pub leads_to : ℕ → Option Gluing → Bool
-leads_to t None = false
-leads_to t (Some g) = g.tet == t
+abbrev pub inverse_if_reached : ℕ → Option Gluing → Bool
+inverse_if_reached t None = false
+inverse_if_reached t (Some g) = g.tet == t
 
 abbrev pub tree_face : List Row → List ℕ → ℕ → Option Face
-tree_face rows ds t = find (λ x. leads_to t (glue rows x) && (slice_index ds x.tet + 1 == slice_index ds t)) (faces (length rows))
+tree_face rows ds t = find (λ x. inverse_if_reached t (glue rows x) && (slice_index ds x.tet + 1 == slice_index ds t)) (faces (length rows))
 
 abbrev pub tree_path : ℕ → List Row → List ℕ → Option Face → List Face
 tree_path zero rows ds x = []

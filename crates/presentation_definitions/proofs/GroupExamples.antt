@@ -8,15 +8,15 @@ use Rattle.presentation_definitions.proofs.Evaluators.{skeleton_of, presentation
 abbrev plain : ℕ → Letter
 plain g = record { generator = g; inverse = false }
 
-abbrev turned : ℕ → Letter
-turned g = record { generator = g; inverse = true }
+abbrev backwards : ℕ → Letter
+backwards g = record { generator = g; inverse = true }
 
 -- the figure eight: face classes 1 to 3, which do not reverse orientation, and the relators 2 -1 3 1 -3 and 1 2 -3 -2
 eight_group : presentation_of (skeleton_of figure_eight) ≡ record {
   generators = 1 ∷ 2 ∷ 3 ∷ [];
   turning = false ∷ false ∷ false ∷ [];
   edges = 0 ∷ 1 ∷ [];
-  relators = (plain 2 ∷ turned 1 ∷ plain 3 ∷ plain 1 ∷ turned 3 ∷ []) ∷ (plain 1 ∷ plain 2 ∷ turned 3 ∷ turned 2 ∷ []) ∷ [];
+  relators = (plain 2 ∷ backwards 1 ∷ plain 3 ∷ plain 1 ∷ backwards 3 ∷ []) ∷ (plain 1 ∷ plain 2 ∷ backwards 3 ∷ backwards 2 ∷ []) ∷ [];
 }
 unfolding computed
 eight_group = refl
@@ -26,7 +26,7 @@ id_group : presentation_of (skeleton_of table_id) ≡ record {
   generators = 0 ∷ 1 ∷ [];
   turning = true ∷ true ∷ [];
   edges = 0 ∷ [];
-  relators = (plain 2 ∷ turned 1 ∷ turned 2 ∷ plain 1 ∷ plain 1 ∷ plain 2 ∷ []) ∷ [];
+  relators = (plain 2 ∷ backwards 1 ∷ backwards 2 ∷ plain 1 ∷ plain 1 ∷ plain 2 ∷ []) ∷ [];
 }
 unfolding computed
 id_group = refl
@@ -40,8 +40,8 @@ four_group : presentation_of (skeleton_of four_tets) ≡ record {
   generators = 3 ∷ 4 ∷ 5 ∷ 6 ∷ 7 ∷ [];
   turning = false ∷ false ∷ false ∷ false ∷ false ∷ [];
   edges = 0 ∷ 1 ∷ 2 ∷ 3 ∷ 4 ∷ 5 ∷ [];
-  relators = (turned 5 ∷ plain 4 ∷ turned 5 ∷ turned 2 ∷ turned 1 ∷ plain 5 ∷ turned 3 ∷ turned 1 ∷ [])
-      ∷ (plain 4 ∷ []) ∷ (turned 1 ∷ []) ∷ (plain 3 ∷ []) ∷ (plain 2 ∷ []) ∷ (plain 2 ∷ plain 4 ∷ turned 3 ∷ []) ∷ [];
+  relators = (backwards 5 ∷ plain 4 ∷ backwards 5 ∷ backwards 2 ∷ backwards 1 ∷ plain 5 ∷ backwards 3 ∷ backwards 1 ∷ [])
+      ∷ (plain 4 ∷ []) ∷ (backwards 1 ∷ []) ∷ (plain 3 ∷ []) ∷ (plain 2 ∷ []) ∷ (plain 2 ∷ plain 4 ∷ backwards 3 ∷ []) ∷ [];
 }
 unfolding computed
 four_group = refl

@@ -4,7 +4,7 @@ use Rattle.table_definitions.specs.Table.{Face, is_face_before}
 use Rattle.table_definitions.specs.Places.{Place, whole}
 use Rattle.table_definitions.proofs.Tables.{figure_eight}
 use Rattle.skeleton_definitions.proofs.Computed.{computed}
-use Rattle.presentation_definitions.specs.Trees.{LeadsTo, IsDistance, IsTreeFace, IsTreePath, evens}
+use Rattle.presentation_definitions.specs.Trees.{IsPathTo, IsDistance, IsTreeFace, IsTreePath, evens}
 
 -- the figure eight: tetrahedron 0 has distance 0, tetrahedron 1 has distance 1, and its tree face is face 0 of
 -- tetrahedron 0
@@ -14,7 +14,7 @@ near = record { crossed = []; led = refl; long = refl; least = λ other led. ome
 zero_one : (◌≡◌ {A = ℕ} 0 1) → ⊥
 zero_one e = omega arith
 
-not_there : (other : List ℕ) → LeadsTo figure_eight other 1 → 1 ≤ length other
+not_there : (other : List ℕ) → IsPathTo figure_eight other 1 → 1 ≤ length other
 not_there [] e = let z : Some (whole 0) ≡ Some (whole 1) = e in let same : whole 0 ≡ whole 1 = cc in absurd (zero_one (ap (λ (p : Place). p.tet) same))
 not_there (f ∷ fs) e = omega arith
 

@@ -17,7 +17,7 @@ IsTreeFaceAt rows t (Some x) = IsTreeFace rows t x
 -- the same of each tetrahedron, in order
 pub record IsTree (rows : List Row) (tree : List (Option Face)) : Type 0 where
   pub one_each : length tree ≡ length rows
-  pub told : (t : ℕ) → t < length rows → IsTreeFaceAt rows t (slice_index_or tree t None)
+  pub reported : (t : ℕ) → t < length rows → IsTreeFaceAt rows t (slice_index_or tree t None)
 
 -- the tree faces and the presentation by them
 pub record Group : Type 0 where

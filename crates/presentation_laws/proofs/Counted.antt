@@ -19,7 +19,7 @@ module _ (rows : List Row) (table : IsTable rows) (connected : IsConnected rows)
 
   chosen : (k : ℕ) → (k < n) ⊎ (n ≤ k) → Face
   chosen k (inl l) = (found k l).0
-  chosen k (inr past) = record { tet = 0; face = 0 }
+  chosen k (inr exceeded) = record { tet = 0; face = 0 }
 
   face_after : ℕ → Face
   face_after k = chosen k (cases_lt k n)
@@ -27,7 +27,7 @@ module _ (rows : List Row) (table : IsTable rows) (connected : IsConnected rows)
   chosen_is : (k : ℕ) (c : (k < n) ⊎ (n ≤ k)) → k < n → IsTreeFace rows (k + 1) (chosen k c)
   unfolding chosen
   chosen_is k (inl l) m = (found k l).1
-  chosen_is k (inr past) m = absurd (omega arith)
+  chosen_is k (inr exceeded) m = absurd (omega arith)
 
   after_is : (k : ℕ) → k < n → IsTreeFace rows (k + 1) (face_after k)
   unfolding face_after
@@ -59,7 +59,7 @@ module _ (rows : List Row) (table : IsTable rows) (connected : IsConnected rows)
     record {
       count = let l : length all_faces ≡ n = long in omega arith;
       each = λ k d l. each k d (subst (λ m. k < m) long l);
-      apart = λ i j d less l e. let m : j < n = subst (λ k. j < k) long l in
+      separate = λ i j d less l e. let m : j < n = subst (λ k. j < k) long l in
           let same : i + 1 ≡ j + 1 = one_tetrahedron rows (i + 1) (j + 1) (slice_index_or all_faces j d) (subst (IsTreeFace rows (i + 1)) e (each i d (omega arith))) (each j d m) in absurd (omega arith);
       all = contained;
     },

@@ -41,7 +41,7 @@ module _ (s : Skeleton) (h : IsSkeleton s) where
 
     held_or_not : (c t : ℕ) → HeldBy c t ⊎ (HeldBy c t → ⊥)
     held_or_not c t = elim (cases_lt t (length s.rows)) [
-      | inr past ↦ inr (λ w. let l : t < length s.rows = tree_inside t w.0 w.1 in omega arith)
+      | inr exceeded ↦ inr (λ w. let l : t < length s.rows = tree_inside t w.0 w.1 in omega arith)
       | inl l ↦ elim (cases_eq t 0) [
         | inl z ↦ inr (λ w. none_for_zero s.rows w.0 (subst (λ u. IsTreeFace s.rows u w.0) z w.1))
         | inr n ↦ by_class (tree_face_of s.rows h.table connected t l (omega arith))

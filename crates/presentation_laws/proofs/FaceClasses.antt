@@ -5,7 +5,7 @@ use Rattle.std.proofs.lemmas.Bool.{cases_order, eq-eqb, ne_eqb}
 use Rattle.std.proofs.lemmas.List.Sums.{sum_by-cons}
 use Rattle.table_definitions.specs.Lists.{times_in}
 use Rattle.table_definitions.specs.Permutation.{image}
-use Rattle.table_definitions.specs.Table.{Gluing, Row, Face, IsTable, glue, other_side, way_back, same_face, face_number}
+use Rattle.table_definitions.specs.Table.{Gluing, Row, Face, IsTable, glue, other_side, inverse_gluing, same_face, face_number}
 use Rattle.table_definitions.specs.Classes.{IsNumbering, least, degree}
 use Rattle.table_definitions.specs.Places.{face_of, SameFace}
 use Rattle.table_definitions.proofs.TableLaws.{glued_tet, glued_face}
@@ -59,7 +59,7 @@ module _ (rows : List Row) (table : IsTable rows) (classes : List ℕ) (count : 
     x_below = number_below (length rows) x (glued_tet rows x g e) x_small
 
     pub y_small : image g.perm x.face < 4
-    y_small = glued_face rows (other_side x g) (way_back x g) table.four_faces (table.leads_back x g e)
+    y_small = glued_face rows (other_side x g) (inverse_gluing x g) table.four_faces (table.leads_back x g e)
 
     pub y_below : face_number (other_side x g) < 4 * length rows
     y_below = number_below (length rows) (other_side x g) (table.in_range x g e) y_small
@@ -80,10 +80,10 @@ module _ (rows : List Row) (table : IsTable rows) (classes : List ℕ) (count : 
     other_class = sym ((h.together (face_number x) (face_number (other_side x g)) x_below y_below).1
         (inr (g, ap (glue rows) (face_of-number x x_small) ∙ e, ap (λ z. other_side z g) (face_of-number x x_small) ∙ sym (face_of-number (other_side x g) y_small))))
 
-    apart : face_number (other_side x g) ≢ face_number x
-    apart same = let faces : other_side x g ≡ x = sym (face_of-number (other_side x g) y_small) ∙ ap face_of same ∙ face_of-number x x_small in
+    separate : face_number (other_side x g) ≢ face_number x
+    separate same = let faces : other_side x g ≡ x = sym (face_of-number (other_side x g) y_small) ∙ ap face_of same ∙ face_of-number x x_small in
         let itself : same_face (other_side x g) x ≡ true = same_to (other_side x g).tet x.tet (other_side x g).face x.face (ap (λ (z : Face). z.tet) faces) (ap (λ (z : Face). z.face) faces) in
-        let never : not (same_face (other_side x g) x) ≡ true = table.apart x g e in cc
+        let never : not (same_face (other_side x g) x) ≡ true = table.separate x g e in cc
 
     no_third : (k : ℕ) → k < length classes → k ≢ face_number x → k ≢ face_number (other_side x g) → slice_index classes k ≢ class_of x
     no_third k l a b same = elim (same_class k (subst (λ n. k < n) h.one_each l) same) [
@@ -94,7 +94,7 @@ module _ (rows : List Row) (table : IsTable rows) (classes : List ℕ) (count : 
     pub degree_two : degree classes (class_of x) ≡ 2
     unfolding class_of
     degree_two = elim (cases_order (face_number x) (face_number (other_side x g))) [
-      | inl same ↦ absurd (apart (sym same))
+      | inl same ↦ absurd (separate (sym same))
       | inr (inl less) ↦ count_two (class_of x) classes (face_number x) (face_number (other_side x g)) less (subst (λ n. face_number (other_side x g) < n) (sym h.one_each) y_below) refl other_class no_third
       | inr (inr more) ↦ count_two (class_of x) classes (face_number (other_side x g)) (face_number x) more (subst (λ n. face_number x < n) (sym h.one_each) x_below) other_class refl (λ k l a b. no_third k l b a)
     ]

@@ -32,7 +32,7 @@ module _ (s : Skeleton) (h : IsSkeleton s) where
       none_less : s.faces.count ≤ length firsts
       none_less = elim (cases_lt (length firsts) s.faces.count) [
         | inr le ↦ le
-        | inl past ↦ let some = h.faces.none_empty (length firsts) past in
+        | inl exceeded ↦ let some = h.faces.none_empty (length firsts) exceeded in
             let b : slice_index s.faces.classes some.0 < length firsts = a.below some.0 (subst (λ k. some.0 < k) (sym e) some.1) in
             let c : slice_index s.faces.classes some.0 ≡ length firsts = some.2 in absurd (omega arith)
       ]
@@ -40,9 +40,9 @@ module _ (s : Skeleton) (h : IsSkeleton s) where
       none_more : length firsts ≤ s.faces.count
       none_more = elim (cases_lt s.faces.count (length firsts)) [
         | inr le ↦ le
-        | inl past ↦
-            let b : slice_index s.faces.classes (slice_index firsts s.faces.count) < s.faces.count = h.faces.in_range (slice_index firsts s.faces.count) (subst (λ k. slice_index firsts s.faces.count < k) e (a.in_range s.faces.count past)) in
-            let c : slice_index s.faces.classes (slice_index firsts s.faces.count) ≡ s.faces.count = a.member s.faces.count past in absurd (omega arith)
+        | inl exceeded ↦
+            let b : slice_index s.faces.classes (slice_index firsts s.faces.count) < s.faces.count = h.faces.in_range (slice_index firsts s.faces.count) (subst (λ k. slice_index firsts s.faces.count < k) e (a.in_range s.faces.count exceeded)) in
+            let c : slice_index s.faces.classes (slice_index firsts s.faces.count) ≡ s.faces.count = a.member s.faces.count exceeded in absurd (omega arith)
       ]
 
   -- a class has two members if and only if its least one is glued
@@ -64,8 +64,8 @@ module _ (s : Skeleton) (h : IsSkeleton s) where
     unglued_one e = count_one c s.faces.classes first (least_at c l).in_range (least_at c l).is other
       where
         other : (k : ℕ) → k < length s.faces.classes → (k ≡ first → ⊥) → slice_index s.faces.classes k ≡ c → ⊥
-        other k m apart same = elim ((h.faces.together first k first_below (subst (λ n. k < n) h.faces.one_each m)).0 ((least_at c l).is ∙ sym same)) [
-          | inl i ↦ apart (sym i)
+        other k m separate same = elim ((h.faces.together first k first_below (subst (λ n. k < n) h.faces.one_each m)).0 ((least_at c l).is ∙ sym same)) [
+          | inl i ↦ separate (sym i)
           | inr w ↦ let z : None ≡ Some w.0 = sym e ∙ w.1 in cc
         ]
 

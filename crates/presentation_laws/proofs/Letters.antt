@@ -5,7 +5,7 @@ use Rattle.std.specs.List.{position_or_len, AllZip}
 use Rattle.std.proofs.lemmas.Bool.{false≢true}
 use Rattle.basic_lemmas.proofs.Truths.{true_or_false}
 use Rattle.table_definitions.specs.Lists.{has}
-use Rattle.table_definitions.specs.Table.{Gluing, Face, glue, other_side, way_back, face_number}
+use Rattle.table_definitions.specs.Table.{Gluing, Face, glue, other_side, inverse_gluing, face_number}
 use Rattle.table_definitions.specs.Classes.{least, is_least}
 use Rattle.table_definitions.specs.Places.{face_of, IsConnected}
 use Rattle.table_definitions.proofs.TableLaws.{glued_face}
@@ -36,7 +36,7 @@ module _ (s : Skeleton) (h : IsSkeleton s) (connected : IsConnected s.rows) wher
   -- the two faces of a class both reverse orientation, or neither does
   both_turn : (x y : Face) (g k : Gluing) → glue s.rows x ≡ Some g → glue s.rows y ≡ Some k → (y ≡ x) ⊎ (y ≡ other_side x g) → turn_of y.tet k ≡ turn_of x.tet g
   both_turn x y g k e d (inl same) = let z : Some k ≡ Some g = sym d ∙ ap (glue s.rows) same ∙ e in let w : k ≡ g = cc in ap₂ (λ (a : Face) (b : Gluing). turn_of a.tet b) same w
-  both_turn x y g k e d (inr same) = let z : Some k ≡ Some (way_back x g) = sym d ∙ ap (glue s.rows) same ∙ h.table.leads_back x g e in let w : k ≡ way_back x g = cc in
+  both_turn x y g k e d (inr same) = let z : Some k ≡ Some (inverse_gluing x g) = sym d ∙ ap (glue s.rows) same ∙ h.table.leads_back x g e in let w : k ≡ inverse_gluing x g = cc in
       ap₂ (λ (a : Face) (b : Gluing). turn_of a.tet b) same w ∙ turn_back s.rows h.table connected x g e
 
   -- a face whose class contains a tree face does not reverse orientation

@@ -8,7 +8,7 @@ use Rattle.table_definitions.specs.Places.{Place, whole, across, along}
 use Rattle.table_definitions.proofs.TableLaws.{glued_tet, glued_face}
 use Rattle.table_definitions.proofs.ChainLaws.{along-append, kept_along, crossed}
 use Rattle.table_definitions.proofs.Faces.{face_at}
-use Rattle.presentation_definitions.specs.Trees.{LeadsTo, IsDistance}
+use Rattle.presentation_definitions.specs.Trees.{IsPathTo, IsDistance}
 
 -- ---- levels
 
@@ -16,7 +16,7 @@ use Rattle.presentation_definitions.specs.Trees.{LeadsTo, IsDistance}
 pub record Level (rows : List Row) (k t : ℕ) : Type 0 where
   pub crossed : List ℕ
   pub long : length crossed ≡ k
-  pub led : LeadsTo rows crossed t
+  pub led : IsPathTo rows crossed t
 
 module _ (rows : List Row) where
   pub level_start : Level rows 0 0
@@ -90,7 +90,7 @@ module _ (rows : List Row) where
   pub level_zero : (t : ℕ) → Level rows 0 t → t ≡ 0
   level_zero t h = go h.crossed h.long h.led
     where
-      go : (fs : List ℕ) → length fs ≡ 0 → LeadsTo rows fs t → t ≡ 0
+      go : (fs : List ℕ) → length fs ≡ 0 → IsPathTo rows fs t → t ≡ 0
       go [] l e = let z : Some (whole 0) ≡ Some (whole t) = e in let same : whole 0 ≡ whole t = cc in ap (λ (p : Place). p.tet) (sym same)
       go (f ∷ fs) l e = absurd (omega arith)
 

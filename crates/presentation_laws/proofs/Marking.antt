@@ -25,7 +25,7 @@ module _ (s : Skeleton) where
   pub class_passes : (n : ℕ) (marks : List Bool) → n ≡ 0 → AreTreeClassesBelow s n marks → AreTreeClassesBelow s (n + 1) marks
   class_passes n marks z a = record {
     one_each = a.one_each;
-    told = λ c. (λ m. later n c ((a.told c).0 m), λ w. absurd (let l : w.tet < n + 1 = w.below in let t : w.tet ≡ 0 = omega arith in none_for_zero s.rows w.face (subst (λ t. IsTreeFace s.rows t w.face) t w.tree_face)));
+    reported = λ c. (λ m. later n c ((a.reported c).0 m), λ w. absurd (let l : w.tet < n + 1 = w.below in let t : w.tet ≡ 0 = omega arith in none_for_zero s.rows w.face (subst (λ t. IsTreeFace s.rows t w.face) t w.tree_face)));
   }
 
   -- a tetrahedron with its tree face
@@ -33,11 +33,11 @@ module _ (s : Skeleton) where
       → AreTreeClassesBelow s n marks → AreTreeClassesBelow s (n + 1) new
   class_marked n marks new x k h e l f a = record {
     one_each = ap length f ∙ length-set marks k true ∙ a.one_each;
-    told = λ c. elim (cases_eq c k) [
+    reported = λ c. elim (cases_eq c k) [
       | inl same ↦ (λ m. subst (HoldsTreeFaceBelow s (n + 1)) (sym same) here, λ w. ap (λ i. slice_index_or new i false) same ∙ at_k)
       | inr other ↦ (
-        λ m. later n c ((a.told c).0 (sym (at_other c other) ∙ m)),
-        λ w. at_other c other ∙ (a.told c).1 (earlier c other w),
+        λ m. later n c ((a.reported c).0 (sym (at_other c other) ∙ m)),
+        λ w. at_other c other ∙ (a.reported c).1 (earlier c other w),
       )
     ];
   }
@@ -108,10 +108,10 @@ module _ (s : Skeleton) where
 -- ---- what the tree says of a tetrahedron
 
 pub tree_face_is : (rows : List Row) (tree : List (Option Face)) (t : ℕ) (d : Option Face) (x : Face) → IsTree rows tree → t < length tree → slice_index_or tree t d ≡ Some x → IsTreeFace rows t x
-tree_face_is rows tree t d x h l e = subst (IsTreeFaceAt rows t) (get_or_default tree t None d l ∙ e) (h.told t (subst (λ n. t < n) h.one_each l))
+tree_face_is rows tree t d x h l e = subst (IsTreeFaceAt rows t) (get_or_default tree t None d l ∙ e) (h.reported t (subst (λ n. t < n) h.one_each l))
 
 pub tree_root_is : (rows : List Row) (tree : List (Option Face)) (t : ℕ) (d : Option Face) → IsTree rows tree → t < length tree → slice_index_or tree t d ≡ None → t ≡ 0
-tree_root_is rows tree t d h l e = subst (IsTreeFaceAt rows t) (get_or_default tree t None d l ∙ e) (h.told t (subst (λ n. t < n) h.one_each l))
+tree_root_is rows tree t d h l e = subst (IsTreeFaceAt rows t) (get_or_default tree t None d l ∙ e) (h.reported t (subst (λ n. t < n) h.one_each l))
 
 pub tree_face_inside : (rows : List Row) (t : ℕ) (x : Face) → IsTable rows → IsTreeFace rows t x → (x.tet < length rows) × (x.face < 4)
 tree_face_inside rows t x table h = (glued_tet rows x h.leads.gluing h.leads.glued, glued_face rows x h.leads.gluing table.four_faces h.leads.glued)

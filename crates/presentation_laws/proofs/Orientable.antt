@@ -65,7 +65,7 @@ module _ (s : Skeleton) (h : IsSkeleton s) (connected : IsConnected s.rows) (p :
     turns_false : (letter : Letter) → turns p letter ≡ false
     turns_false letter = elim (cases_lt (letter.generator - 1) (length p.turning)) [
       | inl l ↦ none (letter.generator - 1) false l
-      | inr past ↦ get_or_past p.turning (letter.generator - 1) false past
+      | inr exceeded ↦ get_or_past p.turning (letter.generator - 1) false exceeded
     ]
 
     turn_false : (x : Face) (g : Gluing) → glue s.rows x ≡ Some g → turn_of x.tet g ≡ false

@@ -4,7 +4,7 @@ use Rattle.std.specs.Prelude.{◌==◌, cond}
 use Rattle.std.proofs.lemmas.List.Sums.{sum_by-cons}
 use Rattle.std.proofs.lemmas.Bool.{cases_lt, cases_eq}
 use Rattle.table_definitions.specs.Permutation.{is_odd}
-use Rattle.table_definitions.specs.Table.{Gluing, Row, Face, IsTable, glue, way_back}
+use Rattle.table_definitions.specs.Table.{Gluing, Row, Face, IsTable, glue, inverse_gluing}
 use Rattle.table_definitions.specs.Places.{IsConnected}
 use Rattle.table_definitions.proofs.TableLaws.{glued_tet}
 use Rattle.table_definitions.proofs.Permutations.{is_odd-inverse}
@@ -76,7 +76,7 @@ module _ (rows : List Row) (table : IsTable rows) (connected : IsConnected rows)
   -- whether there is an odd number of even gluings on the tree path to t
   chosen : (t : ℕ) → (t < length rows) ⊎ (length rows ≤ t) → Bool
   chosen t (inl l) = is_odd_number (evens rows (path_of rows table connected t l).0)
-  chosen t (inr past) = false
+  chosen t (inr exceeded) = false
 
   pub sign : ℕ → Bool
   sign t = chosen t (cases_lt t (length rows))
@@ -84,7 +84,7 @@ module _ (rows : List Row) (table : IsTable rows) (connected : IsConnected rows)
   chosen_is : (t : ℕ) (c : (t < length rows) ⊎ (length rows ≤ t)) (xs : List Face) → t < length rows → IsTreePath rows t xs → chosen t c ≡ is_odd_number (evens rows xs)
   unfolding chosen
   chosen_is t (inl l) xs m h = let w = path_of rows table connected t l in ap (λ ys. is_odd_number (evens rows ys)) (one_path rows t w.0 xs w.1 h)
-  chosen_is t (inr past) xs m h = absurd (omega arith)
+  chosen_is t (inr exceeded) xs m h = absurd (omega arith)
 
   pub sign_is : (t : ℕ) (xs : List Face) → t < length rows → IsTreePath rows t xs → sign t ≡ is_odd_number (evens rows xs)
   unfolding sign
@@ -125,7 +125,7 @@ module _ (rows : List Row) (table : IsTable rows) (connected : IsConnected rows)
           ∙ ap₂ differs (ap is_even_gluing e) (sym (sign_is x.tet w.0 (glued_tet rows x g e) w.1))
 
   -- the inverse gluing reverses orientation if and only if the gluing does
-  pub turn_back : (x : Face) (g : Gluing) → glue rows x ≡ Some g → turn g.tet (way_back x g) ≡ turn x.tet g
+  pub turn_back : (x : Face) (g : Gluing) → glue rows x ≡ Some g → turn g.tet (inverse_gluing x g) ≡ turn x.tet g
   unfolding turn
   turn_back x g e = ap (λ b. differs (sign g.tet) (differs (not b) (sign x.tet))) (is_odd-inverse g.perm (table.permutes x g e))
       ∙ around (sign g.tet) (not (is_odd g.perm)) (sign x.tet)

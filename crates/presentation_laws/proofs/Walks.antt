@@ -139,17 +139,17 @@ module _ (s : Skeleton) (h : IsSkeleton s) (connected : IsConnected s.rows) wher
     letters_turn [] a = refl
     letters_turn (k ∷ ks) a = by_letter (letter_at k) refl (letters_turn ks a.1)
       where
-        told : TurnsAs s h connected p ip (letter_at k) (turn_of k.tet a.0.0)
-        told = letter_turns s h connected p ip (left_through k) a.0.0 a.0.1
+        reported : TurnsAs s h connected p ip (letter_at k) (turn_of k.tet a.0.0)
+        reported = letter_turns s h connected p ip (left_through k) a.0.0 a.0.1
 
         turn_is_at : turn_of k.tet a.0.0 ≡ turn_at k
         turn_is_at = ap (turn_glued k.tet) (sym a.0.1)
 
         by_letter : (o : Option Letter) → letter_at k ≡ o → is_odd_number (count_by (turns p) (filter_map letter_at ks)) ≡ total ks →
             is_odd_number (count_by (turns p) (filter_map letter_at (k ∷ ks))) ≡ differs (turn_at k) (total ks)
-        by_letter None e rest = ap (λ o. is_odd_number (count_by (turns p) (cons_option o (filter_map letter_at ks)))) e ∙ rest ∙ ap (λ b. differs b (total ks)) (sym (sym turn_is_at ∙ told.none e))
+        by_letter None e rest = ap (λ o. is_odd_number (count_by (turns p) (cons_option o (filter_map letter_at ks)))) e ∙ rest ∙ ap (λ b. differs b (total ks)) (sym (sym turn_is_at ∙ reported.none e))
         by_letter (Some letter) e rest = ap (λ o. is_odd_number (count_by (turns p) (cons_option o (filter_map letter_at ks)))) e ∙ odd_more (turns p) letter (filter_map letter_at ks)
-            ∙ ap₂ differs (told.some letter e ∙ turn_is_at) rest
+            ∙ ap₂ differs (reported.some letter e ∙ turn_is_at) rest
 
     walk_even : (first : Corner) (corners : List Corner) → IsPermutationOfFour (corner_word first) → IsTourFrom s.rows first corners → is_odd_number (count_by (turns p) (filter_map letter_at corners)) ≡ false
     walk_even first [] hf w = absurd w

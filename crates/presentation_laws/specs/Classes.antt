@@ -26,12 +26,12 @@ pub record HoldsTreeFaceBelow (s : Skeleton) (n c : ℕ) : Type 0 where
 -- which classes hold one
 pub record AreTreeClassesBelow (s : Skeleton) (n : ℕ) (marks : List Bool) : Type 0 where
   pub one_each : length marks ≡ s.faces.count
-  pub told : (c : ℕ) → (slice_index_or marks c false ≡ true) ↔ HoldsTreeFaceBelow s n c
+  pub reported : (c : ℕ) → (slice_index_or marks c false ≡ true) ↔ HoldsTreeFaceBelow s n c
 
 -- which classes hold a tree face
 pub record AreTreeClasses (s : Skeleton) (marks : List Bool) : Type 0 where
   pub one_each : length marks ≡ s.faces.count
-  pub told : (c : ℕ) → (slice_index_or marks c false ≡ true) ↔ HoldsTreeFace s c
+  pub reported : (c : ℕ) → (slice_index_or marks c false ≡ true) ↔ HoldsTreeFace s c
 
 -- a class of two faces that hold no tree face
 abbrev pub IsGenerator : Skeleton → ℕ → Type 0

@@ -20,7 +20,7 @@ OneTreePath = (rows : List Row) (t : ℕ) (xs ys : List Face) → IsTreePath row
 pub record AreTreeFaces (rows : List Row) (xs : List Face) : Type 0 where
   pub count : length xs + 1 ≡ length rows
   pub each : (k : ℕ) (d : Face) → k < length xs → IsTreeFace rows (k + 1) (slice_index_or xs k d)
-  pub apart : AllPairs (λ x y. x ≢ y) xs
+  pub separate : AllPairs (λ x y. x ≢ y) xs
   pub all : (t : ℕ) (x : Face) → IsTreeFace rows t x → Contains xs x
 
 -- a connected table with a tetrahedron has as many tree faces as tetrahedra but one

@@ -29,7 +29,7 @@ pub fn relators_turn_evenly()
 
 /// Theorem: let T be a connected triangulation with a presentation. No generator reverses orientation if and only if T
 /// is orientable.
-pub fn turning_tells_orientation()
+pub fn turning_determines_orientation()
     ensures { NoneTurnsExactly }
 {}
 

@@ -66,13 +66,13 @@ zero_max : (m n : ℕ) → m ≡ 0 → max m n ≡ n
 zero_max m n e = omega arith
 
 ahead_low : (here next d i : ℕ) → 1 ≤ d → d < 64 → i + d < 64 → bit_at (word_ahead here next d) i ≡ bit_at here (i + d)
-ahead_low here next d i some few h =
+ahead_low here next d i some limited h =
     bit_at_or (here / 2 ^ d) (next * 2 ^ (64 - d) % 2 ^ 64) i
     ∙ max_zero (bit_at (here / 2 ^ d) i) (bit_at (next * 2 ^ (64 - d) % 2 ^ 64) i) (kept_below (next * 2 ^ (64 - d)) i (omega arith) ∙ shifted_low next (64 - d) i (omega arith))
     ∙ shifted_right here d i
 
 ahead_high : (here next d i : ℕ) → here < 2 ^ 64 → 1 ≤ d → d < 64 → i < 64 → 64 ≤ i + d → bit_at (word_ahead here next d) i ≡ bit_at next ((i + d) - 64)
-ahead_high here next d i fits some few below h =
+ahead_high here next d i fits some limited below h =
     let e : i - (64 - d) ≡ (i + d) - 64 = omega arith in
     bit_at_or (here / 2 ^ d) (next * 2 ^ (64 - d) % 2 ^ 64) i
     ∙ zero_max (bit_at (here / 2 ^ d) i) (bit_at (next * 2 ^ (64 - d) % 2 ^ 64) i) (shifted_right here d i ∙ bit_at_above here 64 (i + d) fits h)
@@ -81,26 +81,26 @@ ahead_high here next d i fits some few below h =
 -- the bit d places further is that of the column d further
 ahead_column : (a b : List ℕ) (k i d : ℕ) → word_of_either a b k < 2 ^ 64 → 1 ≤ d → d < 64 → i < 64 → bit_at (word_ahead (word_of_either a b k) (word_of_either a b (k + 1)) d) i ≡ 1
     → IsOfEither a b ((64 * k + i) + d)
-ahead_column a b k i d fits some few below e =
+ahead_column a b k i d fits some limited below e =
     ⊎_elim
     (λ h. let same : 64 * k + (i + d) ≡ (64 * k + i) + d = omega arith in
-    subst (IsOfEither a b) same (either_bit a b k (i + d) h (sym (ahead_low (word_of_either a b k) (word_of_either a b (k + 1)) d i some few h) ∙ e)))
+    subst (IsOfEither a b) same (either_bit a b k (i + d) h (sym (ahead_low (word_of_either a b k) (word_of_either a b (k + 1)) d i some limited h) ∙ e)))
     (λ h. let same : 64 * (k + 1) + ((i + d) - 64) ≡ (64 * k + i) + d = omega arith in
     subst (IsOfEither a b) same
-    (either_bit a b (k + 1) ((i + d) - 64) (omega arith) (sym (ahead_high (word_of_either a b k) (word_of_either a b (k + 1)) d i fits some few below h) ∙ e)))
+    (either_bit a b (k + 1) ((i + d) - 64) (omega arith) (sym (ahead_high (word_of_either a b k) (word_of_either a b (k + 1)) d i fits some limited below h) ∙ e)))
     (cases_lt (i + d) 64)
 
 column_ahead : (a b : List ℕ) (column d : ℕ) → word_of_either a b (column / 64) < 2 ^ 64 → 1 ≤ d → d < 64 → IsOfEither a b (column + d)
     → bit_at (word_ahead (word_of_either a b (column / 64)) (word_of_either a b (column / 64 + 1)) d) (column % 64) ≡ 1
-column_ahead a b column d fits some few h =
+column_ahead a b column d fits some limited h =
     ⊎_elim
     (λ l. let word : (column + d) / 64 ≡ column / 64 = omega arith in
     let bit : (column + d) % 64 ≡ column % 64 + d = omega arith in
-    ahead_low (word_of_either a b (column / 64)) (word_of_either a b (column / 64 + 1)) d (column % 64) some few l
+    ahead_low (word_of_either a b (column / 64)) (word_of_either a b (column / 64 + 1)) d (column % 64) some limited l
     ∙ ap (bit_at (word_of_either a b (column / 64))) (sym bit) ∙ ap (λ k. bit_at (word_of_either a b k) ((column + d) % 64)) (sym word) ∙ bit_of_either a b (column + d) h)
     (λ l. let word : (column + d) / 64 ≡ column / 64 + 1 = omega arith in
     let bit : (column + d) % 64 ≡ (column % 64 + d) - 64 = omega arith in
-    ahead_high (word_of_either a b (column / 64)) (word_of_either a b (column / 64 + 1)) d (column % 64) fits some few (omega arith) l
+    ahead_high (word_of_either a b (column / 64)) (word_of_either a b (column / 64 + 1)) d (column % 64) fits some limited (omega arith) l
     ∙ ap (bit_at (word_of_either a b (column / 64 + 1))) (sym bit) ∙ ap (λ k. bit_at (word_of_either a b k) ((column + d) % 64)) (sym word) ∙ bit_of_either a b (column + d) h)
     (cases_lt (column % 64 + d) 64)
 
@@ -121,7 +121,7 @@ and_at : (m n i : ℕ) → bit_at m i ≡ 1 → bit_at n i ≡ 1 → bit_at (bit
 and_at m n i p q = bit_at_and m n i ∙ one_both (bit_at m i) (bit_at n i) p q
 
 pub pair_at : (mask a b : List ℕ) (d k : ℕ) → get_or mask k 0 < 2 ^ 64 → word_of_either a b k < 2 ^ 64 → 1 ≤ d → d < 64 → pair_word mask a b d k ≢ 0 → HasPairAhead mask a b d
-pair_at mask a b d k mask_fits fits some few found =
+pair_at mask a b d k mask_fits fits some limited found =
     let m : ℕ = bit_and (get_or mask k 0) (word_of_either a b k) in
     let low : m ≤ get_or mask k 0 = and_le_l (get_or mask k 0) (word_of_either a b k) in
     let f = common_bit m (word_ahead (word_of_either a b k) (word_of_either a b (k + 1)) d) (omega arith) found in
@@ -130,16 +130,16 @@ pair_at mask a b d k mask_fits fits some few found =
       column = 64 * k + f.0;
       marked = set_at mask k f.0 f.1 p.0;
       here = either_bit a b k f.0 f.1 p.1;
-      ahead = ahead_column a b k f.0 d fits some few f.1 f.3;
+      ahead = ahead_column a b k f.0 d fits some limited f.1 f.3;
     }
 
 pub no_pair : (mask a b : List ℕ) (d : ℕ) → ((k : ℕ) → word_of_either a b k < 2 ^ 64) → 1 ≤ d → d < 64 → ((k : ℕ) → k < length mask → pair_word mask a b d k ≡ 0) → HasPairAhead mask a b d → ⊥
-no_pair mask a b d fits some few none h =
+no_pair mask a b d fits some limited none h =
     let k : ℕ = h.column / 64 in
     let i : ℕ = h.column % 64 in
     no_common_bit (bit_and (get_or mask k 0) (word_of_either a b k)) (word_ahead (word_of_either a b k) (word_of_either a b (k + 1)) d) i (none k (within_words mask h.column h.marked))
     (and_at (get_or mask k 0) (word_of_either a b k) i (is_one (get_or mask k 0) i h.marked) (bit_of_either a b h.column h.here))
-    (column_ahead a b h.column d (fits k) some few h.ahead)
+    (column_ahead a b h.column d (fits k) some limited h.ahead)
 
 -- marked columns, word by word
 abbrev pub marked_word : List ℕ → List ℕ → List ℕ → ℕ → ℕ
@@ -181,7 +181,7 @@ pub two_in_word : (mask a b : List ℕ) (k : ℕ) → HasTwoBits (marked_word ma
 two_in_word mask a b k h = record {
   first = 64 * k + h.first;
   second = 64 * k + h.second;
-  apart = λ same. h.apart (omega arith);
+  separate = λ same. h.separate (omega arith);
   first_in = marked_at mask a b k h.first h.first_below h.first_set;
   second_in = marked_at mask a b k h.second h.second_below h.second_set;
 }
@@ -194,7 +194,7 @@ one_and_later mask a b k fits some h =
     record {
       first = 64 * k + f.0;
       second = h.column;
-      apart = λ same. let e : (64 * k + f.0) / 64 ≡ h.column / 64 = ap (λ n. n / 64) same in omega arith;
+      separate = λ same. let e : (64 * k + f.0) / 64 ≡ h.column / 64 = ap (λ n. n / 64) same in omega arith;
       first_in = marked_at mask a b k f.0 f.1 f.2;
       second_in = h.is_in;
     }
@@ -206,7 +206,7 @@ two_at mask a b k none h =
     (λ also. inl (record {
       first = h.first % 64;
       second = h.second % 64;
-      apart = λ e. h.apart (same_column h.first h.second (same ∙ sym also) e);
+      separate = λ e. h.separate (same_column h.first h.second (same ∙ sym also) e);
       first_below = omega arith;
       second_below = omega arith;
       first_set = ap (λ j. bit_at (marked_word mask a b j) (h.first % 64)) (sym same) ∙ at_marked mask a b h.first h.first_in;
@@ -234,7 +234,7 @@ two_bits word t fits below one some =
     record {
       first = t;
       second = f.0;
-      apart = λ same. nonzero_bit (bit_at power f.0) e (ap (bit_at power) (sym same) ∙ power_at t below);
+      separate = λ same. nonzero_bit (bit_at power f.0) e (ap (bit_at power) (sym same) ∙ power_at t below);
       first_below = below;
       second_below = f.1;
       first_set = one;
@@ -253,7 +253,7 @@ two_bits word t fits below one some =
 pub no_two_bits : (word t : ℕ) → t < 64 → bit_and word (bit_not w64 (1 * 2 ^ t % 2 ^ 64)) ≡ 0 → HasTwoBits word → ⊥
 no_two_bits word t below none h =
     ⊎_elim
-    (λ same. at_other h.second h.second_below h.second_set (λ e. h.apart (same ∙ sym e)))
+    (λ same. at_other h.second h.second_below h.second_set (λ e. h.separate (same ∙ sym e)))
     (λ other. at_other h.first h.first_below h.first_set other)
     (cases_eq h.first t)
   where

@@ -103,8 +103,8 @@ row_ahead : (w c d : ℕ) → c % w + d < w → (c / w ≡ (c + d) / w) × ((c +
 row_ahead w c d room =
     let some : 0 < w = omega arith in
     let at : w * (c / w) + (c % w + d) ≡ c + d = let whole = div-add-mod c w in omega (arith, whole) in
-    let turned : c / w * w ≡ w * (c / w) = mul_comm (c / w) w in (
-      sym (subst (λ k. k / w ≡ c / w) (ap (λ k. k + (c % w + d)) turned ∙ at) (div-mul-add (c / w) w (c % w + d) room)),
+    let negated : c / w * w ≡ w * (c / w) = mul_comm (c / w) w in (
+      sym (subst (λ k. k / w ≡ c / w) (ap (λ k. k + (c % w + d)) negated ∙ at) (div-mul-add (c / w) w (c % w + d) room)),
       subst (λ k. k % w ≡ c % w + d) at (mul-add-mod_self_left w (c / w) (c % w + d) ∙ mod-eq_of_lt room),
     )
 
@@ -180,7 +180,7 @@ two_is_clash coords n mask sa sb a b marks p q h free = go (cases_order h.first 
         (in_union sa sb a b c p q one.here, in_union sa sb a b e p q other.here)
 
     go : (h.first ≡ h.second) ⊎ ((h.first < h.second) ⊎ (h.second < h.first)) → ⊥
-    go (inl same) = h.apart same
+    go (inl same) = h.separate same
     go (inr (inl less)) = pair h.first h.second less h.first_in h.second_in
     go (inr (inr more)) = pair h.second h.first more h.second_in h.first_in
 
@@ -204,7 +204,7 @@ free_of_clashes coords n near mask sa sb a b marks p q no_near no_two =
         no_two (record {
           first = c;
           second = e;
-          apart = λ same. omega arith;
+          separate = λ same. omega arith;
           first_in = record { marked = at c (omega arith) parts.0; here = of_either sa sb a b c p q both.0 };
           second_in = record { marked = at e within parts.1; here = of_either sa sb a b e p q both.1 };
         })
@@ -260,7 +260,7 @@ decides_near coords n near mask sa sb a b r marks p q is close = (
 pub are_clashes : (coords : Coords) (n : ℕ) → AreClashes (columns coords n) (clash_list coords n)
 are_clashes coords n =
     all_of_pairs (λ pair. (pair.0 < columns coords n) × (pair.1 < columns coords n) × (pair.0 ≢ pair.1)) coords n
-    (λ c e less within clashes. let low : c < columns coords n = omega arith in let apart : c ≢ e = λ same. omega arith in (low, within, apart))
+    (λ c e less within clashes. let low : c < columns coords n = omega arith in let separate : c ≢ e = λ same. omega arith in (low, within, separate))
 
 -- each tetrahedron has columns after those of its triangles
 pub some_quads : (coords : Coords) → triangles_each coords + 1 ≤ columns_each coords

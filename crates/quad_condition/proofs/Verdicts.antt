@@ -2,7 +2,7 @@
 use Rattle.std.proofs.Common.{◌≡◌, ◌≢◌, ℕ, ℤ, List, length, Option, sym}
 use Rattle.std.specs.List.{All, find}
 use Rattle.std.specs.Prelude.{Err}
-use Rattle.cone_definitions.specs.Met.{HoldsWithin}
+use Rattle.cone_definitions.specs.HoldingRows.{HoldsWithin}
 use Rattle.surface_definitions.specs.Verdict.{both_nonzero, clash_verdict, verdict}
 use Rattle.surface_definitions.specs.declared.VectorFault.TheVariants.{Length}
 use Rattle.cone_arithmetic.specs.Faults.{SolutionFails}
@@ -18,7 +18,7 @@ pub length_answer : (max n : ℕ) (rows : List SparseRow) (pairs : List (ℕ × 
 length_answer max n rows pairs x ne = sym (length_told max n rows pairs x ne)
 
 pub row_answer : (max n : ℕ) (rows : List SparseRow) (pairs : List (ℕ × ℕ)) (x : List ℕ) (fault : SolutionFault) → length x ≡ n → SolutionFails max rows x fault → Err (fault_of fault) ≡ verdict max n rows pairs x
-row_answer max n rows pairs x (Passed i) e h = sym (large_told max n rows pairs x i e h.in_range h.earlier h.past)
+row_answer max n rows pairs x (Passed i) e h = sym (large_told max n rows pairs x i e h.in_range h.earlier h.exceeded)
 row_answer max n rows pairs x (NotZero i) e h =
     sym (failure_told max n rows pairs x i e h.in_range h.earlier h.within h.not_zero)
 

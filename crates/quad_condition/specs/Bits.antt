@@ -31,7 +31,7 @@ pub record IsMarkedIn (mask a b : List ℕ) (column : ℕ) : Type 0 where
 pub record HasTwo (mask a b : List ℕ) : Type 0 where
   pub first : ℕ
   pub second : ℕ
-  pub apart : first ≢ second
+  pub separate : first ≢ second
   pub first_in : IsMarkedIn mask a b first
   pub second_in : IsMarkedIn mask a b second
 
@@ -45,7 +45,7 @@ pub record HasFrom (mask a b : List ℕ) (from : ℕ) : Type 0 where
 pub record HasTwoBits (word : ℕ) : Type 0 where
   pub first : ℕ
   pub second : ℕ
-  pub apart : first ≢ second
+  pub separate : first ≢ second
   pub first_below : first < 64
   pub second_below : second < 64
   pub first_set : bit_at word first ≡ 1

@@ -58,7 +58,7 @@ fn push_partners(space: Space, first: u32, clashes: &mut Vec<(u32, u32)>) -> Res
 pub fn clash_list(alloc: Global, coords: Coords, tets: u32) -> Result<Vec<(u32, u32)>, NoMemory>
     requires { tets ≤ max_tets }
     ensures pairs { IfOk result (λ clashes. clashes.items ≡ coordinates.clash_list coords tets) }
-    ensures apart { IfOk result (λ clashes. AreClashes (coordinates.columns coords tets) clashes.items) }
+    ensures separate { IfOk result (λ clashes. AreClashes (coordinates.columns coords tets) clashes.items) }
 {
     let mut clashes = Vec::new(alloc);
     for first in 0..columns(coords, tets) {

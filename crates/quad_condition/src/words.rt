@@ -14,7 +14,7 @@ fn either(a: &[u64], b: &[u64], k: usize) -> u64
 /// The word of the columns `distance` ahead of those of the word `here`, which `next` follows.
 fn ahead(here: u64, next: u64, distance: u32) -> u64
     requires some { 1 ≤ distance }
-    requires few { distance < 64 }
+    requires limited { distance < 64 }
     ensures { result ≡ word_ahead here next distance }
 {
     (here >> distance) | (next << (64 - distance))
@@ -25,7 +25,7 @@ pub fn has_pair_ahead(mask: &[u64], a: &[u64], b: &[u64], distance: u32) -> bool
     requires first { length a.now ≡ length mask.now }
     requires second { length b.now ≡ length mask.now }
     requires some { 1 ≤ distance }
-    requires few { distance < 64 }
+    requires limited { distance < 64 }
     ensures { IsTrue result ↔ HasPairAhead mask.now a.now b.now distance }
 {
     for k in 0..mask.len() {

@@ -18,7 +18,7 @@ use Rattle.surface_laws.proofs.Glued.{IsGlued, glued_is}
 use Rattle.surface_laws.proofs.Vertices.{one_vertex, number-vertex, across_is, class_across}
 use Rattle.surface_laws.proofs.Turns.{keeping_below}
 use Rattle.quad_lift.specs.Crossings.{IsCrossing}
-use Rattle.quad_lift.specs.Spreads.{quads_beside}
+use Rattle.quad_lift.specs.Spreads.{quads_around}
 
 -- each of three quads is at most all of them
 one_of_three : (xs : List ℕ) (t k : ℕ) → k < 3 → slice_index xs (quad_column Quad t k) ≤ slice_index xs (3 * t) + slice_index xs (3 * t + 1) + slice_index xs (3 * t + 2)
@@ -27,8 +27,8 @@ one_of_three xs t (suc zero) l = let e : slice_index xs (quad_column Quad t 1) �
 one_of_three xs t (suc (suc zero)) l = let e : slice_index xs (quad_column Quad t 2) ≡ slice_index xs (3 * t + 2) = ap (slice_index xs) (omega arith) in omega arith
 one_of_three xs t (suc (suc (suc k))) l = absurd (omega arith)
 
-few_beside : (xs : List ℕ) (i t k : ℕ) → i / 4 ≡ t → k < 3 → slice_index xs (quad_column Quad t k) ≤ quads_beside xs i
-unfolding quads_beside
+few_beside : (xs : List ℕ) (i t k : ℕ) → i / 4 ≡ t → k < 3 → slice_index xs (quad_column Quad t k) ≤ quads_around xs i
+unfolding quads_around
 few_beside xs i t k e l =
     subst (λ u. slice_index xs (quad_column Quad t k) ≤ slice_index xs (3 * u) + slice_index xs (3 * u + 1) + slice_index xs (3 * u + 2)) (sym e) (one_of_three xs t k l)
 
@@ -36,8 +36,8 @@ pub record IsCrossedTo (s : Skeleton) (xs : List ℕ) (i f other up down : ℕ) 
   pub in_range : other < 4 * length s.rows
   pub crossed : crossed_vertex s.rows i f ≡ Some other
   pub class : slice_index s.vertices.classes i ≡ slice_index s.vertices.classes other
-  pub up_few : up ≤ quads_beside xs i
-  pub down_few : down ≤ quads_beside xs other
+  pub up_few : up ≤ quads_around xs i
+  pub down_few : down ≤ quads_around xs other
   pub forced : (h : ℕ → ℕ) → AreHeights s xs (slice_index s.vertices.classes i) h → h i + up ≡ h other + down
 
 pub crossed_to : (s : Skeleton) (k : IsSkeleton s) (xs : List ℕ) (i f other up down : ℕ) → i < 4 * length s.rows → IsCrossing s xs i f other up down → IsCrossedTo s xs i f other up down
@@ -60,8 +60,8 @@ crossed_to s k xs i f other up down li x =
       in_range = (let o : other ≡ 4 * g.tet + w = x.other_is in omega (arith, into.other_tet));
       crossed = ap (option_map vertex_at) (across_is s.rows (face_at t f) g v x.glued x.off) ∙ ap Some (sym x.other_is);
       class = same ∙ ap (slice_index s.vertices.classes) (sym x.other_is);
-      up_few = subst (λ n. n ≤ quads_beside xs i) (sym x.up_is) (few_beside xs i t (keeping v f) refl q);
-      down_few = subst (λ n. n ≤ quads_beside xs other) (sym x.down_is) (few_beside xs other g.tet (keeping w e) there q');
+      up_few = subst (λ n. n ≤ quads_around xs i) (sym x.up_is) (few_beside xs i t (keeping v f) refl q);
+      down_few = subst (λ n. n ≤ quads_around xs other) (sym x.down_is) (few_beside xs other g.tet (keeping w e) there q');
       forced = λ h a.
           ap (λ n. h n + up) (sym (number-vertex i)) ∙ ap (λ n. h (vertex_number t v) + n) x.up_is
           ∙ a (face_at t f) g v x.glued lv x.off (ap (slice_index s.vertices.classes) (number-vertex i))
@@ -78,10 +78,10 @@ crossed_none rows i f free = go (has (i % 4 ∷ []) f) refl
     go false e = ap (λ o. option_map vertex_at (option_map (λ g. carried g (one_vertex (i / 4) (i % 4))) o)) (free (eqb-false (i % 4) f (or_parts (i % 4 == f) false e).0))
 
 -- the tetrahedron across a face
-pub record IsBehind (rows : List Row) (g : Gluing) : Type 0 where
+pub record IsAcross (rows : List Row) (g : Gluing) : Type 0 where
   pub in_range : g.tet < length rows
-  pub few : length rows ≤ 1000
+  pub limited : length rows ≤ 1000
   pub permutes : IsPermutationOfFour g.perm
 
-pub behind : (rows read : List Row) (x : Face) (g : Gluing) → IsTable rows → read ≡ rows → (let o : Option Gluing = Some g in o ≡ glue read x) → IsBehind rows g
-behind rows read x g table same e = record { in_range = table.in_range x g (ap (λ (rs : List Row). glue rs x) (sym same) ∙ sym e); few = table.few; permutes = table.permutes x g (ap (λ (rs : List Row). glue rs x) (sym same) ∙ sym e) }
+pub behind : (rows read : List Row) (x : Face) (g : Gluing) → IsTable rows → read ≡ rows → (let o : Option Gluing = Some g in o ≡ glue read x) → IsAcross rows g
+behind rows read x g table same e = record { in_range = table.in_range x g (ap (λ (rs : List Row). glue rs x) (sym same) ∙ sym e); limited = table.limited; permutes = table.permutes x g (ap (λ (rs : List Row). glue rs x) (sym same) ∙ sym e) }

@@ -20,7 +20,7 @@ use Rattle.surface_laws.proofs.Heights.{heights_give, lift_gives, entry_of, vect
 use Rattle.surface_laws.proofs.LiftLemmas.{lift_solves, lift_projects, quads_admissible}
 use Rattle.surface_laws.proofs.Lowered.{IsLow, lowered_lift}
 use Rattle.quad_lift.specs.Spreads.{AreAllSpread}
-use Rattle.quad_lift.specs.Agreements.{AgreesRound, IsLeastWrong, IsLeastHeight, AreLeastHeights, lifted_entry}
+use Rattle.quad_lift.specs.Agreements.{AgreesAround, IsLeastWrong, IsLeastHeight, AreLeastHeights, lifted_entry}
 use Rattle.quad_lift.proofs.CrossingLemmas.{crossed_to, IsCrossedTo}
 use Rattle.surface_laws.proofs.Quads.{quads_of}
 
@@ -29,7 +29,7 @@ module _ (s : Skeleton) (k : IsSkeleton s) (xs : List ℕ) (w : length xs ≡ 3 
   class_of i = slice_index s.vertices.classes i
 
   -- heights that agree around each vertex of a class are heights of the class
-  pub agreed : (c : ℕ) → ((i : ℕ) → i < 4 * length s.rows → class_of i ≡ c → AgreesRound s xs heights i) → AreHeights s xs c (slice_index heights)
+  pub agreed : (c : ℕ) → ((i : ℕ) → i < 4 * length s.rows → class_of i ≡ c → AgreesAround s xs heights i) → AreHeights s xs c (slice_index heights)
   agreed c all x g v e lv off ch =
       let into : IsGlued s.rows x g = glued_is s.rows x g k.table e in
       let i : ℕ = vertex_number x.tet v in
@@ -47,14 +47,14 @@ module _ (s : Skeleton) (k : IsSkeleton s) (xs : List ℕ) (w : length xs ≡ 3 
       })
 
   -- if the class has any heights, the computed ones agree
-  heights_agree : (h : ℕ → ℕ) (i : ℕ) → i < 4 * length s.rows → AreHeights s xs (class_of i) h → AgreesRound s xs heights i
+  heights_agree : (h : ℕ → ℕ) (i : ℕ) → i < 4 * length s.rows → AreHeights s xs (class_of i) h → AgreesAround s xs heights i
   heights_agree h i li b f lf other up down x =
       let t : IsCrossedTo s xs i f other up down = crossed_to s k xs i f other up down li x in
       let rises : h i + up ≡ h other + down = t.forced h b in
       let both : slice_index heights i + h other ≡ slice_index heights other + h i = a.forced i other h li t.in_range t.class b in
       omega arith
 
-  pub no_lift_there : (i : ℕ) → i < 4 * length s.rows → (AgreesRound s xs heights i → ⊥) → HasLiftAt s xs (class_of i) → ⊥
+  pub no_lift_there : (i : ℕ) → i < 4 * length s.rows → (AgreesAround s xs heights i → ⊥) → HasLiftAt s xs (class_of i) → ⊥
   no_lift_there i li out lift = let h : (h : ℕ → ℕ) × AreHeights s xs (class_of i) h = lift_gives s k xs w (class_of i) lift in out (heights_agree h.0 i li h.1)
 
   module _ (least : ℕ) (l : IsLeastWrong s xs heights least) where
@@ -63,7 +63,7 @@ module _ (s : Skeleton) (k : IsSkeleton s) (xs : List ℕ) (w : length xs ≡ 3 
 
     pub least_without : least < s.vertices.count → IsLeastWithoutLift s xs least
     least_without inside =
-        let r : (i : ℕ) × (i < 4 * length s.rows) × (class_of i ≡ least) × (AgreesRound s xs heights i → ⊥) = l.wrong inside in
+        let r : (i : ℕ) × (i < 4 * length s.rows) × (class_of i ≡ least) × (AgreesAround s xs heights i → ⊥) = l.wrong inside in
         record {
           in_range = inside;
           none = λ lift. no_lift_there r.0 r.1 r.3 (subst (HasLiftAt s xs) (sym r.2) lift);

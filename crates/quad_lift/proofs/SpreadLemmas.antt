@@ -20,20 +20,20 @@ use Rattle.skeleton_class_laws.proofs.NeighbourLemmas.{entry_at}
 use Rattle.surface_laws.specs.LiftLaws.{AreHeights}
 use Rattle.surface_laws.proofs.Glued.{IsGlued, glued_is}
 use Rattle.surface_laws.proofs.Vertices.{one_vertex, vertex_is, number-vertex, IsCrossed, crossed_is, across_is}
-use Rattle.quad_lift.specs.Spreads.{vertices_round, quads_beside, marked_quads, AreSpread, AreAllSpread}
+use Rattle.quad_lift.specs.Spreads.{vertices_around, quads_around, marked_quads, AreSpread, AreAllSpread}
 use Rattle.quad_lift.specs.Crossings.{IsCrossing}
 use Rattle.quad_lift.proofs.CrossingLemmas.{IsCrossedTo, crossed_to}
 use Rattle.quad_lift.proofs.MarkedQuads.{mark_adds, few_quads}
 
 -- closed marks of one vertex are marks of its class
-module _ (rows : List Row) (table : IsTable rows) (marked : List Bool) (closed : IsClosed (vertices_round rows) marked) where
+module _ (rows : List Row) (table : IsTable rows) (marked : List Bool) (closed : IsClosed (vertices_around rows) marked) where
   record IsMarkedAt (q : Place) : Type 0 where
     v : ℕ
     is : q.vertices ≡ v ∷ []
     marked_there : IsMarked marked (vertex_number q.tet v)
 
   marked_along : (fs : List ℕ) (t v : ℕ) (q : Place) → v < 4 → IsMarked marked (vertex_number t v) → along rows (one_vertex t v) fs ≡ Some q → IsMarkedAt q
-  unfolding vertices_round crossed_vertex
+  unfolding vertices_around crossed_vertex
   marked_along [] t v q l m e =
       let same : one_vertex t v ≡ q = cc in
       subst IsMarkedAt same (record { v = v; is = refl; marked_there = m })
@@ -49,7 +49,7 @@ module _ (rows : List Row) (table : IsTable rows) (marked : List Bool) (closed :
           let lw : w < 4 = image_below x.g.perm v i.permutes l in
           let at : across rows (vertex (vertex_number t v)) f ≡ Some (one_vertex x.g.tet w) = ap (λ p. across rows p f) (vertex_is t v l) ∙ across_is rows (face_at t f) x.g v x.glued x.off in
           let met : crossed_vertex rows (vertex_number t v) f ≡ Some (vertex_number x.g.tet w) = ap (λ (o : Option Place). elim o as (λ p. Option ℕ) [ None ↦ None | Some p ↦ Some (vertex_at p) ]) at in
-          let there : Contains (vertices_round rows (vertex_number t v)) (vertex_number x.g.tet w) =
+          let there : Contains (vertices_around rows (vertex_number t v)) (vertex_number x.g.tet w) =
           present_contains (row_at (crossed_vertex rows) (vertex_number t v)) f (vertex_number x.g.tet w) (entry_at (crossed_vertex rows) (vertex_number t v) f i.face ∙ met) in
           rest x.g.tet w lw (closed (vertex_number t v) (vertex_number x.g.tet w) m there) (ap (λ (p : Place). along rows p fs) x.is ∙ d)
 
@@ -81,14 +81,14 @@ module _ (s : Skeleton) (k : IsSkeleton s) (xs : List ℕ) (w : length xs ≡ 3 
   elsewhere : (i : ℕ) → IsMarked marked i → slice_index taller i ≡ slice_index heights i
   elsewhere i m = get_or-set_other heights j i height 0 (λ e. false≢true (sym free ∙ ap (λ u. slice_index_or marked u false) (sym e) ∙ m))
 
-  added : marked_quads xs more n ≡ marked_quads xs marked n + quads_beside xs j
+  added : marked_quads xs more n ≡ marked_quads xs marked n + quads_around xs j
   added = mark_adds xs marked j (omega (arith, a.one_mark)) free n lj
 
-  pub room : marked_quads xs marked n + quads_beside xs j ≤ 4 * sum xs
+  pub room : marked_quads xs marked n + quads_around xs j ≤ 4 * sum xs
   room = omega (arith, few_quads xs more (length s.rows) w, added)
 
   spread_with : ((i : ℕ) (h : ℕ → ℕ) → IsMarked marked i → class_of i ≡ class_of j → AreHeights s xs (class_of j) h → slice_index heights i + h j ≡ height + h i)
-      → 4 * sum xs ≤ height + marked_quads xs more n → height + quads_beside xs j ≤ 4 * sum xs + marked_quads xs more n → AreSpread s xs more taller
+      → 4 * sum xs ≤ height + marked_quads xs more n → height + quads_around xs j ≤ 4 * sum xs + marked_quads xs more n → AreSpread s xs more taller
   spread_with forced low high = record {
     one_mark = length-set marked j true ∙ a.one_mark;
     one_height = length-set heights j height ∙ a.one_height;
@@ -98,7 +98,7 @@ module _ (s : Skeleton) (k : IsSkeleton s) (xs : List ℕ) (w : length xs ≡ 3 
       | inr old ↦ omega (arith, elsewhere i old, a.low i old, added)
     ];
     high = λ i m. elim (marked_cases marked j i m) [
-      | inl e ↦ (let is : slice_index taller i ≡ height = ap (slice_index taller) e ∙ here in let same : quads_beside xs i ≡ quads_beside xs j = ap (quads_beside xs) e in omega arith)
+      | inl e ↦ (let is : slice_index taller i ≡ height = ap (slice_index taller) e ∙ here in let same : quads_around xs i ≡ quads_around xs j = ap (quads_around xs) e in omega arith)
       | inr old ↦ omega (arith, elsewhere i old, a.high i old, added)
     ];
   }
@@ -133,7 +133,7 @@ module _ (s : Skeleton) (k : IsSkeleton s) (xs : List ℕ) (w : length xs ≡ 3 
   spread_on free =
       let height : ℕ = (slice_index heights i + up) - down in
       let fits : down ≤ slice_index heights i + up = fits_down free in
-      let add : marked_quads xs (set marked j true) (4 * length s.rows) ≡ marked_quads xs marked (4 * length s.rows) + quads_beside xs j = added s k xs w marked heights a j x.in_range free height in
+      let add : marked_quads xs (set marked j true) (4 * length s.rows) ≡ marked_quads xs marked (4 * length s.rows) + quads_around xs j = added s k xs w marked heights a j x.in_range free height in
       spread_with s k xs w marked heights a j x.in_range free height
       (λ i' h m' c b.
       let ci : slice_index s.vertices.classes i ≡ slice_index s.vertices.classes j = x.class in
@@ -146,9 +146,9 @@ module _ (s : Skeleton) (k : IsSkeleton s) (xs : List ℕ) (w : length xs ≡ 3 
 
 -- a new start in a class that has no marked vertex
 pub spread_root : (s : Skeleton) (k : IsSkeleton s) (xs : List ℕ) (w : length xs ≡ 3 * length s.rows) (marked : List Bool) (heights : List ℕ) → AreSpread s xs marked heights
-    → IsClosed (vertices_round s.rows) marked → (r : ℕ) → r < 4 * length s.rows → slice_index_or marked r false ≡ false → (start : ℕ) → start ≡ 4 * sum xs → AreSpread s xs (set marked r true) (set heights r start)
+    → IsClosed (vertices_around s.rows) marked → (r : ℕ) → r < 4 * length s.rows → slice_index_or marked r false ≡ false → (start : ℕ) → start ≡ 4 * sum xs → AreSpread s xs (set marked r true) (set heights r start)
 spread_root s k xs w marked heights a closed r lr free start e =
-    let add : marked_quads xs (set marked r true) (4 * length s.rows) ≡ marked_quads xs marked (4 * length s.rows) + quads_beside xs r = added s k xs w marked heights a r lr free start in
+    let add : marked_quads xs (set marked r true) (4 * length s.rows) ≡ marked_quads xs marked (4 * length s.rows) + quads_around xs r = added s k xs w marked heights a r lr free start in
     spread_with s k xs w marked heights a r lr free start
     (λ i h m c b.
     let li : i < 4 * length s.rows = omega (arith, marked_below marked i m, a.one_mark) in

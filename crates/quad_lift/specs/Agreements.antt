@@ -9,14 +9,14 @@ abbrev pub Agrees : Skeleton → List ℕ → List ℕ → ℕ → ℕ → Type 
 Agrees s xs heights i f = (other up down : ℕ) → IsCrossing s xs i f other up down → slice_index heights i + up ≡ slice_index heights other + down
 
 -- Agrees at each face of vertex i
-abbrev pub AgreesRound : Skeleton → List ℕ → List ℕ → ℕ → Type 0
-AgreesRound s xs heights i = (f : ℕ) → f < 4 → Agrees s xs heights i f
+abbrev pub AgreesAround : Skeleton → List ℕ → List ℕ → ℕ → Type 0
+AgreesAround s xs heights i = (f : ℕ) → f < 4 → Agrees s xs heights i f
 
 -- the least class with a vertex at which they do not agree, or the number of classes
 pub record IsLeastWrong (s : Skeleton) (xs heights : List ℕ) (least : ℕ) : Type 0 where
   pub within : least ≤ s.vertices.count
-  pub before : (i : ℕ) → i < 4 * length s.rows → slice_index s.vertices.classes i < least → AgreesRound s xs heights i
-  pub wrong : least < s.vertices.count → (i : ℕ) × (i < 4 * length s.rows) × (slice_index s.vertices.classes i ≡ least) × (AgreesRound s xs heights i → ⊥)
+  pub before : (i : ℕ) → i < 4 * length s.rows → slice_index s.vertices.classes i < least → AgreesAround s xs heights i
+  pub wrong : least < s.vertices.count → (i : ℕ) × (i < 4 * length s.rows) × (slice_index s.vertices.classes i ≡ least) × (AgreesAround s xs heights i → ⊥)
 
 -- the least height of class c
 pub record IsLeastHeight (s : Skeleton) (heights : List ℕ) (c low : ℕ) : Type 0 where

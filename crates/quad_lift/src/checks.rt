@@ -1,7 +1,7 @@
 //! Checks whether heights and quads agree across each gluing.
 
 ghost use Rattle.std.specs.Prelude.{◌≡◌, ◌*◌, ◌<◌, false, length, IsTrue};
-ghost use Rattle.quad_lift.specs.Agreements.{Agrees, AgreesRound, IsLeastWrong};
+ghost use Rattle.quad_lift.specs.Agreements.{Agrees, AgreesAround, IsLeastWrong};
 
 use crate::crossing::VertexWithFace;
 use crate::quad_vector::Heights;
@@ -23,10 +23,10 @@ impl Heights<'_> {
     }
 
     /// Whether height plus quads at `vertex` are equal on both sides of each face.
-    fn agrees_round(&self, vertex: u32) -> bool
+    fn agrees_around(&self, vertex: u32) -> bool
         requires { vertex < 4 * length self.now.vector.skeleton.now.rows }
-        ensures agrees { IsTrue result → AgreesRound self.now.vector.skeleton.now self.now.vector.entries.now self.now.values.now vertex }
-        ensures wrong { result ≡ false → AgreesRound self.now.vector.skeleton.now self.now.vector.entries.now self.now.values.now vertex → ⊥ }
+        ensures agrees { IsTrue result → AgreesAround self.now.vector.skeleton.now self.now.vector.entries.now self.now.values.now vertex }
+        ensures wrong { result ≡ false → AgreesAround self.now.vector.skeleton.now self.now.vector.entries.now self.now.values.now vertex → ⊥ }
     {
         for face in 0..4 {
             if !self.agrees(VertexWithFace { vertex, face }) {
@@ -38,14 +38,14 @@ impl Heights<'_> {
 
     /// The least vertex class with a vertex at which heights and quads do not agree across a face, or the number of
     /// classes if there is none.
-    pub fn least_wrong(&self) -> u32
+    pub fn first_spinning_vertex(&self) -> u32
         ensures { IsLeastWrong self.now.vector.skeleton.now self.now.vector.entries.now self.now.values.now result }
     {
         let skeleton = self.vector.skeleton;
         let mut least = skeleton.vertices();
         for vertex in 0..4 * skeleton.table().len() {
             let class = skeleton.vertex_class(vertex / 4, (vertex % 4) as u8);
-            if class < least && !self.agrees_round(vertex) {
+            if class < least && !self.agrees_around(vertex) {
                 least = class;
             }
         }

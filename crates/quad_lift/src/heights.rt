@@ -4,7 +4,7 @@
 ghost use Rattle.std.specs.Prelude.{◌≡◌, ℕ, ◌+◌, ◌*◌, ◌<◌, Bool, true, false, List, [], length, slice_index_or, IfOk, OnOk};
 ghost use Rattle.table_walk_laws.specs.Search.{IsMarked, IsClosed, IsSearch, IsSearchStep, work_left};
 ghost use Rattle.skeleton_definitions.specs.Skeleton.{IsSkeleton};
-ghost use Rattle.quad_lift.specs.Spreads.{vertices_round, round_before, AreSpread, AreAllSpread};
+ghost use Rattle.quad_lift.specs.Spreads.{vertices_around, neighbours_before, AreSpread, AreAllSpread};
 
 use crate::crossing::VertexWithFace;
 use crate::quad_vector::QuadVector;
@@ -23,7 +23,7 @@ impl QuadVector<'_> {
         requires marked { IsMarked marked.old at.vertex }
         ensures spread { OnOk result (AreSpread self.now.skeleton.now self.now.entries.now marked.new heights.new) }
         ensures kept { OnOk result ((i : ℕ) → IsMarked marked.old i → IsMarked marked.new i) }
-        ensures turn { OnOk result ((first : List Bool) → IsSearchStep (vertices_round self.now.skeleton.now.rows) first at.vertex (round_before self.now.skeleton.now.rows at.vertex at.face) marked.old pending.old.items → IsSearchStep (vertices_round self.now.skeleton.now.rows) first at.vertex (round_before self.now.skeleton.now.rows at.vertex (at.face + 1)) marked.new pending.new.items) }
+        ensures turn { OnOk result ((first : List Bool) → IsSearchStep (vertices_around self.now.skeleton.now.rows) first at.vertex (neighbours_before self.now.skeleton.now.rows at.vertex at.face) marked.old pending.old.items → IsSearchStep (vertices_around self.now.skeleton.now.rows) first at.vertex (neighbours_before self.now.skeleton.now.rows at.vertex (at.face + 1)) marked.new pending.new.items) }
         ensures work { OnOk result (work_left marked.new pending.new.items ≡ work_left marked.old pending.old.items) }
     {
         let Some(step) = self.across(at) else {
@@ -50,7 +50,7 @@ impl QuadVector<'_> {
         requires spread { AreSpread self.now.skeleton.now self.now.entries.now marked.old heights.old }
         requires marked { IsMarked marked.old vertex }
         ensures spread { OnOk result (AreSpread self.now.skeleton.now self.now.entries.now marked.new heights.new) }
-        ensures turn { OnOk result ((first : List Bool) → IsSearchStep (vertices_round self.now.skeleton.now.rows) first vertex [] marked.old pending.old.items → IsSearch (vertices_round self.now.skeleton.now.rows) first marked.new pending.new.items) }
+        ensures turn { OnOk result ((first : List Bool) → IsSearchStep (vertices_around self.now.skeleton.now.rows) first vertex [] marked.old pending.old.items → IsSearch (vertices_around self.now.skeleton.now.rows) first marked.new pending.new.items) }
         ensures work { OnOk result (work_left marked.new pending.new.items ≡ work_left marked.old pending.old.items) }
     {
         for face in 0..4 {
@@ -70,11 +70,11 @@ impl QuadVector<'_> {
     ) -> Result<(), AllocError>
         requires skeleton { IsSkeleton self.now.skeleton.now }
         requires spread { AreSpread self.now.skeleton.now self.now.entries.now marked.old heights.old }
-        requires closed { IsClosed (vertices_round self.now.skeleton.now.rows) marked.old }
+        requires closed { IsClosed (vertices_around self.now.skeleton.now.rows) marked.old }
         requires in_range { root < 4 * length self.now.skeleton.now.rows }
         requires unmarked { slice_index_or marked.old root false ≡ false }
         ensures spread { OnOk result (AreSpread self.now.skeleton.now self.now.entries.now marked.new heights.new) }
-        ensures closed { OnOk result (IsClosed (vertices_round self.now.skeleton.now.rows) marked.new) }
+        ensures closed { OnOk result (IsClosed (vertices_around self.now.skeleton.now.rows) marked.new) }
         ensures kept { OnOk result ((i : ℕ) → IsMarked marked.old i → IsMarked marked.new i) }
         ensures root { OnOk result (IsMarked marked.new root) }
     {

@@ -77,7 +77,7 @@ pub fn lift(alloc: Global, skeleton: &Skeleton, x: &[u128]) -> Result<Vec<u128>,
         vector,
         values: &values,
     };
-    let class = heights.least_wrong();
+    let class = heights.first_spinning_vertex();
     if class < classes {
         return Err(Failure::Fault(LiftFault::NoLift { class }));
     }

@@ -14,7 +14,7 @@ pub struct QuadVector<'a> {
     pub skeleton: &'a Skeleton,
     pub entries: &'a [u128],
     pub start: u128,
-    pub ghost few: { length skeleton.now.rows ≤ max_tets },
+    pub ghost limited: { length skeleton.now.rows ≤ max_tets },
     pub ghost width: { length entries.now ≡ 3 * length skeleton.now.rows },
     pub ghost four_times: { start ≡ 4 * sum entries.now },
     pub ghost fits: { 4 * sum entries.now ≤ limit },

@@ -11,7 +11,7 @@ use Rattle.sum_definitions.specs.Sums.{Term, State, IsLeastFraction, repeated, d
 use Rattle.sum_definitions.specs.Adding.{sum_at}
 use Rattle.sum_laws.proofs.Fractions.{least_at}
 use Rattle.sum_laws.proofs.Turns.{IsReached, led_reached, listed_ray, turn_smaller, turn_takes_out, not_inside}
-use Rattle.sum_laws.proofs.Runs.{ray_inside_rest, few_turns}
+use Rattle.sum_laws.proofs.Runs.{ray_inside_rest, bounded_steps}
 use Rattle.ray_decompose.specs.Sums.{IsFirstLarge}
 
 -- no listed vector before this index is inside r
@@ -128,7 +128,7 @@ module _ (columns : ℕ) (rows : List Row) (list : List (List ℕ)) (x : List �
   turn_fits within = fits columns rows list x t.rays limit (length terms) (record { times = times; terms = terms; rest = rest }) t.led i p q t.in_range t.inside t.none t.fraction within
 
   pub turns_are_few : length terms ≤ columns
-  turns_are_few = few_turns columns rows list x t.rays limit (length terms) (record { times = times; terms = terms; rest = rest }) t.led
+  turns_are_few = bounded_steps columns rows list x t.rays limit (length terms) (record { times = times; terms = terms; rest = rest }) t.led
 
   pub ray_width : length (slice_index_or list i []) ≡ columns
   ray_width = (t.rays.rays i [] t.in_range).extreme.solution.width
@@ -170,7 +170,7 @@ none_there list rest i none out k b c = elim (cases_eq k i) [
 
 pub ends : (columns : ℕ) (rows : List Row) (list : List (List ℕ)) (x : List ℕ) (limit times : ℕ) (terms : List Term) (rest : List ℕ) (i : ℕ) → HasRays columns rows list x →
     ReachesState limit list x (length terms) (record { times = times; terms = terms; rest = rest }) → NoneBefore list rest i → length list ≤ i → IsSum limit list x times terms
-ends columns rows list x limit times terms rest i h led none past = record {
+ends columns rows list x limit times terms rest i h led none exceeded = record {
   turns = length terms;
   rest = rest;
   led = led;

@@ -49,7 +49,7 @@ within_more x times limit i before not_large k l = elim (cases_eq k i) [
 ]
 
 pub within_all : (x : List ℕ) (times limit i : ℕ) → ((k : ℕ) → k < i → times * slice_index x k ≤ limit) → length x ≤ i → (k : ℕ) → times * slice_index x k ≤ limit
-within_all x times limit i before past k = elim (cases_lt k i) [
+within_all x times limit i before exceeded k = elim (cases_lt k i) [
   | inl l ↦ before k l
   | inr h ↦ let none : slice_index x k ≡ 0 = get_or_past x k 0 (omega arith) in rw none (omega arith)
 ]

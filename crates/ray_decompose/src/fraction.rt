@@ -70,7 +70,7 @@ fn first_column(division: Division) -> usize
 }
 
 /// The first column at which the quotient of `division` is least, among the nonzero columns of its ray.
-fn least_column(division: Division) -> usize
+fn limiting_column(division: Division) -> usize
     ensures { IsLeastColumn division.entry.rest.now division.entry.ray.now (length division.entry.ray.now) result }
 {
     let Division { rest, ray } = division;
@@ -99,7 +99,7 @@ pub fn least_fraction(division: Division) -> Fraction
     ensures { IsLeastFraction division.entry.rest.now division.entry.ray.now result.numerator result.denominator }
 {
     let Division { rest, ray } = division;
-    let column = least_column(division);
+    let column = limiting_column(division);
     let divisor = gcd(rest[column], ray[column]);
     Fraction {
         numerator: rest[column] / divisor,

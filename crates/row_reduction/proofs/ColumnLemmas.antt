@@ -37,7 +37,7 @@ pub coefficient_is : (columns : ℕ) (row : Row) (place column : ℕ) (coefficie
     IsTaken row place column coefficient next → IsCoefficientAt row column coefficient
 coefficient_is columns row place column coefficient next sparse before low (inl t) =
     inl (place, t.in_range, get_or_default row place (column, coefficient) (0, pos 0) t.in_range ∙ ap₂ (λ a b. (a, b)) t.is_column (sym t.is_coefficient))
-coefficient_is columns row place column coefficient next sparse before low (inr t) = inr (t.none, λ k d h e. apart k h (sym (ap (λ (term : ℕ × ℤ). term.0) (get_or_default row k d (0, pos 0) h)) ∙ e))
+coefficient_is columns row place column coefficient next sparse before low (inr t) = inr (t.none, λ k d h e. separate k h (sym (ap (λ (term : ℕ × ℤ). term.0) (get_or_default row k d (0, pos 0) h)) ∙ e))
   where
     later : (k : ℕ) → place ≤ k → k < length row → (term_at row k).0 ≡ column → ⊥
     later k l h e =
@@ -49,8 +49,8 @@ coefficient_is columns row place column coefficient next sparse before low (inr 
           | inr m ↦ let is : k ≡ place = omega arith in o (sym (ap (λ i. (term_at row i).0) is) ∙ e)
         ]
 
-    apart : (k : ℕ) → k < length row → (term_at row k).0 ≡ column → ⊥
-    apart k h e = elim (cases_lt k place) [
+    separate : (k : ℕ) → k < length row → (term_at row k).0 ≡ column → ⊥
+    separate k h e = elim (cases_lt k place) [
       | inl l ↦ let a = before k l in omega (arith, a, e)
       | inr l ↦ later k l h e
     ]

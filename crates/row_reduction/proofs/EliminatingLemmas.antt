@@ -106,7 +106,7 @@ module _ (pivot : Row) (column : ℕ) (rows : List Row) where
         own = ap (λ r. row_at r n) adds.replaced ∙ get_or-set_same now n adds.sum [] within
 
         other : (i : ℕ) → (i ≡ n → ⊥) → row_at new i ≡ row_at now i
-        other i apart = ap (λ r. row_at r i) adds.replaced ∙ get_or-set_other now n i adds.sum [] apart
+        other i separate = ap (λ r. row_at r i) adds.replaced ∙ get_or-set_other now n i adds.sum [] separate
 
     pub passes_clearing : (factor : ℤ) → CancelsAt column (row_at now n) factor pivot → (fault : SolveFault) → IfPassed (PassesAtColumn (row_at now n) factor pivot) fault →
         IfPassed (PassesClearing pivot column rows) fault

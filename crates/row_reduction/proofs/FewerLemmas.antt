@@ -26,7 +26,7 @@ abbrev has : List ℕ → ℕ → Bool
 has xs q = is_member (λ (a b : ℕ). a == b) xs q
 
 no_more : (xs ys : List ℕ) → IsDistinct (λ (a b : ℕ). a == b) xs → ((q : ℕ) → has xs q ≡ true → has ys q ≡ true) → length xs ≤ length ys
-no_more xs ys apart inside = length-le_from_is_member nat_eq_equiv xs ys apart inside
+no_more xs ys separate inside = length-le_from_is_member nat_eq_equiv xs ys separate inside
 
 has_filtered : (p : ℕ → Bool) (xs : List ℕ) (q : ℕ) → has (filter p xs) q ≡ (has xs q && p q)
 has_filtered p xs q = is_member-filter nat_eq_equiv p q (λ x e. ap p (eqb-true q x e)) xs

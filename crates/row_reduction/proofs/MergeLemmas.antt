@@ -140,9 +140,9 @@ merged_none columns row factor other terms none = subst (IsMergedTo columns row 
 
 pub sum_of_all : (columns : ℕ) (row : Row) (factor : ℤ) (other : Row) (i j : ℕ) (terms : Row) → IsMergedTo columns row factor other i j terms → length row ≤ i → length other ≤ j →
     IsSumWith row factor other terms
-sum_of_all columns row factor other i j terms merged past past_other =
-    subst (λ r. IsSumWith r factor other terms) (take_all i row past) (subst (λ r. IsSumWith (take i row) factor r terms) (take_all j other past_other) merged.sum)
+sum_of_all columns row factor other i j terms merged exceeded past_other =
+    subst (λ r. IsSumWith r factor other terms) (take_all i row exceeded) (subst (λ r. IsSumWith (take i row) factor r terms) (take_all j other past_other) merged.sum)
 
 pub all_in_range : (columns : ℕ) (row : Row) (factor : ℤ) (other : Row) (i j : ℕ) (terms : Row) → IsMergedTo columns row factor other i j terms → length row ≤ i →
     All (λ term. term.0 < columns) terms
-all_in_range columns row factor other i j terms merged past = subst (λ n. All (λ term. term.0 < n) terms) (next_past columns row i past) merged.before_row
+all_in_range columns row factor other i j terms merged exceeded = subst (λ n. All (λ term. term.0 < n) terms) (next_past columns row i exceeded) merged.before_row

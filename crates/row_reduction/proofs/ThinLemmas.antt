@@ -8,12 +8,12 @@ use Rattle.row_reduction.specs.Clearing.{AreClearedBy, AddsMultipleAt}
 use Rattle.row_reduction.proofs.RowLemmas.{cleared_at, count_at}
 
 module _ (columns : ℕ) (rows : List Row) (i j : ℕ) (factor : ℤ) (other : Row) (new : List Row) (within : i < length rows) (other_within : j < length rows)
-    (apart : i ≡ j → ⊥) (is : other ≡ get_or rows j []) (adds : AddsMultipleAt columns rows i factor other new) where
+    (separate : i ≡ j → ⊥) (is : other ≡ get_or rows j []) (adds : AddsMultipleAt columns rows i factor other new) where
   cleared : AreClearedBy other rows new
   cleared = cleared_at columns other rows rows i factor new within adds (λ x p. (λ z. z, λ z. z))
 
   other_stays : get_or new j [] ≡ other
-  other_stays = ap (λ r. get_or r j []) adds.replaced ∙ get_or-set_other rows i j adds.sum [] (λ e. apart (sym e)) ∙ sym is
+  other_stays = ap (λ r. get_or r j []) adds.replaced ∙ get_or-set_other rows i j adds.sum [] (λ e. separate (sym e)) ∙ sym is
 
   pub thinned_at : HaveSameZeros rows new
   thinned_at x = (

@@ -3,7 +3,7 @@ use Rattle.std.specs.Prelude.{◌≡◌, ◌≢◌, ℕ, ◌+◌, ◌*◌, ◌<�
 use Rattle.std.specs.List.{remove, list_any}
 use Rattle.cone_definitions.specs.Rows.{Row, positive_coefficient, negative_coefficient}
 use Rattle.cone_arithmetic.specs.Sparse.{IsSparse}
-use Rattle.cone_row_laws.specs.Operations.{IsSumWith, turned}
+use Rattle.cone_row_laws.specs.Operations.{IsSumWith, negated}
 use Rattle.row_reduction.specs.Clearing.{IsUnitAt}
 use Rattle.row_reduction.specs.Merging.{IsCoefficientSum}
 
@@ -83,7 +83,7 @@ pub data AreEliminated (rows : List Row) : List ℕ → List Row → List Row �
 
 -- the row is appended, or left out because it is empty or equal to another one or its negative
 abbrev pub KeepsRow : List Row → Row → List Row → Type 0
-KeepsRow old row new = (new ≡ old ++ row ∷ []) ⊎ ((new ≡ old) × ((row ≡ []) ⊎ (Contains old row ⊎ Contains old (turned row))))
+KeepsRow old row new = (new ≡ old ++ row ∷ []) ⊎ ((new ≡ old) × ((row ≡ []) ⊎ (Contains old row ⊎ Contains old (negated row))))
 
 -- kept are the rows in their order, without some that are empty or equal to a kept row or its negative
 pub data AreKept : List Row → List Row → Type 0 where

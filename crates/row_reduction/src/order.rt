@@ -158,7 +158,7 @@ fn start_count(rows: usize) -> usize {
 }
 
 /// The order that leaves all rows in place, with a cost that any other order beats.
-fn as_they_stand(alloc: Global) -> RowOrder {
+fn unchanged_order(alloc: Global) -> RowOrder {
     RowOrder {
         positions: Vec::new(alloc),
         cost: u64::MAX,
@@ -168,7 +168,7 @@ fn as_they_stand(alloc: Global) -> RowOrder {
 /// The cheapest of the greedy orders of `rows`, one for each first row that is tried. An order is given up once it
 /// costs as much as the best.
 fn cheapest(alloc: Global, rows: &[RowBlocks]) -> Result<RowOrder, NoMemory> {
-    let mut best = as_they_stand(alloc);
+    let mut best = unchanged_order(alloc);
     for start in 0..start_count(rows.len()) {
         if let Some(other) = order_from(alloc, rows, start, best.cost)? {
             best = other;

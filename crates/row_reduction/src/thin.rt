@@ -12,7 +12,7 @@ use crate::rows::RowList;
 use std::alloc::Global;
 
 /// The greatest number of passes over all pairs of rows.
-const ROUNDS: u32 = 20;
+const PASSES: u32 = 20;
 
 /// The numbers of columns at which two rows have equal coefficients, opposite ones, and any.
 #[derive(Clone, Copy)]
@@ -87,34 +87,34 @@ fn thinning_factor(row: &[(u32, i32)], other: &[(u32, i32)]) -> Option<i32>
     }
 }
 
-/// Whether row `i` became sparser in pass `round` or in the one before.
-fn is_recent(rounds: &[u32], i: usize, round: u32) -> bool {
-    match rounds.get(i) {
-        Some(last) => round <= last.saturating_add(1),
+/// Whether row `i` became sparser in pass `pass` or in the one before.
+fn is_recent(passes: &[u32], i: usize, pass: u32) -> bool {
+    match passes.get(i) {
+        Some(last) => pass <= last.saturating_add(1),
         None => true,
     }
 }
 
-/// Records that row `i` became sparser in pass `round`.
-fn note(rounds: &mut [u32], i: usize, round: u32) {
-    if i < rounds.len() {
-        rounds[i] = round;
+/// Records that row `i` became sparser in pass `pass`.
+fn note(passes: &mut [u32], i: usize, pass: u32) {
+    if i < passes.len() {
+        passes[i] = pass;
     }
 }
 
-/// Rows that are made sparser in passes: `rounds[i]` is the last pass in which row `i` became sparser, 0 if there is
-/// none, and `round` the number of the current pass.
+/// Rows that are made sparser in passes: `passes[i]` is the last pass in which row `i` became sparser, 0 if there is
+/// none, and `pass` the number of the current pass.
 #[derive(Drop)]
 struct Thinning {
     list: RowList,
-    rounds: Vec<u32>,
-    round: u32,
+    passes: Vec<u32>,
+    pass: u32,
 }
 
 impl Thinning {
     /// Whether row `i` or row `j` may have changed since this pair was tried last.
-    fn is_due(&self, i: usize, j: usize) -> bool {
-        is_recent(&self.rounds, i, self.round) || is_recent(&self.rounds, j, self.round)
+    fn may_have_changed(&self, i: usize, j: usize) -> bool {
+        is_recent(&self.passes, i, self.pass) || is_recent(&self.passes, j, self.pass)
     }
 
     /// Makes row `i` sparser by row `j` if that leaves fewer terms, and returns whether it did. Fails with `Passed` if a
@@ -122,7 +122,7 @@ impl Thinning {
     fn sparsify_by(&mut self, alloc: Global, i: usize, j: usize) -> Result<bool, SolveFault>
         requires place { i < length self.old.list.rows.items }
         requires other_place { j < length self.old.list.rows.items }
-        requires apart { i ≢ j }
+        requires separate { i ≢ j }
         ensures columns { OnOk result (self.new.list.columns ≡ self.old.list.columns) }
         ensures count { OnOk result (length self.new.list.rows.items ≡ length self.old.list.rows.items) }
         ensures same { OnOk result (HaveSameZeros self.old.list.rows.items self.new.list.rows.items) }
@@ -134,7 +134,7 @@ impl Thinning {
             Some(factor) => {
                 let other = copy(alloc, &rows[j])?;
                 add_at(alloc, &mut self.list, i, factor, &other)?;
-                note(&mut self.rounds, i, self.round);
+                note(&mut self.passes, i, self.pass);
                 Ok(true)
             }
             None => Ok(false),
@@ -152,7 +152,7 @@ impl Thinning {
     {
         let mut thinner = false;
         for j in 0..self.list.rows.len() {
-            if j != i && self.is_due(i, j) {
+            if j != i && self.may_have_changed(i, j) {
                 thinner |= self.sparsify_by(alloc, i, j)?;
             }
         }
@@ -181,7 +181,7 @@ pub(crate) struct Thinned {
     pub is_changed: bool,
 }
 
-/// Makes the rows of `list` sparser, in passes, until a pass changes nothing or `ROUNDS` are done. Fails with `Passed`
+/// Makes the rows of `list` sparser, in passes, until a pass changes nothing or `PASSES` are done. Fails with `Passed`
 /// if a coefficient exceeds 1,000,000.
 pub(crate) fn sparsify(alloc: Global, list: RowList) -> Result<Thinned, SolveFault>
     ensures columns { IfOk result (λ thinned. thinned.list.columns ≡ list.columns) }
@@ -189,15 +189,15 @@ pub(crate) fn sparsify(alloc: Global, list: RowList) -> Result<Thinned, SolveFau
     ensures thinned { IfOk result (λ thinned. AreThinned list.rows.items thinned.list.rows.items) }
     ensures passed { IfErr result (IfPassed (PassesThinned list.rows.items)) }
 {
-    let rounds = vec![in alloc; 0u32; list.rows.len()]?;
+    let passes = vec![in alloc; 0u32; list.rows.len()]?;
     let mut thinning = Thinning {
         list,
-        rounds,
-        round: 0,
+        passes,
+        pass: 0,
     };
     let mut is_changed = false;
-    for round in 0..ROUNDS {
-        thinning.round = round + 1;
+    for pass in 0..PASSES {
+        thinning.pass = pass + 1;
         if !thinning.sparsify_pass(alloc)? {
             break;
         }

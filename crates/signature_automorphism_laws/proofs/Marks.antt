@@ -14,7 +14,7 @@ use Rattle.signature_definitions.specs.Labellings.{Start}
 use Rattle.signature_laws.specs.Starts.{numbered_start, IsTextFrom, IsLeastText}
 use Rattle.signature_laws.proofs.Least.{number_of}
 use Rattle.signature_laws.proofs.Uniqueness.{before_before}
-use Rattle.signature_automorphism_laws.specs.Automorphisms.{IsAutomorphism, carried_start, carried_number, HasNoLesserText, MarkedHaveNoLesserText}
+use Rattle.signature_automorphism_laws.specs.Automorphisms.{IsAutomorphism, carried_start, carried_number, HasNoSmallerText, MarkedHaveNoSmallerText}
 use Rattle.signature_automorphism_laws.proofs.Carrying.{text_before}
 
 -- the image of the start with a given number, and its number
@@ -40,18 +40,18 @@ module _ (rows : List Row) (by : Relabelling) (auto : IsAutomorphism rows by) (i
       omega (arith, a, b)
 
   -- if a start has no smaller text, its image has none
-  pub carried_has_no_lesser : (text : List ℕ) → IsTable rows → HasNoLesserText rows text (numbered_start i) → HasNoLesserText rows text (numbered_start (carried_number by i))
+  pub carried_has_no_lesser : (text : List ℕ) → IsTable rows → HasNoSmallerText rows text (numbered_start i) → HasNoSmallerText rows text (numbered_start (carried_number by i))
   carried_has_no_lesser text table h other t =
       h other (text_before rows by (numbered_start i) table auto tet_below word_permutes other (subst (λ (s : Start). IsTextFrom rows s other) carried_is t))
 
 -- one more mark
-pub marked_more : (rows : List Row) (text : List ℕ) (marks : List Bool) (j : ℕ) → HasNoLesserText rows text (numbered_start j) → MarkedHaveNoLesserText rows text marks → MarkedHaveNoLesserText rows text (slice_set marks j true)
+pub marked_more : (rows : List Row) (text : List ℕ) (marks : List Bool) (j : ℕ) → HasNoSmallerText rows text (numbered_start j) → MarkedHaveNoSmallerText rows text marks → MarkedHaveNoSmallerText rows text (slice_set marks j true)
 marked_more rows text marks j here h i e = ⊎_elim
-    (λ (same : i ≡ j). subst (λ k. HasNoLesserText rows text (numbered_start k)) (sym same) here)
-    (λ (apart : i ≢ j). h i (sym (get_or-set_other marks j i true false apart) ∙ e))
+    (λ (same : i ≡ j). subst (λ k. HasNoSmallerText rows text (numbered_start k)) (sym same) here)
+    (λ (separate : i ≢ j). h i (sym (get_or-set_other marks j i true false separate) ∙ e))
     (cases_eq i j)
 
-pub no_walk : (rows : List Row) (text : List ℕ) (k : ℕ) → HasNoLesserText rows text (numbered_start k) → IsLeastText rows k text → IsLeastText rows (k + 1) text
+pub no_walk : (rows : List Row) (text : List ℕ) (k : ℕ) → HasNoSmallerText rows text (numbered_start k) → IsLeastText rows k text → IsLeastText rows (k + 1) text
 no_walk rows text k here h = record {
   found = h.found;
   least = λ j other m f. ⊎_elim
@@ -60,6 +60,6 @@ no_walk rows text k here h = record {
       (cases_lt j k);
 }
 
-pub lesser_has_none : (rows : List Row) (text lesser : List ℕ) (start : Start) → is_list_before lesser text ≡ true → HasNoLesserText rows text start → HasNoLesserText rows lesser start
-lesser_has_none rows text lesser start b h other t =
-    by_bool (is_list_before other lesser) (λ e. absurd (let x = before_before other lesser text e b in let y = h other t in cc)) (λ e. e)
+pub lesser_has_none : (rows : List Row) (text smaller : List ℕ) (start : Start) → is_list_before smaller text ≡ true → HasNoSmallerText rows text start → HasNoSmallerText rows smaller start
+lesser_has_none rows text smaller start b h other t =
+    by_bool (is_list_before other smaller) (λ e. absurd (let x = before_before other smaller text e b in let y = h other t in cc)) (λ e. e)

@@ -38,14 +38,14 @@ module _ (rows new : List Row) (start other : Start) (first second : Relabelling
       let hp : IsPermutationOfFour p = subst IsPermutationOfFour (ap (λ (g : Gluing). g.perm) w.begins) (perm_permutes n first w.relabels.0 start.tet l) in
       let hr : IsPermutationOfFour r = subst IsPermutationOfFour (ap (λ (g : Gluing). g.perm) w'.begins) (perm_permutes n second w'.relabels.0 other.tet m) in
       let home = inverted_stands n second w'.relabels.0 other.tet m in
-      let stands = after_stands n (inverted n second) first start.tet l in
+      let occurs = after_stands n (inverted n second) first start.tet l in
       let there : slice_index first.images start.tet ≡ slice_index second.images other.tet = ap (λ (g : Gluing). g.tet) w.begins ∙ sym (ap (λ (g : Gluing). g.tet) w'.begins) in
       let tet : slice_index (between n first second).images start.tet ≡ other.tet =
-      ap (λ (g : Gluing). g.tet) stands ∙ ap (slice_index (inverted n second).images) there ∙ ap (λ (g : Gluing). g.tet) home in
+      ap (λ (g : Gluing). g.tet) occurs ∙ ap (slice_index (inverted n second).images) there ∙ ap (λ (g : Gluing). g.tet) home in
       let back : slice_index_or (inverted n second).perms (slice_index first.images start.tet) [] ≡ inverse r =
       ap (λ t. slice_index_or (inverted n second).perms t []) there ∙ ap (λ (g : Gluing). g.perm) home ∙ ap (λ (g : Gluing). inverse g.perm) w'.begins in
       let by_perm : slice_index_or (between n first second).perms start.tet [] ≡ compose (inverse r) p =
-      ap (λ (g : Gluing). g.perm) stands ∙ ap (λ b. compose b (slice_index_or first.perms start.tet [])) back ∙ ap (λ (g : Gluing). compose (inverse r) g.perm) w.begins in
+      ap (λ (g : Gluing). g.perm) occurs ∙ ap (λ b. compose b (slice_index_or first.perms start.tet [])) back ∙ ap (λ (g : Gluing). compose (inverse r) g.perm) w.begins in
       let perm : compose p (inverse (slice_index_or (between n first second).perms start.tet [])) ≡ r =
       ap (λ b. compose p (inverse b)) by_perm ∙ ap (compose p) (inverse-of-compose (inverse r) p (inverse_permutes r hr) hp ∙ ap (compose (inverse p)) (inverse-inverse r hr))
       ∙ sym (compose-compose p (inverse p) r hp (inverse_permutes p hp) hr) ∙ ap (λ b. compose b r) (compose-inverse p hp) ∙ identity-compose r hr in

@@ -25,9 +25,9 @@ abbrev pub carried_number : Relabelling → ℕ → ℕ
 carried_number by i = start_number (carried_start by (numbered_start i))
 
 -- no text that belongs to the start is before the text
-abbrev pub HasNoLesserText : List Row → List ℕ → Start → Type 0
-HasNoLesserText rows text start = (other : List ℕ) → IsTextFrom rows start other → is_list_before other text ≡ false
+abbrev pub HasNoSmallerText : List Row → List ℕ → Start → Type 0
+HasNoSmallerText rows text start = (other : List ℕ) → IsTextFrom rows start other → is_list_before other text ≡ false
 
 -- no text that belongs to a marked start is before the text
-abbrev pub MarkedHaveNoLesserText : List Row → List ℕ → List Bool → Type 0
-MarkedHaveNoLesserText rows text marks = (i : ℕ) → slice_index_or marks i false ≡ true → HasNoLesserText rows text (numbered_start i)
+abbrev pub MarkedHaveNoSmallerText : List Row → List ℕ → List Bool → Type 0
+MarkedHaveNoSmallerText rows text marks = (i : ℕ) → slice_index_or marks i false ≡ true → HasNoSmallerText rows text (numbered_start i)

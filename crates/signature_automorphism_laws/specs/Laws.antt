@@ -8,7 +8,7 @@ use Rattle.table_definitions.specs.Relabelling.{Relabelling}
 use Rattle.signature_definitions.specs.Spelling.{IsSignature}
 use Rattle.signature_definitions.specs.Labellings.{Start}
 use Rattle.signature_laws.specs.Starts.{numbered_start, IsTextFrom, IsLeastText}
-use Rattle.signature_automorphism_laws.specs.Automorphisms.{IsAutomorphism, carried_start, carried_number, HasNoLesserText, MarkedHaveNoLesserText}
+use Rattle.signature_automorphism_laws.specs.Automorphisms.{IsAutomorphism, carried_start, carried_number, HasNoSmallerText, MarkedHaveNoSmallerText}
 
 -- Theorem: a text belongs to a start if and only if it belongs to the start to which an automorphism carries it
 abbrev pub StartsCarriedHaveOneText : Type 0
@@ -24,21 +24,21 @@ EqualTextsGiveAutomorphisms =
 
 -- Theorem: if an automorphism carries a start without a smaller text to another, marking the other keeps marked starts
 -- without smaller texts
-abbrev pub MarksKeepNoLesserText : Type 0
-MarksKeepNoLesserText =
+abbrev pub MarksKeepNoSmallerText : Type 0
+MarksKeepNoSmallerText =
     (rows : List Row) (by : Relabelling) (text : List ℕ) (marks : List Bool) (i : ℕ) → IsTable rows → IsAutomorphism rows by → i < 24 * length rows
-    → HasNoLesserText rows text (numbered_start i) → MarkedHaveNoLesserText rows text marks → MarkedHaveNoLesserText rows text (slice_set marks (carried_number by i) true)
+    → HasNoSmallerText rows text (numbered_start i) → MarkedHaveNoSmallerText rows text marks → MarkedHaveNoSmallerText rows text (slice_set marks (carried_number by i) true)
 
 -- Theorem: the least text of the first k starts is the least of the first k + 1 if start k is marked
 abbrev pub MarkedStartsNeedNoWalk : Type 0
 MarkedStartsNeedNoWalk =
-    (rows : List Row) (text : List ℕ) (marks : List Bool) (k : ℕ) → MarkedHaveNoLesserText rows text marks → slice_index_or marks k false ≡ true
+    (rows : List Row) (text : List ℕ) (marks : List Bool) (k : ℕ) → MarkedHaveNoSmallerText rows text marks → slice_index_or marks k false ≡ true
     → IsLeastText rows k text → IsLeastText rows (k + 1) text
 
 -- Theorem: marked starts have no text before a smaller text
-abbrev pub LesserTextsKeepNoLesserText : Type 0
-LesserTextsKeepNoLesserText =
-    (rows : List Row) (text lesser : List ℕ) (marks : List Bool) → is_list_before lesser text ≡ true → MarkedHaveNoLesserText rows text marks → MarkedHaveNoLesserText rows lesser marks
+abbrev pub SmallerTextsKeepNoSmallerText : Type 0
+SmallerTextsKeepNoSmallerText =
+    (rows : List Row) (text smaller : List ℕ) (marks : List Bool) → is_list_before smaller text ≡ true → MarkedHaveNoSmallerText rows text marks → MarkedHaveNoSmallerText rows smaller marks
 
 -- Theorem: the least text of all starts is the signature
 abbrev pub LeastTextsAreSignatures : Type 0

@@ -6,7 +6,7 @@
 //! `table_definitions`; it has at most 1,000 tetrahedra.
 #![tactic(auto)]
 
-ghost use Rattle.signature_automorphism_laws.specs.Laws.{StartsCarriedHaveOneText, EqualTextsGiveAutomorphisms, MarksKeepNoLesserText, MarkedStartsNeedNoWalk, LesserTextsKeepNoLesserText, LeastTextsAreSignatures};
+ghost use Rattle.signature_automorphism_laws.specs.Laws.{StartsCarriedHaveOneText, EqualTextsGiveAutomorphisms, MarksKeepNoSmallerText, MarkedStartsNeedNoWalk, SmallerTextsKeepNoSmallerText, LeastTextsAreSignatures};
 
 /// Lemma: let T be a triangulation, f an automorphism of T, and s a start: a tetrahedron of T with a permutation of
 /// four. A text belongs to s if and only if it belongs to the start to which f carries s.
@@ -23,8 +23,8 @@ pub fn equal_texts_give_automorphisms()
 /// Lemma: let T be a triangulation with n tetrahedra, f an automorphism of T, and w a text. Let some of the 24n starts
 /// be marked, such that no text of a marked start is before w. If no text of start i is before w, and the start to
 /// which f carries start i is marked too, no text of a marked start is before w.
-pub fn marks_keep_no_lesser_text()
-    ensures { MarksKeepNoLesserText }
+pub fn marks_keep_no_smaller_text()
+    ensures { MarksKeepNoSmallerText }
 {}
 
 /// Lemma: let T be a list of rows, w a text, and let some starts be marked, such that no text of a marked start is
@@ -36,8 +36,8 @@ pub fn marked_starts_need_no_walk()
 
 /// Lemma: let T be a list of rows, and let the text v be before the text w. If no text of a marked start is before w,
 /// none is before v.
-pub fn lesser_texts_keep_no_lesser_text()
-    ensures { LesserTextsKeepNoLesserText }
+pub fn smaller_texts_keep_no_smaller_text()
+    ensures { SmallerTextsKeepNoSmallerText }
 {}
 
 /// Theorem: let w be a text of some start of a table T, and let no text of a start of T be before w. Then w is the

@@ -22,7 +22,7 @@ module _ (x : Face) (s : Slots) (d i : ℕ × ℕ) (d_is : d ≡ signatures.firs
   glue = record { tet = d.0; perm = slice_index_or words i.0 [] }
 
   abbrev taken_by : Face → Bool
-  taken_by other = same_face other x || is_some (slot s.met other)
+  taken_by other = same_face other x || is_some (slot s.read_faces other)
 
   abbrev taken : Bool
   taken = taken_by (other_side x glue)
@@ -31,7 +31,7 @@ module _ (x : Face) (s : Slots) (d i : ℕ × ℕ) (d_is : d ≡ signatures.firs
   read = subst₂ (λ e j. slot_seen x s ≡ slot_glued x e j used) (sym d_is) (sym i_is) refl
 
   abbrev joined : Result Slots SigFault
-  joined = Ok (record used { met = meet_at s.met x glue })
+  joined = Ok (record used { read_faces = meet_at s.read_faces x glue })
 
   pub too_far : s.seen ≤ d.0 → slot_seen x s ≡ Err (sig_faults.Destination d.1)
   too_far far = read ∙ ap (λ wrong. signatures.unless wrong (sig_faults.Destination d.1) (signatures.unless taken (sig_faults.FaceTaken i.1) joined)) (le-leb s.seen d.0 far)
@@ -50,7 +50,7 @@ module _ (x : Face) (s : Slots) (d i : ℕ × ℕ) (d_is : d ≡ signatures.firs
     pub face_met : taken_by other ≡ false → slot_seen x s ≡ Ok (glued_at s x (record { tet = d.0; perm = p }))
     face_met h =
         seen ∙ ap (λ wrong. signatures.unless wrong (sig_faults.FaceTaken i.1) joined) (sym (ap taken_by made) ∙ h)
-        ∙ ap (λ q. Ok (record used { met = meet_at s.met x (record { tet = d.0; perm = q }) })) (sym p_is)
+        ∙ ap (λ q. Ok (record used { read_faces = meet_at s.read_faces x (record { tet = d.0; perm = q }) })) (sym p_is)
 
 -- if type 2 was used, a destination and a gluing remain
 pub some_left : (u : ℕ) (types : List ℕ) (ps : List (ℕ × ℕ)) → length (drop u ps) ≡ times_in (2 ∷ types) 2 → u < length ps

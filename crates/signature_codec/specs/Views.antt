@@ -34,8 +34,8 @@ abbrev pub types_view : Types → signatures.Types
 types_view t = record { read = t.read.items; left = t.left; ones = t.ones }
 
 -- the types, and the position after them
-abbrev pub read_behind : TypesRead → signatures.Types × ℕ
-read_behind t = (types_view t.types, t.next)
+abbrev pub read_after : TypesRead → signatures.Types × ℕ
+read_after t = (types_view t.types, t.next)
 
 abbrev pub parts_view : Parts → signatures.Parts
 parts_view p = record { types = p.types.items; destinations = p.destinations.items; gluings = p.gluings.items }
@@ -43,14 +43,14 @@ parts_view p = record { types = p.types.items; destinations = p.destinations.ite
 -- what a call stores, as the definitions see it
 abbrev pub slots_view : Joining → Slots
 slots_view j = record {
-  met = j.met.items;
+  read_faces = j.read_faces.items;
   seen = j.seen;
   parts = record { types = drop j.types_used j.parts.now.types.items; destinations = drop j.seen_used j.parts.now.destinations.items; gluings = drop j.seen_used j.parts.now.gluings.items };
 }
 
 -- the state after face x is glued by g to a tetrahedron already seen
 abbrev pub glued_at : Slots → Face → gluings.Gluing → Slots
-glued_at s x g = record s { met = meet_at s.met x g; parts = record s.parts { destinations = drop 1 s.parts.destinations; gluings = drop 1 s.parts.gluings } }
+glued_at s x g = record s { read_faces = meet_at s.read_faces x g; parts = record s.parts { destinations = drop 1 s.parts.destinations; gluings = drop 1 s.parts.gluings } }
 
 -- what a call stores, as the definitions see it
 abbrev pub walk_view : TraversalSoFar → Walking

@@ -9,7 +9,7 @@ ghost use Rattle.signature_codec.specs.Views.{parts_view};
 use crate::SigFault;
 use crate::joining::Joining;
 use crate::read::Parts;
-use crate::slots::{none_met, rows_of};
+use crate::slots::{no_faces_read, rows_of};
 use gluing_table::Row;
 use std::alloc::Global;
 
@@ -23,15 +23,15 @@ pub fn join(alloc: Global, parts: &Parts) -> Result<Vec<Row>, SigFault>
     if parts.count == 0 {
         return Ok(Vec::new(alloc));
     }
-    let met = none_met(alloc, 4 * parts.count)?;
+    let read_faces = no_faces_read(alloc, 4 * parts.count)?;
     let mut joining = Joining {
         parts,
-        met,
+        read_faces,
         seen: 1,
         types_used: 0,
         seen_used: 0,
     };
     joining.join_faces()?;
-    let rows = rows_of(alloc, parts.count, &joining.met)?;
+    let rows = rows_of(alloc, parts.count, &joining.read_faces)?;
     Ok(rows)
 }

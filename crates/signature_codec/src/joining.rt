@@ -16,11 +16,11 @@ use perm_four::perm_at;
 #[derive(Drop)]
 pub struct Joining<'a> {
     pub parts: &'a Parts,
-    pub met: Vec<Option<Option<Glue>>>,
+    pub read_faces: Vec<Option<Option<Glue>>>,
     pub seen: u32,
     pub types_used: usize,
     pub seen_used: usize,
-    ghost slots: { IsSlots parts.now.count (record { met = met.items; seen = seen; parts = record { types = drop types_used parts.now.types.items; destinations = drop seen_used parts.now.destinations.items; gluings = drop seen_used parts.now.gluings.items } }) },
+    ghost slots: { IsSlots parts.now.count (record { read_faces = read_faces.items; seen = seen; parts = record { types = drop types_used parts.now.types.items; destinations = drop seen_used parts.now.destinations.items; gluings = drop seen_used parts.now.gluings.items } }) },
 }
 
 /// The number with index `i` and its position in the text; zeros if there is none.
@@ -50,7 +50,7 @@ impl<'a> Joining<'a> {
             perm: perm_at(index),
         };
         let other = glue.other_side(face);
-        if same_face(other, face) || slot(&self.met, other).is_some() {
+        if same_face(other, face) || slot(&self.read_faces, other).is_some() {
             return Err(SigFault::FaceTaken { at: index_at });
         }
         Ok(glue)
@@ -63,12 +63,12 @@ impl<'a> Joining<'a> {
         if face.tet >= self.seen {
             return Err(SigFault::Unreached);
         }
-        if self.types_used >= self.parts.types.len() || slot(&self.met, face).is_some() {
+        if self.types_used >= self.parts.types.len() || slot(&self.read_faces, face).is_some() {
             return Ok(());
         }
         let kind = self.parts.types[self.types_used];
         if kind == 0 {
-            set_slot(&mut self.met, face, None);
+            set_slot(&mut self.read_faces, face, None);
             self.types_used += 1;
             return Ok(());
         }
@@ -77,13 +77,13 @@ impl<'a> Joining<'a> {
                 tet: self.seen,
                 perm: perm_at(0),
             };
-            meet(&mut self.met, face, glue);
+            meet(&mut self.read_faces, face, glue);
             self.seen += 1;
             self.types_used += 1;
             return Ok(());
         }
         let glue = self.seen_glue(face)?;
-        meet(&mut self.met, face, glue);
+        meet(&mut self.read_faces, face, glue);
         self.seen_used += 1;
         self.types_used += 1;
         Ok(())

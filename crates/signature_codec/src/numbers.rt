@@ -24,7 +24,7 @@ pub struct NumberField {
     pub many: u32,
     pub width: u32,
     pub bound: u32,
-    pub ghost few: { many ≤ 4000 },
+    pub ghost limited: { many ≤ 4000 },
     pub ghost narrow: { width ≤ 3 },
 }
 

@@ -10,7 +10,7 @@ pub struct Head {
     pub count: u32,
     pub width: u32,
     pub next: usize,
-    pub ghost few: { count ≤ max_tets },
+    pub ghost limited: { count ≤ max_tets },
     pub ghost narrow: { width ≤ 2 },
 }
 
@@ -22,7 +22,7 @@ pub struct Types {
     pub left: u32,
     pub ones: u32,
     pub ghost counts: { length read.items + left ≤ 4000 },
-    pub ghost few_ones: { ones ≤ max_tets },
+    pub ghost bounded_ones: { ones ≤ max_tets },
 }
 
 /// The types of a signature, and the position after them.

@@ -24,69 +24,77 @@ pub fn same_face(first: Face, second: Face) -> bool
 }
 
 /// An entry for each of `faces` faces, none of them read.
-pub fn none_met(alloc: Global, faces: u32) -> Result<Vec<Option<Option<Glue>>>, AllocError>
-    ensures unmet { IfOk result (λ met. met.items ≡ replicate faces None) }
-    ensures size { IfOk result (λ met. length met.items ≡ faces) }
+pub fn no_faces_read(alloc: Global, faces: u32) -> Result<Vec<Option<Option<Glue>>>, AllocError>
+    ensures unmet { IfOk result (λ read_faces. read_faces.items ≡ replicate faces None) }
+    ensures size { IfOk result (λ read_faces. length read_faces.items ≡ faces) }
 {
-    let met = vec![in alloc; None; faces as usize]?;
-    Ok(met)
+    let read_faces = vec![in alloc; None; faces as usize]?;
+    Ok(read_faces)
 }
 
 /// What is known of `face`: its gluing (`None` at a boundary face), or `None` if it is not yet read or out of range.
-pub fn slot(met: &[Option<Option<Glue>>], face: Face) -> Option<Option<Glue>>
-    ensures { result ≡ slots.slot met.now face }
+pub fn slot(read_faces: &[Option<Option<Glue>>], face: Face) -> Option<Option<Glue>>
+    ensures { result ≡ slots.slot read_faces.now face }
 {
     let place = place(face);
-    if place < met.len() { met[place] } else { None }
+    if place < read_faces.len() {
+        read_faces[place]
+    } else {
+        None
+    }
 }
 
 /// Records that `face` is read and has gluing `glue`; does nothing if `face` is out of range.
-pub fn set_slot(met: &mut [Option<Option<Glue>>], face: Face, glue: Option<Glue>)
-    ensures { met.new ≡ slice_set met.old (face_number face) (Some glue) }
+pub fn set_slot(read_faces: &mut [Option<Option<Glue>>], face: Face, glue: Option<Glue>)
+    ensures { read_faces.new ≡ slice_set read_faces.old (face_number face) (Some glue) }
 {
     let place = place(face);
-    if place < met.len() {
-        met[place] = Some(glue);
+    if place < read_faces.len() {
+        read_faces[place] = Some(glue);
     }
 }
 
 /// Records both sides of the gluing `glue` of `face`.
-pub fn meet(met: &mut [Option<Option<Glue>>], face: Face, glue: Glue)
-    ensures { met.new ≡ meet_at met.old face glue }
+pub fn meet(read_faces: &mut [Option<Option<Glue>>], face: Face, glue: Glue)
+    ensures { read_faces.new ≡ meet_at read_faces.old face glue }
 {
-    set_slot(met, glue.other_side(face), Some(glue.way_back(face)));
-    set_slot(met, face, Some(glue));
+    set_slot(
+        read_faces,
+        glue.other_side(face),
+        Some(glue.inverse_gluing(face)),
+    );
+    set_slot(read_faces, face, Some(glue));
 }
 
 /// The gluing of `face`, or `None` if it is a boundary face or not read.
-fn gluing_in(met: &[Option<Option<Glue>>], face: Face) -> Option<Glue>
-    ensures { result ≡ unwrap_or (slots.slot met.now face) None }
+fn gluing_in(read_faces: &[Option<Option<Glue>>], face: Face) -> Option<Glue>
+    ensures { result ≡ unwrap_or (slots.slot read_faces.now face) None }
 {
-    slot(met, face).unwrap_or(None)
+    slot(read_faces, face).unwrap_or(None)
 }
 
-fn row_of(met: &[Option<Option<Glue>>], tet: u32) -> Row
-    ensures { result ≡ slots.slot_row met.now tet }
+fn row_of(read_faces: &[Option<Option<Glue>>], tet: u32) -> Row
+    ensures { result ≡ slots.slot_row read_faces.now tet }
 {
     [
-        gluing_in(met, Face { tet, face: 0 }),
-        gluing_in(met, Face { tet, face: 1 }),
-        gluing_in(met, Face { tet, face: 2 }),
-        gluing_in(met, Face { tet, face: 3 }),
+        gluing_in(read_faces, Face { tet, face: 0 }),
+        gluing_in(read_faces, Face { tet, face: 1 }),
+        gluing_in(read_faces, Face { tet, face: 2 }),
+        gluing_in(read_faces, Face { tet, face: 3 }),
     ]
 }
 
-/// The rows of `count` tetrahedra, from the gluings in `met`.
+/// The rows of `count` tetrahedra, from the gluings in `read_faces`.
 pub fn rows_of(
     alloc: Global,
     count: u32,
-    met: &[Option<Option<Glue>>],
+    read_faces: &[Option<Option<Glue>>],
 ) -> Result<Vec<Row>, AllocError>
-    ensures { IfOk result (λ rows. rows.items ≡ slots.slot_rows count met.now) }
+    ensures { IfOk result (λ rows. rows.items ≡ slots.slot_rows count read_faces.now) }
 {
     let mut rows = Vec::new(alloc);
     for tet in 0..count {
-        rows.push(row_of(met, tet))?;
+        rows.push(row_of(read_faces, tet))?;
     }
     Ok(rows)
 }

@@ -3,7 +3,7 @@
 ghost use Rattle.std.specs.Prelude.{◌≡◌, ◌<◌, ◌≤◌, ◌*◌, ◌-◌, ◌+◌, [], length, IfOk, OnOk};
 ghost use Rattle.signature_definitions.specs.SignatureText as signatures;
 ghost use Rattle.signature_text_laws.specs.Faults.{Reads, Leaves};
-ghost use Rattle.signature_codec.specs.Views.{types_view, read_behind};
+ghost use Rattle.signature_codec.specs.Views.{types_view, read_after};
 ghost use Rattle.signature_text_laws.specs.Parts.{types_begun};
 
 use crate::SigFault;
@@ -63,7 +63,7 @@ fn take_character(types: &mut Types, head: Head, at: usize, value: u8) -> Result
 /// character, impossible type (`BadType`), or type after the last face that is not 0 (`Leftover`).
 pub fn read_types(alloc: Global, text: &[u8], head: Head) -> Result<TypesRead, SigFault>
     requires { head.next ≤ length text.now }
-    ensures reads { Reads read_behind result (signatures.types_from (4 * head.count) text.now head.count head.next (types_begun head.count)) }
+    ensures reads { Reads read_after result (signatures.types_from (4 * head.count) text.now head.count head.next (types_begun head.count)) }
     ensures in_text { IfOk result (λ t. t.next ≤ length text.now) }
 {
     let mut types = Types {

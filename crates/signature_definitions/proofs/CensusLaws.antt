@@ -185,8 +185,8 @@ module _ (tell : (a b : List Row) (s t : List ℕ) → IsTable a → IsTable b �
     within : (i : ℕ) → i < length more → (i < length tables) ⊎ (i ≡ length tables)
     within i h = last_or_before (length tables) i (omega (arith, one_more))
 
-    pub census_goes_on : IsCensus more numbered now
-    census_goes_on = record {
+    pub census_extends : IsCensus more numbered now
+    census_extends = record {
       numbering = record {
         one_each = let n = numbers.one_each in omega (arith, length-append classes (class ∷ []), one_more);
         in_range = λ i h. in_range_at i (within i h);

@@ -40,8 +40,8 @@ abbrev pub IsClassed : List (List ℕ) → List ℕ → ℕ → List (List ℕ) 
 IsClassed before text class now = IsOldClass before text class now ⊎ IsNewClass before text class now
 
 -- a census of tables, extended by one more table
-abbrev pub CensusGoesOn : Type 0
-CensusGoesOn =
+abbrev pub CensusExtends : Type 0
+CensusExtends =
     (tables : List (List Row)) (a : List Row) (classes : List ℕ) (before : List (List ℕ)) (text : List ℕ) (class : ℕ) (now : List (List ℕ))
     → ((k : ℕ) → k < length tables → IsTable (table_in tables k)) → IsTable a → IsCensus tables classes before → IsSignature a text
     → IsClassed before text class now → IsCensus (tables ++ a ∷ []) (classes ++ class ∷ []) now

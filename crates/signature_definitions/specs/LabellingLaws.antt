@@ -30,8 +30,8 @@ abbrev pub OneSignature : Type 0
 OneSignature = (rows : List Row) (text other : List ℕ) → IsSignature rows text → IsSignature rows other → text ≡ other
 
 -- Theorem: two tables have the same signature if and only if they are isomorphic
-abbrev pub SignaturesTellTables : Type 0
-SignaturesTellTables =
+abbrev pub SignaturesDetermineTables : Type 0
+SignaturesDetermineTables =
     (first second : List Row) (text other : List ℕ) → IsTable first → IsTable second → IsSignature first text → IsSignature second other
     → (text ≡ other) ↔ AreIsomorphic first second
 

@@ -25,10 +25,10 @@ pub record IsWalked (rows : List Row) (start : Start) (by : Relabelling) (new : 
   pub ordered : IsWalkOrdered new
 
 -- whether s comes before r: by the tetrahedron, and then by the index of the permutation
-abbrev pub is_stand_in_before : Gluing → Gluing → Bool
-is_stand_in_before s r = nat_lt s.tet r.tet || ((s.tet == r.tet) && nat_lt (index s.perm) (index r.perm))
+abbrev pub is_image_before : Gluing → Gluing → Bool
+is_image_before s r = nat_lt s.tet r.tet || ((s.tet == r.tet) && nat_lt (index s.perm) (index r.perm))
 
 -- of the relabellings that carry the first table to the second, none puts an earlier one in tetrahedron 0's place
 pub record IsLeastRelabelling (first second : List Row) (by : Relabelling) : Type 0 where
   pub relabels : Relabels first second by
-  pub least : (other : Relabelling) → Relabels first second other → is_stand_in_before (relabelled_place other 0) (relabelled_place by 0) ≡ false
+  pub least : (other : Relabelling) → Relabels first second other → is_image_before (relabelled_place other 0) (relabelled_place by 0) ≡ false

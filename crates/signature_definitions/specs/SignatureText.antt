@@ -3,7 +3,7 @@ use Rattle.std.specs.Prelude.{ℕ, zero, suc, ◌+◌, ◌-◌, ◌*◌, ◌/◌
 use Rattle.std.specs.List.{list_any, slice_index_or}
 use Rattle.table_definitions.specs.Lists.{below, same_list, times_in}
 use Rattle.table_definitions.specs.Permutation.{four, identity, words}
-use Rattle.table_definitions.specs.Table.{max_tets, Gluing, Row, Face, other_side, way_back, faces, same_face}
+use Rattle.table_definitions.specs.Table.{max_tets, Gluing, Row, Face, other_side, inverse_gluing, faces, same_face}
 use Rattle.signature_definitions.specs.Spelling.{value_of, width}
 use Rattle.text_definitions.specs.declared.LexKind.TheVariants.{BadWord}
 use Rattle.text_definitions.specs.Reading.{Reading, ◌>>=◌, word_fault, word_at, end_line_at}
@@ -117,20 +117,20 @@ pub record Parts : Type 0 where
 
 -- the faces read so far with their gluings, the number of tetrahedra seen, and the unused sections
 pub record Joining : Type 0 where
-  pub met : List (Face × Option Gluing)
+  pub read_faces : List (Face × Option Gluing)
   pub seen : ℕ
   pub parts : Parts
 
-abbrev pub is_met : Joining → Face → Bool
-is_met s x = list_any (λ (m : Face × Option Gluing). same_face m.0 x) s.met
+abbrev pub is_face_read : Joining → Face → Bool
+is_face_read s x = list_any (λ (m : Face × Option Gluing). same_face m.0 x) s.read_faces
 
 -- both sides of a face are read
 abbrev pub meet : Face → Gluing → Joining → Joining
-meet x g s = record s { met = (x, Some g) ∷ (other_side x g, Some (way_back x g)) ∷ s.met }
+meet x g s = record s { read_faces = (x, Some g) ∷ (other_side x g, Some (inverse_gluing x g)) ∷ s.read_faces }
 
 -- a face of type 0, of type 1, and of type 2 with its destination and its gluing
 abbrev pub join_boundary : Face → Joining → Joining
-join_boundary x s = record s { met = (x, None) ∷ s.met }
+join_boundary x s = record s { read_faces = (x, None) ∷ s.read_faces }
 
 abbrev pub join_new : Face → Joining → Joining
 join_new x s = meet x (record { tet = s.seen; perm = identity }) (record s { seen = s.seen + 1 })
@@ -139,7 +139,7 @@ abbrev pub join_seen : Face → ℕ × ℕ → ℕ × ℕ → Joining → Result
 join_seen x d i s =
     let g : Gluing = record { tet = d.0; perm = slice_index_or words i.0 [] } in
     unless (nat_le s.seen d.0) (Destination d.1)
-    (unless (same_face (other_side x g) x || is_met s (other_side x g)) (FaceTaken i.1) (Ok (meet x g s)))
+    (unless (same_face (other_side x g) x || is_face_read s (other_side x g)) (FaceTaken i.1) (Ok (meet x g s)))
 
 abbrev pub first_pair : List (ℕ × ℕ) → ℕ × ℕ
 first_pair ps = slice_index_or ps 0 (0, 0)
@@ -154,7 +154,7 @@ join_type x type rest s =
 -- the next face, if it is not read yet
 abbrev pub join_next : Face → List ℕ → Joining → Result Joining SigFault
 join_next x [] s = Ok s
-join_next x (type ∷ types) s = if is_met s x then Ok s else join_type x type (record s.parts { types = types }) s
+join_next x (type ∷ types) s = if is_face_read s x then Ok s else join_type x type (record s.parts { types = types }) s
 
 abbrev pub join_face : Face → Joining → Result Joining SigFault
 join_face x s = unless (nat_le s.seen x.tet) Unreached (join_next x s.parts.types s)
@@ -166,17 +166,17 @@ join_faces (x ∷ xs) s = do
   join_faces xs t
 
 abbrev pub glued_in : List (Face × Option Gluing) → Face → Option Gluing
-glued_in met x = option_and_then (λ (m : Face × Option Gluing). m.1) (find (λ (m : Face × Option Gluing). same_face m.0 x) met)
+glued_in read_faces x = option_and_then (λ (m : Face × Option Gluing). m.1) (find (λ (m : Face × Option Gluing). same_face m.0 x) read_faces)
 
 -- the table of the faces that were read
 abbrev pub rows_of : ℕ → List (Face × Option Gluing) → List Row
-rows_of n met = map (λ t. map (λ f. glued_in met (record { tet = t; face = f })) four) (below n)
+rows_of n read_faces = map (λ t. map (λ f. glued_in read_faces (record { tet = t; face = f })) four) (below n)
 
 -- the last phase
 abbrev pub table_of : ℕ → Parts → Result (List Row) SigFault
 table_of n parts = do
-  s ← join_faces (faces n) (record { met = []; seen = 1; parts = parts })
-  Ok (rows_of n s.met)
+  s ← join_faces (faces n) (record { read_faces = []; seen = 1; parts = parts })
+  Ok (rows_of n s.read_faces)
 
 -- the phases after the types
 abbrev pub after_types : List ℕ → Head → Types → ℕ → Result (List Row) SigFault

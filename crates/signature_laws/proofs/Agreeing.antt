@@ -7,7 +7,7 @@ use Rattle.std.proofs.lemmas.List.{ext_get_or}
 use Rattle.table_definitions.specs.Permutation.{IsPermutationOfFour, preimage, inverse, compose}
 use Rattle.table_definitions.specs.Table.{Gluing, Row, Face, IsTable, glue}
 use Rattle.table_definitions.specs.Relabelling.{Relabelling, IsRelabelling, Carries, relabelled_place, face_under, gluing_under}
-use Rattle.table_definitions.proofs.Carried.{stands_for, image_in_range, perm_permutes, images_apart, StandsFor}
+use Rattle.table_definitions.proofs.Carried.{stands_for, image_in_range, perm_permutes, images_apart, RepresentsFacet}
 use Rattle.table_definitions.proofs.Permutations.{preimage_below, image-preimage, inverse_permutes, compose_permutes}
 use Rattle.signature_definitions.specs.Labellings.{Start, IsWalked}
 use Rattle.table_definitions.proofs.Permutations.{taken_away}
@@ -40,7 +40,7 @@ one_table rows new other by h c d = ext_get_or [] new other (c.same_length ∙ s
         face : (v f : ℕ) → v < length rows → f < 4 → get_or (get_or new v []) f None ≡ get_or (get_or other v []) f None
         face v f m q =
             let y : Face = record { tet = v; face = f } in
-            let x : (x : Face) × StandsFor rows new by y x = stands_for rows new by h c y m q in
+            let x : (x : Face) × RepresentsFacet rows new by y x = stands_for rows new by h c y m q in
             x.1.glued ∙ sym (d.glued x.0 x.1.tet x.1.face) ∙ ap (glue other) x.1.is
 
 module _ (rows new other : List Row) (by others : Relabelling) (table : IsTable rows) (start : Start) (in_range : start.tet < length rows) (w : IsWalked rows start by new) (w' : IsWalked rows start others other) where

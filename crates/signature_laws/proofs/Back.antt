@@ -6,11 +6,11 @@ use Rattle.table_definitions.specs.Permutation.{IsPermutationOfFour, image, inve
 use Rattle.table_definitions.specs.Table.{Gluing, Row, Face, IsTable, glue}
 use Rattle.table_definitions.specs.Relabelling.{Relabelling, IsRelabelling, Carries, relabelled_place, face_under, gluing_under}
 use Rattle.table_definitions.proofs.Permutations.{carried_twice, image_below, image-compose, preimage-image, image-inverse, inverse_permutes, compose_permutes}
-use Rattle.table_definitions.proofs.Carried.{stands_for, image_in_range, perm_permutes, comes_from, images_apart, StandsFor}
+use Rattle.table_definitions.proofs.Carried.{stands_for, image_in_range, perm_permutes, comes_from, images_apart, RepresentsFacet}
 use Rattle.table_definitions.proofs.Faces.{face_at}
 use Rattle.table_definitions.proofs.Carried.{carried_and_back}
 use Rattle.signature_laws.specs.Between.{place_of, back_of, inverted, after_of, after}
-use Rattle.signature_laws.proofs.Standing.{made_stands, CanStand, made_relabelling, place_of-image}
+use Rattle.signature_laws.proofs.Standing.{made_stands, HasFacetImage, made_relabelling, place_of-image}
 
 -- the inverse maps the image of t back to t
 pub inverted_stands : (n : ℕ) (by : Relabelling) → IsRelabelling n by → (t : ℕ) → t < n
@@ -19,10 +19,10 @@ inverted_stands n by h t l =
     let e : place_of by (slice_index by.images t) ≡ t = place_of-image n by h t l in
     made_stands n (back_of by) (slice_index by.images t) (image_in_range n by h t l) ∙ (λ i. record { tet = e i; perm = inverse (slice_index_or by.perms (e i) []) })
 
-can_go_back : (n : ℕ) (by : Relabelling) → IsRelabelling n by → CanStand n (back_of by)
+can_go_back : (n : ℕ) (by : Relabelling) → IsRelabelling n by → HasFacetImage n (back_of by)
 can_go_back n by h = record {
   in_range = λ u l. let p = place u l in let q = p.1 in let r = p.2 in omega (arith, q, r);
-  apart = λ u v l m e. (place u l).3 ∙ ap (slice_index by.images) (sym (place u l).2 ∙ e ∙ (place v m).2) ∙ sym (place v m).3;
+  separate = λ u v l m e. (place u l).3 ∙ ap (slice_index by.images) (sym (place u l).2 ∙ e ∙ (place v m).2) ∙ sym (place v m).3;
   permutes = λ u l. let p = place u l in inverse_permutes _ (subst (λ t. IsPermutationOfFour (slice_index_or by.perms t [])) (sym p.2) (perm_permutes n by h p.0 p.1));
 }
   where
@@ -74,7 +74,7 @@ carries_back rows new by table h c = record {
     glued_at : (y : Face) → y.tet < n → y.face < 4
         → glue rows (face_under (relabelled_place (inverted n by) y.tet) y) ≡ option_map (λ g. gluing_under (relabelled_place (inverted n by) y.tet) (relabelled_place (inverted n by) g.tet) g) (glue new y)
     glued_at y lt lf =
-        let q : (x : Face) × StandsFor rows new by y x = stands_for rows new by h c y lt lf in
+        let q : (x : Face) × RepresentsFacet rows new by y x = stands_for rows new by h c y lt lf in
         subst (λ (z : Face). glue rows (face_under (relabelled_place (inverted n by) z.tet) z) ≡ option_map (λ g. gluing_under (relabelled_place (inverted n by) z.tet) (relabelled_place (inverted n by) g.tet) g) (glue new z)) q.1.is
         (back_at q.0 q.1.tet q.1.face)
 
@@ -85,7 +85,7 @@ after_stands n second first t l = made_stands n (after_of second first) t l
 pub after_relabelling : (n : ℕ) (second first : Relabelling) → IsRelabelling n second → IsRelabelling n first → IsRelabelling n (after n second first)
 after_relabelling n second first h k = made_relabelling n (after_of second first) (record {
   in_range = λ t l. image_in_range n second h (slice_index first.images t) (image_in_range n first k t l);
-  apart = λ t u l m e. images_apart n first k t u l m (images_apart n second h (slice_index first.images t) (slice_index first.images u) (image_in_range n first k t l) (image_in_range n first k u m) e);
+  separate = λ t u l m e. images_apart n first k t u l m (images_apart n second h (slice_index first.images t) (slice_index first.images u) (image_in_range n first k t l) (image_in_range n first k u m) e);
   permutes = λ t l. compose_permutes (slice_index_or second.perms (slice_index first.images t) []) (slice_index_or first.perms t []) (perm_permutes n second h (slice_index first.images t) (image_in_range n first k t l)) (perm_permutes n first k t l);
 })
 

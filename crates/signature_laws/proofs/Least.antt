@@ -14,7 +14,7 @@ use Rattle.signature_definitions.specs.Spelling.{Spells, IsSignature, spelling}
 use Rattle.table_definitions.proofs.Permutations.{words_at, index_below}
 use Rattle.table_definitions.proofs.Carried.{comes_from, perm_permutes}
 use Rattle.signature_definitions.specs.Labellings.{Start, IsWalked}
-use Rattle.signature_laws.specs.Starts.{numbered_start, IsTextFrom, IsLesserFrom, IsLeastText}
+use Rattle.signature_laws.specs.Starts.{numbered_start, IsTextFrom, IsSmallerFrom, IsLeastText}
 use Rattle.signature_laws.specs.Between.{made}
 use Rattle.signature_laws.proofs.Standing.{made_relabelling}
 use Rattle.signature_laws.proofs.Agreeing.{one_walk}
@@ -65,7 +65,7 @@ least_of rows i w before here j other m f = ⊎_elim
     (λ (b : i ≤ j). let z : j ≡ i = omega arith in here other (subst (λ q. IsTextFrom rows (numbered_start q) other) z f))
     (cases_lt j i)
 
-pub least_better : (rows : List Row) (i : ℕ) (best new : List ℕ) → IsTable rows → i < 24 * length rows → IsLeastText rows i best → IsLesserFrom rows (numbered_start i) best new → IsLeastText rows (i + 1) new
+pub least_better : (rows : List Row) (i : ℕ) (best new : List ℕ) → IsTable rows → i < 24 * length rows → IsLeastText rows i best → IsSmallerFrom rows (numbered_start i) best new → IsLeastText rows (i + 1) new
 least_better rows i best new table l h (inl (k, b)) = record {
   found = (i, l, k);
   least = least_of rows i new
@@ -105,12 +105,12 @@ pub empty_ordered : (rows : List Row) → length rows ≡ 0 → IsWalkOrdered ro
 empty_ordered rows e = subst IsWalkOrdered (sym (empty rows e)) refl
 
 pub empty_relabelling : IsRelabelling 0 (record { images = []; perms = [] })
-empty_relabelling = subst (IsRelabelling 0) same (made_relabelling 0 stands (record { in_range = λ t l. absurd (omega arith); apart = λ t u l m e. absurd (omega arith); permutes = λ t l. absurd (omega arith) }))
+empty_relabelling = subst (IsRelabelling 0) same (made_relabelling 0 occurs (record { in_range = λ t l. absurd (omega arith); separate = λ t u l m e. absurd (omega arith); permutes = λ t l. absurd (omega arith) }))
   where
-    stands : ℕ → Gluing
-    stands t = record { tet = t; perm = [] }
+    occurs : ℕ → Gluing
+    occurs t = record { tet = t; perm = [] }
 
-    same : made 0 stands ≡ record { images = []; perms = [] }
+    same : made 0 occurs ≡ record { images = []; perms = [] }
     same = unfold made in refl
 
 pub empty_signature : (rows : List Row) (text : List ℕ) → length rows ≡ 0 → Spells text rows → IsSignature rows text

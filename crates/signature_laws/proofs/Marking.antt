@@ -9,7 +9,7 @@ use Rattle.basic_lemmas.proofs.Truths.{by_bool}
 use Rattle.table_definitions.specs.Table.{Gluing, Row}
 use Rattle.signature_definitions.specs.Labellings.{Start}
 use Rattle.table_definitions.proofs.Marked.{mark_same, mark_other, or-false as or_false}
-use Rattle.signature_laws.specs.Orders.{start_at, is_visited, start_behind, follow, IsWalking, AreVisited}
+use Rattle.signature_laws.specs.Orders.{start_at, is_visited, start_across, follow, IsWalking, AreVisited}
 use Rattle.signature_laws.proofs.Growing.{met_from}
 
 -- the tetrahedra of the order have marks
@@ -22,10 +22,10 @@ met_inside order marks i h l = ⊎_elim
     (cases_lt (start_at order i).tet (length marks))
 
 pub met_below : (rows : List Row) (order : List Start) (marks : List Bool) (i : ℕ) → IsWalking rows order marks → i < length order → (start_at order i).tet < length rows
-met_below rows order marks i h l = let m = met_inside order marks i h.met l in let s = h.size in omega (arith, m, s)
+met_below rows order marks i h l = let m = met_inside order marks i h.visited l in let s = h.size in omega (arith, m, s)
 
-is_met-push : (order : List Start) (s : Start) (t : ℕ) → is_visited (order ++ s ∷ []) t ≡ (is_visited order t || (s.tet == t))
-is_met-push order s t = list_any-append (λ (r : Start). r.tet == t) order (s ∷ []) ∙ ap (λ b. is_visited order t || b) (or_false (s.tet == t))
+is_face_read-push : (order : List Start) (s : Start) (t : ℕ) → is_visited (order ++ s ∷ []) t ≡ (is_visited order t || (s.tet == t))
+is_face_read-push order s t = list_any-append (λ (r : Start). r.tet == t) order (s ∷ []) ∙ ap (λ b. is_visited order t || b) (or_false (s.tet == t))
 
 -- the marks after one more tetrahedron is visited
 pub push_marks : (order : List Start) (s : Start) (marks : List Bool) → s.tet < length marks → AreVisited order marks → AreVisited (order ++ s ∷ []) (slice_set marks s.tet true)
@@ -33,10 +33,10 @@ push_marks order s marks l h t = ⊎_elim
     (λ (e : t ≡ s.tet).
     let there : get_or (slice_set marks s.tet true) t false ≡ true = rw e (mark_same marks s.tet l) in
     let here : (s.tet == t) ≡ true = eq-eqb s.tet t (sym e) in
-    there ∙ sym (is_met-push order s t ∙ or_right (is_visited order t) (s.tet == t) here))
+    there ∙ sym (is_face_read-push order s t ∙ or_right (is_visited order t) (s.tet == t) here))
     (λ (d : t ≡ s.tet → ⊥).
     let away : (s.tet == t) ≡ false = by_bool (s.tet == t) (λ e. absurd (d (sym (eqb-true s.tet t e)))) (λ e. e) in
-    mark_other marks s.tet t d ∙ h t ∙ sym (is_met-push order s t ∙ ap (λ b. is_visited order t || b) away ∙ or_false (is_visited order t)))
+    mark_other marks s.tet t d ∙ h t ∙ sym (is_face_read-push order s t ∙ ap (λ b. is_visited order t || b) away ∙ or_false (is_visited order t)))
     (cases_eq t s.tet)
 
 -- the marks after a gluing is followed
@@ -50,13 +50,13 @@ follow_met from g order marks h l = by_bool (get_or marks g.tet false) (λ e. ol
         (cases_eq t g.tet))
 
     fresh : get_or marks g.tet false ≡ false → AreVisited (follow (get_or marks g.tet false) from g order) (slice_set marks g.tet true)
-    fresh e = rw e (push_marks order (start_behind from g) marks l h)
+    fresh e = rw e (push_marks order (start_across from g) marks l h)
 
 pub follow_marks : (rows : List Row) (from : Start) (g : Gluing) (order new : List Start) (marks marked : List Bool) → IsWalking rows order marks → g.tet < length marks
     → new ≡ follow (get_or marks g.tet false) from g order → marked ≡ slice_set marks g.tet true → IsWalking rows new marked
 follow_marks rows from g order new marks marked h l made set = record {
   size = ap length set ∙ length-set marks g.tet true ∙ h.size;
-  met = rw (made, set) (follow_met from g order marks h.met l);
+  visited = rw (made, set) (follow_met from g order marks h.visited l);
 }
 
 -- an item of the order that is read is the start there

@@ -11,7 +11,7 @@ use Rattle.table_definitions.specs.Table.{Gluing, Row, IsTable}
 use Rattle.table_definitions.specs.Relabelling.{Relabelling, IsRelabelling, AreIsomorphic, Carries, relabelled_place}
 use Rattle.table_definitions.proofs.Permutations.{words_permute, index-words, index_below, words_at, inverse_permutes, inverse-inverse, compose-identity, identity-compose}
 use Rattle.table_definitions.proofs.Carried.{image_in_range, length-images, perm_permutes, comes_from}
-use Rattle.signature_definitions.specs.Labellings.{IsWalked, Relabels, is_stand_in_before, IsLeastRelabelling}
+use Rattle.signature_definitions.specs.Labellings.{IsWalked, Relabels, is_image_before, IsLeastRelabelling}
 use Rattle.signature_laws.specs.Starts.{numbered_start, numbered_start_back, IsNoMatch, IsFirstMatch}
 use Rattle.signature_laws.specs.Between.{inverted, after, between, images_between, perms_between}
 use Rattle.signature_laws.proofs.Back.{inverted_stands, inverted_relabelling, carries_back, after_stands, after_relabelling, carries_on}
@@ -100,7 +100,7 @@ module _ (first second new : List Row) (by : Relabelling) (table : IsTable first
         )
 
     -- the start of an earlier relabelling has a smaller number
-    earlier : (other : Relabelling) → Relabels first second other → is_stand_in_before (relabelled_place other 0) (start_gluing i) ≡ true → 24 * slice_index other.images 0 + index (slice_index_or other.perms 0 []) < i
+    earlier : (other : Relabelling) → Relabels first second other → is_image_before (relabelled_place other 0) (start_gluing i) ≡ true → 24 * slice_index other.images 0 + index (slice_index_or other.perms 0 []) < i
     earlier other r h =
         let q : List ℕ = slice_index_or other.perms 0 [] in
         let under = index_below q (perm_permutes n other r.0 0 some) in
@@ -116,10 +116,10 @@ module _ (first second new : List Row) (by : Relabelling) (table : IsTable first
     pub least_between : ((k : ℕ) → k < i → IsNoMatch second new k) → IsLeastRelabelling first second (between n by back)
     least_between none = record { relabels = relabels_between; least = λ other r. not_before other r }
       where
-        not_before : (other : Relabelling) → Relabels first second other → is_stand_in_before (relabelled_place other 0) (relabelled_place (between n by back) 0) ≡ false
-        not_before other r = by_bool (is_stand_in_before (relabelled_place other 0) (relabelled_place (between n by back) 0))
+        not_before : (other : Relabelling) → Relabels first second other → is_image_before (relabelled_place other 0) (relabelled_place (between n by back) 0) ≡ false
+        not_before other r = by_bool (is_image_before (relabelled_place other 0) (relabelled_place (between n by back) 0))
             (λ b.
-            let h : is_stand_in_before (relabelled_place other 0) (start_gluing i) ≡ true = ap (is_stand_in_before (relabelled_place other 0)) (sym stands_by) ∙ b in
+            let h : is_image_before (relabelled_place other 0) (start_gluing i) ≡ true = ap (is_image_before (relabelled_place other 0)) (sym stands_by) ∙ b in
             let k : ℕ = 24 * slice_index other.images 0 + index (slice_index_or other.perms 0 []) in
             absurd (none k (earlier other r h) (after n by (inverted n other)) (back_walk other r k refl)))
             (λ b. b)
@@ -149,17 +149,17 @@ module _ (n : ℕ) (first second : Relabelling) (h : IsRelabelling n first) (h2 
   perm_at t l = get_or-map-range_with_len (λ t. compose (inverse (slice_index_or second.perms (slice_index images t) [])) (slice_index_or first.perms t [])) 0 (length first.images) t t [] (let e = long_first in omega (arith, e)) (omega arith)
 
   -- the tetrahedron u that the second maps to the image of t under the first
-  met : (t : ℕ) → t < n → (u : ℕ) × (u < n) × (slice_index second.images u ≡ slice_index first.images t) × (slice_index images t ≡ u)
-  met t l =
+  second_image : (t : ℕ) → t < n → (u : ℕ) × (u < n) × (slice_index second.images u ≡ slice_index first.images t) × (slice_index images t ≡ u)
+  second_image t l =
       let a = comes_from n second h2 (slice_index first.images t) (image_in_range n first h t l) in
       (a.0, a.1, a.2, image_at t l ∙ ap (slice_index olds) (sym a.2) ∙ home a.0 a.1)
 
   pub images_in_range : (t : ℕ) → t < n → slice_index images t < n
-  images_in_range t l = let a = met t l in let b = a.1 in let c = a.3 in omega (arith, b, c)
+  images_in_range t l = let a = second_image t l in let b = a.1 in let c = a.3 in omega (arith, b, c)
 
-  stands : (t : ℕ) → t < n → relabelled_place (record { images = images; perms = perms }) t ≡ relabelled_place (between n first second) t
-  stands t l =
-      let a = met t l in
+  occurs : (t : ℕ) → t < n → relabelled_place (record { images = images; perms = perms }) t ≡ relabelled_place (between n first second) t
+  occurs t l =
+      let a = second_image t l in
       let there : relabelled_place (inverted n second) (slice_index second.images a.0) ≡ record { tet = a.0; perm = inverse (slice_index_or second.perms a.0 []) } = inverted_stands n second h2 a.0 a.1 in
       let tet : slice_index images t ≡ slice_index (inverted n second).images (slice_index first.images t) = a.3 ∙ sym (ap (λ (g : Gluing). g.tet) there) ∙ ap (slice_index (inverted n second).images) a.2 in
       let back : slice_index_or (inverted n second).perms (slice_index first.images t) [] ≡ inverse (slice_index_or second.perms (slice_index images t) []) =
@@ -174,8 +174,8 @@ module _ (n : ℕ) (first second : Relabelling) (h : IsRelabelling n first) (h2 
   is_between =
       let r = after_relabelling n (inverted n second) first (inverted_relabelling n second h2) h in
       let long_perms : length perms ≡ n = length-map-range_with_len (λ t. compose (inverse (slice_index_or second.perms (slice_index images t) [])) (slice_index_or first.perms t [])) 0 (length first.images) ∙ long_first in
-      let a : images ≡ (between n first second).images = ext_get_or 0 images (between n first second).images (length-images_between ∙ sym made_long) (λ t l. ap (λ (g : Gluing). g.tet) (stands t (let e = length-images_between in omega (arith, e)))) in
-      let b : perms ≡ (between n first second).perms = ext_get_or [] perms (between n first second).perms (long_perms ∙ sym r.perms) (λ t l. ap (λ (g : Gluing). g.perm) (stands t (omega (arith, long_perms)))) in
+      let a : images ≡ (between n first second).images = ext_get_or 0 images (between n first second).images (length-images_between ∙ sym made_long) (λ t l. ap (λ (g : Gluing). g.tet) (occurs t (let e = length-images_between in omega (arith, e)))) in
+      let b : perms ≡ (between n first second).perms = ext_get_or [] perms (between n first second).perms (long_perms ∙ sym r.perms) (λ t l. ap (λ (g : Gluing). g.perm) (occurs t (omega (arith, long_perms)))) in
       λ i. record { images = a i; perms = b i }
 
   pub between_relabelling : IsRelabelling n (record { images = images; perms = perms })

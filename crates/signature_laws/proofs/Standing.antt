@@ -34,12 +34,12 @@ made_stands n f t l =
     λ i. record { tet = a i; perm = b i }
 
 -- the conditions on f under which the map of each t to f t is a relabelling
-pub record CanStand (n : ℕ) (f : ℕ → Gluing) : Type 0 where
+pub record HasFacetImage (n : ℕ) (f : ℕ → Gluing) : Type 0 where
   pub in_range : (t : ℕ) → t < n → (f t).tet < n
-  pub apart : (t u : ℕ) → t < n → u < n → (f t).tet ≡ (f u).tet → t ≡ u
+  pub separate : (t u : ℕ) → t < n → u < n → (f t).tet ≡ (f u).tet → t ≡ u
   pub permutes : (t : ℕ) → t < n → IsPermutationOfFour (f t).perm
 
-pub made_relabelling : (n : ℕ) (f : ℕ → Gluing) → CanStand n f → IsRelabelling n (made n f)
+pub made_relabelling : (n : ℕ) (f : ℕ → Gluing) → HasFacetImage n f → IsRelabelling n (made n f)
 unfolding made
 made_relabelling n f h = record {
   images = onto n images long (λ k l. let e = at k l in let r = h.in_range k l in omega (arith, e, r)) (IsDistinct-from_before images (λ i j l m e. absurd (twice i j l m e)));
@@ -63,7 +63,7 @@ made_relabelling n f h = record {
     twice i j l m e =
         let lj : j < n = omega (arith, long) in
         let li : i < n = omega arith in
-        let same : i ≡ j = h.apart i j li lj (sym (at i li) ∙ e ∙ at j lj) in
+        let same : i ≡ j = h.separate i j li lj (sym (at i li) ∙ e ∙ at j lj) in
         omega arith
 
     permuted : (k : ℕ) → k < n → IsPermutationOfFour (get_or perms k [])

@@ -14,7 +14,7 @@ use Rattle.signature_text_laws.proofs.SlotLaws.{ok_same}
 use Rattle.signature_text_laws.proofs.SpelledTables.{spelled_read}
 use Rattle.table_definitions.proofs.Permutations.{index_apart}
 use Rattle.table_definitions.proofs.Carried.{perm_permutes}
-use Rattle.signature_definitions.specs.Labellings.{Relabels, is_stand_in_before, IsLeastRelabelling}
+use Rattle.signature_definitions.specs.Labellings.{Relabels, is_image_before, IsLeastRelabelling}
 use Rattle.signature_laws.proofs.Standing.{same_relabelling}
 use Rattle.signature_laws.proofs.Invariance.{relabels_back, relabels_on}
 use Rattle.signature_laws.proofs.Agreeing.{one_behind}
@@ -88,7 +88,7 @@ tells_tables first second text other a b s t = (there, back)
         (s.least t.found.0 other (relabels_on first second t.found.0 a r t.found.1) t.found.2)
 
 -- if neither of two gluings is before the other, they are equal
-neither_stand_in : (s r : Gluing) → IsPermutationOfFour s.perm → IsPermutationOfFour r.perm → is_stand_in_before s r ≡ false → is_stand_in_before r s ≡ false → s ≡ r
+neither_stand_in : (s r : Gluing) → IsPermutationOfFour s.perm → IsPermutationOfFour r.perm → is_image_before s r ≡ false → is_image_before r s ≡ false → s ≡ r
 neither_stand_in s r hs hr e f =
     let a = or_parts (nat_lt s.tet r.tet) ((s.tet == r.tet) && nat_lt (index s.perm) (index r.perm)) e in
     let b = or_parts (nat_lt r.tet s.tet) ((r.tet == s.tet) && nat_lt (index r.perm) (index s.perm)) f in

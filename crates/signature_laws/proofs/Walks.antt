@@ -19,7 +19,7 @@ use Rattle.table_definitions.proofs.Carried.{image_in_range, carried_is_table}
 use Rattle.signature_laws.specs.Between.{made, place_of}
 use Rattle.signature_laws.specs.Orders.{start_at, whole_order, IsWholeOrder, Numbers}
 use Rattle.signature_laws.specs.Starts.{numbered_start, IsTextFrom, IsLeastText}
-use Rattle.signature_laws.proofs.Standing.{made_stands, CanStand, made_relabelling, place_of-image}
+use Rattle.signature_laws.proofs.Standing.{made_stands, HasFacetImage, made_relabelling, place_of-image}
 use Rattle.signature_laws.proofs.Least.{least_begun, least_better, one_text, least_is_signature, empty_ordered, empty_signature}
 use Rattle.signature_laws.specs.Laws.{RelabelledExist, WalksExist, SignaturesExist}
 use Rattle.signature_laws.proofs.Sound.{IsOrder, order_holds}
@@ -61,7 +61,7 @@ place_at rows start h i l =
       where
         by_test : (b : Bool) → ((start_at (whole_order rows start) k).tet == (start_at (whole_order rows start) i).tet) ≡ b → ((start_at (whole_order rows start) k).tet == (start_at (whole_order rows start) i).tet) ≡ false
         by_test false e = e
-        by_test true e = absurd (h.apart k i m l (eqb-true (start_at (whole_order rows start) k).tet (start_at (whole_order rows start) i).tet e))
+        by_test true e = absurd (h.separate k i m l (eqb-true (start_at (whole_order rows start) k).tet (start_at (whole_order rows start) i).tet e))
 
 pub walks_exist_lem : WalksExist
 walks_exist_lem rows start table connected l p = (by, carried.0, labelled_is_walked rows start by carried.0 (record { table = table; order = order; whole = whole; bijection = bijection; numbers = numbers; carries = carried.1 }))
@@ -87,10 +87,10 @@ walks_exist_lem rows start table connected l p = (by, carried.0, labelled_is_wal
         let here : place_in (whole_order rows start) t ≡ w.0 = ap (place_in (whole_order rows start)) (sym w.2) ∙ place_at rows start order w.0 w.1 in
         (let q = w.1 in omega arith, ap (λ i. (start_at (whole_order rows start) i).tet) here ∙ w.2)
 
-    can : CanStand (length rows) (stands_by (whole_order rows start))
+    can : HasFacetImage (length rows) (stands_by (whole_order rows start))
     can = record {
-      in_range = λ t m. (let q = (at t m).0 in let few = order_few rows start (whole_order rows start) order in omega arith);
-      apart = λ t u m k e. sym (at t m).1 ∙ ap (λ i. (start_at (whole_order rows start) i).tet) e ∙ (at u k).1;
+      in_range = λ t m. (let q = (at t m).0 in let limited = order_few rows start (whole_order rows start) order in omega arith);
+      separate = λ t u m k e. sym (at t m).1 ∙ ap (λ i. (start_at (whole_order rows start) i).tet) e ∙ (at u k).1;
       permutes = λ t m. order.permutes (place_in (whole_order rows start) t) (at t m).0;
     }
 

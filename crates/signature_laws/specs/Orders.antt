@@ -15,8 +15,8 @@ abbrev pub is_visited : List Start → ℕ → Bool
 is_visited order t = list_any (λ s. s.tet == t) order
 
 -- the start of the tetrahedron across a gluing that makes the gluing the identity
-abbrev pub start_behind : Start → Gluing → Start
-start_behind from g = record { tet = g.tet; perm = compose from.perm (inverse g.perm) }
+abbrev pub start_across : Start → Gluing → Start
+start_across from g = record { tet = g.tet; perm = compose from.perm (inverse g.perm) }
 
 -- the face that is mapped to face f
 abbrev pub face_from : Start → ℕ → Face
@@ -24,7 +24,7 @@ face_from from f = record { tet = from.tet; face = preimage from.perm f }
 
 -- the tetrahedron across a gluing gets the next number, unless it is visited
 abbrev pub follow : Bool → Start → Gluing → List Start → List Start
-follow met from g order = if met then order else order ++ start_behind from g ∷ []
+follow visited from g order = if visited then order else order ++ start_across from g ∷ []
 
 abbrev pub follow_face : Start → Option Gluing → List Start → List Start
 follow_face from None order = order
@@ -51,12 +51,12 @@ AreVisited order marks = (t : ℕ) → slice_index_or marks t false ≡ is_visit
 -- what a walk keeps, between two faces
 pub record IsWalking (rows : List Row) (order : List Start) (marks : List Bool) : Type 0 where
   pub size : length marks ≡ length rows
-  pub met : AreVisited order marks
+  pub visited : AreVisited order marks
 
 -- the order contains each of the n tetrahedra once
 pub record IsWholeOrder (n : ℕ) (order : List Start) : Type 0 where
   pub in_range : (i : ℕ) → i < length order → (start_at order i).tet < n
-  pub apart : (i j : ℕ) → i < j → j < length order → (start_at order i).tet ≢ (start_at order j).tet
+  pub separate : (i j : ℕ) → i < j → j < length order → (start_at order i).tet ≢ (start_at order j).tet
   pub all : (t : ℕ) → t < n → (i : ℕ) × (i < length order) × ((start_at order i).tet ≡ t)
 
 -- each tetrahedron is mapped to its index in the order

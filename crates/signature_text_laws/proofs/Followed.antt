@@ -50,9 +50,9 @@ pub record Rest (rows : List Row) (k m : ℕ) (s : Slots) : Type 0 where
 
 -- before the face at index k, the state s agrees with the traversal w
 pub record Follows (rows : List Row) (k : ℕ) (w : Walking) (s : Slots) : Type 0 where
-  pub met : FollowsMet rows k s.met
+  pub read_faces : FollowsMet rows k s.read_faces
   pub seen : s.seen ≡ w.seen
-  pub count : sum_by free s.met + sum_by faces_of_type w.types ≡ 4 * length rows
+  pub count : sum_by free s.read_faces + sum_by faces_of_type w.types ≡ 4 * length rows
   pub ones : w.seen ≡ 1 + times_in w.types 1
 
 filter_none : {A : Type 0} (F : Face → Option A) (x : Face) (xs : List Face) → F x ≡ None → filter_map F (x ∷ xs) ≡ filter_map F xs
@@ -73,7 +73,7 @@ pairs_front (p ∷ ps) v vs e = (first p.0 v (values_of ps) vs e, rest p.0 v (va
     rest a b xs ys e = cc
 
 -- a face that was read leaves the state unchanged
-next_stays : (x : Face) (ts : List ℕ) (s : Slots) → is_some (slot s.met x) ≡ true → slot_next x ts s ≡ Ok s
+next_stays : (x : Face) (ts : List ℕ) (s : Slots) → is_some (slot s.read_faces x) ≡ true → slot_next x ts s ≡ Ok s
 next_stays x [] s e = refl
 next_stays x (t ∷ ts) s e = rw e refl
 
@@ -83,13 +83,13 @@ face_goes k s l = unless_of (nat_le s.seen (k / 4)) sig_faults.Unreached (slot_n
     not_le : (a b : ℕ) → b < a → nat_le a b ≡ false
     not_le a b h = grind arith
 
-slot_here : (k : ℕ) (s : Slots) (o : Option (Option Gluing)) → get_or s.met k None ≡ o → slot s.met (face_of k) ≡ o
-slot_here k s o e = ap (λ p. get_or s.met p None) (number-face_of k) ∙ e
+slot_here : (k : ℕ) (s : Slots) (o : Option (Option Gluing)) → get_or s.read_faces k None ≡ o → slot s.read_faces (face_of k) ≡ o
+slot_here k s o e = ap (λ p. get_or s.read_faces p None) (number-face_of k) ∙ e
 
-type_goes : (k type : ℕ) (ts : List ℕ) (s : Slots) → k / 4 < s.seen → get_or s.met k None ≡ None → s.parts.types ≡ type ∷ ts → slot_face (face_of k) s ≡ slot_type (face_of k) type (with_types ts s)
+type_goes : (k type : ℕ) (ts : List ℕ) (s : Slots) → k / 4 < s.seen → get_or s.read_faces k None ≡ None → s.parts.types ≡ type ∷ ts → slot_face (face_of k) s ≡ slot_type (face_of k) type (with_types ts s)
 type_goes k type ts s l e types =
     face_goes k s l ∙ ap (λ us. slot_next (face_of k) us s) types
-    ∙ if_false (is_some (slot s.met (face_of k))) (Ok s) (slot_type (face_of k) type (with_types ts s)) (ap is_some (slot_here k s None e))
+    ∙ if_false (is_some (slot s.read_faces (face_of k))) (Ok s) (slot_type (face_of k) type (with_types ts s)) (ap is_some (slot_here k s None e))
 
 times-behind : (type : ℕ) (ts : List ℕ) → times_in (ts ++ type ∷ []) 1 ≡ times_in ts 1 + (if type == 1 then 1 else 0)
 times-behind type ts = let a = sum_by-append (λ m. cond (m == 1) 1 0) ts (type ∷ []) in let b = sum_by-cons (λ m. cond (m == 1) 1 0) type [] in omega (arith, a, b)
@@ -108,14 +108,14 @@ follow_step : (rows : List Row) (k m : ℕ) (w v : Walking) (s : Slots) → IsTa
 follow_step rows k m w v s table l walk f r hx (took_none e same) =
     let xs : List Face = faces_from (k + 1) m in
     let ts : List ℕ = filter_map (type_at rows) xs in
-    let met = f.met in
-    let size = met.size in
+    let read_faces = f.read_faces in
+    let size = read_faces.size in
     let seen = f.seen in
     let type : type_at rows (face_of k) ≡ Some 0 = ap (type_of rows (face_of k)) e in
     let none : gluing_at rows (face_of k) ≡ None = ap (seen_gluing rows (face_of k)) e in
     let types : s.parts.types ≡ 0 ∷ ts = r.types ∙ filter_some (type_at rows) (face_of k) xs 0 type in
-    let unmet : get_or s.met k None ≡ None = met.unmet k (omega arith) l (λ h glued. absurd (let c = sym e ∙ glued in cc)) in
-    let count = bound_count s.met k (omega (arith, size, l)) unmet in
+    let unmet : get_or s.read_faces k None ≡ None = read_faces.unmet k (omega arith) l (λ h glued. absurd (let c = sym e ∙ glued in cc)) in
+    let count = bound_count s.read_faces k (omega (arith, size, l)) unmet in
     let old = f.count in
     let more = faces-behind 0 w.types in
     let ones = f.ones in
@@ -124,7 +124,7 @@ follow_step rows k m w v s table l walk f r hx (took_none e same) =
       to = slot_boundary (face_of k) (with_types ts s);
       goes = type_goes k 0 ts s (omega (arith, seen, hx)) unmet types;
       follows = subst (λ (u : Walking). Follows rows (k + 1) u (slot_boundary (face_of k) (with_types ts s))) same (record {
-        met = bound_follows rows k s.met table l met e;
+        read_faces = bound_follows rows k s.read_faces table l read_faces e;
         seen = f.seen;
         count = omega (arith, count, old, more);
         ones = omega (arith, ones, times);
@@ -137,17 +137,17 @@ follow_step rows k m w v s table l walk f r hx (took_none e same) =
     }
 follow_step rows k m w v s table l walk f r hx (took_met g e early same) =
     let xs : List Face = faces_from (k + 1) m in
-    let met = f.met in
+    let read_faces = f.read_faces in
     let seen = f.seen in
     let face = image_below g.perm (table.permutes (face_of k) g e) (k % 4) (omega arith) in
     let before : is_face_before (other_side (face_of k) g) (face_of k) ≡ true = before_at k g face ∙ lt-ltb (face_number (other_side (face_of k) g)) k early in
     let type : type_at rows (face_of k) ≡ None = ap (type_of rows (face_of k)) e ∙ rw before refl in
     let none : gluing_at rows (face_of k) ≡ None = ap (seen_gluing rows (face_of k)) e ∙ rw before refl in
-    let here : get_or s.met k None ≡ Some (Some g) = met.partner k g (omega arith) l e early in
+    let here : get_or s.read_faces k None ≡ Some (Some g) = read_faces.partner k g (omega arith) l e early in
     record {
       to = s;
       goes = face_goes k s (omega (arith, seen, hx)) ∙ next_stays (face_of k) s.parts.types s (ap is_some (slot_here k s (Some (Some g)) here));
-      follows = subst (λ (u : Walking). Follows rows (k + 1) u s) same (record { met = met_follows rows k g s.met table l met e early; seen = f.seen; count = f.count; ones = f.ones });
+      follows = subst (λ (u : Walking). Follows rows (k + 1) u s) same (record { read_faces = met_follows rows k g s.read_faces table l read_faces e early; seen = f.seen; count = f.count; ones = f.ones });
       rest = record {
         types = r.types ∙ filter_none (type_at rows) (face_of k) xs type;
         destinations = r.destinations ∙ ap (map (λ (g : Gluing). g.tet)) (filter_none (gluing_at rows) (face_of k) xs none);
@@ -157,7 +157,7 @@ follow_step rows k m w v s table l walk f r hx (took_met g e early same) =
 follow_step rows k m w v s table l walk f r hx (took_old g e late old same) =
     let xs : List Face = faces_from (k + 1) m in
     let ts : List ℕ = filter_map (type_at rows) xs in
-    let met = f.met in
+    let read_faces = f.read_faces in
     let seen = f.seen in
     let face = image_below g.perm (table.permutes (face_of k) g e) (k % 4) (omega arith) in
     let before : is_face_before (other_side (face_of k) g) (face_of k) ≡ false = before_at k g face ∙ le-ltb (face_number (other_side (face_of k) g)) k late in
@@ -165,12 +165,12 @@ follow_step rows k m w v s table l walk f r hx (took_old g e late old same) =
     let type : type_at rows (face_of k) ≡ Some 2 = ap (type_of rows (face_of k)) e ∙ rw (before, is_old) refl in
     let some : gluing_at rows (face_of k) ≡ Some g = ap (seen_gluing rows (face_of k)) e ∙ rw (before, is_old) refl in
     let types : s.parts.types ≡ 2 ∷ ts = r.types ∙ filter_some (type_at rows) (face_of k) xs 2 type in
-    let b = both_unmet rows k g s.met table l met e late in
+    let b = both_unmet rows k g s.read_faces table l read_faces e late in
     let ds = pairs_front s.parts.destinations g.tet (map (λ (g : Gluing). g.tet) (filter_map (gluing_at rows) xs)) (r.destinations ∙ ap (map (λ (g : Gluing). g.tet)) (filter_some (gluing_at rows) (face_of k) xs g some)) in
     let gs = pairs_front s.parts.gluings (index g.perm) (map (λ (g : Gluing). index g.perm) (filter_map (gluing_at rows) xs)) (r.gluings ∙ ap (map (λ (g : Gluing). index g.perm)) (filter_some (gluing_at rows) (face_of k) xs g some)) in
     let rest : signatures.Parts = record { types = ts; destinations = drop 1 s.parts.destinations; gluings = drop 1 s.parts.gluings } in
-    let t : Slots = record { met = meet_at s.met (face_of k) g; seen = s.seen; parts = rest } in
-    let count = met_count s.met k g b in
+    let t : Slots = record { read_faces = meet_at s.read_faces (face_of k) g; seen = s.seen; parts = rest } in
+    let count = met_count s.read_faces k g b in
     let total = f.count in
     let more = faces-behind 2 w.types in
     let ones = f.ones in
@@ -178,30 +178,30 @@ follow_step rows k m w v s table l walk f r hx (took_old g e late old same) =
     record {
       to = t;
       goes = type_goes k 2 ts s (omega (arith, seen, hx)) b.free_here types
-          ∙ glued_goes k (signatures.first_pair s.parts.destinations) (signatures.first_pair s.parts.gluings) g s.met s.seen rest ds.0 (gs.0) (table.permutes (face_of k) g e) (omega (arith, seen, old)) b.apart b.free_other;
-      follows = subst (λ (u : Walking). Follows rows (k + 1) u t) same (record { met = both_follows rows k g s.met table met e b; seen = f.seen; count = omega (arith, count, total, more); ones = omega (arith, ones, times) });
+          ∙ glued_goes k (signatures.first_pair s.parts.destinations) (signatures.first_pair s.parts.gluings) g s.read_faces s.seen rest ds.0 (gs.0) (table.permutes (face_of k) g e) (omega (arith, seen, old)) b.separate b.free_other;
+      follows = subst (λ (u : Walking). Follows rows (k + 1) u t) same (record { read_faces = both_follows rows k g s.read_faces table read_faces e b; seen = f.seen; count = omega (arith, count, total, more); ones = omega (arith, ones, times) });
       rest = record { types = refl; destinations = ds.1; gluings = gs.1 };
     }
   where
-    glued_goes : (k : ℕ) (d i : ℕ × ℕ) (g : Gluing) (met : List (Option (Option Gluing))) (seen : ℕ) (parts : signatures.Parts) → d.0 ≡ g.tet → i.0 ≡ index g.perm → IsPermutationOfFour g.perm → g.tet < seen
-        → same_face (other_side (face_of k) g) (face_of k) ≡ false → get_or met (face_number (other_side (face_of k) g)) None ≡ None
-        → slot_glued (face_of k) d i (record { met = met; seen = seen; parts = parts }) ≡ Ok (record { met = meet_at met (face_of k) g; seen = seen; parts = parts })
-    glued_goes k d i g met seen parts hd hi permutes lt apart free_other =
+    glued_goes : (k : ℕ) (d i : ℕ × ℕ) (g : Gluing) (read_faces : List (Option (Option Gluing))) (seen : ℕ) (parts : signatures.Parts) → d.0 ≡ g.tet → i.0 ≡ index g.perm → IsPermutationOfFour g.perm → g.tet < seen
+        → same_face (other_side (face_of k) g) (face_of k) ≡ false → get_or read_faces (face_number (other_side (face_of k) g)) None ≡ None
+        → slot_glued (face_of k) d i (record { read_faces = read_faces; seen = seen; parts = parts }) ≡ Ok (record { read_faces = meet_at read_faces (face_of k) g; seen = seen; parts = parts })
+    glued_goes k d i g read_faces seen parts hd hi permutes lt separate free_other =
         let h : Gluing = record { tet = d.0; perm = slice_index_or words i.0 [] } in
         let perm : slice_index_or words i.0 [] ≡ g.perm = ap (λ m. slice_index_or words m []) hi ∙ words_at g.perm permutes in
         let same : g ≡ h = λ j. record { tet = sym hd j; perm = sym perm j } in
-        let P : Gluing → Type 0 = λ x. signatures.unless {A = Slots} (nat_le seen x.tet) (sig_faults.Destination d.1) (signatures.unless {A = Slots} (same_face (other_side (face_of k) x) (face_of k) || is_some (slot met (other_side (face_of k) x))) (sig_faults.FaceTaken i.1)
-        (Ok (record { met = meet_at met (face_of k) x; seen = seen; parts = parts }))) ≡ Ok (record { met = meet_at met (face_of k) g; seen = seen; parts = parts }) in
+        let P : Gluing → Type 0 = λ x. signatures.unless {A = Slots} (nat_le seen x.tet) (sig_faults.Destination d.1) (signatures.unless {A = Slots} (same_face (other_side (face_of k) x) (face_of k) || is_some (slot read_faces (other_side (face_of k) x))) (sig_faults.FaceTaken i.1)
+        (Ok (record { read_faces = meet_at read_faces (face_of k) x; seen = seen; parts = parts }))) ≡ Ok (record { read_faces = meet_at read_faces (face_of k) g; seen = seen; parts = parts }) in
         subst P same
         (unless_of (nat_le seen g.tet) (sig_faults.Destination d.1) _ (not_le seen g.tet lt)
-        ∙ unless_of (same_face (other_side (face_of k) g) (face_of k) || is_some (slot met (other_side (face_of k) g))) (sig_faults.FaceTaken i.1) _ (or_from _ _ apart (ap is_some free_other)))
+        ∙ unless_of (same_face (other_side (face_of k) g) (face_of k) || is_some (slot read_faces (other_side (face_of k) g))) (sig_faults.FaceTaken i.1) _ (or_from _ _ separate (ap is_some free_other)))
       where
         not_le : (a b : ℕ) → b < a → nat_le a b ≡ false
         not_le a b h = grind arith
 follow_step rows k m w v s table l walk f r hx (took_new g e late same_tet id same) =
     let xs : List Face = faces_from (k + 1) m in
     let ts : List ℕ = filter_map (type_at rows) xs in
-    let met = f.met in
+    let read_faces = f.read_faces in
     let seen = f.seen in
     let face = image_below g.perm (table.permutes (face_of k) g e) (k % 4) (omega arith) in
     let before : is_face_before (other_side (face_of k) g) (face_of k) ≡ false = before_at k g face ∙ le-ltb (face_number (other_side (face_of k) g)) k late in
@@ -209,19 +209,19 @@ follow_step rows k m w v s table l walk f r hx (took_new g e late same_tet id sa
     let type : type_at rows (face_of k) ≡ Some 1 = ap (type_of rows (face_of k)) e ∙ rw (before, is_new) refl in
     let none : gluing_at rows (face_of k) ≡ None = ap (seen_gluing rows (face_of k)) e ∙ rw (before, is_new) refl in
     let types : s.parts.types ≡ 1 ∷ ts = r.types ∙ filter_some (type_at rows) (face_of k) xs 1 type in
-    let b = both_unmet rows k g s.met table l met e late in
-    let t : Slots = record { met = meet_at s.met (face_of k) g; seen = s.seen + 1; parts = record s.parts { types = ts } } in
+    let b = both_unmet rows k g s.read_faces table l read_faces e late in
+    let t : Slots = record { read_faces = meet_at s.read_faces (face_of k) g; seen = s.seen + 1; parts = record s.parts { types = ts } } in
     let h : Gluing = record { tet = s.seen; perm = identity } in
     let made : h ≡ g = (let tet : s.seen ≡ g.tet = seen ∙ sym same_tet in λ i. record { tet = tet i; perm = sym id i }) in
-    let count = met_count s.met k g b in
+    let count = met_count s.read_faces k g b in
     let total = f.count in
     let more = faces-behind 1 w.types in
     let ones = f.ones in
     let times = times-behind 1 w.types in
     record {
       to = t;
-      goes = type_goes k 1 ts s (omega (arith, seen, hx)) b.free_here types ∙ ap (λ (x : Gluing). Ok (record { met = meet_at s.met (face_of k) x; seen = s.seen + 1; parts = record s.parts { types = ts } })) made;
-      follows = subst (λ (u : Walking). Follows rows (k + 1) u t) same (record { met = both_follows rows k g s.met table met e b; seen = ap (λ q. q + 1) f.seen; count = omega (arith, count, total, more); ones = omega (arith, ones, times) });
+      goes = type_goes k 1 ts s (omega (arith, seen, hx)) b.free_here types ∙ ap (λ (x : Gluing). Ok (record { read_faces = meet_at s.read_faces (face_of k) x; seen = s.seen + 1; parts = record s.parts { types = ts } })) made;
+      follows = subst (λ (u : Walking). Follows rows (k + 1) u t) same (record { read_faces = both_follows rows k g s.read_faces table read_faces e b; seen = ap (λ q. q + 1) f.seen; count = omega (arith, count, total, more); ones = omega (arith, ones, times) });
       rest = record {
         types = refl;
         destinations = r.destinations ∙ ap (map (λ (g : Gluing). g.tet)) (filter_none (gluing_at rows) (face_of k) xs none);

@@ -63,11 +63,11 @@ parts_hold text h s at p parts =
     })
 
 -- the whole text
-pub drop-past : (i : ℕ) (xs : List ℕ) → length xs ≤ i → drop i xs ≡ []
-drop-past zero [] l = refl
-drop-past zero (x ∷ xs) l = absurd (omega arith)
-drop-past (suc i) [] l = refl
-drop-past (suc i) (x ∷ xs) l = drop-past i xs (omega arith)
+pub drop-exceeded : (i : ℕ) (xs : List ℕ) → length xs ≤ i → drop i xs ≡ []
+drop-exceeded zero [] l = refl
+drop-exceeded zero (x ∷ xs) l = absurd (omega arith)
+drop-exceeded (suc i) [] l = refl
+drop-exceeded (suc i) (x ∷ xs) l = drop-exceeded i xs (omega arith)
 
 whole_text : (text : List ℕ) (h : Head) (s : Types) (at : ℕ) (p : Parts) → HeadHolds text h → TypesHold text h.next (4 * h.count) at s → PartsHold text h s at p
     → text ≡ map character (head_values h.count ++ packed p.types ++ joined (map (λ (d : ℕ × ℕ). in_values h.width d.0) p.destinations) ++ map (λ (d : ℕ × ℕ). d.0) p.gluings)
@@ -87,8 +87,8 @@ whole_text text h s at p head types parts =
     let second : Holds text 0 (head' ++ types' ++ ds) = holds_more text 0 at (head' ++ types') ds first (omega (arith, e1, e2, l1)) parts.destinations in
     let third : Holds text 0 (head' ++ types' ++ ds ++ gs) = holds_more text 0 (at + h.width * times_in s.read 2) (head' ++ types' ++ ds) gs second (omega (arith, e1, e2, e3, l1, l2)) parts.gluings in
     let e5 = parts.end in
-    let past : drop (0 + length (head' ++ types' ++ ds ++ gs)) text ≡ [] = drop-past (0 + length (head' ++ types' ++ ds ++ gs)) text (omega (arith, e1, e2, e3, e4, e5, l1, l2, l3)) in
-    third ∙ ap (λ rest. map character (head' ++ types' ++ ds ++ gs) ++ rest) past ∙ append-nil (map character (head' ++ types' ++ ds ++ gs))
+    let exceeded : drop (0 + length (head' ++ types' ++ ds ++ gs)) text ≡ [] = drop-exceeded (0 + length (head' ++ types' ++ ds ++ gs)) text (omega (arith, e1, e2, e3, e4, e5, l1, l2, l3)) in
+    third ∙ ap (λ rest. map character (head' ++ types' ++ ds ++ gs) ++ rest) exceeded ∙ append-nil (map character (head' ++ types' ++ ds ++ gs))
     ∙ ap (λ ts. map character (head' ++ packed ts ++ ds ++ gs)) (sym parts.types)
 
 -- the types of a text
@@ -118,7 +118,7 @@ empty_parted : (p : Parts) → p.types ≡ [] → p.destinations ≡ [] → p.gl
 empty_parted p a b c = record { ordered = refl; types = a; destinations = ap (map (λ (d : ℕ × ℕ). d.0)) b; gluings = ap (map (λ (d : ℕ × ℕ). d.0)) c }
 
 parted_by : (n : ℕ) (p : Parts) (s : Types) (rows : List Row) (t : Slots) → (0 < n → IsSlots n (slots_begun n p)) → p.types ≡ s.read → length p.destinations ≡ times_in s.read 2 → length p.gluings ≡ times_in s.read 2
-    → 4 * n ≡ sum_by faces_of_type s.read → IsTable rows → slot_rows n t.met ≡ rows → slot_faces (4 * n) 0 (slots_begun n p) ≡ Ok t → IsPartedBy p rows
+    → 4 * n ≡ sum_by faces_of_type s.read → IsTable rows → slot_rows n t.read_faces ≡ rows → slot_faces (4 * n) 0 (slots_begun n p) ≡ Ok t → IsPartedBy p rows
 parted_by zero p s rows t fit types d g sum table same h =
     let none : s.read ≡ [] = no_types s.read (sym sum) in
     let twos : times_in s.read 2 ≡ 0 = ap (λ xs. times_in xs 2) none in
@@ -136,17 +136,17 @@ read_spelled text rows e =
     let c = bind_ok (parts_of text h s at) (signatures.table_of h.count) rows (after_types-parts text h s at ∙ b.2) in
     let p : Parts = c.0 in
     let head = head_holds text h a.1 in
-    let fit = parts_fit text h s at p head.few b.1 c.1 in
-    let table = joined_table h.count p rows head.few fit c.2 in
+    let fit = parts_fit text h s at p head.limited b.1 c.1 in
+    let table = joined_table h.count p rows head.limited fit c.2 in
     let types = types_hold (4 * h.count) text h.count h.next (types_begun h.count) s at h.next (4 * h.count) (begun_holds text h.count h.next) (omega arith) b.1 in
     let parts = parts_hold text h s at p c.1 in
-    let joins = bind_ok (slot_faces (4 * h.count) 0 (slots_begun h.count p)) (λ t. Ok (slot_rows h.count t.met)) rows (slots_join h.count p fit ∙ c.2) in
-    let same : slot_rows h.count joins.0.met ≡ rows = ok_same (slot_rows h.count joins.0.met) rows joins.2 in
+    let joins = bind_ok (slot_faces (4 * h.count) 0 (slots_begun h.count p)) (λ t. Ok (slot_rows h.count t.read_faces)) rows (slots_join h.count p fit ∙ c.2) in
+    let same : slot_rows h.count joins.0.read_faces ≡ rows = ok_same (slot_rows h.count joins.0.read_faces) rows joins.2 in
     let counted = types.0.counted in
     let none = types.1 in
     let sum : 4 * h.count ≡ sum_by faces_of_type s.read = omega (arith, counted, none) in
     let parted = parted_by h.count p s rows joins.0 fit parts.types parts.twos_d parts.twos_g sum table same joins.1 in
-    let long : h.count ≡ length rows = sym (length-map-range_with_len (slot_row joins.0.met) 0 h.count) ∙ ap (λ (xs : List Row). length xs) same in
+    let long : h.count ≡ length rows = sym (length-map-range_with_len (slot_row joins.0.read_faces) 0 h.count) ∙ ap (λ (xs : List Row). length xs) same in
     record { table = table; ordered = parted.ordered; spelled = spelled text h p rows head.width long parted (whole_text text h s at p head types.0 parts) }
 
 -- if what a function returns is what is read, the text spells it

@@ -118,10 +118,10 @@ pub record HeadHolds (text : List ℕ) (h : Head) : Type 0 where
   pub holds : Holds text 0 (head_values h.count)
   pub next : h.next ≡ length (head_values h.count)
   pub width : h.width ≡ width h.count
-  pub few : h.count ≤ 1000
+  pub limited : h.count ≤ 1000
 
 short_head : (text : List ℕ) (v : ℕ) → value_at text 0 ≡ Ok v → (v == 63) ≡ false → HeadHolds text (record { count = v; width = 1; next = 1 })
-short_head text v read apart =
+short_head text v read separate =
     let l = value_at_below text 0 v read in
     let ne : v ≡ 63 → ⊥ = λ e. (let f = eq-eqb v 63 e in cc) in
     let small : v < 63 = omega arith in
@@ -130,7 +130,7 @@ short_head text v read apart =
       holds = subst (λ (xs : List ℕ). Holds text 0 xs) (sym head) (holds_value text 0 v read);
       next = sym (ap length head);
       width = (let lt : v < 64 = omega arith in rw (lt-ltb v 64 lt) refl);
-      few = omega arith;
+      limited = omega arith;
     }
 
 wide_read : (text : List ℕ) (w : ℕ) (h : Head) → value_at text 0 ≡ Ok 63 → value_at text 1 ≡ Ok w → signatures.wide_head text w ≡ Ok h → HeadHolds text h
@@ -150,7 +150,7 @@ wide_read text w h first second e =
       holds = subst (λ (xs : List ℕ). Holds text 0 xs) (sym head) held;
       next = (let long = length-in_values w n in let f = ap length head in omega (arith, long, f));
       width = same;
-      few = ltb-false 1000 n b.0;
+      limited = ltb-false 1000 n b.0;
     })
 
 pub head_holds : (text : List ℕ) (h : Head) → head_of text ≡ Ok h → HeadHolds text h

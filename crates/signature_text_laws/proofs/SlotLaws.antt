@@ -53,8 +53,8 @@ length-dropped (x ∷ xs) = omega arith
 
 boundary_kept : (n : ℕ) (x : Face) (s : Slots) → IsTaking n 0 s → IsSlots n (slot_boundary x s)
 boundary_kept n x s h = record {
-  size = length-set s.met (face_number x) (Some None) ∙ h.size;
-  few = h.few;
+  size = length-set s.read_faces (face_number x) (Some None) ∙ h.size;
+  limited = h.limited;
   small = all_behind (λ t. t < 3) 0 s.parts.types h.small;
   destinations = h.destinations ∙ times-other 0 2 s.parts.types refl;
   gluings = h.gluings ∙ times-other 0 2 s.parts.types refl;
@@ -62,13 +62,13 @@ boundary_kept n x s h = record {
   room = subst (λ (m : ℕ). s.seen + m ≤ n) (times-other 0 1 s.parts.types refl) h.room;
 }
 
-meet_size : (met : List (Option (Option Gluing))) (x : Face) (g : Gluing) → length (meet_at met x g) ≡ length met
-meet_size met x g = length-set _ _ _ ∙ length-set _ _ _
+meet_size : (read_faces : List (Option (Option Gluing))) (x : Face) (g : Gluing) → length (meet_at read_faces x g) ≡ length read_faces
+meet_size read_faces x g = length-set _ _ _ ∙ length-set _ _ _
 
 new_kept : (n : ℕ) (x : Face) (s : Slots) → IsTaking n 1 s → IsSlots n (slot_new x s)
 new_kept n x s h = record {
-  size = meet_size s.met x (record { tet = s.seen; perm = identity }) ∙ h.size;
-  few = h.few;
+  size = meet_size s.read_faces x (record { tet = s.seen; perm = identity }) ∙ h.size;
+  limited = h.limited;
   small = all_behind (λ t. t < 3) 1 s.parts.types h.small;
   destinations = h.destinations ∙ times-other 1 2 s.parts.types refl;
   gluings = h.gluings ∙ times-other 1 2 s.parts.types refl;
@@ -78,12 +78,12 @@ new_kept n x s h = record {
 
 -- the state after a destination and a gluing are used
 abbrev used_one : List (Option (Option Gluing)) → Slots → Slots
-used_one met s = record s { met = met; parts = record s.parts { destinations = drop 1 s.parts.destinations; gluings = drop 1 s.parts.gluings } }
+used_one read_faces s = record s { read_faces = read_faces; parts = record s.parts { destinations = drop 1 s.parts.destinations; gluings = drop 1 s.parts.gluings } }
 
-seen_kept : (n : ℕ) (met : List (Option (Option Gluing))) (s : Slots) → length met ≡ length s.met → IsTaking n 2 s → IsSlots n (used_one met s)
-seen_kept n met s same h = record {
+seen_kept : (n : ℕ) (read_faces : List (Option (Option Gluing))) (s : Slots) → length read_faces ≡ length s.read_faces → IsTaking n 2 s → IsSlots n (used_one read_faces s)
+seen_kept n read_faces s same h = record {
   size = same ∙ h.size;
-  few = h.few;
+  limited = h.limited;
   small = all_behind (λ t. t < 3) 2 s.parts.types h.small;
   destinations = let e = times-same 2 s.parts.types in let d = h.destinations in let f = length-dropped s.parts.destinations in omega (arith, e, d, f);
   gluings = let e = times-same 2 s.parts.types in let d = h.gluings in let f = length-dropped s.parts.gluings in omega (arith, e, d, f);
@@ -91,13 +91,13 @@ seen_kept n met s same h = record {
   room = subst (λ (m : ℕ). s.seen + m ≤ n) (times-other 2 1 s.parts.types refl) h.room;
 }
 
-glued_kept : (n : ℕ) (x : Face) (d i : ℕ × ℕ) (s t : Slots) → IsTaking n 2 s → slot_glued x d i (used_one s.met s) ≡ Ok t → IsSlots n t
+glued_kept : (n : ℕ) (x : Face) (d i : ℕ × ℕ) (s t : Slots) → IsTaking n 2 s → slot_glued x d i (used_one s.read_faces s) ≡ Ok t → IsSlots n t
 glued_kept n x d i s t h e =
     let g : Gluing = record { tet = d.0; perm = slice_index_or words i.0 [] } in
-    let taken : Bool = same_face (other_side x g) x || is_some (slot s.met (other_side x g)) in
-    let first = unless_ok (nat_le s.seen d.0) (sig_faults.Destination d.1) (signatures.unless taken (sig_faults.FaceTaken i.1) (Ok (used_one (meet_at s.met x g) s))) t e in
-    let same : used_one (meet_at s.met x g) s ≡ t = unless_same (used_one (meet_at s.met x g) s) t taken (sig_faults.FaceTaken i.1) first.1 in
-    subst (IsSlots n) same (seen_kept n (meet_at s.met x g) s (meet_size s.met x g) h)
+    let taken : Bool = same_face (other_side x g) x || is_some (slot s.read_faces (other_side x g)) in
+    let first = unless_ok (nat_le s.seen d.0) (sig_faults.Destination d.1) (signatures.unless taken (sig_faults.FaceTaken i.1) (Ok (used_one (meet_at s.read_faces x g) s))) t e in
+    let same : used_one (meet_at s.read_faces x g) s ≡ t = unless_same (used_one (meet_at s.read_faces x g) s) t taken (sig_faults.FaceTaken i.1) first.1 in
+    subst (IsSlots n) same (seen_kept n (meet_at s.read_faces x g) s (meet_size s.read_faces x g) h)
 
 pub taken_kept : (n : ℕ) (x : Face) (type : ℕ) (s t : Slots) → IsTaking n type s → slot_type x type s ≡ Ok t → IsSlots n t
 taken_kept n x zero s t h e = let same : slot_boundary x s ≡ t = cc in subst (IsSlots n) same (boundary_kept n x s h)
@@ -123,8 +123,8 @@ slot_faces-wrong j k p s e same h =
     subst P (sym same) (fails_on e (slot_face (face_of p) s) (λ t. slot_faces k (p + 1) t) h)
 
 -- a further row
-pub slot_rows-more : (t : ℕ) (met : List (Option (Option Gluing))) → slot_rows (t + 1) met ≡ slot_rows t met ++ slot_row met t ∷ []
-slot_rows-more t met = map-range_with_len_more (slot_row met) 0 t t (omega arith)
+pub slot_rows-more : (t : ℕ) (read_faces : List (Option (Option Gluing))) → slot_rows (t + 1) read_faces ≡ slot_rows t read_faces ++ slot_row read_faces t ∷ []
+slot_rows-more t read_faces = map-range_with_len_more (slot_row read_faces) 0 t t (omega arith)
 
 -- a list of types whose first type is used next
 pub taking_next : (n u type : ℕ) (xs : List ℕ) (s : Slots) → IsSlots n (with_types (drop u xs) s) → u < length xs → type ≡ get_or xs u type → IsTaking n type (with_types (drop (u + 1) xs) s)
@@ -136,7 +136,7 @@ taking_next n u type xs s h l e =
 
 next_kept : (n : ℕ) (x : Face) (ts : List ℕ) (s t : Slots) → IsSlots n (with_types ts s) → slot_next x ts (with_types ts s) ≡ Ok t → IsSlots n t
 next_kept n x [] s t h e = let same : with_types [] s ≡ t = cc in subst (IsSlots n) same h
-next_kept n x (type ∷ types) s t h e = cases (is_some (slot s.met x)) (slot_type x type (with_types types s)) e (λ e'. taken_kept n x type (with_types types s) t h e')
+next_kept n x (type ∷ types) s t h e = cases (is_some (slot s.read_faces x)) (slot_type x type (with_types types s)) e (λ e'. taken_kept n x type (with_types types s) t h e')
   where
     cases : (b : Bool) (r : Result Slots SigFault) → (if b then Ok (with_types (type ∷ types) s) else r) ≡ Ok t → (r ≡ Ok t → IsSlots n t) → IsSlots n t
     cases true r e next = let same : with_types (type ∷ types) s ≡ t = cc in subst (IsSlots n) same h

@@ -98,7 +98,7 @@ long_head text n w low high same some small fits h =
     let third = reads_number w text 2 n fits b.1 in
     let w0 : (w == 0) ≡ false = by_bool (w == 0) (λ e. absurd (let f = eqb-true w 0 e in omega (arith, f))) (λ e. e) in
     let w3 : nat_le 3 w ≡ false = by_bool (nat_le 3 w) (λ e. absurd (le_three w small e)) (λ e. e) in
-    let few : nat_lt 1000 n ≡ false = le-ltb 1000 n high in
+    let limited : nat_lt 1000 n ≡ false = le-ltb 1000 n high in
     let right : (nat_lt n 63 || not (w == width n)) ≡ false = or_from (nat_lt n 63) (not (w == width n)) (le-ltb n 63 low) (ap not (eq-eqb w (width n) same)) in
     let made : Head = record { count = n; width = w; next = w + 2 } in
     next_ok (value_at text 0) 63 (λ v. if v == 63 then signatures.long_head text else Ok (record { count = v; width = 1; next = 1 })) first
@@ -106,7 +106,7 @@ long_head text n w low high same some small fits h =
     ∙ unless_of (w == 0) (sig_faults.Width 1) (signatures.unless (nat_le 3 w) sig_faults.TooMany (signatures.wide_head text w)) w0
     ∙ unless_of (nat_le 3 w) sig_faults.TooMany (signatures.wide_head text w) w3
     ∙ next_ok (number_in text w 2) n (λ n. signatures.unless (nat_lt 1000 n) sig_faults.TooMany (signatures.unless (nat_lt n 63 || not (w == width n)) (sig_faults.Width 1) (Ok (record { count = n; width = w; next = w + 2 })))) third
-    ∙ unless_of (nat_lt 1000 n) sig_faults.TooMany (signatures.unless (nat_lt n 63 || not (w == width n)) (sig_faults.Width 1) (Ok made)) few
+    ∙ unless_of (nat_lt 1000 n) sig_faults.TooMany (signatures.unless (nat_lt n 63 || not (w == width n)) (sig_faults.Width 1) (Ok made)) limited
     ∙ unless_of (nat_lt n 63 || not (w == width n)) (sig_faults.Width 1) (Ok made) right
   where
     le_three : (w : ℕ) → w ≤ 2 → nat_le 3 w ≡ true → ⊥
@@ -122,13 +122,13 @@ width_fits n l = ⊎_elim
     (cases_lt n 64)
 
 pub reads_head : (text : List ℕ) (n : ℕ) → n ≤ 1000 → Holds text 0 (head_values n) → head_of text ≡ Ok (record { count = n; width = width n; next = length (head_values n) })
-reads_head text n few h = ⊎_elim
+reads_head text n limited h = ⊎_elim
     (λ (l : n < 63). short_head text n l h)
     (λ (l : 63 ≤ n).
     let head : head_values n ≡ 63 ∷ width n ∷ in_values (width n) n = rw (le-ltb n 63 l) refl in
-    let w = width_fits n few in
+    let w = width_fits n limited in
     let long : width n + 2 ≡ length (head_values n) = (let e = ap (λ (xs : List ℕ). length xs) head in let f = length-in_values (width n) n in omega (arith, e, f)) in
-    long_head text n (width n) l few refl w.0 w.1 w.2 (subst (λ (xs : List ℕ). Holds text 0 xs) head h) ∙ (λ i. Ok (record { count = n; width = width n; next = long i })))
+    long_head text n (width n) l limited refl w.0 w.1 w.2 (subst (λ (xs : List ℕ). Holds text 0 xs) head h) ∙ (λ i. Ok (record { count = n; width = width n; next = long i })))
     (cases_lt n 63)
 
 -- the types
@@ -141,21 +141,21 @@ times_one type ts = sum_by-cons (λ m. cond (m == 1) 1 0) type ts
 
 right_type : (n type : ℕ) (s : Types) → type < 3 → faces_of_type type ≤ s.left → one_of type + s.ones < n → signatures.is_wrong_type n type s ≡ false
 unfolding one_of
-right_type n type s l enough few = or_from ((type == 3) || nat_lt s.left (faces_of_type type)) ((type == 1) && nat_le (n - 1) s.ones)
+right_type n type s l enough limited = or_from ((type == 3) || nat_lt s.left (faces_of_type type)) ((type == 1) && nat_le (n - 1) s.ones)
     (or_from (type == 3) (nat_lt s.left (faces_of_type type)) (by_bool (type == 3) (λ e. absurd (let f = eqb-true type 3 e in omega (arith, f))) (λ e. e)) (le-ltb s.left (faces_of_type type) enough))
     (by_bool (type == 1)
-    (λ e. let f = rw e at few in let g : s.ones < n - 1 = omega (arith, f) in and_right (type == 1) (nat_le (n - 1) s.ones) (lt_leb s.ones (n - 1) g))
+    (λ e. let f = rw e at limited in let g : s.ones < n - 1 = omega (arith, f) in and_right (type == 1) (nat_le (n - 1) s.ones) (lt_leb s.ones (n - 1) g))
     (λ e. rw e refl))
   where
     lt_leb : (a b : ℕ) → a < b → nat_le b a ≡ false
     lt_leb a b h = grind arith
 
 type_taken : (n at type : ℕ) (s : Types) → type < 3 → faces_of_type type ≤ s.left → one_of type + s.ones < n → signatures.type_at n at type s ≡ Ok (signatures.counted type s)
-type_taken n at type s l enough few =
+type_taken n at type s l enough limited =
     let some = faces_some type in
     let ne : (s.left == 0) ≡ false = by_bool (s.left == 0) (λ e. absurd (let f = eqb-true s.left 0 e in omega (arith, f, some))) (λ e. e) in
     if_false (s.left == 0) (signatures.unless (not (type == 0)) (sig_faults.Leftover at) (Ok s)) (signatures.unless (signatures.is_wrong_type n type s) (sig_faults.BadType at) (Ok (signatures.counted type s))) ne
-    ∙ unless_of (signatures.is_wrong_type n type s) (sig_faults.BadType at) (Ok (signatures.counted type s)) (right_type n type s l enough few)
+    ∙ unless_of (signatures.is_wrong_type n type s) (sig_faults.BadType at) (Ok (signatures.counted type s)) (right_type n type s l enough limited)
 
 type_none : (n at : ℕ) (s : Types) → s.left ≡ 0 → signatures.type_at n at 0 s ≡ Ok s
 type_none n at s e = let z : (s.left == 0) ≡ true = eq-eqb s.left 0 e in first_of (s.left == 0) (Ok s) (signatures.unless (signatures.is_wrong_type n 0 s) (sig_faults.BadType at) (Ok (signatures.counted 0 s))) z
@@ -203,24 +203,24 @@ character_read m text n at v s t ts us some read taken same long rest =
 
 pub types_reads : (m : ℕ) (text : List ℕ) (n at : ℕ) (s : Types) (ts : List ℕ) → Holds text at (packed ts) → All (λ t. t < 3) ts → s.left ≡ sum_by faces_of_type ts → s.left ≤ m → (0 < s.left → s.ones + times_in ts 1 < n)
     → Reads m text n at s ts
-types_reads m text n at s [] h small sum l few =
+types_reads m text n at s [] h small sum l limited =
     types_from-none m text n at s (omega (arith, sum)) ∙ (let e = behind_none s in let f : at ≡ at + 0 = omega arith in λ i. Ok (sym e i, f i))
-types_reads zero text n at s (a ∷ ts) h small sum l few = absurd (let f = faces_some a in let c = sum_by-cons faces_of_type a ts in omega (arith, f, c, sum))
-types_reads (suc m) text n at s (a ∷ []) h small sum l few =
+types_reads zero text n at s (a ∷ ts) h small sum l limited = absurd (let f = faces_some a in let c = sum_by-cons faces_of_type a ts in omega (arith, f, c, sum))
+types_reads (suc m) text n at s (a ∷ []) h small sum l limited =
     let sa : a < 3 = small 0 0 (omega arith) in
     let fa = faces_some a in
     let ca = sum_by-cons faces_of_type a [] in
     let oa = times_one a [] in
     let s0 : Types = signatures.counted a s in
     let some : 0 < s.left = omega (arith, fa, ca, sum) in
-    let limit = few some in
+    let limit = limited some in
     let none : s0.left ≡ 0 = omega (arith, ca, sum) in
     let first = type_taken n at a s sa (omega (arith, ca, sum)) (omega (arith, limit, oa)) in
     let e : at + 1 + 0 ≡ at + 1 = omega arith in
     character_read m text n at a s s0 (a ∷ []) [] some (reads_value text at a [] (omega (arith, sa)) h)
     (three_taken n at a a 0 0 s s0 s0 s0 (omega (arith, sa)) (omega (arith, sa)) (omega (arith, sa)) first (type_none n at s0 none) (type_none n at s0 none))
     (counted_types a [] s) e (types_reads m text n (at + 1) s0 [] (holds_nothing text (at + 1)) (λ k d m. absurd (omega arith)) none (omega (arith, none)) (λ more. absurd (omega (arith, none))))
-types_reads (suc m) text n at s (a ∷ b ∷ []) h small sum l few =
+types_reads (suc m) text n at s (a ∷ b ∷ []) h small sum l limited =
     let sa : a < 3 = small 0 0 (omega arith) in
     let sb : b < 3 = small 1 0 (omega arith) in
     let fa = faces_some a in
@@ -231,7 +231,7 @@ types_reads (suc m) text n at s (a ∷ b ∷ []) h small sum l few =
     let s0 : Types = signatures.counted a s in
     let s1 : Types = signatures.counted b s0 in
     let some : 0 < s.left = omega (arith, fa, ca, sum) in
-    let limit = few some in
+    let limit = limited some in
     let ones = counted_ones a s in
     let none : s1.left ≡ 0 = omega (arith, ca, cb, sum) in
     let first = type_taken n at a s sa (omega (arith, ca, sum)) (omega (arith, limit, oa)) in
@@ -241,7 +241,7 @@ types_reads (suc m) text n at s (a ∷ b ∷ []) h small sum l few =
     character_read m text n at v s s1 (a ∷ b ∷ []) [] some (reads_value text at v [] (omega (arith, sa, sb)) h)
     (three_taken n at v a b 0 s s0 s1 s1 (omega (arith, sa, sb)) (omega (arith, sa, sb)) (omega (arith, sa, sb)) first second (type_none n at s1 none))
     (counted_types b [] s0 ∙ counted_types a (b ∷ []) s) e (types_reads m text n (at + 1) s1 [] (holds_nothing text (at + 1)) (λ k d m. absurd (omega arith)) none (omega (arith, none)) (λ more. absurd (omega (arith, none))))
-types_reads (suc m) text n at s (a ∷ b ∷ c ∷ ts) h small sum l few =
+types_reads (suc m) text n at s (a ∷ b ∷ c ∷ ts) h small sum l limited =
     let sa : a < 3 = small 0 0 (omega arith) in
     let sb : b < 3 = small 1 0 (omega arith) in
     let sc : c < 3 = small 2 0 (omega arith) in
@@ -256,7 +256,7 @@ types_reads (suc m) text n at s (a ∷ b ∷ c ∷ ts) h small sum l few =
     let s1 : Types = signatures.counted b s0 in
     let s2 : Types = signatures.counted c s1 in
     let some : 0 < s.left = omega (arith, fa, ca, sum) in
-    let limit = few some in
+    let limit = limited some in
     let ones0 = counted_ones a s in
     let ones1 = counted_ones b s0 in
     let ones2 = counted_ones c s1 in

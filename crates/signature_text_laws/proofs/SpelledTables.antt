@@ -35,7 +35,7 @@ use Rattle.signature_text_laws.proofs.Joined.{free_count}
 use Rattle.signature_text_laws.proofs.Walked.{all_met}
 use Rattle.signature_text_laws.proofs.SpelledReads.{holds_split, reads_head, width_fits, types_reads, behind_types, placed, placed_values, length-placed, placed_below, numbers_reads, single_spelled, unless_of}
 use Rattle.signature_text_laws.proofs.Followed.{type_at, gluing_at, Rest, Follows, Followed, follow, ordered_at}
-use Rattle.signature_text_laws.proofs.ReadTables.{drop-past, map_twice}
+use Rattle.signature_text_laws.proofs.ReadTables.{drop-exceeded, map_twice}
 
 -- the destinations and the indices of permutations in a table's text
 abbrev pub tets_of : List Row → List ℕ
@@ -112,7 +112,7 @@ twos_of rows (x ∷ xs) = cases (both_two rows x (glue rows x)) (twos_of rows xs
 -- before the first face
 begun_follows : (rows : List Row) (parts : Parts) → Follows rows 0 walk_begun (slots_begun (length rows) parts)
 begun_follows rows parts = record {
-  met = record {
+  read_faces = record {
     size = length-replicate (4 * length rows) None;
     before = λ p l. absurd (omega arith);
     partner = λ p g low high e l. absurd (omega arith);
@@ -155,9 +155,9 @@ pub counts_all : (rows : List Row) → IsTable rows → IsWalkOrdered rows → C
 counts_all rows table ordered =
     let r = run_of rows 1 0 0 table ordered in
     let f = r.follows in
-    let met = f.met in
-    let size = met.size in
-    let none : sum_by free r.to.met ≡ 0 = all_met r.to.met (λ p l. (glue rows (face_of p), met.before p (omega (arith, size)))) in
+    let read_faces = f.read_faces in
+    let size = read_faces.size in
+    let none : sum_by free r.to.read_faces ≡ 0 = all_met r.to.read_faces (λ p l. (glue rows (face_of p), read_faces.before p (omega (arith, size)))) in
     let types = walk_types rows (4 * length rows) r.walk refl r.walked in
     let count = f.count in
     let total = ap (sum_by faces_of_type) types in
@@ -173,23 +173,23 @@ counts_all rows table ordered =
         omega (arith, last, most, long, ones, times)
 
 -- the rows of the joined faces are those of the table
-pub joined_rows : (rows : List Row) (t : Slots) → IsTable rows → ((p : ℕ) → p < 4 * length rows → get_or t.met p None ≡ Some (glue rows (face_of p))) → slot_rows (length rows) t.met ≡ rows
-joined_rows rows t table met = ext_get_or [] (slot_rows (length rows) t.met) rows long (λ i l. get_or-map-range_with_len (slot_row t.met) 0 (length rows) i i [] (omega (arith, long, l)) (omega arith) ∙ row_same i (omega (arith, long, l)))
+pub joined_rows : (rows : List Row) (t : Slots) → IsTable rows → ((p : ℕ) → p < 4 * length rows → get_or t.read_faces p None ≡ Some (glue rows (face_of p))) → slot_rows (length rows) t.read_faces ≡ rows
+joined_rows rows t table read_faces = ext_get_or [] (slot_rows (length rows) t.read_faces) rows long (λ i l. get_or-map-range_with_len (slot_row t.read_faces) 0 (length rows) i i [] (omega (arith, long, l)) (omega arith) ∙ row_same i (omega (arith, long, l)))
   where
-    long : length (slot_rows (length rows) t.met) ≡ length rows
-    long = length-map-range_with_len (slot_row t.met) 0 (length rows)
+    long : length (slot_rows (length rows) t.read_faces) ≡ length rows
+    long = length-map-range_with_len (slot_row t.read_faces) 0 (length rows)
 
-    row_same : (i : ℕ) → i < length rows → slot_row t.met i ≡ get_or rows i []
+    row_same : (i : ℕ) → i < length rows → slot_row t.read_faces i ≡ get_or rows i []
     row_same i l =
         let four_long : length (get_or rows i []) ≡ 4 = table.four_faces i [] l in
-        ext_get_or None (slot_row t.met i) (get_or rows i []) (sym four_long)
-        (λ f m. get_or-map-range_with_len (λ f. unwrap_or (slot t.met (record { tet = i; face = f })) None) 0 4 f f None m (omega arith) ∙ face_same i f l m)
+        ext_get_or None (slot_row t.read_faces i) (get_or rows i []) (sym four_long)
+        (λ f m. get_or-map-range_with_len (λ f. unwrap_or (slot t.read_faces (record { tet = i; face = f })) None) 0 4 f f None m (omega arith) ∙ face_same i f l m)
       where
-        face_same : (i f : ℕ) → i < length rows → f < 4 → unwrap_or (slot t.met (record { tet = i; face = f })) None ≡ get_or (get_or rows i []) f None
+        face_same : (i f : ℕ) → i < length rows → f < 4 → unwrap_or (slot t.read_faces (record { tet = i; face = f })) None ≡ get_or (get_or rows i []) f None
         face_same i f l m =
             let a : (4 * i + f) / 4 ≡ i = omega arith in
             let b : (4 * i + f) % 4 ≡ f = omega arith in
-            ap (λ o. unwrap_or o None) (met (4 * i + f) (omega arith)) ∙ (λ j. get_or (get_or rows (a j) []) (b j) None)
+            ap (λ o. unwrap_or o None) (read_faces (4 * i + f) (omega arith)) ∙ (λ j. get_or (get_or rows (a j) []) (b j) None)
 
 indices_small : (rows : List Row) → IsTable rows → All (λ v. v < 24) (indices_of rows)
 indices_small rows table = all_mapped (λ v. v < 24) (λ (g : Gluing). index g.perm) (seen_gluings rows) (all_gluings rows (λ g. index g.perm < 24) (λ x g e. index_below g.perm (table.permutes x g e)) (faces (length rows)))
@@ -208,7 +208,7 @@ spelled_slots rows w at next table ordered some =
     let c = counts_all rows table ordered in
     record {
       size = length-replicate (4 * length rows) None;
-      few = table.few;
+      limited = table.limited;
       small = types_small rows;
       destinations = omega (arith, twos, d, d');
       gluings = omega (arith, twos, g, g');
@@ -220,18 +220,18 @@ pub spelled_joins : (rows : List Row) (w at next : ℕ) → IsTable rows → IsW
 spelled_joins rows w at next table ordered =
     let n : ℕ = length rows in
     let r = run_of rows w at next table ordered in
-    let met = r.follows.met in
+    let read_faces = r.follows.read_faces in
     sym (slots_join n (parts_at rows w at next) (spelled_slots rows w at next table ordered))
-    ∙ next_ok (slot_faces (4 * n) 0 (slots_begun n (parts_at rows w at next))) r.to (λ s. Ok (slot_rows n s.met)) r.goes
-    ∙ ap (λ xs. Ok xs) (joined_rows rows r.to table (λ p l. met.before p l))
+    ∙ next_ok (slot_faces (4 * n) 0 (slots_begun n (parts_at rows w at next))) r.to (λ s. Ok (slot_rows n s.read_faces)) r.goes
+    ∙ ap (λ xs. Ok xs) (joined_rows rows r.to table (λ p l. read_faces.before p l))
 
 -- the whole text
 
 holds_whole : (text vs : List ℕ) → text ≡ map character vs → Holds text 0 vs
 holds_whole text vs e =
     let long : length text ≡ length vs = ap (λ (xs : List ℕ). length xs) e ∙ length-map vs character in
-    let past : drop (0 + length vs) text ≡ [] = drop-past (0 + length vs) text (omega (arith, long)) in
-    e ∙ sym (append-nil (map character vs)) ∙ ap (λ rest. map character vs ++ rest) (sym past)
+    let exceeded : drop (0 + length vs) text ≡ [] = drop-exceeded (0 + length vs) text (omega (arith, long)) in
+    e ∙ sym (append-nil (map character vs)) ∙ ap (λ rest. map character vs ++ rest) (sym exceeded)
 
 length-numbers : (w : ℕ) (vs : List ℕ) → length (joined (map (in_values w) vs)) ≡ w * length vs
 length-numbers w [] = omega arith
@@ -250,8 +250,8 @@ pub record Stands (text : List ℕ) (rows : List Row) : Type 0 where
   pub gluings : Holds text (length (head_values (length rows)) + length (packed (face_types rows)) + width (length rows) * length (tets_of rows)) (indices_of rows)
   pub end : length text ≡ length (head_values (length rows)) + length (packed (face_types rows)) + width (length rows) * length (tets_of rows) + length (indices_of rows)
 
-stands : (text : List ℕ) (rows : List Row) → text ≡ spelling rows → Stands text rows
-stands text rows e =
+occurs : (text : List ℕ) (rows : List Row) → text ≡ spelling rows → Stands text rows
+occurs text rows e =
     let a : List ℕ = head_values (length rows) in
     let b : List ℕ = packed (face_types rows) in
     let c : List ℕ = joined (map (in_values (width (length rows))) (tets_of rows)) in
@@ -294,7 +294,7 @@ spelled_parts text rows table ordered s =
     let w : ℕ = width n in
     let at : ℕ = length (head_values n) + length (packed (face_types rows)) in
     let tets : List ℕ = tets_of rows in
-    let fits = width_fits n table.few in
+    let fits = width_fits n table.limited in
     let c = counts_all rows table ordered in
     let d' = length-map (seen_gluings rows) (λ (g : Gluing). g.tet) in
     let g' = length-map (seen_gluings rows) (λ (g : Gluing). index g.perm) in
@@ -328,11 +328,11 @@ spelled_parts text rows table ordered s =
 pub spelled_read : (text : List ℕ) (rows : List Row) → Spells text rows → signature_table text ≡ Ok rows
 spelled_read text rows h =
     let n : ℕ = length rows in
-    let s = stands text rows h.spelled in
+    let s = occurs text rows h.spelled in
     let head : Head = record { count = n; width = width n; next = length (head_values n) } in
     let at : ℕ = length (head_values n) + length (packed (face_types rows)) in
     let gluings_at : ℕ = at + width n * length (tets_of rows) in
-    sym (signature_table-joined text head (behind_types (types_begun n) (face_types rows)) at (parts_at rows (width n) at gluings_at) n (reads_head text n h.table.few s.head)
+    sym (signature_table-joined text head (behind_types (types_begun n) (face_types rows)) at (parts_at rows (width n) at gluings_at) n (reads_head text n h.table.limited s.head)
     (spelled_types text rows h.table h.ordered s) (spelled_parts text rows h.table h.ordered s) refl)
     ∙ spelled_joins rows (width n) at gluings_at h.table h.ordered
 

@@ -10,7 +10,7 @@ use Rattle.table_definitions.specs.Places.{face_of}
 use Rattle.signature_definitions.specs.Spelling.{character, in_values, packed, joined, head_values, width, type_of, face_types, seen_gluings, spelling, spelling_values}
 use Rattle.signature_definitions.specs.WalkOrder.{is_seen}
 use Rattle.signature_text_laws.specs.Texts.{number_text, destinations_text, indices_text}
-use Rattle.signature_text_laws.proofs.ReadTables.{drop-past}
+use Rattle.signature_text_laws.proofs.ReadTables.{drop-exceeded}
 
 -- a number in one more character
 pub number_text-more : (j k v : ℕ) (text : List ℕ) → j ≡ suc k → (text ++ character (v % 64) ∷ []) ++ number_text k (v / 64) ≡ text ++ number_text j v
@@ -52,7 +52,7 @@ packed-more i v ts text l e =
     ∙ ap (λ ns. text ++ map character ns) (sym (packed_front (drop i ts) some))
 
 pub packed-none : (i : ℕ) (ts text : List ℕ) → length ts ≤ i → text ++ map character (packed (drop i ts)) ≡ text
-packed-none i ts text l = rw (drop-past i ts l) (append-nil text)
+packed-none i ts text l = rw (drop-exceeded i ts l) (append-nil text)
 
 -- types are below 3, and there are no more than faces
 type_small : (rows : List Row) (x : Face) (o : Option Gluing) (t : ℕ) → type_of rows x o ≡ Some t → t < 3
@@ -90,8 +90,8 @@ filter_map-short {A} F (x ∷ xs) = cases (F x) (filter_map-short F xs)
         by_case None e = rw e (omega arith)
         by_case (Some y) e = rw e (omega arith)
 
-pub few_types : (rows : List Row) → length (face_types rows) ≤ 4 * length rows
-few_types rows = let h = filter_map-short (λ x. type_of rows x (glue rows x)) (faces (length rows)) in let e = ap (λ (xs : List Face). length xs) (faces-places (length rows)) in let f = length-map-range_with_len face_of 0 (4 * length rows) in omega (arith, h, e, f)
+pub bounded_types : (rows : List Row) → length (face_types rows) ≤ 4 * length rows
+bounded_types rows = let h = filter_map-short (λ x. type_of rows x (glue rows x)) (faces (length rows)) in let e = ap (λ (xs : List Face). length xs) (faces-places (length rows)) in let f = length-map-range_with_len face_of 0 (4 * length rows) in omega (arith, h, e, f)
 
 -- the whole text
 pub whole_text : (rows : List Row) (types : List ℕ) (gs : List Gluing) (n : ℕ) → n ≡ length rows → types ≡ face_types rows → gs ≡ seen_gluings rows

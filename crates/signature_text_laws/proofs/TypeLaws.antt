@@ -21,7 +21,7 @@ use Rattle.signature_text_laws.proofs.Segments.{value_at_below, numbers_read}
 pub record AreTypes (n : ℕ) (s : Types) : Type 0 where
   pub small : All (λ t. t < 3) s.read
   pub ones : s.ones ≡ times_in s.read 1
-  pub few : 0 < n → s.ones < n
+  pub limited : 0 < n → s.ones < n
 
 times-more : (a b : ℕ) (xs : List ℕ) → times_in (xs ++ a ∷ []) b ≡ times_in xs b + (if a == b then 1 else 0)
 times-more a b [] = grind (arith, common_steps)
@@ -45,11 +45,11 @@ type_read n at type s t h l e = cases (s.left == 0) e
         record {
           small = small-more type s.read r.0 h.small;
           ones = let e = times-more type 1 s.read in let o = h.ones in omega (arith, e, o);
-          few = λ some. one_more some r.1;
+          limited = λ some. one_more some r.1;
         }
       where
         one_more : 0 < n → (type ≡ 1 → s.ones < n - 1) → s.ones + (if type == 1 then 1 else 0) < n
-        one_more some lt = let f = h.few some in grind (arith, f, lt)
+        one_more some lt = let f = h.limited some in grind (arith, f, lt)
 
     cases : (b : Bool) → (if b then signatures.unless (not (type == 0)) (sig_faults.Leftover at) (Ok s) else signatures.unless (signatures.is_wrong_type n type s) (sig_faults.BadType at) (Ok (signatures.counted type s))) ≡ Ok t → AreTypes n t
     cases true e = subst (AreTypes n) (unless_same s t (not (type == 0)) (sig_faults.Leftover at) e) h
@@ -83,7 +83,7 @@ types_read (suc m) text n at s t next h e = cases (s.left == 0) (signatures.valu
 -- the sections that were read can be joined
 pub parts_fit : (text : List ℕ) (h : signatures.Head) (s : Types) (at : ℕ) (p : signatures.Parts) → h.count ≤ 1000
     → types_from (4 * h.count) text h.count h.next (types_begun h.count) ≡ Ok (s, at) → parts_of text h s at ≡ Ok p → 0 < h.count → IsSlots h.count (slots_begun h.count p)
-parts_fit text h s at p few types parts some =
+parts_fit text h s at p limited types parts some =
     let known = types_read (4 * h.count) text h.count h.next (types_begun h.count) s at begun types in
     let twos : ℕ = times_in s.read 2 in
     let gluings_at : ℕ = at + h.width * twos in
@@ -100,16 +100,16 @@ parts_fit text h s at p few types parts some =
     let P : signatures.Parts → Type 0 = λ q. IsSlots h.count (slots_begun h.count q) in
     subst P same (record {
       size = length-replicate (4 * h.count) None;
-      few = few;
+      limited = limited;
       small = known.small;
       destinations = d.count;
       gluings = g.count;
       indices = g.small;
-      room = let o = known.ones in let l = known.few some in omega (arith, o, l);
+      room = let o = known.ones in let l = known.limited some in omega (arith, o, l);
     })
   where
     begun : AreTypes h.count (types_begun h.count)
-    begun = record { small = λ k d l. absurd (omega arith); ones = refl; few = λ l. l }
+    begun = record { small = λ k d l. absurd (omega arith); ones = refl; limited = λ l. l }
 
 -- the phases up to the last one
 

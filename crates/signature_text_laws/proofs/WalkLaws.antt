@@ -43,7 +43,7 @@ list_all-false : (p : ℕ → Bool) (a c u : ℕ) → a ≤ u → u < a + c → 
 list_all-false p a zero u l m e = absurd (omega arith)
 list_all-false p a (suc c) u l m e = ⊎_elim
     (λ (same : u ≡ a). let P : ℕ → Type 0 = λ k. p k ≡ false in let f : p a ≡ false = subst P same e in rw f refl)
-    (λ (apart : u ≡ a → ⊥). let f : list_all p (range_with_len (a + 1) c) ≡ false = list_all-false p (a + 1) c u (omega arith) (omega arith) e in rw f (and_none (p a)))
+    (λ (separate : u ≡ a → ⊥). let f : list_all p (range_with_len (a + 1) c) ≡ false = list_all-false p (a + 1) c u (omega arith) (omega arith) e in rw f (and_none (p a)))
     (cases_eq u a)
   where
     and_none : (b : Bool) → (b && false) ≡ false
@@ -59,9 +59,9 @@ glued_order rows x g s seen = ⊎_elim
     (λ (same : g.tet ≡ s).
     let all : list_all (is_seen rows x) (below g.tet) ≡ true = list_all-true (is_seen rows x) 0 g.tet (λ u low high. seen u ∙ lt-ltb u s (omega arith)) in
     behind (is_seen rows x g.tet) (nat_lt g.tet s) (list_all (is_seen rows x) (below g.tet)) (g.tet == s) (same_list g.perm identity) (seen g.tet) (all ∙ sym (eq-eqb g.tet s same)))
-    (λ (apart : g.tet ≡ s → ⊥).
+    (λ (separate : g.tet ≡ s → ⊥).
     let some : list_all (is_seen rows x) (below g.tet) ≡ false = list_all-false (is_seen rows x) 0 g.tet s (omega arith) (omega arith) (seen s ∙ le-ltb s s (omega arith)) in
-    behind (is_seen rows x g.tet) (nat_lt g.tet s) (list_all (is_seen rows x) (below g.tet)) (g.tet == s) (same_list g.perm identity) (seen g.tet) (some ∙ sym (ne-eqb g.tet s apart)))
+    behind (is_seen rows x g.tet) (nat_lt g.tet s) (list_all (is_seen rows x) (below g.tet)) (g.tet == s) (same_list g.perm identity) (seen g.tet) (some ∙ sym (ne-eqb g.tet s separate)))
     (cases_eq g.tet s))
     (cases_lt g.tet s)
   where
@@ -242,7 +242,7 @@ find_at : (p : Face → Bool) (a c k : ℕ) → a ≤ k → k < a + c → ((m : 
 find_at p a zero k low high before here = absurd (omega arith)
 find_at p a (suc c) k low high before here = ⊎_elim
     (λ (same : a ≡ k). let P : ℕ → Type 0 = λ m. p (face_of m) ≡ true in let h : p (face_of a) ≡ true = subst P (sym same) here in rw h (ap (λ m. Some (face_of m)) same))
-    (λ (apart : a ≡ k → ⊥). let h : p (face_of a) ≡ false = before a (omega arith) (omega arith) in
+    (λ (separate : a ≡ k → ⊥). let h : p (face_of a) ≡ false = before a (omega arith) (omega arith) in
     rw h (find_at p (a + 1) c k (omega arith) (omega arith) (λ m l u. before m (omega arith) u) here))
     (cases_eq a k)
 

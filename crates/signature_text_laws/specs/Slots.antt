@@ -4,7 +4,7 @@ use Rattle.std.specs.List.{slice_index_or}
 use Rattle.text_definitions.specs.Reading.{◌>>=◌}
 use Rattle.table_definitions.specs.Lists.{below, times_in}
 use Rattle.table_definitions.specs.Permutation.{four, identity, words}
-use Rattle.table_definitions.specs.Table.{max_tets, Gluing, Row, Face, other_side, way_back, same_face, face_number}
+use Rattle.table_definitions.specs.Table.{max_tets, Gluing, Row, Face, other_side, inverse_gluing, same_face, face_number}
 use Rattle.table_definitions.specs.Places.{face_of}
 use Rattle.signature_definitions.specs.declared.SigFault.{SigFault}
 use Rattle.signature_definitions.specs.declared.SigFault.TheVariants as sig_faults
@@ -12,29 +12,29 @@ use Rattle.signature_definitions.specs.SignatureText as signatures
 
 -- the gluings of the faces that were read, the number of tetrahedra seen, and the unused sections
 pub record Slots : Type 0 where
-  pub met : List (Option (Option Gluing))
+  pub read_faces : List (Option (Option Gluing))
   pub seen : ℕ
   pub parts : signatures.Parts
 
 -- what is known of a face: nothing if it was not read
 abbrev pub slot : List (Option (Option Gluing)) → Face → Option (Option Gluing)
-slot met x = slice_index_or met (face_number x) None
+slot read_faces x = slice_index_or read_faces (face_number x) None
 
 -- both sides of a face were read
 abbrev pub meet_at : List (Option (Option Gluing)) → Face → Gluing → List (Option (Option Gluing))
-meet_at met x g = slice_set (slice_set met (face_number (other_side x g)) (Some (Some (way_back x g)))) (face_number x) (Some (Some g))
+meet_at read_faces x g = slice_set (slice_set read_faces (face_number (other_side x g)) (Some (Some (inverse_gluing x g)))) (face_number x) (Some (Some g))
 
 abbrev pub slot_boundary : Face → Slots → Slots
-slot_boundary x s = record s { met = slice_set s.met (face_number x) (Some None) }
+slot_boundary x s = record s { read_faces = slice_set s.read_faces (face_number x) (Some None) }
 
 abbrev pub slot_new : Face → Slots → Slots
-slot_new x s = record s { met = meet_at s.met x (record { tet = s.seen; perm = identity }); seen = s.seen + 1 }
+slot_new x s = record s { read_faces = meet_at s.read_faces x (record { tet = s.seen; perm = identity }); seen = s.seen + 1 }
 
 abbrev pub slot_glued : Face → ℕ × ℕ → ℕ × ℕ → Slots → Result Slots SigFault
 slot_glued x d i s =
     let g : Gluing = record { tet = d.0; perm = slice_index_or words i.0 [] } in
     signatures.unless (nat_le s.seen d.0) (sig_faults.Destination d.1)
-    (signatures.unless (same_face (other_side x g) x || is_some (slot s.met (other_side x g))) (sig_faults.FaceTaken i.1) (Ok (record s { met = meet_at s.met x g })))
+    (signatures.unless (same_face (other_side x g) x || is_some (slot s.read_faces (other_side x g))) (sig_faults.FaceTaken i.1) (Ok (record s { read_faces = meet_at s.read_faces x g })))
 
 abbrev pub slot_seen : Face → Slots → Result Slots SigFault
 slot_seen x s =
@@ -49,7 +49,7 @@ with_types types s = record s { parts = record s.parts { types = types } }
 
 abbrev pub slot_next : Face → List ℕ → Slots → Result Slots SigFault
 slot_next x [] s = Ok s
-slot_next x (type ∷ types) s = if is_some (slot s.met x) then Ok s else slot_type x type (with_types types s)
+slot_next x (type ∷ types) s = if is_some (slot s.read_faces x) then Ok s else slot_type x type (with_types types s)
 
 -- the next face
 abbrev pub slot_face : Face → Slots → Result Slots SigFault
@@ -64,19 +64,19 @@ slot_faces (suc m) k s = do
 
 -- no face was read yet
 abbrev pub slots_begun : ℕ → signatures.Parts → Slots
-slots_begun n parts = record { met = replicate (4 * n) None; seen = 1; parts = parts }
+slots_begun n parts = record { read_faces = replicate (4 * n) None; seen = 1; parts = parts }
 
 -- the row of a tetrahedron, and all rows
 abbrev pub slot_row : List (Option (Option Gluing)) → ℕ → Row
-slot_row met t = map (λ f. unwrap_or (slot met (record { tet = t; face = f })) None) four
+slot_row read_faces t = map (λ f. unwrap_or (slot read_faces (record { tet = t; face = f })) None) four
 
 abbrev pub slot_rows : ℕ → List (Option (Option Gluing)) → List Row
-slot_rows n met = map (slot_row met) (below n)
+slot_rows n read_faces = map (slot_row read_faces) (below n)
 
 -- there is a place for each face, a destination and a gluing for each type 2, and a tetrahedron for each type 1
 pub record IsSlots (n : ℕ) (s : Slots) : Type 0 where
-  pub size : length s.met ≡ 4 * n
-  pub few : n ≤ max_tets
+  pub size : length s.read_faces ≡ 4 * n
+  pub limited : n ≤ max_tets
   pub small : All (λ t. t < 3) s.parts.types
   pub destinations : length s.parts.destinations ≡ times_in s.parts.types 2
   pub gluings : length s.parts.gluings ≡ times_in s.parts.types 2

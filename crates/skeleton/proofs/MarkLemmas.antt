@@ -33,7 +33,7 @@ degree_grows classes degrees count i x l size inside h ex c m = elim (cases_eq c
 -- marks of classes
 module _ (rows : List Row) (classes : List ℕ) (count : ℕ) where
   pub none_bounded : (marks : List Bool) → marks ≡ replicate count false → length marks ≡ count → AreBoundaryMarksUpTo 0 rows classes count marks
-  none_bounded marks e size = record { one_each = size; told = λ c l. ap (λ (xs : List Bool). slice_index_or xs c false) e ∙ all_false count c }
+  none_bounded marks e size = record { one_each = size; reported = λ c l. ap (λ (xs : List Bool). slice_index_or xs c false) e ∙ all_false count c }
     where
       all_false : (n c : ℕ) → slice_index_or (replicate n false) c false ≡ false
       all_false zero c = refl
@@ -44,7 +44,7 @@ module _ (rows : List Row) (classes : List ℕ) (count : ℕ) where
     pub edge_passes : lies_in_boundary rows i ≡ false → AreBoundaryMarksUpTo (i + 1) rows classes count marks
     edge_passes no_mark = record {
       one_each = a.one_each;
-      told = λ c l. a.told c l ∙ sym (any_more (λ e. (slice_index classes e == c) && lies_in_boundary rows e) i
+      reported = λ c l. a.reported c l ∙ sym (any_more (λ e. (slice_index classes e == c) && lies_in_boundary rows e) i
           ∙ ap (λ b. list_any (λ e. (slice_index classes e == c) && lies_in_boundary rows e) (below i) || ((slice_index classes i == c) && b)) no_mark ∙ nothing (slice_index classes i == c) _);
     }
       where
@@ -58,7 +58,7 @@ module _ (rows : List Row) (classes : List ℕ) (count : ℕ) where
         → AreBoundaryMarksUpTo (i + 1) rows classes count new
     edge_marks mark inside new en size = record {
       one_each = size;
-      told = λ c l. ap (λ (xs : List Bool). slice_index_or xs c false) en ∙ told c l (cases_eq c (slice_index classes i)) ∙ sym (more c);
+      reported = λ c l. ap (λ (xs : List Bool). slice_index_or xs c false) en ∙ reported c l (cases_eq c (slice_index classes i)) ∙ sym (more c);
     }
       where
         found : ℕ → Bool
@@ -71,8 +71,8 @@ module _ (rows : List Row) (classes : List ℕ) (count : ℕ) where
             alone true = refl
             alone false = refl
 
-        told : (c : ℕ) → c < count → (c ≡ slice_index classes i) ⊎ (c ≢ slice_index classes i) → slice_index_or (set marks (slice_index classes i) true) c false ≡ (found c || (slice_index classes i == c))
-        told c l (inl e) =
+        reported : (c : ℕ) → c < count → (c ≡ slice_index classes i) ⊎ (c ≢ slice_index classes i) → slice_index_or (set marks (slice_index classes i) true) c false ≡ (found c || (slice_index classes i == c))
+        reported c l (inl e) =
             let own : (slice_index classes i == c) ≡ true = eq-eqb (slice_index classes i) c (sym e) in
             let bound : slice_index classes i < length marks = omega (arith, a.one_each) in
             ap (λ k. slice_index_or (set marks (slice_index classes i) true) k false) e ∙ get_or-set_same marks (slice_index classes i) true false bound
@@ -81,14 +81,14 @@ module _ (rows : List Row) (classes : List ℕ) (count : ℕ) where
             all : (b : Bool) → (b || true) ≡ true
             all true = refl
             all false = refl
-        told c l (inr ne) =
+        reported c l (inr ne) =
             let other : (slice_index classes i == c) ≡ false = ne_eqb (slice_index classes i) c (λ e. ne (sym e)) in
-            get_or-set_other marks (slice_index classes i) c true false ne ∙ a.told c l ∙ sym (ap (λ b. found c || b) other ∙ or-false (found c))
+            get_or-set_other marks (slice_index classes i) c true false ne ∙ a.reported c l ∙ sym (ap (λ b. found c || b) other ∙ or-false (found c))
 
   pub edges_end : (i : ℕ) (marks : List Bool) → i ≡ length classes → AreBoundaryMarksUpTo i rows classes count marks → AreBoundaryMarks rows classes count marks
   edges_end i marks e a = record {
     one_each = a.one_each;
-    told = λ c l. a.told c l ∙ ap (λ k. list_any (λ x. (slice_index classes x == c) && lies_in_boundary rows x) (below k)) e;
+    reported = λ c l. a.reported c l ∙ ap (λ k. list_any (λ x. (slice_index classes x == c) && lies_in_boundary rows x) (below k)) e;
   }
 
 -- closed tables

@@ -17,12 +17,12 @@ pub record AreDegrees (classes : List ℕ) (count : ℕ) (degrees : List ℕ) : 
 -- for each edge class whether it is on the boundary
 pub record AreBoundaryMarks (rows : List Row) (classes : List ℕ) (count : ℕ) (marks : List Bool) : Type 0 where
   pub one_each : length marks ≡ count
-  pub told : (c : ℕ) → c < count → slice_index_or marks c false ≡ is_boundary_edge rows classes c
+  pub reported : (c : ℕ) → c < count → slice_index_or marks c false ≡ is_boundary_edge rows classes c
 
 -- AreBoundaryMarks, with only the edges below i counted
 pub record AreBoundaryMarksUpTo (i : ℕ) (rows : List Row) (classes : List ℕ) (count : ℕ) (marks : List Bool) : Type 0 where
   pub one_each : length marks ≡ count
-  pub told : (c : ℕ) → c < count → slice_index_or marks c false ≡ list_any (λ e. (slice_index classes e == c) && lies_in_boundary rows e) (below i)
+  pub reported : (c : ℕ) → c < count → slice_index_or marks c false ≡ list_any (λ e. (slice_index classes e == c) && lies_in_boundary rows e) (below i)
 
 abbrev pub is_open_at : List Row → ℕ → ℕ → Bool
 is_open_at rows t f = is_boundary rows (record { tet = t; face = f })
@@ -33,4 +33,4 @@ items_of v = v.items
 -- the tour of each of n edge classes, or no corner if it is on the boundary
 pub record AreRounds (rows : List Row) (firsts : List ℕ) (boundary : List Bool) (n : ℕ) (walks : List (Vec Corner Global)) : Type 0 where
   pub one_each : length walks ≡ n
-  pub told : (c : ℕ) (w : Vec Corner Global) → c < n → w ≡ slice_index_or walks c w → IsTourUnlessBoundary (next_corner rows) (slice_index_or boundary c false) (slice_index firsts c) w.items
+  pub reported : (c : ℕ) (w : Vec Corner Global) → c < n → w ≡ slice_index_or walks c w → IsTourUnlessBoundary (next_corner rows) (slice_index_or boundary c false) (slice_index firsts c) w.items

@@ -5,7 +5,7 @@ ghost use Rattle.table_definitions.specs.Lists.{has};
 ghost use Rattle.table_definitions.specs.Places as places;
 ghost use Rattle.skeleton.specs.Parts.{AreBoundaryMarks, is_open_at};
 
-use crate::crossings::{Exit, behind};
+use crate::crossings::{Exit, across};
 use crate::edges::edge_ends;
 use crate::numbering::Numbering;
 use gluing_table::{Face, Table};
@@ -74,8 +74,8 @@ fn is_open(table: &Table, tet: u32) -> bool
     requires { tet < length table.now }
     ensures { result ≡ (is_open_at table.now tet 0 || is_open_at table.now tet 1 || is_open_at table.now tet 2 || is_open_at table.now tet 3) }
 {
-    behind(table, Face { tet, face: 0 }).is_none()
-        || behind(table, Face { tet, face: 1 }).is_none()
-        || behind(table, Face { tet, face: 2 }).is_none()
-        || behind(table, Face { tet, face: 3 }).is_none()
+    across(table, Face { tet, face: 0 }).is_none()
+        || across(table, Face { tet, face: 1 }).is_none()
+        || across(table, Face { tet, face: 2 }).is_none()
+        || across(table, Face { tet, face: 3 }).is_none()
 }

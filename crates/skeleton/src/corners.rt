@@ -7,7 +7,7 @@ ghost use Rattle.table_walk_laws.specs.Walks.{IsInjectiveBelow, step_of};
 ghost use Rattle.skeleton_class_laws.specs.Rounds.{corner_at, next_corner, start_of, swap, word_at, IsTour, IsTourUnlessBoundary};
 ghost use Rattle.skeleton.specs.Parts.{AreRounds};
 
-use crate::crossings::behind;
+use crate::crossings::across;
 use finite_walks::orbit;
 use gluing_table::{Face, Table};
 use out_of_memory::NoMemory;
@@ -42,7 +42,7 @@ impl Model for Corner {
 struct NextCorners {
     tets: u32,
     next: Vec<Option<u32>>,
-    ghost few: { tets ≤ max_tets },
+    ghost limited: { tets ≤ max_tets },
     ghost size: { length next.items ≡ 24 * tets },
     ghost injective: { IsInjectiveBelow (length next.items) (step_of next.items) },
 }
@@ -99,11 +99,11 @@ fn next_place(table: &Table, place: u32) -> Option<u32>
         tet: place / ORDERS,
         face: order.image(2),
     };
-    let Some(glue) = behind(table, face) else {
+    let Some(glue) = across(table, face) else {
         return None;
     };
-    let behind = glue.perm.compose(order).compose(swap());
-    Some(ORDERS * glue.tet + behind.index() as u32)
+    let across = glue.perm.compose(order).compose(swap());
+    Some(ORDERS * glue.tet + across.index() as u32)
 }
 
 /// The index of the next corner for each corner of `table`.

@@ -16,11 +16,11 @@ pub struct Exit<'a> {
 }
 
 /// The gluing of `face`, or `None` if it is a boundary face.
-pub fn behind(table: &Table, face: Face) -> Option<Glue>
+pub fn across(table: &Table, face: Face) -> Option<Glue>
     requires { face.tet < length table.now }
     ensures value { result ≡ gluings.glue table.now face }
     ensures in_range { IfSome result (λ g. g.tet < length table.now) }
-    ensures few { length table.now ≤ max_tets }
+    ensures limited { length table.now ≤ max_tets }
     ensures is_table { IsTable table.now }
 {
     table.glue(face)
@@ -32,9 +32,9 @@ impl Exit<'_> {
         requires { tet < length self.table.now }
         ensures value { result ≡ gluings.glue self.entry.table.now (record { tet = tet; face = self.entry.face }) }
         ensures in_range { IfSome result (λ g. g.tet < length self.entry.table.now) }
-        ensures few { length self.entry.table.now ≤ max_tets }
+        ensures limited { length self.entry.table.now ≤ max_tets }
     {
-        behind(
+        across(
             self.table,
             Face {
                 tet,
@@ -73,7 +73,7 @@ pub fn face_across(table: &Table, place: u32, choice: u8) -> Option<u32>
         tet: place / 4,
         face: (place % 4) as u8,
     };
-    let Some(glue) = behind(table, face) else {
+    let Some(glue) = across(table, face) else {
         return None;
     };
     let other = glue.other_side(face);

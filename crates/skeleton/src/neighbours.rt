@@ -73,7 +73,7 @@ pub fn neighbours(
 /// The number of things of kind `kind` in `table`.
 fn count_of(table: &Table, kind: Kind) -> u32
     ensures value { result ≡ per_tet kind * length table.now }
-    ensures few { result ≤ 24000 }
+    ensures limited { result ≤ 24000 }
     ensures is_table { IsTable table.now }
 {
     per_tet(kind) * table.len()

@@ -17,7 +17,7 @@ use std::alloc::Global;
 pub struct Numbering {
     pub classes: Vec<u32>,
     pub firsts: Vec<u32>,
-    pub ghost few: { length classes.items < 2 ^ 32 },
+    pub ghost limited: { length classes.items < 2 ^ 32 },
     pub ghost in_range: { (i : ℕ) → i < length classes.items → slice_index classes.items i < length firsts.items },
 }
 
@@ -33,7 +33,7 @@ pub struct Classes {
 /// The least member of each class of `classes`, in which classes are numbered by their least members.
 fn firsts(alloc: Global, classes: &[u32]) -> Result<Vec<u32>, NoMemory>
     requires ordered { IsOrdered classes.now }
-    requires few { length classes.now < 2 ^ 32 }
+    requires limited { length classes.now < 2 ^ 32 }
     ensures { IfOk result (λ firsts. AreFirsts classes.now firsts.items) }
 {
     let mut firsts = Vec::new(alloc);

@@ -53,9 +53,9 @@ pub fn vertex_sign_across(exit: Exit<'_>, place: u32) -> Option<u32>
 }
 
 /// Whether each of the first `count` tetrahedra has different classes for its two signs.
-fn tells_apart(classes: &[u32], count: u32) -> bool
+fn is_consistent(classes: &[u32], count: u32) -> bool
     requires { 2 * count ≤ length classes.now }
-    ensures apart { IsTrue result → (t : ℕ) → t < count → slice_index classes.now (2 * t) ≢ slice_index classes.now (2 * t + 1) }
+    ensures separate { IsTrue result → (t : ℕ) → t < count → slice_index classes.now (2 * t) ≢ slice_index classes.now (2 * t + 1) }
     ensures joined { result ≡ false → (t : ℕ) × (t < count) × (slice_index classes.now (2 * t) ≡ slice_index classes.now (2 * t + 1)) }
 {
     for tet in 0..count {
@@ -83,7 +83,7 @@ pub fn orientation_of(alloc: Global, table: &Table) -> Result<Option<Vec<bool>>,
     ensures { IfOk result (λ r. IsOrientation table.now (option_map items_of r)) }
 {
     let classes = classes_of(alloc, table, Kind::Signs)?.classes;
-    if tells_apart(&classes, table.len()) {
+    if is_consistent(&classes, table.len()) {
         let signs = signs_by(alloc, &classes, table.len())?;
         Ok(Some(signs))
     } else {

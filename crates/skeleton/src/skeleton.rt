@@ -188,7 +188,7 @@ impl Skeleton {
         requires an_edge { edge < 6 }
         ensures class { result ≡ slice_index self.now.edges.classes (6 * tet + edge) }
         ensures below { result < self.now.edges.count }
-        ensures few { length self.now.rows ≤ max_tets }
+        ensures limited { length self.now.rows ≤ max_tets }
     {
         self.edges.classes[6 * tet as usize + edge as usize]
     }

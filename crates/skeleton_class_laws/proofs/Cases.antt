@@ -20,8 +20,8 @@ pub numbers_are : (a b : ℕ) → a < 4 → b < 4 → slice_index numbers (4 * a
 numbers_are a b l m = eqb-true (slice_index numbers (4 * a + b)) (edge_number a b) (pairs_all (λ x y. slice_index numbers (4 * x + y) == edge_number x y) refl a b l m)
 
 -- the number of an edge does not depend on the order of its ends
-pub edge_number-turned : (a b : ℕ) → a < 4 → b < 4 → edge_number b a ≡ edge_number a b
-edge_number-turned a b l m = eqb-true (edge_number b a) (edge_number a b) (pairs_all (λ x y. edge_number y x == edge_number x y) refl a b l m)
+pub edge_number-backwards : (a b : ℕ) → a < 4 → b < 4 → edge_number b a ≡ edge_number a b
+edge_number-backwards a b l m = eqb-true (edge_number b a) (edge_number a b) (pairs_all (λ x y. edge_number y x == edge_number x y) refl a b l m)
 
 pub edge_number-ends : (e : ℕ) → e < 6 → edge_number (slice_index (ends e) 0) (slice_index (ends e) 1) ≡ e
 edge_number-ends e l = eqb-true (edge_number (slice_index (ends e) 0) (slice_index (ends e) 1)) e (list_all-below (λ x. edge_number (slice_index (ends x) 0) (slice_index (ends x) 1) == x) 6 refl e l)
@@ -39,7 +39,7 @@ pub record AreEnds (e : ℕ) : Type 0 where
   pub ascending : low e < high e
   pub lower : low e < 4
   pub higher : high e < 4
-  pub apart : low e ≢ high e
+  pub separate : low e ≢ high e
 
 pub are_ends : (e : ℕ) → e < 6 → AreEnds e
 are_ends e l =
@@ -50,7 +50,7 @@ are_ends e l =
       ascending = ascends;
       lower = omega arith;
       higher = small;
-      apart = λ z. omega arith;
+      separate = λ z. omega arith;
     }
 
 or_cases : (a b c : Bool) → (a || (b || c)) ≡ true → (a ≡ true) ⊎ ((b ≡ true) ⊎ (c ≡ true))
@@ -66,17 +66,17 @@ ends-edge_number a b l m ne = (
       (pairs_all (λ x y. (x == y) || (same_list (ends (edge_number x y)) (x ∷ y ∷ []) || same_list (ends (edge_number x y)) (y ∷ x ∷ []))) refl a b l m)),
 )
   where
-    apart : (a == b) ≡ true → ⊥
-    apart e = ne (eqb-true a b e)
+    separate : (a == b) ≡ true → ⊥
+    separate e = ne (eqb-true a b e)
 
     by_test : ((a == b) ≡ true) ⊎ ((same_list (ends (edge_number a b)) (a ∷ b ∷ []) ≡ true) ⊎ (same_list (ends (edge_number a b)) (b ∷ a ∷ []) ≡ true))
         → (ends (edge_number a b) ≡ a ∷ b ∷ []) ⊎ (ends (edge_number a b) ≡ b ∷ a ∷ [])
-    by_test (inl e) = absurd (apart e)
+    by_test (inl e) = absurd (separate e)
     by_test (inr (inl e)) = inl (same_list-true (ends (edge_number a b)) (a ∷ b ∷ []) e)
     by_test (inr (inr e)) = inr (same_list-true (ends (edge_number a b)) (b ∷ a ∷ []) e)
 
     small_by : ((a == b) ≡ true) ⊎ ((nat_lt (edge_number a b) 6 ≡ true) ⊎ (false ≡ true)) → edge_number a b < 6
-    small_by (inl e) = absurd (apart e)
+    small_by (inl e) = absurd (separate e)
     small_by (inr (inl e)) = ltb-true (edge_number a b) 6 e
     small_by (inr (inr e)) = absurd cc
 

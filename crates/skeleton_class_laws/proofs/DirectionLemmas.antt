@@ -5,7 +5,7 @@ use Rattle.std.proofs.lemmas.Bool.{eqb-true, eq-eqb}
 use Rattle.table_definitions.specs.Table.{Row}
 use Rattle.table_definitions.specs.Classes.{IsNumbering, least}
 use Rattle.skeleton_definitions.specs.Skeleton.{Skeleton, IsDirection}
-use Rattle.table_definitions.specs.Places.{edge, turned, IsJoined, RunsAgainst}
+use Rattle.table_definitions.specs.Places.{edge, backwards, IsJoined, RunsAgainst}
 use Rattle.skeleton_definitions.specs.Links.{directed, SameDirected}
 use Rattle.skeleton_class_laws.specs.Crossings.{pair_number}
 use Rattle.skeleton_class_laws.specs.Directions.{forward, backward, runs_against}
@@ -18,23 +18,23 @@ ends_of i = are_ends (i % 6) (omega arith)
 
 pub directed_forward : (i : ℕ) → directed (forward i) ≡ edge i
 unfolding forward
-directed_forward i = let a = ends_of i in pair_is (i / 6) (low (i % 6)) (high (i % 6)) a.lower a.higher a.apart ∙ sym (edge_pair i)
+directed_forward i = let a = ends_of i in pair_is (i / 6) (low (i % 6)) (high (i % 6)) a.lower a.higher a.separate ∙ sym (edge_pair i)
 
-pub directed_backward : (i : ℕ) → directed (backward i) ≡ turned (edge i)
+pub directed_backward : (i : ℕ) → directed (backward i) ≡ backwards (edge i)
 unfolding backward
-directed_backward i = let a = ends_of i in pair_is (i / 6) (high (i % 6)) (low (i % 6)) a.higher a.lower (λ e. a.apart (sym e)) ∙ ap turned (sym (edge_pair i))
+directed_backward i = let a = ends_of i in pair_is (i / 6) (high (i % 6)) (low (i % 6)) a.higher a.lower (λ e. a.separate (sym e)) ∙ ap backwards (sym (edge_pair i))
 
 pub forward_below : (i n : ℕ) → i < 6 * n → forward i < 12 * n
 unfolding forward
-forward_below i n l = let a = ends_of i in let p : pair_number (low (i % 6)) (high (i % 6)) < 12 = (pair_number-parts (low (i % 6)) (high (i % 6)) a.lower a.higher a.apart).0 in let t : i / 6 < n = omega arith in omega arith
+forward_below i n l = let a = ends_of i in let p : pair_number (low (i % 6)) (high (i % 6)) < 12 = (pair_number-parts (low (i % 6)) (high (i % 6)) a.lower a.higher a.separate).0 in let t : i / 6 < n = omega arith in omega arith
 
 pub backward_below : (i n : ℕ) → i < 6 * n → backward i < 12 * n
 unfolding backward
-backward_below i n l = let a = ends_of i in let p : pair_number (high (i % 6)) (low (i % 6)) < 12 = (pair_number-parts (high (i % 6)) (low (i % 6)) a.higher a.lower (λ e. a.apart (sym e))).0 in
+backward_below i n l = let a = ends_of i in let p : pair_number (high (i % 6)) (low (i % 6)) < 12 = (pair_number-parts (high (i % 6)) (low (i % 6)) a.higher a.lower (λ e. a.separate (sym e))).0 in
     let t : i / 6 < n = omega arith in omega arith
 
 pub runs_against-is : (rows : List Row) (directions : List ℕ) (count : ℕ) → IsNumbering (12 * length rows) (SameDirected rows) directions count
-    → (j i : ℕ) → j < 6 * length rows → i < 6 * length rows → (runs_against directions j i ≡ true) ↔ IsJoined rows (edge j) (turned (edge i))
+    → (j i : ℕ) → j < 6 * length rows → i < 6 * length rows → (runs_against directions j i ≡ true) ↔ IsJoined rows (edge j) (backwards (edge i))
 unfolding runs_against
 runs_against-is rows directions count num j i lj li =
     let t = num.together (forward j) (backward i) (forward_below j (length rows) lj) (backward_below i (length rows) li) in (

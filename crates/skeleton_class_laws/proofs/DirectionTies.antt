@@ -56,11 +56,11 @@ directions_counted rows table = record {
         let lw : w < 4 = head_below (i % 12) (part i) in
         let iv : image p v < 4 = image_below p v h lv in
         let iw : image p w < 4 = image_below p w h lw in
-        let apart : image p v ≢ image p w = images_apart p v w h lv lw (apart_head (i % 12) (part i)) in
+        let separate : image p v ≢ image p w = images_apart p v w h lv lw (apart_head (i % 12) (part i)) in
         let lands : q ≡ pair s.gluing.tet (image p v) (image p w) = s.lands ∙ ap (carried s.gluing) (directed_pair i) in
         let t : s.gluing.tet < length rows = table.in_range _ s.gluing s.glued in
-        let n : pair_number (image p v) (image p w) < 12 = (pair_number-parts (image p v) (image p w) iv iw apart).0 in
+        let n : pair_number (image p v) (image p w) < 12 = (pair_number-parts (image p v) (image p w) iv iw separate).0 in
         let inside : 12 * s.gluing.tet + pair_number (image p v) (image p w) < 12 * length rows = omega arith in (
-          lands ∙ sym (pair_is s.gluing.tet (image p v) (image p w) iv iw apart) ∙ ap (λ (r : Place). directed (direction_at r)) (sym lands),
+          lands ∙ sym (pair_is s.gluing.tet (image p v) (image p w) iv iw separate) ∙ ap (λ (r : Place). directed (direction_at r)) (sym lands),
           subst (λ (r : Place). direction_at r < 12 * length rows) (sym lands) inside,
         )

@@ -64,10 +64,10 @@ few_corners : (n : ℕ) (first : Corner) (corners : List Corner) → AreCornersI
 few_corners n first corners inside once =
     subst (λ m. m ≤ 256 * n) (length-map corners number_of) (distinct_below (256 * n) (map number_of corners)
     (All-map (λ x. x < 256 * n) number_of corners (λ k d l. number_below n (get_or corners k d) (inside k d l)))
-    apart)
+    separate)
   where
-    apart : AllPairs (λ x y. x ≢ y) (map number_of corners)
-    apart i j d less l same =
+    separate : AllPairs (λ x y. x ≢ y) (map number_of corners)
+    separate i j d less l same =
         let size = length-map corners number_of in
         let lj : j < length corners = omega (arith, size) in
         let li : i < length corners = omega arith in
@@ -78,7 +78,7 @@ few_corners n first corners inside once =
 pub record IsRound (s : Skeleton) (c : ℕ) (corners : List Corner) : Type 0 where
   pub all : AreCorners s.rows (first_corner (least s.edges.classes c)) corners
   pub inside : AreCornersIn 1000 corners
-  pub few : length corners ≤ 1000000
+  pub limited : length corners ≤ 1000000
 
 pub round_of : (s : Skeleton) (c : ℕ) (corners : List Corner) → IsSkeleton s → c < s.edges.count → is_boundary_edge s.rows s.edges.classes c ≡ false → IsAround s c corners → IsRound s c corners
 round_of s c corners skeleton l inner around =
@@ -87,8 +87,8 @@ round_of s c corners skeleton l inner around =
     let every : AreCorners s.rows first corners = walk_has_corners s.rows skeleton.table first start corners walk in
     let within : AreCornersIn (length s.rows) corners = All-from_get_or (IsCornerIn (length s.rows)) corners first (walk_in_range s.rows skeleton.table first start corners walk) in
     let size : length corners ≤ 256 * length s.rows = few_corners (length s.rows) first corners within every.once in
-    let tets : length s.rows ≤ 1000 = skeleton.table.few in
-    record { all = every; inside = λ k d h. raised (get_or corners k d) tets (within k d h); few = omega arith }
+    let tets : length s.rows ≤ 1000 = skeleton.table.limited in
+    record { all = every; inside = λ k d h. raised (get_or corners k d) tets (within k d h); limited = omega arith }
   where
     first : Corner
     first = first_corner (least s.edges.classes c)

@@ -3,12 +3,12 @@ use Rattle.std.proofs.Common.{◌≡◌, ◌≢◌, ◌↔◌, ◌⊎◌, inl, i
 use Rattle.std.specs.Prelude.{◌==◌, ◌||◌, option_map, option_and_then, if◌then◌else◌}
 use Rattle.table_definitions.specs.Permutation.{image}
 use Rattle.table_definitions.specs.Table.{Gluing, Row, glue, IsTable}
-use Rattle.table_definitions.specs.Places.{Place, IsPlace, across, along, carried, turned, edge, ends, edge_number, SameEdge}
+use Rattle.table_definitions.specs.Places.{Place, IsPlace, across, along, carried, backwards, edge, ends, edge_number, SameEdge}
 use Rattle.table_definitions.proofs.PermutationLaws.{image_below, images_apart}
 use Rattle.table_definitions.proofs.ChainLaws.{steps_across, step_back, face_crossed}
 use Rattle.skeleton_class_laws.specs.Crossings.{edge_at, crossed_edge, pair}
 use Rattle.skeleton_class_laws.specs.Neighbours.{led, IsLed, IsReversible}
-use Rattle.skeleton_class_laws.proofs.Cases.{are_ends, edge_number-turned, edge_number-ends, ends-edge_number, low, high}
+use Rattle.skeleton_class_laws.proofs.Cases.{are_ends, edge_number-backwards, edge_number-ends, ends-edge_number, low, high}
 use Rattle.skeleton_class_laws.proofs.CrossingLemmas.{edge_is}
 
 part : (i : ℕ) → i % 6 < 6
@@ -25,17 +25,17 @@ edge_by_ends t a b c d small e =
     edge_is (6 * t + edge_number a b) c d (ap ends r ∙ e) ∙ (λ k. pair (x k) c d)
 
 -- two different vertices are their edge, in one of its directions
-pub pair_either : (t a b : ℕ) → a < 4 → b < 4 → a ≢ b → (pair t a b ≡ edge (6 * t + edge_number a b)) ⊎ (pair t a b ≡ turned (edge (6 * t + edge_number a b)))
+pub pair_either : (t a b : ℕ) → a < 4 → b < 4 → a ≢ b → (pair t a b ≡ edge (6 * t + edge_number a b)) ⊎ (pair t a b ≡ backwards (edge (6 * t + edge_number a b)))
 pair_either t a b l m ne =
     let n = ends-edge_number a b l m ne in
-    elim n.1 [ inl e ↦ inl (sym (edge_by_ends t a b a b n.0 e)) | inr e ↦ inr (ap turned (sym (edge_by_ends t a b b a n.0 e))) ]
+    elim n.1 [ inl e ↦ inl (sym (edge_by_ends t a b a b n.0 e)) | inr e ↦ inr (ap backwards (sym (edge_by_ends t a b b a n.0 e))) ]
 
 -- a pair of vertices is edge i, in one of its directions
 abbrev Either : ℕ → Place → Type 0
-Either i p = (p ≡ edge i) ⊎ (p ≡ turned (edge i))
+Either i p = (p ≡ edge i) ⊎ (p ≡ backwards (edge i))
 
-pub turned_twice : (i : ℕ) → turned (turned (edge i)) ≡ edge i
-turned_twice i = ap (λ (p : Place). turned (turned p)) (edge_pair i) ∙ sym (edge_pair i)
+pub turned_twice : (i : ℕ) → backwards (backwards (edge i)) ≡ edge i
+turned_twice i = ap (λ (p : Place). backwards (backwards p)) (edge_pair i) ∙ sym (edge_pair i)
 
 -- a step of a reversed edge
 swap : (a b : Bool) → (a || (b || false)) ≡ (b || (a || false))
@@ -44,7 +44,7 @@ swap true false = refl
 swap false true = refl
 swap false false = refl
 
-pair_turned : (rows : List Row) (t a b f : ℕ) → across rows (turned (pair t a b)) f ≡ option_map turned (across rows (pair t a b) f)
+pair_turned : (rows : List Row) (t a b f : ℕ) → across rows (backwards (pair t a b)) f ≡ option_map backwards (across rows (pair t a b) f)
 pair_turned rows t a b f =
     ap (λ (c : Bool). if◌then◌else◌ {A = Option Place} c None (option_map (λ g. carried g (pair t b a)) o)) (swap (b == f) (a == f))
     ∙ by_cases ((a == f) || ((b == f) || false)) o
@@ -53,19 +53,19 @@ pair_turned rows t a b f =
     o = glue rows (record { tet = t; face = f })
 
     by_cases : (c : Bool) (g : Option Gluing) → if◌then◌else◌ {A = Option Place} c None (option_map (λ g. carried g (pair t b a)) g)
-        ≡ option_map turned (if◌then◌else◌ {A = Option Place} c None (option_map (λ g. carried g (pair t a b)) g))
+        ≡ option_map backwards (if◌then◌else◌ {A = Option Place} c None (option_map (λ g. carried g (pair t a b)) g))
     by_cases true g = refl
     by_cases false None = refl
     by_cases false (Some g) = refl
 
-edge_turned : (rows : List Row) (i f : ℕ) → across rows (turned (edge i)) f ≡ option_map turned (across rows (edge i) f)
-edge_turned rows i f = subst (λ (p : Place). across rows (turned p) f ≡ option_map turned (across rows p f)) (sym (edge_pair i)) (pair_turned rows (i / 6) (low (i % 6)) (high (i % 6)) f)
+edge_turned : (rows : List Row) (i f : ℕ) → across rows (backwards (edge i)) f ≡ option_map backwards (across rows (edge i) f)
+edge_turned rows i f = subst (λ (p : Place). across rows (backwards p) f ≡ option_map backwards (across rows p f)) (sym (edge_pair i)) (pair_turned rows (i / 6) (low (i % 6)) (high (i % 6)) f)
 
 module _ (rows : List Row) (table : IsTable rows) where
   -- the edge that a step from edge i reaches
   record Lands (i f : ℕ) (q : Place) : Type 0 where
     next : crossed_edge rows i f ≡ Some (edge_at q)
-    turned_number : edge_at (turned q) ≡ edge_at q
+    turned_number : edge_at (backwards q) ≡ edge_at q
     either : Either (edge_at q) q
     inside : edge_at q < 6 * length rows
 
@@ -77,7 +77,7 @@ module _ (rows : List Row) (table : IsTable rows) where
       let inside : 6 * t + edge_number a b < 6 * length rows = omega arith in
       record {
         next = ap (λ (o : Option Place). option_map edge_at o) e;
-        turned_number = ap (λ k. 6 * t + k) (edge_number-turned a b l m);
+        turned_number = ap (λ k. 6 * t + k) (edge_number-backwards a b l m);
         either = pair_either t a b l m ne;
         inside = inside;
       }
@@ -91,15 +91,15 @@ module _ (rows : List Row) (table : IsTable rows) where
       let there : q ≡ pair s.gluing.tet (image p (low (i % 6))) (image p (high (i % 6))) = s.lands ∙ ap (carried s.gluing) (edge_pair i) in
       subst (Lands i f) (sym there)
       (lands_at i f s.gluing.tet (image p (low (i % 6))) (image p (high (i % 6))) (image_below p (low (i % 6)) h k.lower) (image_below p (high (i % 6)) h k.higher)
-      (images_apart p (low (i % 6)) (high (i % 6)) h k.lower k.higher k.apart) (table.in_range _ s.gluing s.glued) (e ∙ ap (λ (r : Place). Some r) there))
+      (images_apart p (low (i % 6)) (high (i % 6)) h k.lower k.higher k.separate) (table.in_range _ s.gluing s.glued) (e ∙ ap (λ (r : Place). Some r) there))
 
-  turned_some : (o : Option Place) (q : Place) → option_map turned o ≡ Some q → (r : Place) × (o ≡ Some r) × (turned r ≡ q)
+  turned_some : (o : Option Place) (q : Place) → option_map backwards o ≡ Some q → (r : Place) × (o ≡ Some r) × (backwards r ≡ q)
   turned_some None q e = absurd cc
-  turned_some (Some r) q e = (r, refl, let f : turned r ≡ q = cc in f)
+  turned_some (Some r) q e = (r, refl, let f : backwards r ≡ q = cc in f)
 
-  turn_either : (i : ℕ) (q : Place) → Either i q → Either i (turned q)
-  turn_either i q (inl e) = inr (ap turned e)
-  turn_either i q (inr e) = inl (ap turned e ∙ turned_twice i)
+  turn_either : (i : ℕ) (q : Place) → Either i q → Either i (backwards q)
+  turn_either i q (inl e) = inr (ap backwards e)
+  turn_either i q (inr e) = inl (ap backwards e ∙ turned_twice i)
 
   -- a step from edge i, in either direction
   step_forth : (i f : ℕ) (p q : Place) → Either i p → across rows p f ≡ Some q → (crossed_edge rows i f ≡ Some (edge_at q)) × Either (edge_at q) q
@@ -125,7 +125,7 @@ module _ (rows : List Row) (table : IsTable rows) where
   step_for i f j p (inl same) e = let s = step_found i f j e in (s.0, ap (λ (r : Place). across rows r f) same ∙ s.1, s.2)
   step_for i f j p (inr same) e =
       let s = step_found i f j e in
-      (turned s.0, ap (λ (r : Place). across rows r f) same ∙ edge_turned rows i f ∙ ap (λ (o : Option Place). option_map turned o) s.1, turn_either j s.0 s.2)
+      (backwards s.0, ap (λ (r : Place). across rows r f) same ∙ edge_turned rows i f ∙ ap (λ (o : Option Place). option_map backwards o) s.1, turn_either j s.0 s.2)
 
   along_by : (fs : List ℕ) (i j : ℕ) (p : Place) → Either i p → led (crossed_edge rows) i fs ≡ Some j → (q : Place) × (along rows p fs ≡ Some q) × Either j q
   along_by [] i j p x e = (p, refl, subst (λ k. Either k p) (let s : i ≡ j = cc in s) x)
@@ -144,12 +144,12 @@ module _ (rows : List Row) (table : IsTable rows) where
     where
       number_of : edge_at (edge i) ≡ i
       number_of = ap edge_at (edge_pair i) ∙ ap (λ k. 6 * (i / 6) + k) (edge_number-ends (i % 6) (part i)) ∙ omega arith
-  either_number i p (inr e) = ap edge_at e ∙ ap (λ (r : Place). edge_at (turned r)) (edge_pair i) ∙ ap (λ k. 6 * (i / 6) + k) number_of ∙ omega arith
+  either_number i p (inr e) = ap edge_at e ∙ ap (λ (r : Place). edge_at (backwards r)) (edge_pair i) ∙ ap (λ k. 6 * (i / 6) + k) number_of ∙ omega arith
     where
       number_of : edge_number (high (i % 6)) (low (i % 6)) ≡ i % 6
       number_of =
           let k = are_ends (i % 6) (part i) in
-          edge_number-turned (low (i % 6)) (high (i % 6)) k.lower k.higher ∙ edge_number-ends (i % 6) (part i)
+          edge_number-backwards (low (i % 6)) (high (i % 6)) k.lower k.higher ∙ edge_number-ends (i % 6) (part i)
 
   led_by : (fs : List ℕ) (i : ℕ) (p q : Place) → Either i p → along rows p fs ≡ Some q → led (crossed_edge rows) i fs ≡ Some (edge_at q)
   led_by [] i p q x e = ap Some (sym (either_number i p x) ∙ ap edge_at (let s : p ≡ q = cc in s))
@@ -171,7 +171,7 @@ module _ (rows : List Row) (table : IsTable rows) where
 
       back : SameEdge rows i j → IsLed (crossed_edge rows) i j
       back (inl h) = (h.0, led_by h.0 i (edge i) (edge j) (inl refl) h.1 ∙ ap Some (either_number j (edge j) (inl refl)))
-      back (inr h) = (h.0, led_by h.0 i (edge i) (turned (edge j)) (inl refl) h.1 ∙ ap Some (either_number j (turned (edge j)) (inr refl)))
+      back (inr h) = (h.0, led_by h.0 i (edge i) (backwards (edge j)) (inl refl) h.1 ∙ ap Some (either_number j (backwards (edge j)) (inr refl)))
 
   is_place : (i : ℕ) → IsPlace (edge i)
   is_place i =

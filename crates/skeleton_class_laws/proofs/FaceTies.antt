@@ -2,7 +2,7 @@
 use Rattle.std.proofs.Common.{◌≡◌, ◌↔◌, inl, inr, false, ℕ, zero, suc, ◌*◌, ◌/◌, ◌%◌, ◌<◌, List, [], ◌∷◌, length, Option, Some, None, refl, sym, ap, ◌∙◌, arith, subst}
 use Rattle.std.specs.Prelude.{◌==◌, option_map, option_and_then}
 use Rattle.table_definitions.specs.Permutation.{image, inverse}
-use Rattle.table_definitions.specs.Table.{Gluing, Face, Row, glue, other_side, way_back, IsTable, face_number}
+use Rattle.table_definitions.specs.Table.{Gluing, Face, Row, glue, other_side, inverse_gluing, IsTable, face_number}
 use Rattle.table_definitions.specs.Places.{face_of, SameFace}
 use Rattle.table_definitions.proofs.PermutationLaws.{image_below, image-of_inverse}
 use Rattle.table_definitions.proofs.Faces.{face_of-number, number-face_of}
@@ -52,12 +52,12 @@ module _ (rows : List Row) (table : IsTable rows) where
   back i f j e =
       let s = leads i f j e in
       let own : i % 4 < 4 = omega arith in
-      let glued : glue rows (face_of j) ≡ Some (way_back (face_of i) s.gluing) =
-      subst (λ (x : Face). glue rows x ≡ Some (way_back (face_of i) s.gluing)) s.there (table.leads_back (face_of i) s.gluing s.glued) in
+      let glued : glue rows (face_of j) ≡ Some (inverse_gluing (face_of i) s.gluing) =
+      subst (λ (x : Face). glue rows x ≡ Some (inverse_gluing (face_of i) s.gluing)) s.there (table.leads_back (face_of i) s.gluing s.glued) in
       let home : image (inverse s.gluing.perm) (image s.gluing.perm (i % 4)) ≡ i % 4 = image-of_inverse s.gluing.perm (i % 4) (table.permutes (face_of i) s.gluing s.glued) own in
-      let face : other_side (face_of j) (way_back (face_of i) s.gluing) ≡ face_of i =
-      ap (λ (x : Face). other_side x (way_back (face_of i) s.gluing)) (sym s.there) ∙ (λ k. record { tet = i / 4; face = home k }) in
-      glued_leads j i (way_back (face_of i) s.gluing) glued face
+      let face : other_side (face_of j) (inverse_gluing (face_of i) s.gluing) ≡ face_of i =
+      ap (λ (x : Face). other_side x (inverse_gluing (face_of i) s.gluing)) (sym s.there) ∙ (λ k. record { tet = i / 4; face = home k }) in
+      glued_leads j i (inverse_gluing (face_of i) s.gluing) glued face
 
   pub faces_reversible : IsReversible (4 * length rows) (crossed_face rows)
   faces_reversible i f j l m e = let four : 0 < 4 = omega arith in ((leads i f j e).inside, (0, four, back i f j e))

@@ -19,7 +19,7 @@ use Rattle.table_definitions.proofs.PermutationLaws.{image_below}
 use Rattle.table_definitions.proofs.TableLaws.{glued_tet, glued_face}
 use Rattle.skeleton_class_laws.specs.Crossings.{vertex_at, crossed_vertex}
 use Rattle.skeleton_class_laws.specs.Neighbours.{led, IsLed}
-use Rattle.skeleton_class_laws.specs.Signs.{sign_behind, crossed_vertex_sign}
+use Rattle.skeleton_class_laws.specs.Signs.{sign_by_gluing, crossed_vertex_sign}
 use Rattle.skeleton_class_laws.proofs.CrossingLemmas.{crossed_vertex-glued}
 use Rattle.skeleton_class_laws.proofs.PlaceLemmas.{stepped}
 use Rattle.skeleton_class_laws.proofs.SignTies.{behind_small}
@@ -77,10 +77,10 @@ module _ (rows : List Row) (table : IsTable rows) (classes : List ℕ) (count : 
           let hp = table.permutes _ g s.glued in
           let lv : v < 4 = omega arith in
           let iv : image g.perm v < 4 = image_below g.perm v hp lv in
-          let small : sign_behind g (x % 2) < 2 = behind_small g x in
+          let small : sign_by_gluing g (x % 2) < 2 = behind_small g x in
           let lf : f < 4 = glued_face rows (record { tet = x / 8; face = f }) g table.four_faces s.glued in
           let there : j / 2 ≡ 4 * g.tet + image g.perm v = omega (arith, s.lands) in
-          let bit : j % 2 ≡ sign_behind g (x % 2) = (vertex_parts g.tet (image g.perm v) (sign_behind g (x % 2)) j iv small s.lands).2 in
+          let bit : j % 2 ≡ sign_by_gluing g (x % 2) = (vertex_parts g.tet (image g.perm v) (sign_by_gluing g (x % 2)) j iv small s.lands).2 in
           let here : x / 2 ≡ 4 * (x / 8) + v = omega arith in
           let half : x / 2 < 4 * length rows = omega arith in
           let quarter : x / 2 / 4 ≡ x / 8 = omega arith in
@@ -96,8 +96,8 @@ module _ (rows : List Row) (table : IsTable rows) (classes : List ℕ) (count : 
           later j lj class e ∙ ap (λ n. says n (sign_of signs (j / 2))) bit ∙ says_behind (is_odd g.perm) (x % 2) (sign_of signs (x / 2)) (sign_of signs (j / 2)) own_bit agreed
 
   -- in an orientable link a member with one sign and the member with the other sign are of different classes
-  pub tells_apart : IsOrientableLink rows classes c → (i : ℕ) → i < 4 * length rows → slice_index classes i ≡ c → slice_index signed (2 * i) ≢ slice_index signed (2 * i + 1)
-  tells_apart o i l own e =
+  pub is_consistent : IsOrientableLink rows classes c → (i : ℕ) → i < 4 * length rows → slice_index classes i ≡ c → slice_index signed (2 * i) ≢ slice_index signed (2 * i + 1)
+  is_consistent o i l own e =
       let l0 : 2 * i < 8 * length rows = omega arith in
       let l1 : 2 * i + 1 < 8 * length rows = omega arith in
       let j : IsLed (crossed_vertex_sign rows) (2 * i) (2 * i + 1) = (num.together (2 * i) (2 * i + 1) l0 l1).0 e in
@@ -118,7 +118,7 @@ module _ (rows : List Row) (table : IsTable rows) (classes : List ℕ) (count : 
 
   -- a step keeps the class of signed vertices
   step_keeps : (t v f s : ℕ) (g : Gluing) → t < length rows → v < 4 → f < 4 → (v ≡ f → ⊥) → s < 2 → glue rows (record { tet = t; face = f }) ≡ Some g
-      → slice_index signed (2 * (4 * t + v) + s) ≡ slice_index signed (2 * (4 * g.tet + image g.perm v) + sign_behind g s)
+      → slice_index signed (2 * (4 * t + v) + s) ≡ slice_index signed (2 * (4 * g.tet + image g.perm v) + sign_by_gluing g s)
   step_keeps t v f s g lt lv lf ne ls h =
       let x : ℕ = 2 * (4 * t + v) + s in
       let inside : 2 * (4 * t + v) + s < 8 * length rows = omega arith in
@@ -126,17 +126,17 @@ module _ (rows : List Row) (table : IsTable rows) (classes : List ℕ) (count : 
       let glued : glue rows (record { tet = (2 * (4 * t + v) + s) / 8; face = f }) ≡ Some g = ap (λ u. glue rows (record { tet = u; face = f })) p.0 ∙ h in
       let off : ((2 * (4 * t + v) + s) / 2 % 4 == f) ≡ false = ap (λ u. u == f) p.1 ∙ ne_eqb v f ne in
       let step = crossed_vertex_sign-is rows (2 * (4 * t + v) + s) f g off glued in
-      let there : crossed_vertex_sign rows (2 * (4 * t + v) + s) f ≡ Some (2 * (4 * g.tet + image g.perm v) + sign_behind g s) =
-      step ∙ (λ i. Some (2 * (4 * g.tet + image g.perm (p.1 i)) + sign_behind g (p.2 i))) in
-      let lm = (vertex_signs_reversible rows table (2 * (4 * t + v) + s) f (2 * (4 * g.tet + image g.perm v) + sign_behind g s) inside lf there).0 in
-      (num.together (2 * (4 * t + v) + s) (2 * (4 * g.tet + image g.perm v) + sign_behind g s) inside lm).1 (f ∷ [], ap (λ (o : Option ℕ). option_and_then (λ j. Some j) o) there)
+      let there : crossed_vertex_sign rows (2 * (4 * t + v) + s) f ≡ Some (2 * (4 * g.tet + image g.perm v) + sign_by_gluing g s) =
+      step ∙ (λ i. Some (2 * (4 * g.tet + image g.perm (p.1 i)) + sign_by_gluing g (p.2 i))) in
+      let lm = (vertex_signs_reversible rows table (2 * (4 * t + v) + s) f (2 * (4 * g.tet + image g.perm v) + sign_by_gluing g s) inside lf there).0 in
+      (num.together (2 * (4 * t + v) + s) (2 * (4 * g.tet + image g.perm v) + sign_by_gluing g s) inside lm).1 (f ∷ [], ap (λ (o : Option ℕ). option_and_then (λ j. Some j) o) there)
 
   zero_is : (n : ℕ) → n + 0 ≡ n
   zero_is n = omega arith
 
   pub orientable_by : ((i : ℕ) → i < 4 * length rows → slice_index classes i ≡ c → slice_index signed (2 * i) ≢ slice_index signed (2 * i + 1)) → IsOrientableLink rows classes c
   unfolding signs_of
-  orientable_by apart = (signs_of, length-map-range_with_len (λ i. nat_lt (slice_index signed (2 * i)) (slice_index signed (2 * i + 1))) 0 (4 * length rows) ∙ sym vertices.one_each, agree)
+  orientable_by separate = (signs_of, length-map-range_with_len (λ i. nat_lt (slice_index signed (2 * i)) (slice_index signed (2 * i + 1))) 0 (4 * length rows) ∙ sym vertices.one_each, agree)
     where
       agree : AreLinkSigns rows classes c signs_of
       agree t v f g lv lf ne own h = by_parity (is_odd g.perm) refl
@@ -175,7 +175,7 @@ module _ (rows : List Row) (table : IsTable rows) (classes : List ℕ) (count : 
               let c1 : slice_index signed (2 * (4 * t + v) + 1) ≡ slice_index signed (2 * (4 * g.tet + image g.perm v)) =
               s1 ∙ ap (λ b. slice_index signed (2 * (4 * g.tet + image g.perm v) + (if b then 1 else 1 - 1))) e ∙ ap (slice_index signed) (zero_is (2 * (4 * g.tet + image g.perm v))) in
               sign_is (4 * g.tet + image g.perm v) lj ∙ sym (λ i. nat_lt (c1 i) (c0 i))
-              ∙ compared_back (slice_index signed (2 * (4 * t + v))) (slice_index signed (2 * (4 * t + v) + 1)) (apart (4 * t + v) li own)
+              ∙ compared_back (slice_index signed (2 * (4 * t + v))) (slice_index signed (2 * (4 * t + v) + 1)) (separate (4 * t + v) li own)
               ∙ ap not (sym (sign_is (4 * t + v) li)) ∙ sym (ap (λ b. if b then sign_of signs_of (4 * t + v) else not (sign_of signs_of (4 * t + v))) e)
 
   -- by a tally of the members that are joined to themselves with the other sign
@@ -183,14 +183,14 @@ module _ (rows : List Row) (table : IsTable rows) (classes : List ℕ) (count : 
       → ((j : ℕ) → j < 4 * length rows → slice_index_or passes j false ≡ (slice_index signed (2 * j) == slice_index signed (2 * j + 1)))
       → ((j : ℕ) → j < 4 * length rows → slice_index owners j ≡ slice_index classes j) → c < count → IsTrue (slice_index tallies c == 0) ↔ IsOrientableLink rows classes c
   tally_turned passes owners tallies t size passed owned l = (
-    λ h. let none : count_by (is_counted passes owners c) (below (length owners)) ≡ 0 = sym (t.told c l) ∙ eqb-true (slice_index tallies c) 0 h in
+    λ h. let none : count_by (is_counted passes owners c) (below (length owners)) ≡ 0 = sym (t.reported c l) ∙ eqb-true (slice_index tallies c) 0 h in
         orientable_by (λ i li own e. let inside : i < length owners = omega arith in
         let no : is_counted passes owners c i ≡ false = zero_none (is_counted passes owners c) (length owners) none i inside in
         let pass : slice_index_or passes i false ≡ true = passed i li ∙ eq-eqb (slice_index signed (2 * i)) (slice_index signed (2 * i + 1)) e in
         let mine : (slice_index owners i == c) ≡ true = eq-eqb (slice_index owners i) c (owned i li ∙ own) in
         let yes : is_counted passes owners c i ≡ true = λ k. pass k && mine k in
         let z : false ≡ true = sym no ∙ yes in cc),
-    λ o. eq-eqb (slice_index tallies c) 0 (t.told c l ∙ none_zero (is_counted passes owners c) (length owners) (λ i li. let inside : i < 4 * length rows = omega arith in not_both o i inside (is_counted passes owners c i) refl)),
+    λ o. eq-eqb (slice_index tallies c) 0 (t.reported c l ∙ none_zero (is_counted passes owners c) (length owners) (λ i li. let inside : i < 4 * length rows = omega arith in not_both o i inside (is_counted passes owners c i) refl)),
   )
     where
       not_both : IsOrientableLink rows classes c → (i : ℕ) → i < 4 * length rows → (b : Bool) → (slice_index_or passes i false && (slice_index owners i == c)) ≡ b → is_counted passes owners c i ≡ false
@@ -199,4 +199,4 @@ module _ (rows : List Row) (table : IsTable rows) (classes : List ℕ) (count : 
           let p = and_parts (slice_index_or passes i false) (slice_index owners i == c) e in
           let own : slice_index classes i ≡ c = sym (owned i li) ∙ eqb-true (slice_index owners i) c p.1 in
           let same : slice_index signed (2 * i) ≡ slice_index signed (2 * i + 1) = eqb-true (slice_index signed (2 * i)) (slice_index signed (2 * i + 1)) (sym (passed i li) ∙ p.0) in
-          absurd (tells_apart o i li own same)
+          absurd (is_consistent o i li own same)

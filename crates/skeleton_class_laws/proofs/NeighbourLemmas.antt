@@ -90,7 +90,7 @@ module _ (n : ℕ) (next : ℕ → ℕ → Option ℕ) (table : List (List (Opti
     led_from_joined i k p = led_by i k p.0 p.1
 
     -- if choices of neighbours reach one item from another, the table joins them
-    module _ (few : (i f j : ℕ) → i < n → next i f ≡ Some j → f < 4) where
+    module _ (limited : (i f j : ℕ) → i < n → next i f ≡ Some j → f < 4) where
       joined_by : (fs : List ℕ) (i k : ℕ) → i < n → led next i fs ≡ Some k → IsJoined (neighbours_of table) i k
       joined_by [] i k l e = ([], let s : i ≡ k = cc in s)
       joined_by (f ∷ fs) i k l e = by_step (λ j m s. joined_by fs j k m s) (next i f) refl e
@@ -99,7 +99,7 @@ module _ (n : ℕ) (next : ℕ → ℕ → Option ℕ) (table : List (List (Opti
               → option_and_then (λ j. led next j fs) o ≡ Some k → IsJoined (neighbours_of table) i k
           by_step later None h s = absurd cc
           by_step later (Some j) h s =
-              let m : f < 4 = few i f j l h in
+              let m : f < 4 = limited i f j l h in
               let more : IsJoined (neighbours_of table) j k = later j (r i f j l m h).0 s in
               (j ∷ more.0, (contained i f j l m h, more.1))
 

@@ -69,7 +69,7 @@ first_grows i classes firsts a l e = record {
 
 pub firsts_end : (classes firsts : List ℕ) (i : ℕ) → length classes ≤ i → i ≤ length classes → AreFirstsUpTo i classes firsts → length firsts ≤ i → AreFirsts classes firsts
 firsts_end classes firsts i l m a f = record {
-  few = omega arith;
+  limited = omega arith;
   below = λ j n. a.below j (omega arith);
   least_member = a.least_member;
   in_range = λ c n. let o : slice_index firsts c < i = a.in_range c n in omega arith;

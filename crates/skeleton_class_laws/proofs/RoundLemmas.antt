@@ -4,7 +4,7 @@ use Rattle.std.specs.Prelude.{option_map}
 use Rattle.std.specs.List.{slice_index_or}
 use Rattle.table_definitions.specs.Lists.{same_list}
 use Rattle.table_definitions.specs.Permutation.{image, compose, inverse, index, is_permutation, words, preimage, IsPermutationOfFour}
-use Rattle.table_definitions.specs.Table.{Gluing, Face, Row, glue, way_back, IsTable}
+use Rattle.table_definitions.specs.Table.{Gluing, Face, Row, glue, inverse_gluing, IsTable}
 use Rattle.skeleton_definitions.specs.Corners.{step, corner_across, Corner}
 use Rattle.table_definitions.proofs.Permutations.{by_pairs, compose_permutes, index_below, words_at, image-compose, index-words, words_permute}
 use Rattle.table_definitions.proofs.TableLaws.{glued_tet}
@@ -109,7 +109,7 @@ module _ (rows : List Row) (table : IsTable rows) where
       let tet : m / 24 ≡ g.tet = ap (λ n. n / 24) s.lands ∙ w.0 in
       let word : word_at m ≡ q = ap word_at s.lands ∙ w.1 in
       let face : image (word_at m) 3 ≡ image g.perm (image p 2) = ap (λ (u : List ℕ). image u 3) word ∙ (behind_images g.perm p hg hp).3 in
-      let glued : glue rows (record { tet = m / 24; face = image (word_at m) 3 }) ≡ Some (way_back x g) =
+      let glued : glue rows (record { tet = m / 24; face = image (word_at m) 3 }) ≡ Some (inverse_gluing x g) =
       (λ i. glue rows (record { tet = tet i; face = face i })) ∙ table.leads_back x g s.glued in
       let home : compose (inverse g.perm) (compose (word_at m) swap) ≡ p = ap (λ (u : List ℕ). compose (inverse g.perm) (compose u swap)) word ∙ behind_back g.perm p hg hp in
       let number : index (compose (inverse g.perm) (compose (word_at m) swap)) ≡ k % 24 = ap index home ∙ index_of_word k in

@@ -13,7 +13,7 @@ use Rattle.skeleton_definitions.specs.Skeleton.{IsOrientation}
 use Rattle.skeleton_definitions.proofs.Signs.{says, says_behind}
 use Rattle.table_definitions.proofs.TableLaws.{glued_tet, glued_face}
 use Rattle.skeleton_class_laws.specs.Neighbours.{led, IsLed}
-use Rattle.skeleton_class_laws.specs.Signs.{sign_behind, crossed_sign, AreSignsBy}
+use Rattle.skeleton_class_laws.specs.Signs.{sign_by_gluing, crossed_sign, AreSignsBy}
 use Rattle.skeleton_class_laws.proofs.SignTies.{signed, landed, crossed_sign-is, led_is_component, signs_reversible}
 
 module _ (rows : List Row) (table : IsTable rows) where
@@ -49,20 +49,20 @@ module _ (rows : List Row) (table : IsTable rows) where
 
     -- a step keeps the class
     step_keeps : (t s f : ℕ) (g : Gluing) → t < length rows → s < 2 → glue rows (record { tet = t; face = f }) ≡ Some g
-        → slice_index classes (2 * t + s) ≡ slice_index classes (2 * g.tet + sign_behind g s)
+        → slice_index classes (2 * t + s) ≡ slice_index classes (2 * g.tet + sign_by_gluing g s)
     step_keeps t s f g l m h =
         let inside : 2 * t + s < 2 * length rows = omega arith in
         let d : (2 * t + s) / 2 ≡ t = omega arith in
         let r : (2 * t + s) % 2 ≡ s = omega arith in
         let glued : glue rows (record { tet = (2 * t + s) / 2; face = f }) ≡ Some g = ap (λ u. glue rows (record { tet = u; face = f })) d ∙ h in
         let face : f < 4 = glued_face rows (record { tet = t; face = f }) g table.four_faces h in
-        let step : crossed_sign rows (2 * t + s) f ≡ Some (2 * g.tet + sign_behind g ((2 * t + s) % 2)) = crossed_sign-is rows (2 * t + s) f g glued in
-        let there : 2 * g.tet + sign_behind g ((2 * t + s) % 2) < 2 * length rows =
-        (signs_reversible rows table (2 * t + s) f (2 * g.tet + sign_behind g ((2 * t + s) % 2)) inside face step).0 in
-        (num.together (2 * t + s) (2 * g.tet + sign_behind g ((2 * t + s) % 2)) inside there).1 (f ∷ [], ap (λ (o : Option ℕ). option_and_then (λ j. Some j) o) step)
-        ∙ ap (λ u. slice_index classes (2 * g.tet + sign_behind g u)) r
+        let step : crossed_sign rows (2 * t + s) f ≡ Some (2 * g.tet + sign_by_gluing g ((2 * t + s) % 2)) = crossed_sign-is rows (2 * t + s) f g glued in
+        let there : 2 * g.tet + sign_by_gluing g ((2 * t + s) % 2) < 2 * length rows =
+        (signs_reversible rows table (2 * t + s) f (2 * g.tet + sign_by_gluing g ((2 * t + s) % 2)) inside face step).0 in
+        (num.together (2 * t + s) (2 * g.tet + sign_by_gluing g ((2 * t + s) % 2)) inside there).1 (f ∷ [], ap (λ (o : Option ℕ). option_and_then (λ j. Some j) o) step)
+        ∙ ap (λ u. slice_index classes (2 * g.tet + sign_by_gluing g u)) r
 
-    module _ (apart : (t : ℕ) → t < length rows → slice_index classes (2 * t) ≢ slice_index classes (2 * t + 1)) (signs : List Bool) (a : AreSignsBy classes (length rows) signs) where
+    module _ (separate : (t : ℕ) → t < length rows → slice_index classes (2 * t) ≢ slice_index classes (2 * t + 1)) (signs : List Bool) (a : AreSignsBy classes (length rows) signs) where
       agree : (x : Face) (g : Gluing) → glue rows x ≡ Some g → sign_of signs g.tet ≡ sign_across g (sign_of signs x.tet)
       agree x g h = by_parity (is_odd g.perm) refl
         where
@@ -85,7 +85,7 @@ module _ (rows : List Row) (table : IsTable rows) where
               let c0 : slice_index classes (2 * x.tet) ≡ slice_index classes (2 * g.tet) =
               ap (slice_index classes) (sym (zero_is (2 * x.tet))) ∙ s0 ∙ ap (λ b. slice_index classes (2 * g.tet + (if b then 0 else 1 - 0))) e ∙ ap (slice_index classes) (zero_is (2 * g.tet)) in
               let c1 : slice_index classes (2 * x.tet + 1) ≡ slice_index classes (2 * g.tet + 1) = s1 ∙ ap (λ b. slice_index classes (2 * g.tet + (if b then 1 else 1 - 1))) e in
-              a.told g.tet lu ∙ sym (λ i. nat_lt (c0 i) (c1 i)) ∙ sym (a.told x.tet lt) ∙ sym (ap (λ b. if b then sign_of signs x.tet else not (sign_of signs x.tet)) e)
+              a.reported g.tet lu ∙ sym (λ i. nat_lt (c0 i) (c1 i)) ∙ sym (a.reported x.tet lt) ∙ sym (ap (λ b. if b then sign_of signs x.tet else not (sign_of signs x.tet)) e)
           by_parity false e =
               let s0 = step_keeps x.tet 0 x.face g lt (omega arith) h in
               let s1 = step_keeps x.tet 1 x.face g lt (omega arith) h in
@@ -93,12 +93,12 @@ module _ (rows : List Row) (table : IsTable rows) where
               ap (slice_index classes) (sym (zero_is (2 * x.tet))) ∙ s0 ∙ ap (λ b. slice_index classes (2 * g.tet + (if b then 0 else 1 - 0))) e in
               let c1 : slice_index classes (2 * x.tet + 1) ≡ slice_index classes (2 * g.tet) =
               s1 ∙ ap (λ b. slice_index classes (2 * g.tet + (if b then 1 else 1 - 1))) e ∙ ap (slice_index classes) (zero_is (2 * g.tet)) in
-              a.told g.tet lu ∙ sym (λ i. nat_lt (c1 i) (c0 i)) ∙ compared_back (slice_index classes (2 * x.tet)) (slice_index classes (2 * x.tet + 1)) (apart x.tet lt)
-              ∙ ap not (sym (a.told x.tet lt)) ∙ sym (ap (λ b. if b then sign_of signs x.tet else not (sign_of signs x.tet)) e)
+              a.reported g.tet lu ∙ sym (λ i. nat_lt (c1 i) (c0 i)) ∙ compared_back (slice_index classes (2 * x.tet)) (slice_index classes (2 * x.tet + 1)) (separate x.tet lt)
+              ∙ ap not (sym (a.reported x.tet lt)) ∙ sym (ap (λ b. if b then sign_of signs x.tet else not (sign_of signs x.tet)) e)
 
       start : StartTrue rows signs
-      start t l alone = a.told t l ∙ elim (cases_order (slice_index classes (2 * t)) (slice_index classes (2 * t + 1))) [
-        | inl e ↦ absurd (apart t l e)
+      start t l alone = a.reported t l ∙ elim (cases_order (slice_index classes (2 * t)) (slice_index classes (2 * t + 1))) [
+        | inl e ↦ absurd (separate t l e)
         | inr (inl less) ↦ lt-ltb (slice_index classes (2 * t)) (slice_index classes (2 * t + 1)) less
         | inr (inr more) ↦
             let l0 : 2 * t < 2 * length rows = omega arith in

@@ -2,36 +2,36 @@
 use Rattle.std.proofs.Common.{◌≡◌, ℕ, ◌+◌, ◌-◌, ◌*◌, ◌/◌, ◌%◌, ◌<◌, Bool, true, false, List, [], ◌∷◌, length, Option, Some, None, refl, sym, ap, ◌∙◌, arith, subst}
 use Rattle.std.specs.Prelude.{option_map, option_and_then, if◌then◌else◌}
 use Rattle.table_definitions.specs.Permutation.{image, is_odd}
-use Rattle.table_definitions.specs.Table.{Gluing, Face, Row, glue, way_back, IsTable}
+use Rattle.table_definitions.specs.Table.{Gluing, Face, Row, glue, inverse_gluing, IsTable}
 use Rattle.table_definitions.specs.Places.{Place, across, along, whole, SameComponent}
 use Rattle.table_definitions.proofs.PermutationLaws.{image_below}
 use Rattle.table_definitions.proofs.TableLaws.{glued_face}
 use Rattle.table_definitions.proofs.ChainLaws.{across_by}
 use Rattle.table_definitions.proofs.Permutations.{is_odd-inverse}
 use Rattle.skeleton_class_laws.specs.Neighbours.{led, IsLed, IsReversible}
-use Rattle.skeleton_class_laws.specs.Signs.{sign_behind, crossed_sign}
+use Rattle.skeleton_class_laws.specs.Signs.{sign_by_gluing, crossed_sign}
 
 -- the gluing that a signed step crosses
 pub record Signed (rows : List Row) (k f m : ℕ) : Type 0 where
   pub gluing : Gluing
   pub glued : glue rows (record { tet = k / 2; face = f }) ≡ Some gluing
-  pub lands : m ≡ 2 * gluing.tet + sign_behind gluing (k % 2)
+  pub lands : m ≡ 2 * gluing.tet + sign_by_gluing gluing (k % 2)
 
-signed_by : (rows : List Row) (k f m : ℕ) (o : Option Gluing) → glue rows (record { tet = k / 2; face = f }) ≡ o → option_map (λ (g : Gluing). 2 * g.tet + sign_behind g (k % 2)) o ≡ Some m → Signed rows k f m
+signed_by : (rows : List Row) (k f m : ℕ) (o : Option Gluing) → glue rows (record { tet = k / 2; face = f }) ≡ o → option_map (λ (g : Gluing). 2 * g.tet + sign_by_gluing g (k % 2)) o ≡ Some m → Signed rows k f m
 signed_by rows k f m None h e = absurd cc
-signed_by rows k f m (Some g) h e = record { gluing = g; glued = h; lands = let s : 2 * g.tet + sign_behind g (k % 2) ≡ m = cc in sym s }
+signed_by rows k f m (Some g) h e = record { gluing = g; glued = h; lands = let s : 2 * g.tet + sign_by_gluing g (k % 2) ≡ m = cc in sym s }
 
 pub signed : (rows : List Row) (k f m : ℕ) → crossed_sign rows k f ≡ Some m → Signed rows k f m
 unfolding crossed_sign
 signed rows k f m e = signed_by rows k f m (glue rows (record { tet = k / 2; face = f })) refl e
 
-pub crossed_sign-is : (rows : List Row) (k f : ℕ) (g : Gluing) → glue rows (record { tet = k / 2; face = f }) ≡ Some g → crossed_sign rows k f ≡ Some (2 * g.tet + sign_behind g (k % 2))
+pub crossed_sign-is : (rows : List Row) (k f : ℕ) (g : Gluing) → glue rows (record { tet = k / 2; face = f }) ≡ Some g → crossed_sign rows k f ≡ Some (2 * g.tet + sign_by_gluing g (k % 2))
 unfolding crossed_sign
-crossed_sign-is rows k f g h = ap (λ (o : Option Gluing). option_map (λ (x : Gluing). 2 * x.tet + sign_behind x (k % 2)) o) h
+crossed_sign-is rows k f g h = ap (λ (o : Option Gluing). option_map (λ (x : Gluing). 2 * x.tet + sign_by_gluing x (k % 2)) o) h
 
 pub crossed_sign-free : (rows : List Row) (k f : ℕ) → glue rows (record { tet = k / 2; face = f }) ≡ None → crossed_sign rows k f ≡ None
 unfolding crossed_sign
-crossed_sign-free rows k f h = ap (λ (o : Option Gluing). option_map (λ (x : Gluing). 2 * x.tet + sign_behind x (k % 2)) o) h
+crossed_sign-free rows k f h = ap (λ (o : Option Gluing). option_map (λ (x : Gluing). 2 * x.tet + sign_by_gluing x (k % 2)) o) h
 
 sign_small : (b : Bool) (s : ℕ) → s < 2 → (if b then s else 1 - s) < 2
 sign_small true s l = l
@@ -41,15 +41,15 @@ pub sign_twice : (b : Bool) (s : ℕ) → s < 2 → (if b then (if b then s else
 sign_twice true s l = refl
 sign_twice false s l = omega arith
 
-pub behind_small : (g : Gluing) (k : ℕ) → sign_behind g (k % 2) < 2
+pub behind_small : (g : Gluing) (k : ℕ) → sign_by_gluing g (k % 2) < 2
 behind_small g k = sign_small (is_odd g.perm) (k % 2) (omega arith)
 
 -- the tetrahedron and the sign that a signed step reaches
-pub landed : (g : Gluing) (k m : ℕ) → m ≡ 2 * g.tet + sign_behind g (k % 2) → (m / 2 ≡ g.tet) × (m % 2 ≡ sign_behind g (k % 2))
+pub landed : (g : Gluing) (k m : ℕ) → m ≡ 2 * g.tet + sign_by_gluing g (k % 2) → (m / 2 ≡ g.tet) × (m % 2 ≡ sign_by_gluing g (k % 2))
 landed g k m e =
-    let s : sign_behind g (k % 2) < 2 = behind_small g k in
+    let s : sign_by_gluing g (k % 2) < 2 = behind_small g k in
     let d : m / 2 ≡ g.tet = omega (arith, e) in
-    let r : m % 2 ≡ sign_behind g (k % 2) = omega (arith, e) in
+    let r : m % 2 ≡ sign_by_gluing g (k % 2) = omega (arith, e) in
     (d, r)
 
 module _ (rows : List Row) (table : IsTable rows) where
@@ -60,16 +60,16 @@ module _ (rows : List Row) (table : IsTable rows) where
       let x : Face = record { tet = k / 2; face = f } in
       let h = table.permutes x g s.glued in
       let p = landed g k m s.lands in
-      let small : sign_behind g (k % 2) < 2 = behind_small g k in
+      let small : sign_by_gluing g (k % 2) < 2 = behind_small g k in
       let t : g.tet < length rows = table.in_range x g s.glued in
       let inside : m < 2 * length rows = omega (arith, s.lands) in
-      let there : glue rows (record { tet = m / 2; face = image g.perm f }) ≡ Some (way_back x g) =
-      subst (λ u. glue rows (record { tet = u; face = image g.perm f }) ≡ Some (way_back x g)) (sym p.0) (table.leads_back x g s.glued) in
+      let there : glue rows (record { tet = m / 2; face = image g.perm f }) ≡ Some (inverse_gluing x g) =
+      subst (λ u. glue rows (record { tet = u; face = image g.perm f }) ≡ Some (inverse_gluing x g)) (sym p.0) (table.leads_back x g s.glued) in
       let own : k % 2 < 2 = omega arith in
-      let sign : sign_behind (way_back x g) (m % 2) ≡ k % 2 =
+      let sign : sign_by_gluing (inverse_gluing x g) (m % 2) ≡ k % 2 =
       ap (λ b. if b then m % 2 else 1 - m % 2) (is_odd-inverse g.perm h) ∙ ap (λ n. if is_odd g.perm then n else 1 - n) p.1 ∙ sign_twice (is_odd g.perm) (k % 2) own in
-      let home : 2 * (k / 2) + sign_behind (way_back x g) (m % 2) ≡ k = omega (arith, sign) in
-      (inside, (image g.perm f, image_below g.perm f h lf, crossed_sign-is rows m (image g.perm f) (way_back x g) there ∙ ap Some home))
+      let home : 2 * (k / 2) + sign_by_gluing (inverse_gluing x g) (m % 2) ≡ k = omega (arith, sign) in
+      (inside, (image g.perm f, image_below g.perm f h lf, crossed_sign-is rows m (image g.perm f) (inverse_gluing x g) there ∙ ap Some home))
 
   pub few_sign_faces : (k f m : ℕ) → k < 2 * length rows → crossed_sign rows k f ≡ Some m → f < 4
   few_sign_faces k f m l e = let s = signed rows k f m e in glued_face rows (record { tet = k / 2; face = f }) s.gluing table.four_faces s.glued

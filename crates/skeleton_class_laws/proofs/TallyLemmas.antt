@@ -28,38 +28,38 @@ one_yes p i e = rw e refl
 
 module _ (passes : List Bool) (owners : List ℕ) (count : ℕ) where
   pub none_counted : (tallies : List ℕ) → tallies ≡ replicate count 0 → AreTalliesUpTo 0 passes owners count tallies
-  none_counted tallies e = record { one_each = ap (λ (xs : List ℕ). length xs) e ∙ length-replicate count 0; told = λ c l. all_zero tallies count e c }
+  none_counted tallies e = record { one_each = ap (λ (xs : List ℕ). length xs) e ∙ length-replicate count 0; reported = λ c l. all_zero tallies count e c }
 
   module _ (i : ℕ) (tallies : List ℕ) (a : AreTalliesUpTo i passes owners count tallies) where
     pub thing_passes_not : slice_index_or passes i false ≡ false → AreTalliesUpTo (i + 1) passes owners count tallies
     thing_passes_not e = record {
       one_each = a.one_each;
-      told = λ c l. let no : count_by (is_counted passes owners c) (i ∷ []) ≡ 0 = one_no (is_counted passes owners c) i (ap (λ b. b && (slice_index owners i == c)) e) in
-          a.told c l ∙ sym (count_more (is_counted passes owners c) i ∙ (let z : count_by (is_counted passes owners c) (below i) + count_by (is_counted passes owners c) (i ∷ []) ≡ count_by (is_counted passes owners c) (below i) = omega arith in z));
+      reported = λ c l. let no : count_by (is_counted passes owners c) (i ∷ []) ≡ 0 = one_no (is_counted passes owners c) i (ap (λ b. b && (slice_index owners i == c)) e) in
+          a.reported c l ∙ sym (count_more (is_counted passes owners c) i ∙ (let z : count_by (is_counted passes owners c) (below i) + count_by (is_counted passes owners c) (i ∷ []) ≡ count_by (is_counted passes owners c) (below i) = omega arith in z));
     }
 
     pub thing_counts : slice_index_or passes i false ≡ true → slice_index owners i < count → (x : ℕ) → x ≡ slice_index tallies (slice_index owners i) + 1 → (new : List ℕ) → new ≡ set tallies (slice_index owners i) x
         → AreTalliesUpTo (i + 1) passes owners count new
     thing_counts e inside x ex new en = record {
       one_each = ap (λ (xs : List ℕ). length xs) en ∙ length-set tallies (slice_index owners i) x ∙ a.one_each;
-      told = λ c l. ap (λ (xs : List ℕ). slice_index xs c) en ∙ told c l (cases_eq c (slice_index owners i)) ∙ sym (count_more (is_counted passes owners c) i);
+      reported = λ c l. ap (λ (xs : List ℕ). slice_index xs c) en ∙ reported c l (cases_eq c (slice_index owners i)) ∙ sym (count_more (is_counted passes owners c) i);
     }
       where
-        told : (c : ℕ) → c < count → (c ≡ slice_index owners i) ⊎ (c ≢ slice_index owners i) → slice_index (set tallies (slice_index owners i) x) c
+        reported : (c : ℕ) → c < count → (c ≡ slice_index owners i) ⊎ (c ≢ slice_index owners i) → slice_index (set tallies (slice_index owners i) x) c
             ≡ count_by (is_counted passes owners c) (below i) + count_by (is_counted passes owners c) (i ∷ [])
-        told c l (inl same) =
+        reported c l (inl same) =
             let yes : count_by (is_counted passes owners c) (i ∷ []) ≡ 1 = one_yes (is_counted passes owners c) i (λ k. e k && eq-eqb (slice_index owners i) c (sym same) k) in
             let here : slice_index (set tallies (slice_index owners i) x) c ≡ x = ap (slice_index (set tallies (slice_index owners i) x)) same ∙ get_or-set_same tallies (slice_index owners i) x 0 (omega (arith, a.one_each)) in
-            let before : slice_index tallies (slice_index owners i) ≡ count_by (is_counted passes owners c) (below i) = ap (slice_index tallies) (sym same) ∙ a.told c l in
+            let before : slice_index tallies (slice_index owners i) ≡ count_by (is_counted passes owners c) (below i) = ap (slice_index tallies) (sym same) ∙ a.reported c l in
             omega arith
-        told c l (inr other) =
+        reported c l (inr other) =
             let no : count_by (is_counted passes owners c) (i ∷ []) ≡ 0 = one_no (is_counted passes owners c) i (λ k. e k && ne_eqb (slice_index owners i) c (λ f. other (sym f)) k) in
             let here : slice_index (set tallies (slice_index owners i) x) c ≡ slice_index tallies c = get_or-set_other tallies (slice_index owners i) c x 0 other in
-            let before : slice_index tallies c ≡ count_by (is_counted passes owners c) (below i) = a.told c l in
+            let before : slice_index tallies c ≡ count_by (is_counted passes owners c) (below i) = a.reported c l in
             omega arith
 
   pub things_end : (i : ℕ) (tallies : List ℕ) → i ≡ length owners → AreTalliesUpTo i passes owners count tallies → AreTallies passes owners count tallies
-  things_end i tallies e a = record { one_each = a.one_each; told = λ c l. a.told c l ∙ ap (λ k. count_by (is_counted passes owners c) (below k)) e }
+  things_end i tallies e a = record { one_each = a.one_each; reported = λ c l. a.reported c l ∙ ap (λ k. count_by (is_counted passes owners c) (below k)) e }
 
 -- the tetrahedron of an item
 pub owner_inside : (e t n : ℕ) → 0 < e → e ≤ 3 → t < 4 * e * n → t / e / 4 < n

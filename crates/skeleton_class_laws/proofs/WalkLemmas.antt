@@ -9,13 +9,13 @@ use Rattle.table_definitions.specs.Permutation.{four, image, index, words, IsPer
 use Rattle.table_definitions.specs.Table.{Gluing, Row, glue, IsTable}
 use Rattle.table_definitions.specs.Classes.{IsNumbering, least}
 use Rattle.skeleton_definitions.specs.Skeleton.{Skeleton, IsSkeleton, IsAround}
-use Rattle.table_definitions.specs.Places.{Place, edge, ends, edge_number, turned, across, is_boundary, lies_in_boundary, is_boundary_edge, IsJoined, SameEdge}
+use Rattle.table_definitions.specs.Places.{Place, edge, ends, edge_number, backwards, across, is_boundary, lies_in_boundary, is_boundary_edge, IsJoined, SameEdge}
 use Rattle.skeleton_definitions.specs.Corners.{Corner, first_corner, GoesAround, IsTourFrom}
 use Rattle.table_definitions.proofs.ChainLaws.{joined_refl, joined_more}
 use Rattle.table_definitions.proofs.PermutationLaws.{image_below, images_apart}
 use Rattle.table_definitions.proofs.ListFacts.{list_all-below, same_list-true}
 use Rattle.table_definitions.proofs.Permutations.{four_images}
-use Rattle.table_walk_laws.specs.Walks.{after, GoesOn, IsOrbit, last_of}
+use Rattle.table_walk_laws.specs.Walks.{after, AlwaysSteps, IsOrbit, last_of}
 use Rattle.table_walk_laws.proofs.Steps.{after_before}
 use Rattle.table_walk_laws.proofs.ChainLemmas.{going_on_has_cycle}
 use Rattle.skeleton_class_laws.specs.Crossings.{pair}
@@ -45,17 +45,17 @@ module _ (rows : List Row) (table : IsTable rows) where
   goes_round : (first k : ℕ) (ks : List ℕ) → ((j : ℕ) → suc j < length (k ∷ ks) → next_corner rows (slice_index (k ∷ ks) j) ≡ Some (slice_index (k ∷ ks) (suc j)))
       → next_corner rows (last_of (k ∷ ks)) ≡ Some first → ((j : ℕ) → j < length ks → slice_index ks j ≢ first)
       → GoesAround rows (corner_at first) (corner_at k) (map corner_at ks)
-  goes_round first k [] steps back apart = step_corner rows table k ∙ ap (λ (o : Option ℕ). option_map corner_at o) back
-  goes_round first k (l ∷ ls) steps back apart = (
+  goes_round first k [] steps back separate = step_corner rows table k ∙ ap (λ (o : Option ℕ). option_map corner_at o) back
+  goes_round first k (l ∷ ls) steps back separate = (
     step_corner rows table k ∙ ap (λ (o : Option ℕ). option_map corner_at o) (steps 0 (omega arith)),
-    corner_apart l first (apart 0 (omega arith)),
-    goes_round first l ls (λ j m. steps (suc j) (omega arith)) (ap (next_corner rows) (sym last) ∙ back) (λ j m. apart (suc j) (omega arith)),
+    corner_apart l first (separate 0 (omega arith)),
+    goes_round first l ls (λ j m. steps (suc j) (omega arith)) (ap (next_corner rows) (sym last) ∙ back) (λ j m. separate (suc j) (omega arith)),
   )
     where
       last : last_of (k ∷ l ∷ ls) ≡ last_of (l ∷ ls)
       last = let n : length (k ∷ l ∷ ls) - 1 ≡ suc (length (l ∷ ls) - 1) = omega arith in ap (slice_index (k ∷ l ∷ ls)) n
 
-  pub walk_from_round : (start : ℕ) (corners : List Corner) → GoesOn (next_corner rows) start → IsTour (next_corner rows) start corners → IsTourFrom rows (corner_at start) corners
+  pub walk_from_round : (start : ℕ) (corners : List Corner) → AlwaysSteps (next_corner rows) start → IsTour (next_corner rows) start corners → IsTourFrom rows (corner_at start) corners
   walk_from_round start corners on (places, orbit, e) = subst (IsTourFrom rows (corner_at start)) (sym e) (by_places places orbit)
     where
       by_places : (ps : List ℕ) → IsOrbit (next_corner rows) start ps → IsTourFrom rows (corner_at start) (map corner_at ps)
@@ -223,7 +223,7 @@ module _ (rows : List Row) (table : IsTable rows) (classes : List ℕ) (count : 
       both : ((slice_index classes (6 * t + e) == slice_index classes first) && lies_in_boundary rows (6 * t + e)) ≡ true
       both = λ i. eq-eqb (slice_index classes (6 * t + e)) (slice_index classes first) together i && lies_by rows t a b f e small two na nb lf free i
 
-  same_by : (p q : Place) (j : ℕ) → p ≡ edge first → (q ≡ edge j) ⊎ (q ≡ turned (edge j)) → IsJoined rows p q → SameEdge rows first j
+  same_by : (p q : Place) (j : ℕ) → p ≡ edge first → (q ≡ edge j) ⊎ (q ≡ backwards (edge j)) → IsJoined rows p q → SameEdge rows first j
   same_by p q j ep (inl eq) joined = inl (subst₂ (IsJoined rows) ep eq joined)
   same_by p q j ep (inr eq) joined = inr (subst₂ (IsJoined rows) ep eq joined)
 
@@ -261,7 +261,7 @@ module _ (rows : List Row) (table : IsTable rows) (classes : List ℕ) (count : 
       by_glue None h = h
       by_glue (Some g) h = absurd (let z : Some (24 * g.tet + index (word_across g.perm (word_at x))) ≡ None = sym (next_corner-is rows x g h) ∙ e in cc)
 
-  pub inner_goes_on : is_boundary_edge rows classes (slice_index classes first) ≡ false → GoesOn (next_corner rows) (start_of first)
+  pub inner_goes_on : is_boundary_edge rows classes (slice_index classes first) ≡ false → AlwaysSteps (next_corner rows) (start_of first)
   inner_goes_on inner x r e =
       let l : start_of first < 24 * length rows = start_below first (length rows) inside in
       let lx : x < 24 * length rows = reached_below rows table (start_of first) r.0 x l r.1 in

@@ -42,7 +42,7 @@ IsOrdered classes = (x class : ℕ) → x < length classes → class < slice_ind
 
 -- the least member of each class
 pub record AreFirsts (classes firsts : List ℕ) : Type 0 where
-  pub few : length firsts ≤ length classes
+  pub limited : length firsts ≤ length classes
   pub below : (i : ℕ) → i < length classes → slice_index classes i < length firsts
   pub least_member : (c : ℕ) → c < length firsts → slice_index firsts c ≡ least classes c
   pub in_range : (c : ℕ) → c < length firsts → slice_index firsts c < length classes

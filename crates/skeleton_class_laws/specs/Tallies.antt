@@ -13,12 +13,12 @@ is_counted passes owners c j = slice_index_or passes j false && (slice_index own
 
 pub record AreTallies (passes : List Bool) (owners : List ℕ) (count : ℕ) (tallies : List ℕ) : Type 0 where
   pub one_each : length tallies ≡ count
-  pub told : (c : ℕ) → c < count → slice_index tallies c ≡ count_by (is_counted passes owners c) (below (length owners))
+  pub reported : (c : ℕ) → c < count → slice_index tallies c ≡ count_by (is_counted passes owners c) (below (length owners))
 
 -- the same of the things before thing i
 pub record AreTalliesUpTo (i : ℕ) (passes : List Bool) (owners : List ℕ) (count : ℕ) (tallies : List ℕ) : Type 0 where
   pub one_each : length tallies ≡ count
-  pub told : (c : ℕ) → c < count → slice_index tallies c ≡ count_by (is_counted passes owners c) (below i)
+  pub reported : (c : ℕ) → c < count → slice_index tallies c ≡ count_by (is_counted passes owners c) (below i)
 
 -- the face of the j % 3-th side of the triangle at vertex j / 3
 unfoldable pub side_at : ℕ → Face

@@ -55,7 +55,7 @@ IsAround s c corners =
 -- the links of the vertex classes below n, by the numbering of the directed edges
 pub record AreLinksUpTo (s : Skeleton) (directions : List ℕ) (n : ℕ) (links : List Link) : Type 0 where
   pub one_each : length links ≡ n
-  pub told : (c : ℕ) (l : Link) → c < n → l ≡ slice_index_or links c l → IsLink s.rows s.vertices.classes directions c l
+  pub reported : (c : ℕ) (l : Link) → c < n → l ≡ slice_index_or links c l → IsLink s.rows s.vertices.classes directions c l
 
 -- the links of the vertex classes, by some numbering of the directed edges
 abbrev pub AreLinks : Skeleton → ℕ → List Link → Type 0

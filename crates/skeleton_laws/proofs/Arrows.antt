@@ -21,16 +21,16 @@ pub record IsArrow (n : ℕ) (p : Place) : Type 0 where
   pub below : p.tet < n
   pub low_v : v < 4
   pub low_w : w < 4
-  pub apart : v ≢ w
+  pub separate : v ≢ w
 
 pub arrow_number : (n : ℕ) (p : Place) (a : IsArrow n p) → direction_at p ≡ 12 * p.tet + pair_number a.v a.w
 arrow_number n p a = ap (λ (r : Place). direction_at r) a.is
 
 pub arrow_below : (n : ℕ) (p : Place) → IsArrow n p → direction_at p < 12 * n
-arrow_below n p a = let e = arrow_number n p a in let s = (pair_number-parts a.v a.w a.low_v a.low_w a.apart).0 in let l = a.below in omega arith
+arrow_below n p a = let e = arrow_number n p a in let s = (pair_number-parts a.v a.w a.low_v a.low_w a.separate).0 in let l = a.below in omega arith
 
 pub arrow_again : (n : ℕ) (p : Place) → IsArrow n p → directed (direction_at p) ≡ p
-arrow_again n p a = ap directed (arrow_number n p a) ∙ pair_is p.tet a.v a.w a.low_v a.low_w a.apart ∙ sym a.is
+arrow_again n p a = ap directed (arrow_number n p a) ∙ pair_is p.tet a.v a.w a.low_v a.low_w a.separate ∙ sym a.is
 
 pub arrow_place : (n : ℕ) (p : Place) → IsArrow n p → IsPlace p
 arrow_place n p a = subst IsPlace (sym a.is) (a.low_v, (a.low_w, tt))
@@ -38,7 +38,7 @@ arrow_place n p a = subst IsPlace (sym a.is) (a.low_v, (a.low_w, tt))
 pub directed_arrow : (n i : ℕ) → i < 12 * n → IsArrow n (directed i)
 directed_arrow n i l =
     let r : i % 12 < 12 = omega arith in
-    record { v = (i % 12) / 3; w = head (i % 12); is = directed_pair i; below = omega arith; low_v = omega arith; low_w = head_below (i % 12) r; apart = apart_head (i % 12) r }
+    record { v = (i % 12) / 3; w = head (i % 12); is = directed_pair i; below = omega arith; low_v = omega arith; low_w = head_below (i % 12) r; separate = apart_head (i % 12) r }
 
 -- the vertex at which a directed edge begins
 abbrev pub tail_of : Place → Place

@@ -5,7 +5,7 @@ use Rattle.std.proofs.lemmas.List.FromFn.{length-range_with_len}
 use Rattle.table_definitions.specs.Lists.{below}
 use Rattle.table_definitions.specs.Table.{Row}
 use Rattle.table_definitions.specs.Classes.{IsNumbering, least}
-use Rattle.table_definitions.specs.Places.{Place, edge, edge_number, turned, IsJoined, SameEdge, HasValidEdges}
+use Rattle.table_definitions.specs.Places.{Place, edge, edge_number, backwards, IsJoined, SameEdge, HasValidEdges}
 use Rattle.table_definitions.proofs.ChainLaws.{joined_turned}
 use Rattle.table_definitions.proofs.ClassLaws.{least_class}
 use Rattle.table_definitions.proofs.DistinctLists.{apart_below}
@@ -48,8 +48,8 @@ module _ (rows : List Row) (es : List ℕ) (e : ℕ) (edges : IsNumbering (6 * l
     among : Among y (both (below e) (below e))
     is : Direction k y
 
-  told : (i j : ℕ) → i < 12 * length rows → j < 6 * length rows → (directed i ≡ edge j) ⊎ (directed i ≡ turned (edge j)) → Told (slice_index ds i)
-  told i j li lj way = go way same
+  reported : (i j : ℕ) → i < 12 * length rows → j < 6 * length rows → (directed i ≡ edge j) ⊎ (directed i ≡ backwards (edge j)) → Told (slice_index ds i)
+  reported i j li lj way = go way same
     where
       c : ℕ
       c = slice_index es j
@@ -63,25 +63,25 @@ module _ (rows : List Row) (es : List ℕ) (e : ℕ) (edges : IsNumbering (6 * l
       ahead : IsJoined rows (directed i) (edge (least es c)) → Told (slice_index ds i)
       ahead g = record { y = inl c; among = first_kind (below e) (below e) c (Among-below c e lc); is = sym (classes_of i (forward (least es c)) li (there c lc) (directed i) (edge (least es c)) refl (directed_forward (least es c)) g) }
 
-      behind : IsJoined rows (directed i) (turned (edge (least es c))) → Told (slice_index ds i)
-      behind g = record { y = inr c; among = second_kind (below e) (below e) c (Among-below c e lc); is = sym (classes_of i (backward (least es c)) li (back_there c lc) (directed i) (turned (edge (least es c))) refl (directed_backward (least es c)) g) }
+      behind : IsJoined rows (directed i) (backwards (edge (least es c))) → Told (slice_index ds i)
+      behind g = record { y = inr c; among = second_kind (below e) (below e) c (Among-below c e lc); is = sym (classes_of i (backward (least es c)) li (back_there c lc) (directed i) (backwards (edge (least es c))) refl (directed_backward (least es c)) g) }
 
       from : (p q : Place) → directed i ≡ p → IsJoined rows p q → IsJoined rows (directed i) q
       from p q f g = subst (λ (r : Place). IsJoined rows r q) (sym f) g
 
-      go : (directed i ≡ edge j) ⊎ (directed i ≡ turned (edge j)) → SameEdge rows j (least es c) → Told (slice_index ds i)
+      go : (directed i ≡ edge j) ⊎ (directed i ≡ backwards (edge j)) → SameEdge rows j (least es c) → Told (slice_index ds i)
       go (inl f) (inl g) = ahead (from (edge j) (edge (least es c)) f g)
-      go (inl f) (inr g) = behind (from (edge j) (turned (edge (least es c))) f g)
-      go (inr f) (inl g) = behind (from (turned (edge j)) (turned (edge (least es c))) f (joined_turned rows (edge j) (edge (least es c)) g))
-      go (inr f) (inr g) = ahead (from (turned (edge j)) (edge (least es c)) f (subst (λ (q : Place). IsJoined rows (turned (edge j)) q) (turned_twice (least es c)) (joined_turned rows (edge j) (turned (edge (least es c))) g)))
+      go (inl f) (inr g) = behind (from (edge j) (backwards (edge (least es c))) f g)
+      go (inr f) (inl g) = behind (from (backwards (edge j)) (backwards (edge (least es c))) f (joined_turned rows (edge j) (edge (least es c)) g))
+      go (inr f) (inr g) = ahead (from (backwards (edge j)) (edge (least es c)) f (subst (λ (q : Place). IsJoined rows (backwards (edge j)) q) (turned_twice (least es c)) (joined_turned rows (edge j) (backwards (edge (least es c))) g)))
 
   forth : (k : ℕ) → Among k (below d) → (y : ℕ ⊎ ℕ) × Among y (both (below e) (below e)) × Direction k y
   forth k a =
       let i = arrows.none_empty k (below-among k d a) in
       let ar : IsArrow (length rows) (directed i.0) = directed_arrow (length rows) i.0 i.1 in
       let t : ℕ = (directed i.0).tet in
-      let way : (directed i.0 ≡ edge (6 * t + edge_number ar.v ar.w)) ⊎ (directed i.0 ≡ turned (edge (6 * t + edge_number ar.v ar.w))) = elim (pair_either t ar.v ar.w ar.low_v ar.low_w ar.apart) [ inl q ↦ inl (ar.is ∙ q) | inr q ↦ inr (ar.is ∙ q) ] in
-      let z = told i.0 (6 * t + edge_number ar.v ar.w) i.1 (edge_below t ar.v ar.w (length rows) ar.low_v ar.low_w ar.apart ar.below) way in
+      let way : (directed i.0 ≡ edge (6 * t + edge_number ar.v ar.w)) ⊎ (directed i.0 ≡ backwards (edge (6 * t + edge_number ar.v ar.w))) = elim (pair_either t ar.v ar.w ar.low_v ar.low_w ar.separate) [ inl q ↦ inl (ar.is ∙ q) | inr q ↦ inr (ar.is ∙ q) ] in
+      let z = reported i.0 (6 * t + edge_number ar.v ar.w) i.1 (edge_below t ar.v ar.w (length rows) ar.low_v ar.low_w ar.separate ar.below) way in
       (z.y, z.among, subst (λ n. Direction n z.y) i.2 z.is)
 
   back : (y : ℕ ⊎ ℕ) → Among y (both (below e) (below e)) → (k : ℕ) × Among k (below d) × Direction k y
@@ -94,9 +94,9 @@ module _ (rows : List Row) (es : List ℕ) (e : ℕ) (edges : IsNumbering (6 * l
 
   never : (c c' : ℕ) → c < e → c' < e → slice_index ds (forward (least es c)) ≡ slice_index ds (backward (least es c')) → ⊥
   never c c' l l' s =
-      let g = joined (forward (least es c)) (backward (least es c')) (there c l) (back_there c' l') (edge (least es c)) (turned (edge (least es c'))) (directed_forward (least es c)) (directed_backward (least es c')) s in
+      let g = joined (forward (least es c)) (backward (least es c')) (there c l) (back_there c' l') (edge (least es c)) (backwards (edge (least es c'))) (directed_forward (least es c)) (directed_backward (least es c')) s in
       let same : c ≡ c' = same_class c c' l l' (inr g) in
-      valid (least es c) (start_is c l).0 (subst (λ k. IsJoined rows (edge (least es c)) (turned (edge (least es k)))) (sym same) g)
+      valid (least es c) (start_is c l).0 (subst (λ k. IsJoined rows (edge (least es c)) (backwards (edge (least es k)))) (sym same) g)
 
   once' : (k : ℕ) (y y' : ℕ ⊎ ℕ) → Among y (both (below e) (below e)) → Among y' (both (below e) (below e)) → Direction k y → Direction k y' → y ≡ y'
   once' k (inl c) (inl c') a b r s =
@@ -109,8 +109,8 @@ module _ (rows : List Row) (es : List ℕ) (e : ℕ) (edges : IsNumbering (6 * l
   once' k (inr c) (inr c') a b r s =
       let l = below-among c e (is_second_kind (below e) (below e) c a) in
       let l' = below-among c' e (is_second_kind (below e) (below e) c' b) in
-      let g = joined (backward (least es c)) (backward (least es c')) (back_there c l) (back_there c' l') (turned (edge (least es c))) (turned (edge (least es c'))) (directed_backward (least es c)) (directed_backward (least es c')) (r ∙ sym s) in
-      let g' : IsJoined rows (edge (least es c)) (edge (least es c')) = subst₂ (IsJoined rows) (turned_twice (least es c)) (turned_twice (least es c')) (joined_turned rows (turned (edge (least es c))) (turned (edge (least es c'))) g) in
+      let g = joined (backward (least es c)) (backward (least es c')) (back_there c l) (back_there c' l') (backwards (edge (least es c))) (backwards (edge (least es c'))) (directed_backward (least es c)) (directed_backward (least es c')) (r ∙ sym s) in
+      let g' : IsJoined rows (edge (least es c)) (edge (least es c')) = subst₂ (IsJoined rows) (turned_twice (least es c)) (turned_twice (least es c')) (joined_turned rows (backwards (edge (least es c))) (backwards (edge (least es c'))) g) in
       ap (λ z. inr z) (same_class c c' l l' (inl g'))
 
   pub two_directions : d ≡ e + e

@@ -69,7 +69,7 @@ module _ (rows : List Row) (table : IsTable rows) (fs : List ℕ) (f : ℕ) (fac
       let x : Face = face_of (least fs c') in
       let here : other_side (face_of (least fs c')) s.0 ≡ face_of (least fs c') = s.2 ∙ ap face_of (sym r ∙ ap (least fs) same) in
       let t : same_face (other_side x s.0) x ≡ true = ap (λ (y : Face). same_face y x) here ∙ same_face-itself x in
-      let apart = table.apart x s.0 s.1 in
+      let separate = table.separate x s.0 s.1 in
       cc
 
   face_once' : (k : ℕ) (y y' : ℕ ⊎ ℕ) → k < 4 * length rows → Among y (both (below f) (below f)) → Among y' (both (below f) (below f)) → FaceSide k y → FaceSide k y' → y ≡ y'

@@ -5,7 +5,7 @@ use Rattle.std.proofs.lemmas.Bool.{and_parts, and_from, ne_eqb, false≢true}
 use Rattle.basic_lemmas.proofs.Truths.{by_bool}
 use Rattle.table_definitions.specs.Lists.{has}
 use Rattle.table_definitions.specs.Permutation.{image, inverse}
-use Rattle.table_definitions.specs.Table.{Gluing, Row, glue, other_side, way_back, is_face_before, IsTable}
+use Rattle.table_definitions.specs.Table.{Gluing, Row, glue, other_side, inverse_gluing, is_face_before, IsTable}
 use Rattle.table_definitions.specs.Classes.{IsNumbering}
 use Rattle.table_definitions.specs.Places.{SameVertex, vertex, is_boundary}
 use Rattle.table_definitions.proofs.ChainLaws.{joined_step, across_by}
@@ -37,11 +37,11 @@ module _ (rows : List Row) (table : IsTable rows) (classes : List ℕ) (count : 
     pub below : other k g < 4 * (4 * length rows)
     pub side : is_side classes c (other k g) ≡ true
     pub face : side_face (other k g) ≡ other_side (side_face k) g
-    pub back : glue rows (side_face (other k g)) ≡ Some (way_back (side_face k) g)
-    pub again : other (other k g) (way_back (side_face k) g) ≡ k
+    pub back : glue rows (side_face (other k g)) ≡ Some (inverse_gluing (side_face k) g)
+    pub again : other (other k g) (inverse_gluing (side_face k) g) ≡ k
 
   pub crosses : (k : ℕ) (g : Gluing) → k < 4 * (4 * length rows) → is_side classes c k ≡ true → glue rows (side_face k) ≡ Some g → Crosses k g
-  crosses k g l h e = record { below = (let t = a.other_tet in let b : image g.perm (k / 4 % 4) < 4 = lv' in let d : image g.perm (k % 4) < 4 = a.other_face in omega arith); side = is_side_from classes c (other k g) (λ q. apart (sym parts.vertex ∙ q ∙ parts.face)) same; face = face; back = ap (glue rows) face ∙ a.back; again = again }
+  crosses k g l h e = record { below = (let t = a.other_tet in let b : image g.perm (k / 4 % 4) < 4 = lv' in let d : image g.perm (k % 4) < 4 = a.other_face in omega arith); side = is_side_from classes c (other k g) (λ q. separate (sym parts.vertex ∙ q ∙ parts.face)) same; face = face; back = ap (glue rows) face ∙ a.back; again = again }
     where
       s : IsSideAt classes c k
       s = side_is classes c k h
@@ -58,8 +58,8 @@ module _ (rows : List Row) (table : IsTable rows) (classes : List ℕ) (count : 
       parts : HasParts g.tet v' (image g.perm (k % 4))
       parts = has_parts g.tet v' (image g.perm (k % 4)) lv' a.other_face
 
-      apart : v' ≢ image g.perm (k % 4)
-      apart = images_apart g.perm (k / 4 % 4) (k % 4) a.permutes (low_v k) (low_f k) s.off
+      separate : v' ≢ image g.perm (k % 4)
+      separate = images_apart g.perm (k / 4 % 4) (k % 4) a.permutes (low_v k) (low_f k) s.off
 
       face : side_face (other k g) ≡ other_side (side_face k) g
       face = λ i. face_at (parts.tet i) (parts.face i)
@@ -73,7 +73,7 @@ module _ (rows : List Row) (table : IsTable rows) (classes : List ℕ) (count : 
       same : slice_index classes (other k g / 4) ≡ c
       same = ap (slice_index classes) parts.place ∙ sym ((numbered.together (k / 4) (4 * g.tet + v') (omega arith) (let t = a.other_tet in let b : image g.perm (k / 4 % 4) < 4 = lv' in omega arith)).1 joined) ∙ s.at
 
-      again : other (other k g) (way_back (side_face k) g) ≡ k
+      again : other (other k g) (inverse_gluing (side_face k) g) ≡ k
       again =
           (λ i. side_number (k / 4 / 4) (image (inverse g.perm) (parts.vertex i)) (image (inverse g.perm) (parts.face i)))
           ∙ (λ i. side_number (k / 4 / 4) (image-of_inverse g.perm (k / 4 % 4) a.permutes (low_v k) i) (image-of_inverse g.perm (k % 4) a.permutes (low_f k) i))
@@ -154,10 +154,10 @@ module _ (rows : List Row) (table : IsTable rows) (classes : List ℕ) (count : 
           let x = crosses k g p.0 p.1 e in
           let i = glued_is rows (side_face k) g table e in
           let after : is_face_before (side_face k) (other_side (side_face k) g) ≡ false = ap (is_first_side (side_face k)) (sym e) ∙ t in
-          let first : is_face_before (other_side (side_face k) g) (side_face k) ≡ true = elim (before_or_after (side_face k) (other_side (side_face k) g) (table.apart (side_face k) g e)) [
+          let first : is_face_before (other_side (side_face k) g) (side_face k) ≡ true = elim (before_or_after (side_face k) (other_side (side_face k) g) (table.separate (side_face k) g e)) [
             | inl b ↦ absurd (false≢true (sym after ∙ b))
             | inr b ↦ b
           ] in
-          let told : is_first_side (side_face (other k g)) (glue rows (side_face (other k g))) ≡ true =
-          ap (is_first_side (side_face (other k g))) x.back ∙ ap (λ y. is_face_before y (other_side y (way_back (side_face k) g))) x.face ∙ ap (is_face_before (other_side (side_face k) g)) i.returns ∙ first in
-          (inr (other k g), second_kind firsts firsts (other k g) (is_first (other k g) x.below x.side told), (way_back (side_face k) g, x.back, x.again))
+          let reported : is_first_side (side_face (other k g)) (glue rows (side_face (other k g))) ≡ true =
+          ap (is_first_side (side_face (other k g))) x.back ∙ ap (λ y. is_face_before y (other_side y (inverse_gluing (side_face k) g))) x.face ∙ ap (is_face_before (other_side (side_face k) g)) i.returns ∙ first in
+          (inr (other k g), second_kind firsts firsts (other k g) (is_first (other k g) x.below x.side reported), (inverse_gluing (side_face k) g, x.back, x.again))

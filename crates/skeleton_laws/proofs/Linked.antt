@@ -9,7 +9,7 @@ use Rattle.skeleton_definitions.specs.declared.Link.{Link}
 use Rattle.skeleton_definitions.specs.Links.{link_edges, link_vertices, euler_of, is_closed_link, kind_of, IsOrientableLink, IsLink}
 use Rattle.skeleton_definitions.specs.Skeleton.{Skeleton, IsSkeleton, AreLinksUpTo, AreLinks}
 use Rattle.skeleton_class_laws.specs.declared.Kind.TheVariants.{Directions, VertexSigns}
-use Rattle.skeleton_class_laws.proofs.LinkSigns.{tells_apart, orientable_by}
+use Rattle.skeleton_class_laws.proofs.LinkSigns.{is_consistent, orientable_by}
 use Rattle.skeleton_class_laws.proofs.TallyLemmas.{each_more}
 use Rattle.skeleton_class_laws.specs.Laws.{HasClasses}
 use Rattle.skeleton_class_laws.proofs.Numbered.{classes_exist}
@@ -24,7 +24,7 @@ module _ (s : Skeleton) (k : IsSkeleton s) (d : HasClasses Directions s.rows) (v
 
   apart_or_joined : (c i : ℕ) → Apart c i ⊎ Joined c i
   apart_or_joined c i = elim (cases_lt i (4 * length s.rows)) [
-    | inr past ↦ inl (λ l. absurd (omega arith))
+    | inr exceeded ↦ inl (λ l. absurd (omega arith))
     | inl l ↦ elim (cases_eq (slice_index s.vertices.classes i) c) [
       | inr other ↦ inl (λ _ own. absurd (other own))
       | inl own ↦ elim (cases_eq (slice_index v.classes (2 * i)) (slice_index v.classes (2 * i + 1))) [
@@ -36,12 +36,12 @@ module _ (s : Skeleton) (k : IsSkeleton s) (d : HasClasses Directions s.rows) (v
 
   link_orientable_or_not : (c : ℕ) → IsOrientableLink s.rows s.vertices.classes c ⊎ (IsOrientableLink s.rows s.vertices.classes c → ⊥)
   link_orientable_or_not c = elim (all_or_one (Apart c) (Joined c) (apart_or_joined c) (4 * length s.rows)) [
-    | inl apart ↦ inl (orientable_by s.rows k.table s.vertices.classes s.vertices.count k.vertices v.classes v.count v.numbered c (λ i l. apart i l l))
-    | inr w ↦ inr (λ o. tells_apart s.rows k.table s.vertices.classes s.vertices.count k.vertices v.classes v.count v.numbered c o w.0 w.2.0 w.2.1 w.2.2)
+    | inl separate ↦ inl (orientable_by s.rows k.table s.vertices.classes s.vertices.count k.vertices v.classes v.count v.numbered c (λ i l. separate i l l))
+    | inr w ↦ inr (λ o. is_consistent s.rows k.table s.vertices.classes s.vertices.count k.vertices v.classes v.count v.numbered c o w.0 w.2.0 w.2.1 w.2.2)
   ]
 
-  told : (c : ℕ) → (b : Bool) × (IsTrue b ↔ IsOrientableLink s.rows s.vertices.classes c)
-  told c = elim (link_orientable_or_not c) [
+  reported : (c : ℕ) → (b : Bool) × (IsTrue b ↔ IsOrientableLink s.rows s.vertices.classes c)
+  reported c = elim (link_orientable_or_not c) [
     | inl o ↦ (true, (λ _. o, λ _. refl))
     | inr never ↦ (false, (λ t. absurd (false≢true t), λ o. absurd (never o)))
   ]
@@ -67,18 +67,18 @@ module _ (s : Skeleton) (k : IsSkeleton s) (d : HasClasses Directions s.rows) (v
   }
 
   some_link : (c : ℕ) → (link : Link) × IsLink s.rows s.vertices.classes d.classes c link
-  some_link c = let o = told c in
+  some_link c = let o = reported c in
       (link_with c o.0, record { triangles = refl; edges = refl; vertices = refl; euler = refl; closed = refl; orientable = o.1; kind = refl })
 
   links_up_to : (n : ℕ) → (links : List Link) × AreLinksUpTo s d.classes n links
-  links_up_to zero = ([], record { one_each = refl; told = λ c l m e. absurd (omega arith) })
+  links_up_to zero = ([], record { one_each = refl; reported = λ c l m e. absurd (omega arith) })
   links_up_to (suc n) =
       let before = links_up_to n in
       let here = some_link n in (
         before.0 ++ here.0 ∷ [],
         subst (λ m. AreLinksUpTo s d.classes m (before.0 ++ here.0 ∷ [])) (add-one n) (record {
           one_each = length_push before.0 here.0 ∙ (let e = before.1.one_each in omega arith);
-          told = each_more (λ (m : ℕ) (l : Link). IsLink s.rows s.vertices.classes d.classes m l) before.0 here.0 n before.1.one_each before.1.told here.1;
+          reported = each_more (λ (m : ℕ) (l : Link). IsLink s.rows s.vertices.classes d.classes m l) before.0 here.0 n before.1.one_each before.1.reported here.1;
         }),
       )
 

@@ -13,27 +13,27 @@ module _ {A B : Type 0} (R : A → B → Type 0) (ys : List B) where
   record Chosen (xs : List A) : Type 0 where
     list : List B
     long : length list ≡ length xs
-    apart : AreApart list
+    separate : AreApart list
     within : (y : B) → Among y list → Among y ys
     of : (y : B) → Among y list → (x : A) × Among x xs × R x y
 
   chosen : (xs : List A) → AreApart xs → ((x : A) → Among x xs → (y : B) × Among y ys × R x y) → ((x x' : A) (y : B) → Among x xs → Among x' xs → R x y → R x' y → x ≡ x') → Chosen xs
-  chosen [] apart all once = record { list = []; long = refl; apart = tt; within = λ y a. absurd a; of = λ y a. absurd a }
-  chosen (x ∷ xs) apart all once =
-      let rest : Chosen xs = chosen xs apart.1 (λ z a. all z (inr a)) (λ z z' y a b. once z z' y (inr a) (inr b)) in
+  chosen [] separate all once = record { list = []; long = refl; separate = tt; within = λ y a. absurd a; of = λ y a. absurd a }
+  chosen (x ∷ xs) separate all once =
+      let rest : Chosen xs = chosen xs separate.1 (λ z a. all z (inr a)) (λ z z' y a b. once z z' y (inr a) (inr b)) in
       let here = all x (inl refl) in
       record {
         list = here.0 ∷ rest.list;
         long = ap suc rest.long;
-        apart = ((λ a. let z = rest.of here.0 a in apart.0 (subst (λ (u : A). Among u xs) (once z.0 x here.0 (inr z.1) (inl refl) z.2 here.2) z.1)), rest.apart);
+        separate = ((λ a. let z = rest.of here.0 a in separate.0 (subst (λ (u : A). Among u xs) (once z.0 x here.0 (inr z.1) (inl refl) z.2 here.2) z.1)), rest.separate);
         within = λ y a. elim a [ inl e ↦ subst (λ (u : B). Among u ys) (sym e) here.1 | inr b ↦ rest.within y b ];
         of = λ y a. elim a [ inl e ↦ (x, inl refl, subst (λ (u : B). R x u) (sym e) here.2) | inr b ↦ (let z = rest.of y b in (z.0, inr z.1, z.2)) ];
       }
 
   pub related_short : (xs : List A) → AreApart xs → ((x : A) → Among x xs → (y : B) × Among y ys × R x y) → ((x x' : A) (y : B) → Among x xs → Among x' xs → R x y → R x' y → x ≡ x') → length xs ≤ length ys
-  related_short xs apart all once =
-      let c : Chosen xs = chosen xs apart all once in
-      let s : length c.list ≤ length ys = apart_short c.list ys c.apart c.within in
+  related_short xs separate all once =
+      let c : Chosen xs = chosen xs separate all once in
+      let s : length c.list ≤ length ys = apart_short c.list ys c.separate c.within in
       let l : length c.list ≡ length xs = c.long in
       omega arith
 

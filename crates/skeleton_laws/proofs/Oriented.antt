@@ -30,17 +30,17 @@ module _ (rows : List Row) (table : IsTable rows) (c : HasClasses Signs rows) wh
   signs_by : AreSignsBy c.classes (length rows) (map sign (below (length rows)))
   signs_by = record {
     one_each = length-map-range_with_len sign 0 (length rows);
-    told = λ t l. get_or-map-range_with_len sign 0 (length rows) t t false l (omega arith);
+    reported = λ t l. get_or-map-range_with_len sign 0 (length rows) t t false l (omega arith);
   }
 
-  told : (signs : Option (List Bool)) × IsOrientation rows signs
-  told = elim (all_or_one Apart Joined apart_or_joined (length rows)) [
-    | inl apart ↦ (Some (map sign (below (length rows))), oriented rows table c.classes c.count c.numbered apart (map sign (below (length rows))) signs_by)
+  reported : (signs : Option (List Bool)) × IsOrientation rows signs
+  reported = elim (all_or_one Apart Joined apart_or_joined (length rows)) [
+    | inl separate ↦ (Some (map sign (below (length rows))), oriented rows table c.classes c.count c.numbered separate (map sign (below (length rows))) signs_by)
     | inr w ↦ (None, not_orientable rows table c.classes c.count c.numbered w.0 w.1 w.2)
   ]
 
 pub some_orientation : (rows : List Row) → IsTable rows → (signs : Option (List Bool)) × IsOrientation rows signs
-some_orientation rows table = told rows table (classes_exist Signs rows table)
+some_orientation rows table = reported rows table (classes_exist Signs rows table)
 
 orientable_by : (rows : List Row) (signs : Option (List Bool)) → IsOrientation rows signs → IsOrientable rows ⊎ (IsOrientable rows → ⊥)
 orientable_by rows None never = inr never

@@ -33,7 +33,7 @@ invalid_or_not rows i table l =
     let is = runs_against-is rows d.classes d.count d.numbered i i l l in
     elim (cases_Bool (runs_against d.classes i i)) [
       | inl joined ↦ inl (is.0 joined)
-      | inr apart ↦ inr (λ j. false≢true (sym apart ∙ is.1 j))
+      | inr separate ↦ inr (λ j. false≢true (sym separate ∙ is.1 j))
     ]
 
 module _ (s : Skeleton) (k : IsSkeleton s) where
@@ -45,7 +45,7 @@ module _ (s : Skeleton) (k : IsSkeleton s) where
 
   pub valid_or_not : (c : ℕ) → Valid c ⊎ Invalid c
   valid_or_not c = elim (cases_lt c s.edges.count) [
-    | inr past ↦ inl (λ l. absurd (omega arith))
+    | inr exceeded ↦ inl (λ l. absurd (omega arith))
     | inl l ↦ elim (invalid_or_not s.rows (least s.edges.classes c) k.table (least_in_range (6 * length s.rows) (SameEdge s.rows) s.edges.classes s.edges.count c k.edges l)) [
       | inl invalid ↦ inr (l, invalid)
       | inr valid ↦ inl (λ _. valid)

@@ -3,7 +3,7 @@ use Rattle.std.proofs.Common.{◌≡◌, ℕ, ◌+◌, ◌*◌, ◌/◌, ◌%◌
 use Rattle.std.specs.Prelude.{◌==◌, count_by}
 use Rattle.table_definitions.specs.Lists.{below, times_in}
 use Rattle.table_definitions.specs.Permutation.{image}
-use Rattle.table_definitions.specs.Table.{Gluing, Row, glue, other_side, way_back, is_face_before, IsTable}
+use Rattle.table_definitions.specs.Table.{Gluing, Row, glue, other_side, inverse_gluing, is_face_before, IsTable}
 use Rattle.table_definitions.specs.Classes.{IsNumbering}
 use Rattle.table_definitions.specs.Places.{SameVertex, is_boundary}
 use Rattle.table_definitions.proofs.Faces.{not_both_before}
@@ -47,9 +47,9 @@ module _ (rows : List Row) (table : IsTable rows) (classes : List ℕ) (count : 
       let x = crosses rows table classes count numbered c l g f'.below f'.side e in
       let i = glued_is rows (side_face l) g table e in
       let at : side_face k ≡ other_side (side_face l) g = ap side_face (sym q) ∙ x.face in
-      let glued : glue rows (side_face k) ≡ Some (way_back (side_face l) g) = ap (λ m. glue rows (side_face m)) (sym q) ∙ x.back in
-      let first : is_face_before (side_face k) (other_side (side_face k) (way_back (side_face l) g)) ≡ true = before rows table classes count numbered c k (way_back (side_face l) g) f glued in
-      let there : other_side (side_face k) (way_back (side_face l) g) ≡ side_face l = ap (λ y. other_side y (way_back (side_face l) g)) at ∙ i.returns in
+      let glued : glue rows (side_face k) ≡ Some (inverse_gluing (side_face l) g) = ap (λ m. glue rows (side_face m)) (sym q) ∙ x.back in
+      let first : is_face_before (side_face k) (other_side (side_face k) (inverse_gluing (side_face l) g)) ≡ true = before rows table classes count numbered c k (inverse_gluing (side_face l) g) f glued in
+      let there : other_side (side_face k) (inverse_gluing (side_face l) g) ≡ side_face l = ap (λ y. other_side y (inverse_gluing (side_face l) g)) at ∙ i.returns in
       not_both_before (side_face l) (side_face k) (ap (is_face_before (side_face l)) at ∙ before rows table classes count numbered c l g f' e) (sym (ap (is_face_before (side_face k)) there) ∙ first)
 
   once : (x x' y : ℕ ⊎ ℕ) → Among x (both firsts firsts) → Among x' (both firsts firsts) → Halves x y → Halves x' y → x ≡ x'
@@ -65,7 +65,7 @@ module _ (rows : List Row) (table : IsTable rows) (classes : List ℕ) (count : 
       let x = crosses rows table classes count numbered c k r.0 f.below f.side r.1 in
       let y = crosses rows table classes count numbered c l s.0 f'.below f'.side s.1 in
       let same : other k r.0 ≡ other l s.0 = r.2 ∙ sym s.2 in
-      let ways : way_back (side_face k) r.0 ≡ way_back (side_face l) s.0 = same_glue (other k r.0) (way_back (side_face k) r.0) (way_back (side_face l) s.0) x.back (ap (λ n. glue rows (side_face n)) same ∙ y.back) in
+      let ways : inverse_gluing (side_face k) r.0 ≡ inverse_gluing (side_face l) s.0 = same_glue (other k r.0) (inverse_gluing (side_face k) r.0) (inverse_gluing (side_face l) s.0) x.back (ap (λ n. glue rows (side_face n)) same ∙ y.back) in
       ap (λ n. inr n) (sym x.again ∙ (λ i. other (same i) (ways i)) ∙ y.again)
   once (inr k) (inr l) (inr m) a b r s = ap (λ n. inr n) (r.1 ∙ sym s.1)
 

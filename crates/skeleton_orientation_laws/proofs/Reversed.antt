@@ -4,7 +4,7 @@ use Rattle.std.proofs.Common.{◌≡◌, ℕ, zero, suc, ◌<◌, List, [], ◌�
 use Rattle.std.specs.Prelude.{option_map, option_and_then, not}
 use Rattle.std.proofs.lemmas.Bool.{and_from, eq-eqb, false≢true}
 use Rattle.table_definitions.specs.Permutation.{IsPermutationOfFour, is_permutation, image, compose}
-use Rattle.table_definitions.specs.Table.{Gluing, Row, Face, glue, same_face, other_side, way_back, IsTable}
+use Rattle.table_definitions.specs.Table.{Gluing, Row, Face, glue, same_face, other_side, inverse_gluing, IsTable}
 use Rattle.table_definitions.proofs.PermutationLaws.{image_below, image-of_inverse, images_apart}
 use Rattle.table_definitions.proofs.Permutations.{compose_permutes}
 use Rattle.skeleton_definitions.specs.Corners.{Corner, left_through, corner_across, step, steps}
@@ -65,7 +65,7 @@ module _ (rows : List Row) (table : IsTable rows) where
   steps_corner (suc n) k l h e = let f = first_step rows n l (step rows k) e in steps_corner n f.0 l (step_corner k f.0 h f.1) f.2
 
   -- across a gluing and back
-  pub across_back : (k : Corner) (g : Gluing) → IsCorner (length rows) k → IsPermutationOfFour g.perm → corner_across (corner_across k g) (way_back (left_through k) g) ≡ k
+  pub across_back : (k : Corner) (g : Gluing) → IsCorner (length rows) k → IsPermutationOfFour g.perm → corner_across (corner_across k g) (inverse_gluing (left_through k) g) ≡ k
   across_back k g h p =
       let i = vertices_of (length rows) k h in
       λ z. record {
@@ -103,8 +103,8 @@ module _ (rows : List Row) (table : IsTable rows) where
       let tet : w.g.tet ≡ k.tet = ap (λ (m : Corner). m.tet) w.is in
       let face : image w.g.perm k.c ≡ k.c = ap (λ (m : Corner). m.d) w.is in
       let same : same_face (other_side (left_through k) w.g) (left_through k) ≡ true = and_from _ _ (eq-eqb w.g.tet k.tet tet) (eq-eqb (image w.g.perm k.c) k.c face) in
-      let apart : not (same_face (other_side (left_through k) w.g) (left_through k)) ≡ true = table.apart (left_through k) w.g w.glued in
-      false≢true (sym (ap not same) ∙ apart)
+      let separate : not (same_face (other_side (left_through k) w.g) (left_through k)) ≡ true = table.separate (left_through k) w.g w.glued in
+      false≢true (sym (ap not same) ∙ separate)
 
   -- the tour around an edge never reaches the corner that it started from with the edge and the direction reversed:
   -- half way it would reach one corner and its reverse

@@ -5,7 +5,7 @@ use Rattle.table_definitions.specs.Classes.{least}
 use Rattle.table_definitions.specs.Lists.{has}
 use Rattle.table_definitions.specs.Permutation.{four, is_permutation}
 use Rattle.table_definitions.specs.Table.{Row, IsTable}
-use Rattle.table_definitions.specs.Places.{Place, ends, edge, turned, SameEdge, along}
+use Rattle.table_definitions.specs.Places.{Place, ends, edge, backwards, SameEdge, along}
 use Rattle.skeleton_definitions.specs.Corners.{Corner, corner_of, first_corner}
 use Rattle.skeleton_class_laws.proofs.EdgeCorners.{least_in_range}
 use Rattle.skeleton_orientation_laws.specs.Laws.{OrientableEdgesAreValid, OrientableClassesAreValid}
@@ -40,7 +40,7 @@ never_both rows table k l hk hl same (n, inr s) = never_reversed rows table n l 
 pub edges_valid : OrientableEdgesAreValid
 edges_valid rows table (signs, are) i l (fs, chain) =
     let f = first_in (length rows) (i / 6) (i % 6) (omega arith) (omega arith) in
-    let w = followed rows table signs are fs (first_corner i) (turned (edge i)) f.corner (ap (λ (p : Place). along rows p fs) f.edge ∙ chain) in
+    let w = followed rows table signs are fs (first_corner i) (backwards (edge i)) f.corner (ap (λ (p : Place). along rows p fs) f.edge ∙ chain) in
     let r = f.reverse w.l w.edge in
     never_both rows table (first_corner i) w.l f.corner w.corner (one_reversed (length rows) signs (first_corner i) w.l f.corner w.corner r.0 r.1 r.2 w.turning) w.on_tour
 

@@ -16,8 +16,8 @@ use Rattle.certificate_laws.proofs.Loops.{descents_go_on_lem, descents_are_done_
 use Rattle.sphere_certificate.specs.declared.accepted.AcceptedMove.{AcceptedMove}
 
 -- its signature determines whether a table is the standard sphere
-pub told_by_text : (rows : List Row) (text : List ℕ) (told : Bool) → IsTable rows → IsSignature rows text → (told ≡ true) ↔ (text ≡ sphere_text) → (told ≡ true) ↔ IsStandard rows
-told_by_text rows text told table signature same =
+pub told_by_text : (rows : List Row) (text : List ℕ) (reported : Bool) → IsTable rows → IsSignature rows text → (reported ≡ true) ↔ (text ≡ sphere_text) → (reported ≡ true) ↔ IsStandard rows
+told_by_text rows text reported table signature same =
     (λ e. text_standard rows text table signature (same.0 e), λ s. same.1 (standard_text rows text table s signature))
 
 -- a move that is found by the first or the second search is the descent's move
@@ -50,11 +50,11 @@ one_more rows before now table m new so_far g plays pushed =
 -- the end of a descent
 pub ended : (rows : List Row) (moves : List Move) (last : List Row) (reached : Bool) → DescendsSoFar rows moves last → IsStandard last ⊎ (descent_move last ≡ None) → (reached ≡ true) ↔ IsStandard last
     → IsDescended rows (record { reached = reached; moves = moves; table = last })
-ended rows moves last reached so_far ends told = record { descent = descents_are_done_lem rows moves last so_far ends; reached = told }
+ended rows moves last reached so_far ends reported = record { descent = descents_are_done_lem rows moves last so_far ends; reached = reported }
 
 pub ended_certifies : (rows : List Row) (moves : List Move) (last : List Row) (reached : Bool) → IsTable rows → DescendsSoFar rows moves last → IsStandard last ⊎ (descent_move last ≡ None)
     → (reached ≡ true) ↔ IsStandard last → reached ≡ true → IsCertificate rows moves
-ended_certifies rows moves last reached table so_far ends told r = descents_certify_lem rows moves last table (descents_are_done_lem rows moves last so_far ends) (told.0 r)
+ended_certifies rows moves last reached table so_far ends reported r = descents_certify_lem rows moves last table (descents_are_done_lem rows moves last so_far ends) (reported.0 r)
 
 pub ended_fewer : (rows : List Row) (moves : List Move) (last : List Row) → IsTable rows → DescendsSoFar rows moves last → IsStandard last ⊎ (descent_move last ≡ None) → length last + length moves ≤ length rows
 ended_fewer rows moves last table so_far ends = descents_end_lem rows moves last table (descents_are_done_lem rows moves last so_far ends)

@@ -5,7 +5,7 @@ use Rattle.certificate_definitions.specs.declared.CheckFault.{CheckFault}
 use Rattle.certificate_definitions.specs.declared.CheckFault.TheVariants.{Illegal, NotConnected, NotStandard}
 
 -- the error, with its signature as the list of its bytes
-abbrev pub told : CheckFault (Vec ℕ Global) → CheckFault (List ℕ)
-told (Illegal step fault) = Illegal step fault
-told (NotConnected t) = NotConnected t
-told (NotStandard text) = NotStandard text.items
+abbrev pub reported : CheckFault (Vec ℕ Global) → CheckFault (List ℕ)
+reported (Illegal step fault) = Illegal step fault
+reported (NotConnected t) = NotConnected t
+reported (NotStandard text) = NotStandard text.items

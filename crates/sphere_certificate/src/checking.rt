@@ -6,7 +6,7 @@ ghost use Rattle.table_definitions.specs.Table.{IsTable};
 ghost use Rattle.move_definitions.specs.Moves.{PlaysAll};
 ghost use Rattle.move_definitions.specs.Certificates.{IsStandard, IsCertificate};
 ghost use Rattle.certificate_definitions.specs.Answers.{IsChecked, sphere_text};
-ghost use Rattle.sphere_certificate.specs.Checks.{told};
+ghost use Rattle.sphere_certificate.specs.Checks.{reported};
 
 use canonical_labelling::{NotConnected, signature};
 use gluing_table::Table;
@@ -22,9 +22,9 @@ const SPHERE: [u8; 6] = *b"bkaagj";
 
 /// Plays `moves` in order. Fails at the first one that is illegal or exceeds the number of tetrahedra, counted from 1.
 fn play_all(table: &mut Table, moves: &[Move]) -> Result<(), CheckFault>
-    requires few { length moves.now < 2 ^ 32 - 1 }
+    requires limited { length moves.now < 2 ^ 32 - 1 }
     ensures led { OnOk result (PlaysAll table.old moves.now table.new) }
-    ensures refused { IfErr result (λ e. IsChecked table.old moves.now (Err (told e))) }
+    ensures refused { IfErr result (λ e. IsChecked table.old moves.now (Err (reported e))) }
 {
     for i in 0..moves.len() {
         if let Err(fault) = apply(table, moves[i]) {
@@ -47,7 +47,7 @@ pub fn is_sphere(text: &[u8]) -> bool
 fn judge(alloc: Global, last: &Table) -> Result<(), Failure<CheckFault>>
     requires { IsTable last.now }
     ensures standard { OnOk result (IsStandard last.now) }
-    ensures fault { IfErr result (λ e. IfFault e (λ fault. IsChecked last.now [] (Err (told fault)))) }
+    ensures fault { IfErr result (λ e. IfFault e (λ fault. IsChecked last.now [] (Err (reported fault)))) }
 {
     match signature(alloc, last) {
         Ok(text) if is_sphere(&text) => Ok(()),
@@ -65,9 +65,9 @@ pub fn check_owned(
     mut table: Table,
     moves: &[Move],
 ) -> Result<(), Failure<CheckFault>>
-    requires few { length moves.now < 2 ^ 32 - 1 }
+    requires limited { length moves.now < 2 ^ 32 - 1 }
     ensures certificate { OnOk result (IsCertificate table moves.now) }
-    ensures fault { IfErr result (λ e. IfFault e (λ fault. IsChecked table moves.now (Err (told fault)))) }
+    ensures fault { IfErr result (λ e. IfFault e (λ fault. IsChecked table moves.now (Err (reported fault)))) }
     ensures no_certificate { IfErr result (λ e. IfFault e (λ _. IsCertificate table moves.now → ⊥)) }
 {
     // brings the fact that the rows are those of a table
@@ -83,9 +83,9 @@ pub fn check_owned(
 /// with `NotConnected`, which names the least tetrahedron of the last table not reached from tetrahedron 0; then with
 /// `NotStandard`, which has the last table's signature.
 pub fn check(alloc: Global, table: &Table, moves: &[Move]) -> Result<(), Failure<CheckFault>>
-    requires few { length moves.now < 2 ^ 32 - 1 }
+    requires limited { length moves.now < 2 ^ 32 - 1 }
     ensures certificate { OnOk result (IsCertificate table.now moves.now) }
-    ensures fault { IfErr result (λ e. IfFault e (λ fault. IsChecked table.now moves.now (Err (told fault)))) }
+    ensures fault { IfErr result (λ e. IfFault e (λ fault. IsChecked table.now moves.now (Err (reported fault)))) }
     ensures no_certificate { IfErr result (λ e. IfFault e (λ _. IsCertificate table.now moves.now → ⊥)) }
 {
     let copy = table.copy(alloc)?;

@@ -28,8 +28,8 @@ module _ (coords : Coords) (rows : List Row) (equations : List EquationRow) wher
   module _ (of_table : AreEquations coords rows equations) (blocks : List Block) (o : Outcome) where
     pub all_accepted : All (λ block. IsAddedUp coords rows equations block (Ok tt)) blocks → o ≡ accepted_outcome → IsAddupAnswer coords (rows, blocks) o
     all_accepted h e =
-        let told = all_told (IsAddedUp coords rows equations) blocks h in
-        record { equations = equations; of_table = of_table; told = Ok told.0; added = told.1; outcome = e }
+        let reported = all_told (IsAddedUp coords rows equations) blocks h in
+        record { equations = equations; of_table = of_table; reported = Ok reported.0; added = reported.1; outcome = e }
 
     pub one_refused : (v : ℕ) (refusal : SumRefusal) → IsFirstRefused (IsAddedUp coords rows equations) blocks v refusal → o ≡ sum_refusal_outcome v refusal → IsAddupAnswer coords (rows, blocks) o
-    one_refused v refusal first e = record { equations = equations; of_table = of_table; told = Err (v, refusal); added = first; outcome = e }
+    one_refused v refusal first e = record { equations = equations; of_table = of_table; reported = Err (v, refusal); added = first; outcome = e }

@@ -7,7 +7,7 @@ use Rattle.out_of_memory.specs.declared.Failure.TheVariants.{Fault}
 use Rattle.text_definitions.specs.Written.{limit}
 use Rattle.text_definitions.specs.Text.{Line}
 use Rattle.cone_definitions.specs.Rows.{Row as EquationRow}
-use Rattle.cone_definitions.specs.Listings.{IsPastLimit}
+use Rattle.cone_definitions.specs.Listings.{ExceedsLimit}
 use Rattle.cone_definitions.specs.declared.Order.TheVariants.{Given}
 use Rattle.double_description.specs.declared.engine.LargeStep.{LargeStep}
 use Rattle.table_definitions.specs.Table.{Row}
@@ -75,11 +75,11 @@ module _ (coords : Coords) (rows : List Row) (equations : List EquationRow) (of_
   -- the first vector that does not pass determines the outcome
   pub unfit_told : (vectors : List (List ℕ)) (v : ℕ) (fault : VectorFault) (o : Outcome) → IsFirstRefused (IsVerdict coords rows equations) vectors v fault → o ≡ sum_refusal_outcome v (Unfit fault)
       → IsDecomposeAnswer coords most (rows, vectors) o
-  unfit_told vectors v fault o first e = record { equations = equations; of_table = of_table; checked = Err (v, fault); verdicts = first; told = e }
+  unfit_told vectors v fault o first e = record { equations = equations; of_table = of_table; checked = Err (v, fault); verdicts = first; reported = e }
 
   -- the sums of the surfaces, if all vectors pass
   pub sums_told : (list vectors : List (List ℕ)) (o : Outcome) → AreTableSurfaces most coords rows Given list → All Passes vectors → IsBlocksOutcome most list rows vectors o → IsDecomposeAnswer coords most (rows, vectors) o
-  sums_told list vectors o s passed told =
+  sums_told list vectors o s passed reported =
       let only = listed list s in
       let checks = all_told (IsVerdict coords rows equations) vectors passed in
       record {
@@ -87,7 +87,7 @@ module _ (coords : Coords) (rows : List Row) (equations : List EquationRow) (of_
         of_table = of_table;
         checked = Ok checks.0;
         verdicts = checks.1;
-        told = inl (record { taken = only.taken; list = list; listed = only.listed; told = told.0; sums = told.1; outcome = told.2 });
+        reported = inl (record { taken = only.taken; list = list; listed = only.listed; reported = reported.0; sums = reported.1; outcome = reported.2 });
       }
 
   -- the step that exceeds the limit, if all vectors pass
@@ -100,5 +100,5 @@ module _ (coords : Coords) (rows : List Row) (equations : List EquationRow) (of_
         of_table = of_table;
         checked = Ok checks.0;
         verdicts = checks.1;
-        told = inr (large.order.items, large.kind, subst (λ (q : List EquationRow). IsPastLimit (table_enumeration coords Given most rows q) large.order.items large.kind) (one_equations coords rows r.0 equations r.1 of_table) r.2, e);
+        reported = inr (large.order.items, large.kind, subst (λ (q : List EquationRow). ExceedsLimit (table_enumeration coords Given most rows q) large.order.items large.kind) (one_equations coords rows r.0 equations r.1 of_table) r.2, e);
       }

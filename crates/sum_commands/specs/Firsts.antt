@@ -5,5 +5,5 @@ use Rattle.outcome_definitions.specs.Sums.{IsFirstRefused}
 use Rattle.sum_commands.specs.declared.checks.FirstFault.{FirstFault}
 
 abbrev pub AreAllAnswered : {A E : Type 0} → (A → Result (Unit {0}) E → Type 0) → List A → Result (Unit {0}) (FirstFault E) → Type 0
-AreAllAnswered IsTold list (Ok passed) = All (λ x. IsTold x (Ok tt)) list
-AreAllAnswered IsTold list (Err first) = IsFirstRefused IsTold list first.number first.fault
+AreAllAnswered IsResult list (Ok passed) = All (λ x. IsResult x (Ok tt)) list
+AreAllAnswered IsResult list (Err first) = IsFirstRefused IsResult list first.number first.fault

@@ -30,9 +30,9 @@ AppendsBlock most list x before now (Err NoMemory) = Unit {0}
 
 -- text is the table and the blocks of these vectors
 pub record AreSummedIn (most : ℕ) (list : List (List ℕ)) (rows : List Row) (vectors : List (List ℕ)) (text : List ℕ) : Type 0 where
-  pub told : List Block
-  pub sums : AllZip (λ x block. IsSummed most list x (Ok block)) vectors told
-  pub lines : text ≡ sums_text rows told
+  pub reported : List Block
+  pub sums : AllZip (λ x block. IsSummed most list x (Ok block)) vectors reported
+  pub lines : text ≡ sums_text rows reported
 
 -- the table and the blocks of all vectors, or the first whose sum exceeds the limit
 abbrev pub WritesBlocks : ℕ → List (List ℕ) → List Row → List (List ℕ) → Result (Vec ℕ Global) (Failure (FirstFault LargeTurn)) → Type 0
@@ -42,4 +42,4 @@ WritesBlocks most list rows vectors (Err NoMemory) = Unit {0}
 
 -- the outcome of the vectors, by the list of vertex surfaces
 abbrev pub IsBlocksOutcome : ℕ → List (List ℕ) → List Row → List (List ℕ) → Outcome → Type 0
-IsBlocksOutcome most list rows vectors o = (told : Result (List Block) (ℕ × LargeTurn)) × AreAnswered (IsSummed most list) vectors told × (o ≡ sums_outcome rows told)
+IsBlocksOutcome most list rows vectors o = (reported : Result (List Block) (ℕ × LargeTurn)) × AreAnswered (IsSummed most list) vectors reported × (o ≡ sums_outcome rows reported)

@@ -35,10 +35,10 @@ module _ (limit : ℕ) (x : List ℕ) (times : ℕ) (terms : List Term) where
       ap (λ c. fault_of c (times * slice_index x j == sum_at terms j) j) a ∙ ap (λ c. fault_of false c j) b
 
 sum_past : (x : List ℕ) (terms : List Term) (j : ℕ) → All (λ (term : Term). length term.vector ≡ length x) terms → length x ≤ j → sum_at terms j ≡ 0
-sum_past x [] j widths past = refl
-sum_past x (term ∷ terms) j widths past = sum_by-cons (λ (t : Term). t.count * slice_index t.vector j) term terms ∙
-    (let i : sum_at terms j ≡ 0 = sum_past x terms j (All-tail (λ (t : Term). length t.vector ≡ length x) term terms widths) past in
-    let z : slice_index term.vector j ≡ 0 = entry_past term.vector (length x) j (All-head (λ (t : Term). length t.vector ≡ length x) term terms widths) past in
+sum_past x [] j widths exceeded = refl
+sum_past x (term ∷ terms) j widths exceeded = sum_by-cons (λ (t : Term). t.count * slice_index t.vector j) term terms ∙
+    (let i : sum_at terms j ≡ 0 = sum_past x terms j (All-tail (λ (t : Term). length t.vector ≡ length x) term terms widths) exceeded in
+    let z : slice_index term.vector j ≡ 0 = entry_past term.vector (length x) j (All-head (λ (t : Term). length t.vector ≡ length x) term terms widths) exceeded in
     let w : term.count * slice_index term.vector j ≡ 0 = rw z (omega arith) in omega arith)
 
 first_of_all : (b : Bool) (o : Option AddFault) → (if b then Some ZeroTimes else o) ≡ None → (b ≡ false) × (o ≡ None)
@@ -65,8 +65,8 @@ no_fault limit x times terms widths e = record {
     at : (j : ℕ) → (times * slice_index x j ≤ limit) × (times * slice_index x j ≡ sum_at terms j)
     at j = elim (cases_lt j (length x)) [
       | inl l ↦ column_none limit x times terms j (first_some-none (column_fault limit x times terms) j (below (length x)) parts.1 (Among-below j (length x) l))
-      | inr past ↦ let z : slice_index x j ≡ 0 = entry_past x (length x) j refl past in let w : times * slice_index x j ≡ 0 = rw z (omega arith) in
-          let s : sum_at terms j ≡ 0 = sum_past x terms j widths past in (omega arith, omega arith)
+      | inr exceeded ↦ let z : slice_index x j ≡ 0 = entry_past x (length x) j refl exceeded in let w : times * slice_index x j ≡ 0 = rw z (omega arith) in
+          let s : sum_at terms j ≡ 0 = sum_past x terms j widths exceeded in (omega arith, omega arith)
     ]
 
 fault_none : (limit : ℕ) (x : List ℕ) (times : ℕ) (terms : List Term) → AddsUp limit x times terms → add_fault limit x times terms ≡ None

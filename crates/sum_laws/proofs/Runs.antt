@@ -140,14 +140,14 @@ module _ (columns : ℕ) (rows : List Row) (list : List (List ℕ)) (x : List �
       let l : support_size columns s.rest < support_size columns t.0.rest = size-smaller columns s.rest t.0.rest
       (led_reached columns rows list x h limit turns t.0 t.1).solution.width (turn_lessens turns t.0 s t.1 t.2) in omega arith
 
-  pub few_turns : (turns : ℕ) (s : State) → ReachesState limit list x turns s → turns ≤ columns
-  few_turns turns s led = let l : turns + support_size columns s.rest ≤ columns = sizes turns s led in omega arith
+  pub bounded_steps : (turns : ℕ) (s : State) → ReachesState limit list x turns s → turns ≤ columns
+  bounded_steps turns s led = let l : turns + support_size columns s.rest ≤ columns = sizes turns s led in omega arith
 
   within_or_first : (times : ℕ) → IsWithinTimes limit x times ⊎ ((column : ℕ) × ((earlier : ℕ) → earlier < column → times * slice_index x earlier ≤ limit) × (limit < times * slice_index x column))
   within_or_first times = elim (all_or_first (λ j. times * slice_index x j ≤ limit) (λ j. limit < times * slice_index x j) decide (length x)) [
     | inl all ↦ inl (λ j. elim (cases_lt j (length x)) [
       | inl l ↦ all j l
-      | inr past ↦ let z : slice_index x j ≡ 0 = entry_past x (length x) j refl past in rw z (omega arith)
+      | inr exceeded ↦ let z : slice_index x j ≡ 0 = entry_past x (length x) j refl exceeded in rw z (omega arith)
     ])
     | inr one ↦ inr (one.0, one.2, one.3)
   ]
@@ -156,7 +156,7 @@ module _ (columns : ℕ) (rows : List Row) (list : List (List ℕ)) (x : List �
       decide j = elim (cases_lt limit (times * slice_index x j)) [ inl l ↦ inr l | inr l ↦ inl l ]
 
   answer_from : (fuel turns : ℕ) (s : State) → ReachesState limit list x turns s → columns < fuel + turns → (answer : Answer) × IsAnswer limit list x answer
-  answer_from zero turns s led l = let few : turns ≤ columns = few_turns turns s led in absurd (omega arith)
+  answer_from zero turns s led l = let limited : turns ≤ columns = bounded_steps turns s led in absurd (omega arith)
   answer_from (suc fuel) turns s led l = elim (zero_or_nonzero s.rest) [
     | inl nothing ↦ (sum s.times s.terms, record { turns = turns; rest = s.rest; led = led; nothing_left = nothing })
     | inr left ↦ let t = turn_goes_on turns s led left in elim (within_or_first t.0.times) [

@@ -20,7 +20,7 @@ use Rattle.surface_crushing_laws.proofs.Whole.{stays_whole, nothing_else, whole_
 linking_no_quads : (n : ℕ) (xs : List ℕ) → is_linking Standard xs ≡ true → HasNoQuads n xs
 linking_no_quads n xs h t k l m = elim (cases_lt (quad_column Standard t k) (length xs)) [
   | inl within ↦ (let place : quad_column Standard t k % 7 ≡ 4 + k = omega arith in (linking Standard xs).0 h (quad_column Standard t k) within (le-leb 4 (quad_column Standard t k % 7) (omega arith)))
-  | inr past ↦ get_or-eq_default xs 0 past
+  | inr exceeded ↦ get_or-eq_default xs 0 exceeded
 ]
 
 pub crushed_to_itself_lem : CrushedToItself
@@ -37,7 +37,7 @@ pub linking_crushes_nothing : LinkingCrushesNothing
 linking_crushes_nothing rows new xs table h = whole rows new xs table (linking_no_quads (length rows) xs h)
 
 module _ (rows : List Row) (equations : List EquationRow) (xs : List ℕ) (table : IsTable rows) (quads : HasNoQuads (length rows) xs) (fit : IsFit Standard rows equations xs) where
-  told_itself : (told : Result (List Row) Refusal) → IsCrushedAlong rows equations xs told → told ≡ Ok rows
+  told_itself : (reported : Result (List Row) Refusal) → IsCrushedAlong rows equations xs reported → reported ≡ Ok rows
   told_itself (Ok new) t = ap (λ (rs : List Row). Ok rs) (nothing_else rows xs quads table new t.1)
   told_itself (Err (Unfit fault)) t = absurd (let z : solution ≡ Err fault = sym fit ∙ t in cc)
   told_itself (Err (LargeSum n)) t = absurd t
@@ -46,5 +46,5 @@ module _ (rows : List Row) (equations : List EquationRow) (xs : List ℕ) (table
   told_itself (Err (NoLift c)) t = absurd t
 
 pub fit_are_crushed_to_itself : FitAreCrushedToItself
-fit_are_crushed_to_itself rows equations xs told table quads fit =
-    (told_itself rows equations xs table quads fit told, λ e. subst (IsCrushedAlong rows equations xs) (sym e) (fit, stays_whole rows xs quads table))
+fit_are_crushed_to_itself rows equations xs reported table quads fit =
+    (told_itself rows equations xs table quads fit reported, λ e. subst (IsCrushedAlong rows equations xs) (sym e) (fit, stays_whole rows xs quads table))

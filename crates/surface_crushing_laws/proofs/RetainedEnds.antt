@@ -50,13 +50,13 @@ module _ (rows : List Row) (xs : List ℕ) (table : IsTable rows) (x : Face) (lx
   turning : (g : Gluing) → Reached g → is_removed xs g.tet ≡ true → IsTurned xs g.tet (at g)
   turning g r gone = turned_at xs g.tet (at g) gone (image_below g.perm r.permutes x.face lx)
 
-  turned : (g : Gluing) → Reached g → is_removed xs g.tet ≡ true → IsPermutationOfFour (compose (exchange (at g) (partner_in xs g.tet (at g))) g.perm)
-  turned g r gone = compose_permutes (exchange (at g) (partner_in xs g.tet (at g))) g.perm (exchange_is (at g) (partner_in xs g.tet (at g)) (image_below g.perm r.permutes x.face lx) (turning g r gone).below).permutes r.permutes
+  backwards : (g : Gluing) → Reached g → is_removed xs g.tet ≡ true → IsPermutationOfFour (compose (exchange (at g) (partner_in xs g.tet (at g))) g.perm)
+  backwards g r gone = compose_permutes (exchange (at g) (partner_in xs g.tet (at g))) g.perm (exchange_is (at g) (partner_in xs g.tet (at g)) (image_below g.perm r.permutes x.face lx) (turning g r gone).below).permutes r.permutes
 
   further_reached : (g h : Gluing) → Reached g → is_removed xs g.tet ≡ true → glue rows (next_face g) ≡ Some h → Reached (further g h)
   further_reached g h r gone e =
       let a = glued_is rows (next_face g) h table e in
-      record { tet = a.other_tet; permutes = compose_permutes h.perm (compose (exchange (at g) (partner_in xs g.tet (at g))) g.perm) a.permutes (turned g r gone) }
+      record { tet = a.other_tet; permutes = compose_permutes h.perm (compose (exchange (at g) (partner_in xs g.tet (at g))) g.perm) a.permutes (backwards g r gone) }
 
   passed_none : (g : Gluing) → glue rows (next_face g) ≡ None → passed rows xs x g ≡ None
   passed_none g e = rw e refl
@@ -95,7 +95,7 @@ module _ (rows : List Row) (xs : List ℕ) (table : IsTable rows) (x : Face) (lx
         let ex : is_odd (exchange v w) ≡ true = exchange_odd v w lv t.below (λ d. t.other (sym d)) in
         let inner : is_odd (compose (exchange v w) g.perm) ≡ not (beq true (is_odd g.perm)) = is_odd-compose (exchange v w) g.perm (exchange_is v w lv t.below).permutes r.permutes ∙ ap (λ b. not (beq b (is_odd g.perm))) ex in
         let whole : is_odd (compose h.perm (compose (exchange v w) g.perm)) ≡ not (beq (is_odd h.perm) (not (beq true (is_odd g.perm)))) =
-        is_odd-compose h.perm (compose (exchange v w) g.perm) (glued_is rows (next_face g) h table e).permutes (turned g r gone) ∙ ap (λ b. not (beq (is_odd h.perm) b)) inner in
+        is_odd-compose h.perm (compose (exchange v w) g.perm) (glued_is rows (next_face g) h table e).permutes (backwards g r gone) ∙ ap (λ b. not (beq (is_odd h.perm) b)) inner in
         agree (next_face g) h e ∙ ap (behind (is_odd h.perm)) s ∙ two_behind (is_odd h.perm) (is_odd g.perm) (sign x.tet) ∙ ap (λ b. behind b (sign x.tet)) (sym whole)
 
     ends_signed : (n : ℕ) (g e : Gluing) → Reached g → Signed g → ChainEnds rows xs x n (Some g) (Some e) → Signed e

@@ -28,5 +28,5 @@ LinkingCrushesNothing = (rows new : List Row) (xs : List ℕ) → IsTable rows �
 -- Theorem: the one answer for such an admissible solution is the table itself
 abbrev pub FitAreCrushedToItself : Type 0
 FitAreCrushedToItself =
-    (rows : List Row) (equations : List EquationRow) (xs : List ℕ) (told : Result (List Row) Refusal) → IsTable rows → HasNoQuads (length rows) xs → IsFit Standard rows equations xs
-    → IsCrushedAlong rows equations xs told ↔ (told ≡ Ok rows)
+    (rows : List Row) (equations : List EquationRow) (xs : List ℕ) (reported : Result (List Row) Refusal) → IsTable rows → HasNoQuads (length rows) xs → IsFit Standard rows equations xs
+    → IsCrushedAlong rows equations xs reported ↔ (reported ≡ Ok rows)

@@ -95,8 +95,8 @@ none_before : (l : ℕ) (xs : List ℕ) (n a : ℕ) → l < a → sum_by (one_or
 unfolding one_or_none
 none_before l xs zero a h = refl
 none_before l xs (suc n) a h =
-    let apart : (l == a) ≡ false = ne_eqb l a (λ s. omega arith) in
-    let here : one_or_none l xs a ≡ 0 = ap (λ (b : Bool). cond b 1 0 * slice_index xs a) apart ∙ omega arith in
+    let separate : (l == a) ≡ false = ne_eqb l a (λ s. omega arith) in
+    let here : one_or_none l xs a ≡ 0 = ap (λ (b : Bool). cond b 1 0 * slice_index xs a) separate ∙ omega arith in
     let later : l < a + 1 = omega arith in
     omega (arith, sum_by-cons (one_or_none l xs) a (range_with_len (a + 1) n), none_before l xs n (a + 1) later)
 
@@ -111,8 +111,8 @@ within_first l xs n a s =
 
 within_later : (l : ℕ) (xs : List ℕ) (n a : ℕ) → (l ≡ a → ⊥) → sum_by (one_or_none l xs) (range_with_len (a + 1) n) ≡ slice_index xs l → sum_by (one_or_none l xs) (range_with_len a (suc n)) ≡ slice_index xs l
 unfolding one_or_none
-within_later l xs n a apart more =
-    let test : (l == a) ≡ false = ne_eqb l a apart in
+within_later l xs n a separate more =
+    let test : (l == a) ≡ false = ne_eqb l a separate in
     let here : one_or_none l xs a ≡ 0 = ap (λ (b : Bool). cond b 1 0 * slice_index xs a) test ∙ omega arith in
     omega (arith, sum_by-cons (one_or_none l xs) a (range_with_len (a + 1) n))
 
@@ -120,7 +120,7 @@ one_within : (l : ℕ) (xs : List ℕ) (n a : ℕ) → a ≤ l → l < a + n →
 one_within l xs zero a low high = absurd (omega arith)
 one_within l xs (suc n) a low high =
     ⊎_elim (λ s. within_first l xs n a s)
-    (λ apart. let lower : a + 1 ≤ l = omega arith in let higher : l < a + 1 + n = omega arith in within_later l xs n a apart (one_within l xs n (a + 1) lower higher))
+    (λ separate. let lower : a + 1 ≤ l = omega arith in let higher : l < a + 1 + n = omega arith in within_later l xs n a separate (one_within l xs n (a + 1) lower higher))
     (cases_eq l a)
 
 by_column : (ls xs : List ℕ) (n : ℕ) → AllByRecursion (λ c. c < n) ls → sum_by (times_entry ls xs) (below n) ≡ sum_by (slice_index xs) ls

@@ -5,7 +5,7 @@ use Rattle.std.specs.Prelude.{◌==◌, ◌||◌, ◌↔◌, nat_lt, if◌then�
 use Rattle.std.proofs.lemmas.Bool.{eq-eqb, ne_eqb, le-ltb, lt-ltb, or_from, or_right}
 use Rattle.cone_definitions.specs.Rows.{Row as EquationRow, plus_part, minus_part, IsZeroAt}
 use Rattle.cone_definitions.specs.Elimination.{HasLargePart, HasPartsWithin}
-use Rattle.cone_definitions.specs.Met.{HoldsWithin, HoldWithinBefore}
+use Rattle.cone_definitions.specs.HoldingRows.{HoldsWithin, HoldWithinBefore}
 use Rattle.surface_definitions.specs.declared.VectorFault.{VectorFault}
 use Rattle.surface_definitions.specs.declared.VectorFault.TheVariants.{Length, Large, NotSolution}
 use Rattle.surface_definitions.specs.Verdict.{Verdict, solution, both_nonzero, row_fault, rows_verdict, or_else, clash_verdict, verdict}

@@ -22,7 +22,7 @@ use Rattle.skeleton_definitions.proofs.OneSkeleton.{one_classes}
 
 -- a list without one of its corners
 record IsWithout (y : Corner) (ys zs : List Corner) : Type 0 where
-  pub apart : AreApart zs
+  pub separate : AreApart zs
   pub within : (k : Corner) → Among k zs → Among k ys
   pub gone : Among y zs → ⊥
   pub others : (k : Corner) → Among k ys → (k ≡ y) ⊎ Among k zs
@@ -40,7 +40,7 @@ taken_out y [] h a = absurd h
 taken_out y (l ∷ ls) (inl e) a = (
   ls,
   record {
-    apart = a.1;
+    separate = a.1;
     within = λ k h. inr h;
     gone = λ h. a.0 (subst (λ k. Among k ls) e h);
     others = λ k h. ⊎_elim (λ q. inl (q ∙ sym e)) (λ g. inr g) h;
@@ -52,7 +52,7 @@ taken_out y (l ∷ ls) (inr h) a =
     let w = r.1 in (
       l ∷ r.0,
       record {
-        apart = ((λ b. a.0 (w.within l b)), w.apart);
+        separate = ((λ b. a.0 (w.within l b)), w.separate);
         within = λ k b. ⊎_elim (λ q. inl q) (λ g. inr (w.within k g)) b;
         gone = λ b. ⊎_elim (λ q. a.0 (subst (λ k. Among k ls) q h)) (λ g. w.gone g) b;
         others = λ k b. ⊎_elim (λ q. inr (inl q)) (λ g. ⊎_elim (λ q. inl q) (λ d. inr (inr d)) (w.others k g)) b;
@@ -70,7 +70,7 @@ same_counts [] (y ∷ ys) a b to back f x = absurd (back y (inl refl))
 same_counts (k ∷ ks) ys a b to back f x =
     let r = taken_out k ys (to k (inl refl)) b in
     let w = r.1 in
-    times_more x (f k) (map f ks) ∙ ap (λ n. times_in (map f (k ∷ [])) x + n) (same_counts ks r.0 a.1 w.apart
+    times_more x (f k) (map f ks) ∙ ap (λ n. times_in (map f (k ∷ [])) x + n) (same_counts ks r.0 a.1 w.separate
     (λ m h. ⊎_elim (λ q. absurd (a.0 (subst (λ n. Among n ks) q h))) (λ d. d) (w.others m (to m (inr h))))
     (λ m h. ⊎_elim (λ q. absurd (w.gone (subst (λ n. Among n r.0) q h))) (λ d. d) (back m (w.within m h)))
     f x) ∙ sym (times_more x (f k) (map f r.0)) ∙ sym (w.counts f x)

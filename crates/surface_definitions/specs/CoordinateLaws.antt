@@ -3,7 +3,7 @@ use Rattle.std.specs.Prelude.{◌≡◌, ℕ, ◌<◌, List, [], length, Err}
 use Rattle.std.specs.List.{slice_index_or}
 use Rattle.cone_definitions.specs.Rows.{Row as EquationRow, IsZeroAt}
 use Rattle.cone_definitions.specs.Elimination.{HasLargePart, HasPartsWithin}
-use Rattle.cone_definitions.specs.Met.{HoldWithinBefore}
+use Rattle.cone_definitions.specs.HoldingRows.{HoldWithinBefore}
 use Rattle.cone_definitions.specs.Surfaces.{PairsAreOfTwoColumns}
 use Rattle.surface_definitions.specs.declared.Coords.{Coords}
 use Rattle.surface_definitions.specs.declared.VectorFault.TheVariants.{Large, NotSolution}
@@ -11,8 +11,8 @@ use Rattle.surface_definitions.specs.Coordinates.{clash_list}
 use Rattle.surface_definitions.specs.Verdict.{verdict}
 
 -- each clashing pair is of two different columns
-abbrev pub ClashesAreApart : Type 0
-ClashesAreApart = (coords : Coords) (n : ℕ) → PairsAreOfTwoColumns (clash_list coords n)
+abbrev pub ClashingColumnsDiffer : Type 0
+ClashingColumnsDiffer = (coords : Coords) (n : ℕ) → PairsAreOfTwoColumns (clash_list coords n)
 
 -- Theorem: if the first i equations hold, and the next one has a part that exceeds the limit, the verdict names it
 abbrev pub FirstLargeIsAnswered : Type 0

@@ -30,13 +30,13 @@ term_of e c = if times_in e.left c == times_in e.right c then None else Some (c,
 abbrev pub row_of : ℕ → Equation → EquationRow
 row_of n e = filter_map (term_of e) (below n)
 
-abbrev pub lesser_side : Face → Option Gluing → Option (Face × Gluing)
-lesser_side x None = None
-lesser_side x (Some g) = if is_face_before x (other_side x g) then Some (x, g) else None
+abbrev pub smaller_side : Face → Option Gluing → Option (Face × Gluing)
+smaller_side x None = None
+smaller_side x (Some g) = if is_face_before x (other_side x g) then Some (x, g) else None
 
 -- the glued pairs of faces, each by its first side, ascending
 unfoldable pub glued_pairs : List Row → List (Face × Gluing)
-glued_pairs rows = filter_map (λ x. lesser_side x (glue rows x)) (faces (length rows))
+glued_pairs rows = filter_map (λ x. smaller_side x (glue rows x)) (faces (length rows))
 
 -- as many arcs around v on one side of a glued face as around its image on the other side
 abbrev pub matching : Coords → Face → Gluing → ℕ → Equation

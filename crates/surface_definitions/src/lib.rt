@@ -10,7 +10,7 @@
 #![tactic(auto)]
 
 ghost use Rattle.surface_definitions.specs.Laws.{VectorLinesAreRead, VerdictsAreRight, RowsMeanEquations};
-ghost use Rattle.surface_definitions.specs.CoordinateLaws.{ClashesAreApart, FirstLargeIsAnswered, FirstFailureIsAnswered};
+ghost use Rattle.surface_definitions.specs.CoordinateLaws.{ClashingColumnsDiffer, FirstLargeIsAnswered, FirstFailureIsAnswered};
 
 /// Coordinate systems. Standard coordinates count triangles and quads (Haken 1961), quad coordinates only quads
 /// (Tollefson 1998), octagon coordinates triangles, quads and octagons (Rubinstein 1995; Thompson 1994).
@@ -63,8 +63,8 @@ pub fn rows_mean_equations()
 {}
 
 /// Lemma: let T have n tetrahedra. In any coordinates, each clashing pair of T has two different columns.
-pub fn clashes_are_apart()
-    ensures { ClashesAreApart }
+pub fn clashing_columns_differ()
+    ensures { ClashingColumnsDiffer }
 {}
 
 /// Lemma: let rows in n columns, clashing pairs, a limit, and a vector x of n entries be given. Let the rows before row

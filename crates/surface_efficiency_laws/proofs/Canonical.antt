@@ -84,7 +84,7 @@ module _ (s : Skeleton) (k : IsSkeleton s) (coords : Coords) (xs : List ℕ) (w 
         elim (all_or_one (λ u. class_of u ≡ c → j < triangles xs u) (λ u. (class_of u ≡ c) × (triangles xs u ≤ j)) decide (4 * n)) [
           | inl all ↦ level_is_link s k coords xs w c j (is_deep c j all) components count i numbered (m / 4) (m % 4) (of_class c m h.in_range h.chosen) h.mine
           | inr found ↦ (let p = piece_there xs components i numbered.one_each (tri_column coords (found.0 / 4) (found.0 % 4)) (full found.0 found.1 found.2.0) in
-              let few : triangles xs found.0 ≤ j = found.2.1 in
+              let limited : triangles xs found.0 ≤ j = found.2.1 in
               let place : p.0 < triangles xs found.0 = p.1 in
               link_by fuel c p.0 found.0 (omega arith) full (record { in_range = found.1; chosen = found.2.0; place = p.1; mine = p.2 }))
         ]

@@ -81,8 +81,8 @@ module _ (columns : ℕ) (rows : List Row) (f g h : List ℕ → ℕ) (f_linear 
 
   some_there : (x v : List ℕ) → IsPrimitiveExtreme columns rows v → IsInside v x → NoneWithout x → g v < f v → 1 ≤ h v
   some_there x v ray i none more = elim (cases_eq (h v) 0) [
-    | inl z ↦ absurd (let few : f v ≤ g v = none v ray i z in omega arith)
-    | inr apart ↦ omega arith
+    | inl z ↦ absurd (let limited : f v ≤ g v = none v ray i z in omega arith)
+    | inr separate ↦ omega arith
   ]
 
   some_of : (x y : List ℕ) → IsInside y x → HasSomeInside y → HasSomeInside x

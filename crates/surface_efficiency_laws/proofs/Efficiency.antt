@@ -97,7 +97,7 @@ module _ (s : Skeleton) (k : IsSkeleton s) (coords : Coords) where
 
         decide : (i : ℕ) → (i < length surfaces → IsPositive s coords (at i) → IsVertexLink s coords (at i)) ⊎ ((i < length surfaces) × IsPositiveNonLink s coords (at i))
         decide i = elim (cases_lt i (length surfaces)) [
-          | inr past ↦ inl (λ l. absurd (omega arith))
+          | inr exceeded ↦ inl (λ l. absurd (omega arith))
           | inl l ↦ elim (positive_or_not (at i)) [
             | inr not_so ↦ inl (λ x positive. absurd (not_so positive))
             | inl positive ↦ (let connected : IsConnectedSurface s coords (at i) = listed_connected triangles surfaces list (at i) (Contains-get_or surfaces i [] l) in

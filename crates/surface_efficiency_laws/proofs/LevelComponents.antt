@@ -77,7 +77,7 @@ module _ (s : Skeleton) (k : IsSkeleton s) (coords : Coords) (xs : List ℕ) (w 
     pub level_is_link : component_vector xs components i ≡ link_of s coords c
     level_is_link = same_vectors (component_vector xs components i) (link_of s coords c) widths (λ col. elim (cases_lt col (columns coords n)) [
       | inl l ↦ by_column coords w.triangles n (λ col. slice_index (component_vector xs components i) col ≡ slice_index (link_of s coords c) col) at_triangle at_other col l
-      | inr past ↦ entry_past (component_vector xs components i) (columns coords n) col own past ∙ sym (entry_past (link_of s coords c) (columns coords n) col (length-link n s.vertices.classes c coords) past)
+      | inr exceeded ↦ entry_past (component_vector xs components i) (columns coords n) col own exceeded ∙ sym (entry_past (link_of s coords c) (columns coords n) col (length-link n s.vertices.classes c coords) exceeded)
     ])
       where
         own : length (component_vector xs components i) ≡ columns coords n

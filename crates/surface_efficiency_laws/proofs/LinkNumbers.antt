@@ -104,4 +104,4 @@ module _ (s : Skeleton) (k : IsSkeleton s) where
       let l : Link = get_or links c any_link in
       let itself : l ≡ get_or links c l = get_or_default links c any_link l low in
       let are = h.are in
-      link_most c l (record { directions = are.0; count = are.1; numbered = are.2; is_link = (are.3).told c l low itself }) (h.kinds c any_link low)
+      link_most c l (record { directions = are.0; count = are.1; numbered = are.2; is_link = (are.3).reported c l low itself }) (h.kinds c any_link low)

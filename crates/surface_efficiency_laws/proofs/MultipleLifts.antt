@@ -17,7 +17,7 @@ use Rattle.surface_efficiency_laws.proofs.Measures.{columns_linear}
 pub projects_to : (ys q : List ℕ) (n : ℕ) → length q ≡ 3 * n → ((j : ℕ) → j < 3 * n → slice_index ys (quad_column Standard (j / 3) (j % 3)) ≡ slice_index q j) → projected n ys ≡ q
 projects_to ys q n w each = same_vectors (projected n ys) q (length-projected ys n ∙ sym w) (λ j. elim (cases_lt j (3 * n)) [
   | inl l ↦ quad_entry n ys j l ∙ each j l
-  | inr past ↦ entry_past (projected n ys) (3 * n) j (length-projected ys n) past ∙ sym (entry_past q (3 * n) j w past)
+  | inr exceeded ↦ entry_past (projected n ys) (3 * n) j (length-projected ys n) exceeded ∙ sym (entry_past q (3 * n) j w exceeded)
 ])
 
 -- an equation that holds at a vector holds at each multiple

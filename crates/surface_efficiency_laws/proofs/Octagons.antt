@@ -50,7 +50,7 @@ module _ (s : Skeleton) (surfaces : List (List ℕ)) (list : IsSurfaceListOf s O
     -- a ray inside x without octagons has no positive Euler characteristic
     none_without : (v : List ℕ) → IsPrimitiveExtreme n rows v → IsInside v x → octagons s v ≡ 0 → points_and_pieces s Octagon n v ≤ lower v
     none_without v ray inside z = elim (cases_lt (lower v) (points_and_pieces s Octagon n v)) [
-      | inr few ↦ few
+      | inr limited ↦ limited
       | inl more ↦ absurd (let fewer : arcs s.rows Octagon v < points_and_pieces s Octagon n v = omega arith in
           no_link_is_canonical s Octagon v tt (none v (listed v ray inside) z (is_positive s Octagon n v ray.extreme.solution.width fewer)) (inside_canonical s Octagon v x inside canonical))
     ]
@@ -74,7 +74,7 @@ module _ (s : Skeleton) (surfaces : List (List ℕ)) (list : IsSurfaceListOf s O
           v = p.v;
           listed = p.listed;
           inside = p.inside;
-          some = elim (cases_eq (octagons s p.v) 0) [ inl z ↦ absurd (no_link_is_canonical s Octagon p.v tt (none p.v p.listed z p.positive) p.canonical) | inr apart ↦ omega arith ];
+          some = elim (cases_eq (octagons s p.v) 0) [ inl z ↦ absurd (no_link_is_canonical s Octagon p.v tt (none p.v p.listed z p.positive) p.canonical) | inr separate ↦ omega arith ];
           positive = p.positive;
         }
 

@@ -104,7 +104,7 @@ module _ (s : Skeleton) (k : IsSkeleton s) (links : List Link) (spheres : HasSph
           let sp : m * slice_index q j ≡ c * slice_index v j + 1 * slice_index r j = splits j in
           let both_are : slice_index (projected n both) j ≡ c * slice_index v j + slice_index r j = e ∙ (λ i. c * a i + b i) in
           omega arith)
-      | inr past ↦ entry_past (projected n both) (3 * n) j (length-projected both n) past ∙ (let z : slice_index q j ≡ 0 = entry_past q (3 * n) j wq past in sym (ap (λ a. m * a) z ∙ (let nothing : m * 0 ≡ 0 = omega arith in nothing)))
+      | inr exceeded ↦ entry_past (projected n both) (3 * n) j (length-projected both n) exceeded ∙ (let z : slice_index q j ≡ 0 = entry_past q (3 * n) j wq exceeded in sym (ap (λ a. m * a) z ∙ (let nothing : m * 0 ≡ 0 = omega arith in nothing)))
     ]
 
     lift_is : whole.lift ≡ multiple m x
@@ -113,11 +113,11 @@ module _ (s : Skeleton) (k : IsSkeleton s) (links : List Link) (spheres : HasSph
     adds : (j : ℕ) → slice_index (sum_of (multiple c y) z) j ≡ slice_index (multiple m x) j + sum_by (λ d. whole.times d * slice_index (link_of s Standard d) j) (below s.vertices.count)
     adds j = elim (cases_lt j (columns Standard n)) [
       | inl l ↦ (whole.are).adds j l ∙ ap (λ (u : List ℕ). slice_index u j + sum_by (λ d. whole.times d * slice_index (link_of s Standard d) j) (below s.vertices.count)) lift_is
-      | inr past ↦ (let a : slice_index both j ≡ 0 = entry_past both (columns Standard n) j both_width past in
-          let b : slice_index (multiple m x) j ≡ 0 = entry_past (multiple m x) (columns Standard n) j (length-multiple m x ∙ lq.width) past in
+      | inr exceeded ↦ (let a : slice_index both j ≡ 0 = entry_past both (columns Standard n) j both_width exceeded in
+          let b : slice_index (multiple m x) j ≡ 0 = entry_past (multiple m x) (columns Standard n) j (length-multiple m x ∙ lq.width) exceeded in
           let none : sum_by (λ d. whole.times d * slice_index (link_of s Standard d) j) (below s.vertices.count) ≡ 0 =
           sum_by-none (λ d. whole.times d * slice_index (link_of s Standard d) j) (below s.vertices.count)
-          (λ d i. ap (λ e. whole.times d * e) (entry_past (link_of s Standard d) (columns Standard n) j (length-link n s.vertices.classes d Standard) past) ∙ (let nothing : whole.times d * 0 ≡ 0 = omega arith in nothing)) in
+          (λ d i. ap (λ e. whole.times d * e) (entry_past (link_of s Standard d) (columns Standard n) j (length-link n s.vertices.classes d Standard) exceeded) ∙ (let nothing : whole.times d * 0 ≡ 0 = omega arith in nothing)) in
           omega arith)
     ]
 

@@ -7,7 +7,7 @@ use Rattle.cone_definitions.specs.Rows.{Row as EquationRow}
 use Rattle.cone_definitions.specs.Surfaces.{Clash, IsVertexSurface, IsSurfaceList}
 use Rattle.cone_definitions.specs.Elimination.{Step, Named, IsWithin, in_order, step_at}
 use Rattle.cone_definitions.specs.Orders.{AreNamed}
-use Rattle.cone_definitions.specs.Listings.{Enumeration, AreWithin, IsListed, IsPastLimit}
+use Rattle.cone_definitions.specs.Listings.{Enumeration, AreWithin, IsListed, ExceedsLimit}
 use Rattle.cone_definitions.proofs.Large.{none_is_named_lem}
 use Rattle.cone_definitions.proofs.PastLimit.{step_same, length-in_order}
 use Rattle.table_definitions.specs.Table.{Row, IsTable}
@@ -75,7 +75,7 @@ module _ (coords : Coords) (rows : List Row) (e : Enumeration) (t : IsOfTable co
       subst (λ (rs : List EquationRow). IsWithin e.limit (step_at e.system.columns rs e.pairs k)) (sym first)
       (subst (λ (step : Step). IsWithin e.limit step) (sym s) (within longer x.1 k (omega arith)))
 
-  pub not_past : (taken : List ℕ) (kind : Named) → ¬ IsPastLimit e taken kind
+  pub not_past : (taken : List ℕ) (kind : Named) → ¬ ExceedsLimit e taken kind
   not_past taken kind h =
       none_is_named_lem e.limit e.system.columns (in_order e.system.rows taken) e.pairs
       (λ k l. named_within taken h.named k (let b = length-in_order e.system.rows taken in omega arith)) h.step kind h.large

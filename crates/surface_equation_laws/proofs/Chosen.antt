@@ -45,8 +45,8 @@ passing_none p l (c ∷ cs) h = go (p c) refl (passing_none p l cs h)
   where
     go : (b : Bool) → p c ≡ b → times_in (filter p cs) l ≡ 0 → times_in (cond b (c ∷ filter p cs) (filter p cs)) l ≡ 0
     go true e more =
-        let apart : (c == l) ≡ false = ne_eqb c l (λ s. true≢false (sym e ∙ ap p s ∙ h)) in
-        sum_by-cons (λ m. cond (m == l) 1 0) c (filter p cs) ∙ ap (λ b. cond b 1 0 + times_in (filter p cs) l) apart ∙ (let z : 0 + times_in (filter p cs) l ≡ 0 = omega arith in z)
+        let separate : (c == l) ≡ false = ne_eqb c l (λ s. true≢false (sym e ∙ ap p s ∙ h)) in
+        sum_by-cons (λ m. cond (m == l) 1 0) c (filter p cs) ∙ ap (λ b. cond b 1 0 + times_in (filter p cs) l) separate ∙ (let z : 0 + times_in (filter p cs) l ≡ 0 = omega arith in z)
     go false e more = more
 
 passing_once : (p : ℕ → Bool) (cs : List ℕ) → IsOnce cs → (l : ℕ) → times_in (filter p cs) l ≤ cond (p l) 1 0

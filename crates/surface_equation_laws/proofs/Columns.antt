@@ -27,7 +27,7 @@ use Rattle.surface_equation_laws.proofs.Entries.{magnitude_entry}
 use Rattle.surface_equation_laws.proofs.LocalArcs.{local_arcs, arcs_placed, times_placed}
 use Rattle.surface_equation_laws.proofs.FaceArcs.{IsArc, is_arc, arc_weight, face_times, turned_times, few_in_face, few_across}
 use Rattle.surface_equation_laws.proofs.Chosen.{sum_by_less}
-use Rattle.surface_equation_laws.proofs.Sides.{stands, sides_once}
+use Rattle.surface_equation_laws.proofs.Sides.{occurs, sides_once}
 
 pub sum_by_times : {A : Type 0} (m : ℕ) (f : A → ℕ) (xs : List A) → sum_by (λ x. m * f x) xs ≡ m * sum_by f xs
 sum_by_times m f [] = omega arith
@@ -70,8 +70,8 @@ module _ (coords : Coords) (rows : List Row) (c : ℕ) (triangles : HasTriangles
   times_local : (t f v : ℕ) → IsArc coords f v → times_in (arc_columns coords t f v) c ≡ cond (t == t0) (times_in (local_arcs coords f v) place) 0
   times_local t f v a = ap (λ ks. times_in ks c) (arcs_placed coords t f v triangles) ∙ times_placed coords t c (local_arcs coords f v) a.places
 
-  left_few : (y : Face × Gluing) → IsGlued rows y.0 y.1 → sum_by (left_times y) (others (y.0).face) ≤ arc_weight coords place * cond ((y.0).tet == t0) 1 0
-  left_few y g =
+  left_bounded : (y : Face × Gluing) → IsGlued rows y.0 y.1 → sum_by (left_times y) (others (y.0).face) ≤ arc_weight coords place * cond ((y.0).tet == t0) 1 0
+  left_bounded y g =
       let e : sum_by (left_times y) (others (y.0).face) ≡ cond ((y.0).tet == t0) (face_times coords (y.0).face place) 0 =
       sum_by_same (left_times y) (λ v. cond ((y.0).tet == t0) (times_in (local_arcs coords (y.0).face v) place) 0) (others (y.0).face)
       (λ v a. let o : (v < 4) × (v ≡ (y.0).face → ⊥) = other_is (y.0).face v a in times_local (y.0).tet (y.0).face v (is_arc coords (y.0).face v g.face o.0 o.1))
@@ -79,8 +79,8 @@ module _ (coords : Coords) (rows : List Row) (c : ℕ) (triangles : HasTriangles
       subst (λ k. k ≤ arc_weight coords place * cond ((y.0).tet == t0) 1 0) (sym e)
       (cond_less ((y.0).tet == t0) (face_times coords (y.0).face place) (arc_weight coords place) (few_in_face coords (y.0).face place g.face (index_below coords c)))
 
-  right_few : (y : Face × Gluing) → IsGlued rows y.0 y.1 → sum_by (right_times y) (others (y.0).face) ≤ arc_weight coords place * cond ((y.1).tet == t0) 1 0
-  right_few y g =
+  right_bounded : (y : Face × Gluing) → IsGlued rows y.0 y.1 → sum_by (right_times y) (others (y.0).face) ≤ arc_weight coords place * cond ((y.1).tet == t0) 1 0
+  right_bounded y g =
       let p : List ℕ = (y.1).perm in
       let f : ℕ = (y.0).face in
       let e : sum_by (right_times y) (others f) ≡ cond ((y.1).tet == t0) (turned_times coords p f place) 0 =
@@ -95,18 +95,18 @@ module _ (coords : Coords) (rows : List Row) (c : ℕ) (triangles : HasTriangles
   abbrev at_pair : Face × Gluing → ℕ
   at_pair y = cond ((y.0).tet == t0) 1 0 + cond ((y.1).tet == t0) 1 0
 
-  pair_stands : (y : Face × Gluing) → IsGlued rows y.0 y.1 → at_pair y ≡ sum_by (λ f. stands (face_at t0 f) y) four
+  pair_stands : (y : Face × Gluing) → IsGlued rows y.0 y.1 → at_pair y ≡ sum_by (λ f. occurs (face_at t0 f) y) four
   pair_stands y g =
       (λ i. one_of_four y.0 t0 g.face i + one_of_four (other_side y.0 y.1) t0 g.other_face i)
-      ∙ sym (sum_by_plus (λ f. cond (same_face y.0 (face_at t0 f)) 1 0) (λ f. cond (same_face (other_side y.0 y.1) (face_at t0 f)) 1 0) (λ f. stands (face_at t0 f) y) (λ f. refl) four)
+      ∙ sym (sum_by_plus (λ f. cond (same_face y.0 (face_at t0 f)) 1 0) (λ f. cond (same_face (other_side y.0 y.1) (face_at t0 f)) 1 0) (λ f. occurs (face_at t0 f) y) (λ f. refl) four)
 
   pairs_few : sum_by at_pair (glued_pairs rows) ≤ 4
   pairs_few =
-      let e : sum_by at_pair (glued_pairs rows) ≡ sum_by (λ f. sum_by (stands (face_at t0 f)) (glued_pairs rows)) four =
-      sum_by_same at_pair (λ y. sum_by (λ f. stands (face_at t0 f) y) four) (glued_pairs rows) (λ y a. pair_stands y (glued_is rows y.0 y.1 table (pair_glued rows y a)))
-      ∙ sum_swap (λ (y : Face × Gluing) f. stands (face_at t0 f) y) (glued_pairs rows) four in
-      let l : sum_by (λ f. sum_by (stands (face_at t0 f)) (glued_pairs rows)) four ≤ sum_by (λ (f : ℕ). 1) four =
-      sum_by_less (λ f. sum_by (stands (face_at t0 f)) (glued_pairs rows)) (λ (f : ℕ). 1) four (λ f a. sides_once rows table (face_at t0 f)) in
+      let e : sum_by at_pair (glued_pairs rows) ≡ sum_by (λ f. sum_by (occurs (face_at t0 f)) (glued_pairs rows)) four =
+      sum_by_same at_pair (λ y. sum_by (λ f. occurs (face_at t0 f) y) four) (glued_pairs rows) (λ y a. pair_stands y (glued_is rows y.0 y.1 table (pair_glued rows y a)))
+      ∙ sum_swap (λ (y : Face × Gluing) f. occurs (face_at t0 f) y) (glued_pairs rows) four in
+      let l : sum_by (λ f. sum_by (occurs (face_at t0 f)) (glued_pairs rows)) four ≤ sum_by (λ (f : ℕ). 1) four =
+      sum_by_less (λ f. sum_by (occurs (face_at t0 f)) (glued_pairs rows)) (λ (f : ℕ). 1) four (λ f a. sides_once rows table (face_at t0 f)) in
       let s : sum_by (λ (f : ℕ). 1) four ≡ 4 = refl in
       subst (λ k. k ≤ 4) (sym e) l
 
@@ -121,8 +121,8 @@ module _ (coords : Coords) (rows : List Row) (c : ℕ) (triangles : HasTriangles
   pair_few y g =
       let e : of_pair y ≡ sum_by (left_times y) (others (y.0).face) + sum_by (right_times y) (others (y.0).face) =
       sum_by-map of_equation (matching coords y.0 y.1) (others (y.0).face) ∙ sum_by_plus (left_times y) (right_times y) (λ v. of_equation (matching coords y.0 y.1 v)) (λ v. refl) (others (y.0).face) in
-      let l = left_few y g in
-      let r = right_few y g in
+      let l = left_bounded y g in
+      let r = right_bounded y g in
       let d : arc_weight coords place * at_pair y ≡ arc_weight coords place * cond ((y.0).tet == t0) 1 0 + arc_weight coords place * cond ((y.1).tet == t0) 1 0 =
       mul-add (arc_weight coords place) (cond ((y.0).tet == t0) 1 0) (cond ((y.1).tet == t0) 1 0) in
       omega arith

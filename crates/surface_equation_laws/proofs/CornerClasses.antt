@@ -6,7 +6,7 @@ use Rattle.std.proofs.lemmas.List.Sums.{passes_at_first, fails_before_first}
 use Rattle.table_definitions.specs.Lists.{has, same_list}
 use Rattle.table_definitions.specs.Permutation.{four, IsPermutationOfFour, is_permutation, image}
 use Rattle.table_definitions.specs.Table.{Row, glue, IsTable}
-use Rattle.table_definitions.specs.Places.{Place, carried, across, along, IsJoined, turned, edge, ends, edge_number, SameEdge}
+use Rattle.table_definitions.specs.Places.{Place, carried, across, along, IsJoined, backwards, edge, ends, edge_number, SameEdge}
 use Rattle.table_definitions.specs.Classes.{IsNumbering, least}
 use Rattle.table_definitions.proofs.ListFacts.{same_list-true}
 use Rattle.table_definitions.proofs.Permutations.{by_words}
@@ -87,7 +87,7 @@ edge_tested w h = by_words edge_test refl w h
 
 pub record IsAtEdge (k : Corner) : Type 0 where
   pub below : edge_number k.a k.b < 6
-  pub either : (edge_of k ≡ edge (edge_index k)) ⊎ (edge_of k ≡ turned (edge (edge_index k)))
+  pub either : (edge_of k ≡ edge (edge_index k)) ⊎ (edge_of k ≡ backwards (edge (edge_index k)))
 
 pub at_edge : (k : Corner) → IsPermutationOfFour (corner_word k) → IsAtEdge k
 unfolding edge_test
@@ -110,7 +110,7 @@ at_edge k h =
 least_found : (classes : List ℕ) (c i : ℕ) → i < length classes → slice_index classes i ≡ c → (least classes c < length classes) × (slice_index classes (least classes c) ≡ c)
 least_found classes c i l e = elim (cases_lt (least classes c) (length classes)) [
   | inl in_range ↦ (in_range, eqb-true (slice_index classes (least classes c)) c (passes_at_first (λ d. d == c) classes 0 in_range))
-  | inr past ↦ absurd (let before : i < least classes c = omega arith in both_ways (slice_index classes i == c) (fails_before_first (λ d. d == c) classes i 0 before) (eq-eqb (slice_index classes i) c e))
+  | inr exceeded ↦ absurd (let before : i < least classes c = omega arith in both_ways (slice_index classes i == c) (fails_before_first (λ d. d == c) classes i 0 before) (eq-eqb (slice_index classes i) c e))
 ]
 
 module _ (rows : List Row) (classes : List ℕ) (count : ℕ) (table : IsTable rows) (numbered : IsNumbering (6 * length rows) (SameEdge rows) classes count) where

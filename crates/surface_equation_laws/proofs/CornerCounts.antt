@@ -124,8 +124,8 @@ module _ (rows : List Row) (classes : List ℕ) (count : ℕ) (table : IsTable r
   one_hits : (t : ℕ) (w : List ℕ) → count_by (hits t w) corners ≤ 1
   one_hits t w = count_one (hits t w) corners (apart_from first corners are.once) same
     where
-      turned_too : (k l : Corner) → Among k corners → Among l corners → k.tet ≡ l.tet → corner_word l ≡ turn (corner_word k) → ⊥
-      turned_too k l x y t e =
+      backwards_too : (k l : Corner) → Among k corners → Among l corners → k.tet ≡ l.tet → corner_word l ≡ turn (corner_word k) → ⊥
+      backwards_too k l x y t e =
           let s : l ≡ turned_round k = same_corner l (turned_round k) (sym t) e in
           no_turn rows table first k (is_corner k x) (reaches k x) (subst (Reaches rows first) s (reaches l y))
 
@@ -137,10 +137,10 @@ module _ (rows : List Row) (classes : List ℕ) (count : ℕ) (table : IsTable r
           elim p.either [
             | inl e ↦ elim q.either [
               | inl f ↦ same_corner k l tets (e ∙ sym f)
-              | inr f ↦ absurd (turned_too k l x y tets (f ∙ ap turn (sym e)))
+              | inr f ↦ absurd (backwards_too k l x y tets (f ∙ ap turn (sym e)))
             ]
             | inr e ↦ elim q.either [
-              | inl f ↦ absurd (turned_too l k y x (sym tets) (e ∙ ap turn (sym f)))
+              | inl f ↦ absurd (backwards_too l k y x (sym tets) (e ∙ ap turn (sym f)))
               | inr f ↦ same_corner k l tets (e ∙ sym f)
             ]
           ]

@@ -3,7 +3,7 @@ use Rattle.std.proofs.Common.{◌≡◌, ℕ, zero, suc, ◌+◌, ◌-◌, ◌<�
 use Rattle.std.specs.Prelude.{◌==◌, ◌&&◌}
 use Rattle.std.proofs.lemmas.Bool.{and_parts, not-true, eqb-false, eq-eqb, and_from, both_ways, cases_lt}
 use Rattle.table_definitions.specs.Permutation.{IsPermutationOfFour, is_permutation, image, inverse}
-use Rattle.table_definitions.specs.Table.{Gluing, Row, Face, glue, other_side, way_back, same_face, IsTable}
+use Rattle.table_definitions.specs.Table.{Gluing, Row, Face, glue, other_side, inverse_gluing, same_face, IsTable}
 use Rattle.table_definitions.proofs.Permutations.{by_words}
 use Rattle.table_definitions.proofs.PermutationLaws.{image_below, image-of_inverse}
 use Rattle.table_definitions.proofs.Faces.{face_at}
@@ -67,8 +67,8 @@ module _ (rows : List Row) (table : IsTable rows) where
       let s : IsStep rows k l = step_is rows k l e in
       let g : IsGlued rows (face_at k.tet k.c) s.on.g = glued_is rows (face_at k.tet k.c) s.on.g table s.on.glued in
       let p : List ℕ = s.on.g.perm in
-      let there : step rows (turned_round (corner_across k s.on.g)) ≡ Some (corner_across (turned_round (corner_across k s.on.g)) (way_back (face_at k.tet k.c) s.on.g)) =
-      step_by rows (turned_round (corner_across k s.on.g)) (way_back (face_at k.tet k.c) s.on.g) g.back in
+      let there : step rows (turned_round (corner_across k s.on.g)) ≡ Some (corner_across (turned_round (corner_across k s.on.g)) (inverse_gluing (face_at k.tet k.c) s.on.g)) =
+      step_by rows (turned_round (corner_across k s.on.g)) (inverse_gluing (face_at k.tet k.c) s.on.g) g.back in
       let a : image (inverse p) (image p k.a) ≡ k.a = image-of_inverse p k.a g.permutes (image_below (corner_word k) 0 h.permutes (omega arith)) in
       let b : image (inverse p) (image p k.b) ≡ k.b = image-of_inverse p k.b g.permutes (image_below (corner_word k) 1 h.permutes (omega arith)) in
       let c : image (inverse p) (image p k.c) ≡ k.c = image-of_inverse p k.c g.permutes (image_below (corner_word k) 2 h.permutes (omega arith)) in
@@ -106,7 +106,7 @@ module _ (rows : List Row) (table : IsTable rows) where
       let same : other_side x s.on.g ≡ x = ap (λ (l : Corner). face_at l.tet l.d) s.is in
       let t : same_face (other_side x s.on.g) x ≡ true = and_from (s.on.g.tet == k.tet) (image s.on.g.perm k.c == k.c)
       (eq-eqb s.on.g.tet k.tet (ap (λ (y : Face). y.tet) same)) (eq-eqb (image s.on.g.perm k.c) k.c (ap (λ (y : Face). y.face) same)) in
-      both_ways (same_face (other_side x s.on.g) x) (not-true (same_face (other_side x s.on.g) x) (table.apart x s.on.g s.on.glued)) t
+      both_ways (same_face (other_side x s.on.g) x) (not-true (same_face (other_side x s.on.g) x) (table.separate x s.on.g s.on.glued)) t
 
   no_turn_at : (n : ℕ) (k : Corner) → IsCorner rows k → steps rows n k ≡ Some (turned_round k) → ⊥
   no_turn_at zero k h e = let s : k ≡ turned_round k = cc in (apart_in k h.permutes).ends (ap (λ (l : Corner). l.a) s)

@@ -32,7 +32,7 @@ entry_step : (e : Equation) (a c : ℕ) (ts : EquationRow) → entry (cons_optio
 entry_step e a c ts = entry_if e a c ts (times_in e.left a == times_in e.right a) refl
 
 no_part_at : (a c : ℕ) (z : ℤ) → (a ≡ c → ⊥) → part (a == c) z ≡ pos 0
-no_part_at a c z apart = ap (λ b. part b z) (ne_eqb a c apart)
+no_part_at a c z separate = ap (λ b. part b z) (ne_eqb a c separate)
 
 zero_plus : (y z : ℤ) → z ≡ pos 0 → z +ℤ y ≡ y
 zero_plus y z e = omega (arith, ints)
@@ -45,9 +45,9 @@ entry_absent : (e : Equation) (c : ℕ) (cs : List ℕ) → (Among c cs → ⊥)
 unfolding entry
 entry_absent e c [] none = refl
 entry_absent e c (a ∷ cs) none =
-    let apart : a ≡ c → ⊥ = λ s. none (inl (sym s)) in
+    let separate : a ≡ c → ⊥ = λ s. none (inl (sym s)) in
     entry_step e a c (filter_map (term_of e) cs)
-    ∙ zero_plus (entry (filter_map (term_of e) cs) c) (part (a == c) (coefficient e a)) (no_part_at a c (coefficient e a) apart)
+    ∙ zero_plus (entry (filter_map (term_of e) cs) c) (part (a == c) (coefficient e a)) (no_part_at a c (coefficient e a) separate)
     ∙ entry_absent e c cs (λ h. none (inr h))
 
 entry_in : (e : Equation) (c a n : ℕ) → a ≤ c → c < a + n → entry (filter_map (term_of e) (range_with_len a n)) c ≡ coefficient e c
@@ -57,8 +57,8 @@ entry_in e c a (suc n) low high = elim (cases_eq a c) [
       let none : entry rest c ≡ pos 0 = entry_absent e c (range_with_len (a + 1) n) (λ h. let l : a + 1 ≤ c = (range-among c (a + 1) n h).0 in omega arith) in
       entry_step e a c rest ∙ plus_zero (entry rest c) (part (a == c) (coefficient e a)) none
       ∙ ap (λ b. part b (coefficient e a)) (eq-eqb a c same) ∙ ap (coefficient e) same)
-  | inr apart ↦ (let rest : EquationRow = filter_map (term_of e) (range_with_len (a + 1) n) in
-      entry_step e a c rest ∙ zero_plus (entry rest c) (part (a == c) (coefficient e a)) (no_part_at a c (coefficient e a) apart)
+  | inr separate ↦ (let rest : EquationRow = filter_map (term_of e) (range_with_len (a + 1) n) in
+      entry_step e a c rest ∙ zero_plus (entry rest c) (part (a == c) (coefficient e a)) (no_part_at a c (coefficient e a) separate)
       ∙ entry_in e c (a + 1) n (omega arith) (omega arith))
 ]
 

@@ -15,7 +15,7 @@ use Rattle.surface_equation_laws.proofs.LocalArcs.{local_arcs, are_places}
 pub record IsArc (coords : Coords) (f v : ℕ) : Type 0 where
   pub places : are_places coords (local_arcs coords f v) ≡ true
   pub one_triangle : count_by (λ a. not (nat_le (triangles_each coords) a)) (local_arcs coords f v) ≤ 1
-  pub few : length (local_arcs coords f v) ≤ side_length coords
+  pub limited : length (local_arcs coords f v) ≤ side_length coords
 
 arc_test : Coords → ℕ → ℕ → Bool
 arc_test coords f v =
@@ -32,15 +32,15 @@ unfolding arc_test
 is_arc coords f v lf lv off =
     let places : Bool = are_places coords (local_arcs coords f v) in
     let one : Bool = nat_le (count_by (λ a. not (nat_le (triangles_each coords) a)) (local_arcs coords f v)) 1 in
-    let few : Bool = nat_le (length (local_arcs coords f v)) (side_length coords) in
-    elim (or_cases (v == f) (places && (one && few)) (arc_tested coords f v lf lv)) [
+    let limited : Bool = nat_le (length (local_arcs coords f v)) (side_length coords) in
+    elim (or_cases (v == f) (places && (one && limited)) (arc_tested coords f v lf lv)) [
       | inl same ↦ absurd (off (eqb-true v f same))
-      | inr h ↦ (let a : (places ≡ true) × ((one && few) ≡ true) = and_parts places (one && few) h in
-          let b : (one ≡ true) × (few ≡ true) = and_parts one few a.1 in
+      | inr h ↦ (let a : (places ≡ true) × ((one && limited) ≡ true) = and_parts places (one && limited) h in
+          let b : (one ≡ true) × (limited ≡ true) = and_parts one limited a.1 in
           record {
             places = a.0;
             one_triangle = leb-true (count_by (λ a. not (nat_le (triangles_each coords) a)) (local_arcs coords f v)) 1 b.0;
-            few = leb-true (length (local_arcs coords f v)) (side_length coords) b.1;
+            limited = leb-true (length (local_arcs coords f v)) (side_length coords) b.1;
           })
     ]
 

@@ -65,7 +65,7 @@ one_triangle coords t f v h a =
 few_columns : (coords : Coords) (t f v : ℕ) → HasTriangles coords → IsArc coords f v → length (arc_columns coords t f v) ≤ side_length coords
 few_columns coords t f v h a =
     let e : length (arc_columns coords t f v) ≡ length (local_arcs coords f v) = ap length (arcs_placed coords t f v h) ∙ length-map (local_arcs coords f v) (placed coords t) in
-    subst (λ k. k ≤ side_length coords) (sym e) a.few
+    subst (λ k. k ≤ side_length coords) (sym e) a.limited
 
 module _ (coords : Coords) (rows : List Row) (row : EquationRow) (cs : List ℕ) (triangles : HasTriangles coords) (once : IsOnce cs) (r : IsRowOf coords rows row) where
   n : ℕ

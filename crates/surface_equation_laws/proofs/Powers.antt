@@ -11,7 +11,7 @@ use Rattle.cone_bound_laws.specs.Caps.{caps_product}
 use Rattle.surface_equation_laws.specs.Caps.{cap_of, groups_of, size_of}
 use Rattle.surface_equation_laws.specs.OneForm.{cap_in}
 use Rattle.surface_equation_laws.specs.Bounds.{entry_bound, number_bound}
-use Rattle.surface_equation_laws.specs.Few.{most_tetrahedra}
+use Rattle.surface_equation_laws.specs.BoundedTables.{most_tetrahedra}
 
 fours : (cap : ℕ → ℕ) (k : ℕ) → ((g : ℕ) → g < k → cap g ≡ 4) → caps_product cap k ≡ 4 ^ k
 unfolding caps_product
@@ -94,5 +94,5 @@ most coords n = (forth, back)
     forth b = elim (cases_lt (most_tetrahedra coords) n) [
       | inl more ↦ (let r : number_bound coords (most_tetrahedra coords + 1) ≤ number_bound coords n = rises coords (most_tetrahedra coords + 1) n (omega arith) in
           let f = ends coords in absurd (omega arith))
-      | inr few ↦ few
+      | inr limited ↦ limited
     ]

@@ -32,18 +32,18 @@ meeting zero = 1 ∷ 2 ∷ 3 ∷ 4 ∷ []
 meeting (suc zero) = 0 ∷ 2 ∷ 3 ∷ 5 ∷ []
 meeting (suc (suc q)) = 0 ∷ 1 ∷ 4 ∷ 5 ∷ []
 
-module _ (N : List ℕ → ℕ) (m : ℕ → ℕ) (few : (w : List ℕ) (e : ℕ) → edge_number (image w 0) (image w 1) ≡ e → edge_number (image w 1) (image w 0) ≡ e → N w ≤ m e) where
+module _ (N : List ℕ → ℕ) (m : ℕ → ℕ) (limited : (w : List ℕ) (e : ℕ) → edge_number (image w 0) (image w 1) ≡ e → edge_number (image w 1) (image w 0) ≡ e → N w ≤ m e) where
   -- each edge that a quad meets has one word in `halves` with the quad on a given side
   on_third : (q : ℕ) → q < 3 → sum_by (λ w. one_if (side 2 w == q) * N w) halves ≤ sum_by m (meeting q)
-  on_third zero l = omega (arith, few (0 ∷ 2 ∷ 1 ∷ 3 ∷ []) 1 refl refl, few (0 ∷ 3 ∷ 1 ∷ 2 ∷ []) 2 refl refl, few (1 ∷ 2 ∷ 0 ∷ 3 ∷ []) 3 refl refl, few (1 ∷ 3 ∷ 0 ∷ 2 ∷ []) 4 refl refl)
-  on_third (suc zero) l = omega (arith, few (0 ∷ 1 ∷ 2 ∷ 3 ∷ []) 0 refl refl, few (0 ∷ 3 ∷ 2 ∷ 1 ∷ []) 2 refl refl, few (1 ∷ 2 ∷ 3 ∷ 0 ∷ []) 3 refl refl, few (2 ∷ 3 ∷ 0 ∷ 1 ∷ []) 5 refl refl)
-  on_third (suc (suc zero)) l = omega (arith, few (0 ∷ 1 ∷ 3 ∷ 2 ∷ []) 0 refl refl, few (0 ∷ 2 ∷ 3 ∷ 1 ∷ []) 1 refl refl, few (1 ∷ 3 ∷ 2 ∷ 0 ∷ []) 4 refl refl, few (2 ∷ 3 ∷ 1 ∷ 0 ∷ []) 5 refl refl)
+  on_third zero l = omega (arith, limited (0 ∷ 2 ∷ 1 ∷ 3 ∷ []) 1 refl refl, limited (0 ∷ 3 ∷ 1 ∷ 2 ∷ []) 2 refl refl, limited (1 ∷ 2 ∷ 0 ∷ 3 ∷ []) 3 refl refl, limited (1 ∷ 3 ∷ 0 ∷ 2 ∷ []) 4 refl refl)
+  on_third (suc zero) l = omega (arith, limited (0 ∷ 1 ∷ 2 ∷ 3 ∷ []) 0 refl refl, limited (0 ∷ 3 ∷ 2 ∷ 1 ∷ []) 2 refl refl, limited (1 ∷ 2 ∷ 3 ∷ 0 ∷ []) 3 refl refl, limited (2 ∷ 3 ∷ 0 ∷ 1 ∷ []) 5 refl refl)
+  on_third (suc (suc zero)) l = omega (arith, limited (0 ∷ 1 ∷ 3 ∷ 2 ∷ []) 0 refl refl, limited (0 ∷ 2 ∷ 3 ∷ 1 ∷ []) 1 refl refl, limited (1 ∷ 3 ∷ 2 ∷ 0 ∷ []) 4 refl refl, limited (2 ∷ 3 ∷ 1 ∷ 0 ∷ []) 5 refl refl)
   on_third (suc (suc (suc q))) l = absurd (omega arith)
 
   on_fourth : (q : ℕ) → q < 3 → sum_by (λ w. one_if (side 3 w == q) * N w) halves ≤ sum_by m (meeting q)
-  on_fourth zero l = omega (arith, few (0 ∷ 2 ∷ 3 ∷ 1 ∷ []) 1 refl refl, few (0 ∷ 3 ∷ 2 ∷ 1 ∷ []) 2 refl refl, few (1 ∷ 2 ∷ 3 ∷ 0 ∷ []) 3 refl refl, few (1 ∷ 3 ∷ 2 ∷ 0 ∷ []) 4 refl refl)
-  on_fourth (suc zero) l = omega (arith, few (0 ∷ 1 ∷ 3 ∷ 2 ∷ []) 0 refl refl, few (0 ∷ 3 ∷ 1 ∷ 2 ∷ []) 2 refl refl, few (1 ∷ 2 ∷ 0 ∷ 3 ∷ []) 3 refl refl, few (2 ∷ 3 ∷ 1 ∷ 0 ∷ []) 5 refl refl)
-  on_fourth (suc (suc zero)) l = omega (arith, few (0 ∷ 1 ∷ 2 ∷ 3 ∷ []) 0 refl refl, few (0 ∷ 2 ∷ 1 ∷ 3 ∷ []) 1 refl refl, few (1 ∷ 3 ∷ 0 ∷ 2 ∷ []) 4 refl refl, few (2 ∷ 3 ∷ 0 ∷ 1 ∷ []) 5 refl refl)
+  on_fourth zero l = omega (arith, limited (0 ∷ 2 ∷ 3 ∷ 1 ∷ []) 1 refl refl, limited (0 ∷ 3 ∷ 2 ∷ 1 ∷ []) 2 refl refl, limited (1 ∷ 2 ∷ 3 ∷ 0 ∷ []) 3 refl refl, limited (1 ∷ 3 ∷ 2 ∷ 0 ∷ []) 4 refl refl)
+  on_fourth (suc zero) l = omega (arith, limited (0 ∷ 1 ∷ 3 ∷ 2 ∷ []) 0 refl refl, limited (0 ∷ 3 ∷ 1 ∷ 2 ∷ []) 2 refl refl, limited (1 ∷ 2 ∷ 0 ∷ 3 ∷ []) 3 refl refl, limited (2 ∷ 3 ∷ 1 ∷ 0 ∷ []) 5 refl refl)
+  on_fourth (suc (suc zero)) l = omega (arith, limited (0 ∷ 1 ∷ 2 ∷ 3 ∷ []) 0 refl refl, limited (0 ∷ 2 ∷ 1 ∷ 3 ∷ []) 1 refl refl, limited (1 ∷ 3 ∷ 0 ∷ 2 ∷ []) 4 refl refl, limited (2 ∷ 3 ∷ 0 ∷ 1 ∷ []) 5 refl refl)
   on_fourth (suc (suc (suc q))) l = absurd (omega arith)
 
 -- the number of edges of class r that the quad of a column meets
@@ -78,12 +78,12 @@ module _ (rows : List Row) (table : IsTable rows) (classes : List ℕ) (count : 
   row_few c r row l h =
       let N : List ℕ → ℕ = λ w. sum_by (λ k. one_if (hits (c / 3) w k)) h.0 in
       let m : ℕ → ℕ = λ e. one_if (slice_index classes (6 * (c / 3) + e) == r) in
-      let few : (w : List ℕ) (e : ℕ) → edge_number (image w 0) (image w 1) ≡ e → edge_number (image w 1) (image w 0) ≡ e → N w ≤ m e =
+      let limited : (w : List ℕ) (e : ℕ) → edge_number (image w 0) (image w 1) ≡ e → edge_number (image w 1) (image w 0) ≡ e → N w ≤ m e =
       hits_few rows classes count table numbered r l h.0 h.1 (c / 3) in
       let left : times_in (quad_equation h.0).left c ≤ met classes c r =
-      subst (λ k. k ≤ met classes c r) (sym (times_at rows classes count table numbered r l h.0 h.1 2 c (inl refl))) (on_third N m few (c % 3) (index_below Quad c)) in
+      subst (λ k. k ≤ met classes c r) (sym (times_at rows classes count table numbered r l h.0 h.1 2 c (inl refl))) (on_third N m limited (c % 3) (index_below Quad c)) in
       let right : times_in (quad_equation h.0).right c ≤ met classes c r =
-      subst (λ k. k ≤ met classes c r) (sym (times_at rows classes count table numbered r l h.0 h.1 3 c (inr refl))) (on_fourth N m few (c % 3) (index_below Quad c)) in
+      subst (λ k. k ≤ met classes c r) (sym (times_at rows classes count table numbered r l h.0 h.1 3 c (inr refl))) (on_fourth N m limited (c % 3) (index_below Quad c)) in
       subst (λ (w : EquationRow). magnitude (entry w c) ≤ met classes c r) (sym h.2) (magnitude_most (columns Quad (length rows)) (quad_equation h.0) c (met classes c r) left right)
 
   -- each edge is of one class

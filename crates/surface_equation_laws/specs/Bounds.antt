@@ -6,7 +6,7 @@ use Rattle.cone_definitions.specs.Rows.{Row as EquationRow}
 use Rattle.cone_definitions.specs.Surfaces.{IsVertexSurface, IsSurfaceList}
 use Rattle.cone_definitions.specs.Elimination.{Named}
 use Rattle.cone_definitions.specs.Orders.{AreNamed}
-use Rattle.cone_definitions.specs.Listings.{Enumeration, AreWithin, IsListed, IsPastLimit}
+use Rattle.cone_definitions.specs.Listings.{Enumeration, AreWithin, IsListed, ExceedsLimit}
 use Rattle.table_definitions.specs.Table.{Row, IsTable}
 use Rattle.surface_definitions.specs.Coordinates.{has_octagons, columns, clash_list}
 use Rattle.surface_definitions.specs.declared.Coords.{Coords}
@@ -62,6 +62,6 @@ TablesAreListed = (coords : Coords) (rows : List Row) (e : Enumeration) → IsOf
     → IsSurfaceList e.system.columns e.system.rows e.pairs list → IsListed e taken list
 
 -- and nothing exceeds the limit
-abbrev pub TablesAreNotPast : Type 0
-TablesAreNotPast = (coords : Coords) (rows : List Row) (e : Enumeration) → IsOfTable coords rows e → number_bound coords (length rows) ≤ e.limit
-    → (taken : List ℕ) (kind : Named) → ¬ IsPastLimit e taken kind
+abbrev pub TablesDoNotExceed : Type 0
+TablesDoNotExceed = (coords : Coords) (rows : List Row) (e : Enumeration) → IsOfTable coords rows e → number_bound coords (length rows) ≤ e.limit
+    → (taken : List ℕ) (kind : Named) → ¬ ExceedsLimit e taken kind

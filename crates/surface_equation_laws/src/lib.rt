@@ -13,9 +13,9 @@ ghost use Rattle.surface_equation_laws.specs.Products.{ProductsAreSmall, Support
 ghost use Rattle.surface_equation_laws.specs.QuadSums.{QuadColumnsAreAtMostFour, QuadRowsAreAtMostEdges, QuadRowsAreAtMostWalks};
 ghost use Rattle.surface_equation_laws.specs.Selected.{SelectedColumnSumsAreSmaller};
 ghost use Rattle.surface_equation_laws.specs.Zeros.{PartsAreByEntries, TermsAreInColumns};
-ghost use Rattle.surface_equation_laws.specs.Bounds.{CapsAreBounds, EntriesAreSmall, TablesAreBounded, TablesAreWithin, NamedRowsAreWithin, TablesAreListed, TablesAreNotPast};
+ghost use Rattle.surface_equation_laws.specs.Bounds.{CapsAreBounds, EntriesAreSmall, TablesAreBounded, TablesAreWithin, NamedRowsAreWithin, TablesAreListed, TablesDoNotExceed};
 ghost use Rattle.surface_equation_laws.specs.Caps.{TablesHaveCaps};
-ghost use Rattle.surface_equation_laws.specs.Few.{MostTetrahedra, OwnEnumerations, SmallTablesAreListed, SmallTablesStayWithin};
+ghost use Rattle.surface_equation_laws.specs.BoundedTables.{MostTetrahedra, OwnEnumerations, SmallTablesAreListed, SmallTablesStayWithin};
 ghost use Rattle.surface_equation_laws.specs.OneForm.{TablesHaveOneForm, TablesAreBoundedInOneForm};
 
 /// Lemma: in a matching equation of T, in standard or octagon coordinates,
@@ -123,7 +123,7 @@ pub fn tables_are_bounded()
     ensures within { TablesAreWithin }
     ensures named { NamedRowsAreWithin }
     ensures listed { TablesAreListed }
-    ensures none { TablesAreNotPast }
+    ensures none { TablesDoNotExceed }
 {}
 
 /// Theorem: let m be 31 in standard, and 29 in quad and octagon coordinates.
@@ -136,7 +136,7 @@ pub fn tables_are_bounded()
 ///
 /// 3. With all rows as an order names them, the surface list of T is its enumeration's.
 /// 4. No ray and no pair of rays is named as the first to exceed the limit.
-pub fn few_tetrahedra_are_bounded()
+pub fn small_tables_are_bounded()
     ensures most { MostTetrahedra }
     ensures own { OwnEnumerations }
     ensures listed { SmallTablesAreListed }

@@ -9,7 +9,7 @@ use Rattle.std.proofs.lemmas.List.Elements.{Contains-get_or}
 use Rattle.std.proofs.lemmas.List.FromFn.{length-range_with_len}
 use Rattle.table_definitions.specs.Lists.{below}
 use Rattle.table_definitions.specs.Permutation.{image, others}
-use Rattle.table_definitions.specs.Table.{Gluing, Row, Face, glue, other_side, way_back, is_face_before, faces}
+use Rattle.table_definitions.specs.Table.{Gluing, Row, Face, glue, other_side, inverse_gluing, is_face_before, faces}
 use Rattle.table_definitions.specs.Places.{IsJoined}
 use Rattle.table_definitions.proofs.ChainLaws.{across_by, joined_step}
 use Rattle.table_definitions.proofs.Listed.{contains_among, among_contains, Among-filter, filter-among, Among-flat_map, flat_map-among, map-among, below-among, Among-others, faces-among}
@@ -46,12 +46,12 @@ module _ (rows : List Row) (coords : Coords) (xs : List ℕ) (s : IsSurface rows
   pub across_is_arc : (a : Arc) (g : Gluing) → IsArc a → glue rows (face_of_arc a) ≡ Some g → IsArc (arc_across g a)
   across_is_arc a g h e =
       let m = (meets_back rows coords xs s a g (is_meeting a g h e)).meets in
-      meets_is (arc_across g a) (way_back (face_of_arc a) g) m
+      meets_is (arc_across g a) (inverse_gluing (face_of_arc a) g) m
 
-  pub across_back : (a : Arc) (g : Gluing) → IsArc a → glue rows (face_of_arc a) ≡ Some g → arc_across (way_back (face_of_arc a) g) (arc_across g a) ≡ a
+  pub across_back : (a : Arc) (g : Gluing) → IsArc a → glue rows (face_of_arc a) ≡ Some g → arc_across (inverse_gluing (face_of_arc a) g) (arc_across g a) ≡ a
   across_back a g h e = (meets_back rows coords xs s a g (is_meeting a g h e)).same
 
-  pub glued_back : (a : Arc) (g : Gluing) → IsArc a → glue rows (face_of_arc a) ≡ Some g → glue rows (face_of_arc (arc_across g a)) ≡ Some (way_back (face_of_arc a) g)
+  pub glued_back : (a : Arc) (g : Gluing) → IsArc a → glue rows (face_of_arc a) ≡ Some g → glue rows (face_of_arc (arc_across g a)) ≡ Some (inverse_gluing (face_of_arc a) g)
   glued_back a g h e = (glued_is rows (face_of_arc a) g s.table e).back
 
   -- four vertices, and an edge, across a gluing
@@ -145,7 +145,7 @@ module _ (rows : List Row) (coords : Coords) (xs : List ℕ) (s : IsSurface rows
           let y : Face = other_side x g in
           let i : IsGlued rows (face_of_arc b) g = glued_is rows (face_of_arc b) g s.table q in
           let later : is_face_before (face_of_arc b) (other_side (face_of_arc b) g) ≡ false = sym (ap (is_first_side (face_of_arc b)) q) ∙ e in
-          elim (before_or_after x y ((s.table).apart x g q)) [
+          elim (before_or_after x y ((s.table).separate x g q)) [
             | inl t ↦ absurd (let both : true ≡ false = sym t ∙ later in cc)
             | inr t ↦ (let first : is_first (face_of_arc (arc_across g b)) ≡ true = ap (is_first_side y) i.back ∙ ap (is_face_before y) i.returns ∙ t in
                 let m = listed (arc_across g b) (among_arcs (arc_across g b) (across_is_arc b g h q) first) in

@@ -1,6 +1,6 @@
 -- Arcs by number: the pieces on both sides of each, and the points at its ends.
 use Rattle.std.proofs.Common.{◌≡◌, ℕ, ◌<◌, Bool, List, length, Option, Some, None, inl, inr, sym, ap, ◌∙◌}
-use Rattle.table_definitions.specs.Table.{Gluing, glue, way_back}
+use Rattle.table_definitions.specs.Table.{Gluing, glue, inverse_gluing}
 use Rattle.skeleton_definitions.specs.Skeleton.{Skeleton, IsSkeleton, IsValidClass}
 use Rattle.surface_definitions.specs.declared.Coords.{Coords}
 use Rattle.surface_definitions.specs.Pieces.{disc_number, disc_of, Arc, arc_across}
@@ -77,7 +77,7 @@ module _ (s : Skeleton) (k : IsSkeleton s) (valid : (c : ℕ) → c < s.edges.co
 
   pub other_back : (a : ℕ) (b : Arc) (g : Gluing) → OnSurface b → glued b ≡ Some g → arc a ≡ arc_across g b → piece_behind a ≡ pn b
   other_back a b g x f e =
-      other_is a (arc_across g b) (way_back (face_of_arc b) g) e (glued_back s.rows coords xs surface b g x f)
+      other_is a (arc_across g b) (inverse_gluing (face_of_arc b) g) e (glued_back s.rows coords xs surface b g x f)
       ∙ ap (λ (z : Arc). disc_number xs (disc_of coords xs z)) (across_back s.rows coords xs surface b g x f)
 
   pub agrees_number : (h : ℕ → Bool) (b : Arc) (x : OnSurface b) (m : Number b) → h (left_point m.a) ≡ h (right_point m.a) → Agrees h b

@@ -1,7 +1,7 @@
 -- The other arcs of a piece are a path around it, from one end of an arc to its other end.
 use Rattle.std.proofs.Common.{◌≡◌, ◌≢◌, ℕ, ◌/◌, ◌<◌, Bool, List, [], ◌∷◌, length, Option, Some, None, inl, inr, refl, sym, ap, ◌∙◌, subst}
 use Rattle.table_definitions.specs.Permutation.{image}
-use Rattle.table_definitions.specs.Table.{Gluing, glue, way_back}
+use Rattle.table_definitions.specs.Table.{Gluing, glue, inverse_gluing}
 use Rattle.skeleton_definitions.specs.Skeleton.{Skeleton, IsSkeleton, IsValidClass}
 use Rattle.surface_definitions.specs.Coordinates.{columns_each}
 use Rattle.surface_definitions.specs.declared.Coords.{Coords}
@@ -88,9 +88,9 @@ module _ (s : Skeleton) (k : IsSkeleton s) (valid : (c : ℕ) → c < s.edges.co
       ∙ arcs_colour h all (of (arc_across g a)) q arcs more (arc_across g a) b' (across_is_arc s.rows coords xs surface a g y m.glued) x' refl d' (image g.perm t) (image g.perm f) u' w'
       (four_across s.rows coords xs surface (face_of_arc a) g a.vertex a.face t f m.glued r) four'
 
-  pub go_round : (h : ℕ → Bool) (a p : ℕ) → a < arcs_number → one a ≢ other a → IsSideOf (piece_on s k valid coords xs surface) (piece_behind s k valid coords xs surface) a p
+  pub go_around : (h : ℕ → Bool) (a p : ℕ) → a < arcs_number → one a ≢ other a → IsSideOf (piece_on s k valid coords xs surface) (piece_behind s k valid coords xs surface) a p
       → ((b : ℕ) → b < arcs_number → IsSideOf (piece_on s k valid coords xs surface) (piece_behind s k valid coords xs surface) b p → b ≢ a → h (left b) ≡ h (right b)) → h (left a) ≡ h (right a)
-  go_round h a p l apart side others = number_agrees s k valid coords xs surface h a l (by_side side)
+  go_around h a p l separate side others = number_agrees s k valid coords xs surface h a l (by_side side)
     where
       x : OnSurface (arc a)
       x = arc_of_is s.rows coords xs surface a l
@@ -111,18 +111,18 @@ module _ (s : Skeleton) (k : IsSkeleton s) (valid : (c : ℕ) → c < s.edges.co
       by_side : IsSideOf (piece_on s k valid coords xs surface) (piece_behind s k valid coords xs surface) a p → Agrees h (arc a)
       by_side (inl e) = from_piece (arc a) x (sym (one_is s k valid coords xs surface a (arc a) refl) ∙ e) (λ b' y' e' m q. elim m.is [
         | inl z ↦ sym z ∙ ap arc q
-        | inr z ↦ absurd (apart (e ∙ sym e' ∙ sym (ap (piece_behind s k valid coords xs surface) (sym q) ∙ other_back s k valid coords xs surface m.a b' z.0 y' z.1 z.2)))
+        | inr z ↦ absurd (separate (e ∙ sym e' ∙ sym (ap (piece_behind s k valid coords xs surface) (sym q) ∙ other_back s k valid coords xs surface m.a b' z.0 y' z.1 z.2)))
       ])
       by_side (inr e) = by_glue (glued (arc a)) refl
         where
           by_glue : (o : Option Gluing) → glued (arc a) ≡ o → Agrees h (arc a)
-          by_glue None q = absurd (apart (sym (other_none s k valid coords xs surface a q)))
+          by_glue None q = absurd (separate (sym (other_none s k valid coords xs surface a q)))
           by_glue (Some g) q =
               let y : OnSurface (arc_across g (arc a)) = across_is_arc s.rows coords xs surface (arc a) g x q in
               agrees_across s k valid coords xs surface h (arc a) g x q (from_piece (arc_across g (arc a)) y (sym (other_is s k valid coords xs surface a (arc a) g refl q) ∙ e) (λ b' y' e' m c. elim m.is [
-                | inl z ↦ absurd (apart (one_is s k valid coords xs surface a b' (ap arc (sym c) ∙ z) ∙ e' ∙ sym e))
+                | inl z ↦ absurd (separate (one_is s k valid coords xs surface a b' (ap arc (sym c) ∙ z) ∙ e' ∙ sym e))
                 | inr z ↦ (let w : arc a ≡ arc_across z.0 b' = ap arc (sym c) ∙ z.2 in
-                    let two : Some g ≡ Some (way_back (face_of_arc b') z.0) = sym q ∙ ap (λ (b : Arc). glue s.rows (face_of_arc b)) w ∙ glued_back s.rows coords xs surface b' z.0 y' z.1 in
-                    let same : g ≡ way_back (face_of_arc b') z.0 = cc in
+                    let two : Some g ≡ Some (inverse_gluing (face_of_arc b') z.0) = sym q ∙ ap (λ (b : Arc). glue s.rows (face_of_arc b)) w ∙ glued_back s.rows coords xs surface b' z.0 y' z.1 in
+                    let same : g ≡ inverse_gluing (face_of_arc b') z.0 = cc in
                     sym ((λ i. arc_across (same i) (w i)) ∙ across_back s.rows coords xs surface b' z.0 y' z.1))
               ]))

@@ -27,8 +27,8 @@ use Rattle.surface_euler_laws.proofs.TwoForests.{at_most_two}
 use Rattle.surface_vector_definitions.specs.Properties.{characteristic}
 use Rattle.surface_agreement_laws.specs.VertexSurfaces.{IsVertexSurfaceOf}
 
-few : (p a r m : ℕ) → p + r ≤ a + 2 * m → euler p a r ≤ℤ pos (2 * m)
-few p a r m h = omega (arith, ints)
+limited : (p a r m : ℕ) → p + r ≤ a + 2 * m → euler p a r ≤ℤ pos (2 * m)
+limited p a r m h = omega (arith, ints)
 
 pub at_most_two_each : (s : Skeleton) (coords : Coords) (xs components : List ℕ) (count : ℕ) → IsSkeleton s → IsFirstInvalid s None → IsSurface s.rows coords xs → AreComponents s.rows coords xs components count
     → characteristic s coords xs ≤ℤ pos (2 * count)
@@ -36,7 +36,7 @@ at_most_two_each s coords xs components count k valid w c =
     let all = at_most_two _ _ _ count (piece_on s k valid coords xs w) (piece_behind s k valid coords xs w) (left_point s k valid coords xs w) (right_point s k valid coords xs w) (are_polygons s k valid coords xs w components count c) in
     let a : ArePieceNumbers xs = piece_numbers xs in
     let b : ArePieceNumbers (weights s k valid coords xs w) = piece_numbers (weights s k valid coords xs w) in
-    few (points coords xs s.edges.classes s.edges.count) (arcs s.rows coords xs) (sum xs) count
+    limited (points coords xs s.edges.classes s.edges.count) (arcs s.rows coords xs) (sum xs) count
     (omega (arith, a.count, b.count, all_points s k valid coords xs w, length-arc_list s.rows coords xs w))
 
 pub connected_at_most_two : (s : Skeleton) (coords : Coords) (xs : List ℕ) → IsSkeleton s → IsFirstInvalid s None → IsConnectedSurface s coords xs → characteristic s coords xs ≤ℤ pos 2

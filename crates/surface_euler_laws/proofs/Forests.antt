@@ -119,7 +119,7 @@ module _ (n e : ℕ) (from to part : ℕ → ℕ) (used : ℕ → Bool) where
   abbrev pub JoinParts : Type 0
   JoinParts = (h : ℕ → Bool) → ((a : ℕ) → a < e → used a ≡ true → h (from a) ≡ h (to a)) → (x y : ℕ) → x < n → y < n → part x ≡ part y → h x ≡ h y
 
-  module _ (m : ℕ) (few : (x : ℕ) → x < n → part x < m) (joined : JoinParts) where
+  module _ (m : ℕ) (limited : (x : ℕ) → x < n → part x < m) (joined : JoinParts) where
     abbrev IsSame : List ℕ → ℕ → Type 0
     IsSame ns a = used a ≡ true → has ns (from a) ≡ has ns (to a)
 
@@ -175,6 +175,6 @@ module _ (n e : ℕ) (from to part : ℕ → ℕ) (used : ℕ → Bool) where
     forest_there =
         let t = grown n (omega arith) in
         let small : length (map part (roots t.0)) ≤ length (below m) = apart_short (map part (roots t.0)) (below m) (parts_apart t.0 t.2)
-        (λ c a. let r = map-among part c (roots t.0) a in let l : part r.0 < m = few r.0 (roots_inside t.0 t.2 r.0 r.1) in
+        (λ c a. let r = map-among part c (roots t.0) a in let l : part r.0 < m = limited r.0 (roots_inside t.0 t.2 r.0 r.1) in
         Among-below c m (omega (arith, r.2))) in
         record { steps = t.0; forest = t.2; size = omega (arith, t.1, length-parts t.0, length-range_with_len 0 m, length-map (roots t.0) part) }

@@ -45,11 +45,11 @@ module _ (s : Skeleton) (k : IsSkeleton s) (valid : (c : ℕ) → c < s.edges.co
       let la = type_below v f u w a in
       let lb = type_below u f v w b in
       let e : keeping v w ≡ keeping u f = opposite v w u f (middle_two v u w f (last_two v u f w four)) in
-      let apart : keeping v f ≢ keeping v w = other_type v f w u (middle_two v w f u (first_swap v f u w a)) in
+      let separate : keeping v f ≢ keeping v w = other_type v f w u (middle_two v w f u (first_swap v f u w a)) in
       elim (one_of_types v u f w o four lo) [
         | inl d ↦ absurd (ne d)
-        | inr (inl d) ↦ (let z = sums (keeping v f) (keeping u f) la lb d (λ g. apart (sym d ∙ g ∙ sym e)) in omega arith)
-        | inr (inr d) ↦ (let z = sums (keeping u f) (keeping v f) lb la (d ∙ e) (λ g. apart (sym g ∙ d)) in omega arith)
+        | inr (inl d) ↦ (let z = sums (keeping v f) (keeping u f) la lb d (λ g. separate (sym d ∙ g ∙ sym e)) in omega arith)
+        | inr (inr d) ↦ (let z = sums (keeping u f) (keeping v f) lb la (d ∙ e) (λ g. separate (sym g ∙ d)) in omega arith)
       ]
     where
       first_swap : (v f u w : ℕ) → Four v f u w → Four v w f u

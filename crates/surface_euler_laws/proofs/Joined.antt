@@ -16,7 +16,7 @@ use Rattle.surface_euler_laws.proofs.EdgeDirections.{IsEdge}
 use Rattle.surface_euler_laws.proofs.Labels.{wide, wide_is, weights, point, point_back, IsPoint, is_point}
 use Rattle.surface_euler_laws.proofs.ArcList.{IsArc, meets_is, arc_list}
 use Rattle.surface_euler_laws.proofs.ArcNumbers.{piece_on, piece_behind, left_point, right_point, number, agrees_number, both_sides}
-use Rattle.surface_euler_laws.proofs.AroundPieces.{arcs_colour, go_round}
+use Rattle.surface_euler_laws.proofs.AroundPieces.{arcs_colour, go_around}
 
 module _ (s : Skeleton) (k : IsSkeleton s) (valid : (c : ℕ) → c < s.edges.count → IsValidClass s c) (coords : Coords) (xs : List ℕ) (surface : IsSurface s.rows coords xs) where
   abbrev OnSurface : Arc → Type 0
@@ -119,7 +119,7 @@ module _ (s : Skeleton) (k : IsSkeleton s) (valid : (c : ℕ) → c < s.edges.co
     polygons_joined : AreJoined (length (discs_of xs)) (length (arc_list s.rows coords xs surface)) count (piece_on s k valid coords xs surface) (piece_behind s k valid coords xs surface) part_of
     unfolding part_of
     polygons_joined = record {
-      few = numbered.in_range;
+      limited = numbered.in_range;
       joined = λ h same x y lx ly e.
           let c = (numbered.together x y lx ly).0 e in
           ap h (sym (number-piece xs x no_piece lx)) ∙ chain_colour h same (slice_index_or (discs_of xs) x no_piece) (slice_index_or (discs_of xs) y no_piece) c.0 c.1 ∙ ap h (number-piece xs y no_piece ly);
@@ -138,13 +138,13 @@ module _ (s : Skeleton) (k : IsSkeleton s) (valid : (c : ℕ) → c < s.edges.co
     points_joined : AreJoined (length (discs_of (weights s k valid coords xs surface))) (length (arc_list s.rows coords xs surface)) count (left_point s k valid coords xs surface) (right_point s k valid coords xs surface) part_at
     unfolding part_at part_if
     points_joined = record {
-      few = λ x l. few x l (cases_lt x all_points);
+      limited = λ x l. limited x l (cases_lt x all_points);
       joined = λ h same x y lx ly e. joined h same x y lx ly (cases_lt x all_points) (cases_lt y all_points) e;
     }
       where
-        few : (x : ℕ) → x < all_points → (d : (x < all_points) ⊎ (all_points ≤ x)) → part_if x d < count
-        few x l (inl m) = numbered.in_range (pn (end_of x m).b) (found (end_of x m).b (end_of x m).on).in_range
-        few x l (inr m) = absurd (omega arith)
+        limited : (x : ℕ) → x < all_points → (d : (x < all_points) ⊎ (all_points ≤ x)) → part_if x d < count
+        limited x l (inl m) = numbered.in_range (pn (end_of x m).b) (found (end_of x m).b (end_of x m).on).in_range
+        limited x l (inr m) = absurd (omega arith)
 
         joined : (h : ℕ → Bool) → ((a : ℕ) → a < arcs_number → h (left a) ≡ h (right a)) → (x y : ℕ) → x < all_points → y < all_points
             → (d : (x < all_points) ⊎ (all_points ≤ x)) (e : (y < all_points) ⊎ (all_points ≤ y)) → part_if x d ≡ part_if y e → h x ≡ h y
@@ -153,4 +153,4 @@ module _ (s : Skeleton) (k : IsSkeleton s) (valid : (c : ℕ) → c < s.edges.co
         joined h same x y lx ly (inl m) (inr n) f = absurd (omega arith)
 
     pub are_polygons : ArePolygons (length (discs_of xs)) (length (arc_list s.rows coords xs surface)) (length (discs_of (weights s k valid coords xs surface))) count (piece_on s k valid coords xs surface) (piece_behind s k valid coords xs surface) (left_point s k valid coords xs surface) (right_point s k valid coords xs surface)
-    are_polygons = record { part_of = part_of; polygons_joined = polygons_joined; part_at = part_at; points_joined = points_joined; go_round = go_round s k valid coords xs surface }
+    are_polygons = record { part_of = part_of; polygons_joined = polygons_joined; part_at = part_at; points_joined = points_joined; go_around = go_around s k valid coords xs surface }

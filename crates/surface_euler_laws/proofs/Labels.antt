@@ -123,7 +123,7 @@ module _ (s : Skeleton) (k : IsSkeleton s) (valid : (c : ℕ) → c < s.edges.co
         v = low (i % 6);
         u = high (i % 6);
         j = place_if b m p.number;
-        edge = record { lt = omega arith; lv = ends_are.lower; lu = ends_are.higher; ne = ends_are.apart };
+        edge = record { lt = omega arith; lv = ends_are.lower; lu = ends_are.higher; ne = ends_are.separate };
         inside = subst (λ z. place_if b m p.number < slice_index weights z) (sym same) (place_below b m p.number lj);
         is = (λ y. disc_number weights (piece_at (same y) (place_if b (slice_index weights (same y)) (place_if b m p.number))))
             ∙ ap (λ z. disc_number weights (piece_at c z)) (place_twice b m p.number lj) ∙ number-piece weights x no_piece l;

@@ -134,8 +134,8 @@ module _ (s : Skeleton) (k : IsSkeleton s) (valid : (c : ℕ) → c < s.edges.co
               ]
             ]
 
-        apart : (a b a' b' u w : ℕ) → a < 4 → Four a' b' u w → tri_column coords t a ≡ behind_type coords xs t (keeping a' b') → ⊥
-        apart a b a' b' u w la other e =
+        separate : (a b a' b' u w : ℕ) → a < 4 → Four a' b' u w → tri_column coords t a ≡ behind_type coords xs t (keeping a' b') → ⊥
+        separate a b a' b' u w la other e =
             let low : tri_column coords t a % columns_each coords < 4 = low_triangle coords t a surface.triangles la in
             let high : 4 ≤ first_nonzero xs (octagon_arcs coords t b' a') (quad_column coords t (keeping a' b')) % columns_each coords = high_behind coords xs t b' a' surface.triangles other.lu other.lv other.vu in
             let d : first_nonzero xs (octagon_arcs coords t b' a') (quad_column coords t (keeping a' b')) % columns_each coords ≡ behind_type coords xs t (keeping a' b') % columns_each coords =
@@ -173,6 +173,6 @@ module _ (s : Skeleton) (k : IsSkeleton s) (valid : (c : ℕ) → c < s.edges.co
             let e : piece_at (tri_column coords t v) j ≡ piece_at (tri_column coords t v') j' = sym (low_piece s k valid coords xs surface t lt h v f u w j four a) ∙ same ∙ low_piece s k valid coords xs surface t lt h v' f' u' w' j' four' b in
             let o = one_triangle coords t v t v' surface.triangles four.lv four'.lv (column e) in
             round_one v' j' (sym o.1) (sym (number e)) four' a
-        by_cases (inl a) (inr b) = absurd (apart v f v' f' u' w' four.lv four' (column (sym (low_piece s k valid coords xs surface t lt h v f u w j four a) ∙ same ∙ high_is v' f' u' w' j' four' b)))
-        by_cases (inr a) (inl b) = absurd (apart v' f' v f u w four'.lv four (column (sym (low_piece s k valid coords xs surface t lt h v' f' u' w' j' four' b) ∙ sym same ∙ high_is v f u w j four a)))
+        by_cases (inl a) (inr b) = absurd (separate v f v' f' u' w' four.lv four' (column (sym (low_piece s k valid coords xs surface t lt h v f u w j four a) ∙ same ∙ high_is v' f' u' w' j' four' b)))
+        by_cases (inr a) (inl b) = absurd (separate v' f' v f u w four'.lv four (column (sym (low_piece s k valid coords xs surface t lt h v' f' u' w' j' four' b) ∙ sym same ∙ high_is v f u w j four a)))
         by_cases (inr a) (inr b) = both_high (further s k valid coords xs surface t lt h v f u w j four a l) b

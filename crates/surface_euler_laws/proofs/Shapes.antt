@@ -59,7 +59,7 @@ module _ (n : ℕ) (xs : List ℕ) (t : ℕ) (lt : t < n) where
   pub record AreOctagons (coords : Coords) (k : ℕ) : Type 0 where
     pub o : ℕ
     pub below_three : o < 3
-    pub apart : o ≢ k
+    pub separate : o ≢ k
     pub type_is : type_in coords (behind_type coords xs t k) ≡ o
     pub none : slice_index xs (behind_type coords xs t o) ≡ 0
     pub same : (j : ℕ) → j < 3 → j ≢ o → behind_type coords xs t j ≡ behind_type coords xs t k
@@ -105,7 +105,7 @@ module _ (n : ℕ) (xs : List ℕ) (t : ℕ) (lt : t < n) where
         let there : 0 < slice_index xs (oct_column Octagon t o) = subst (λ c. 0 < slice_index xs c) e some in record {
           o = o;
           below_three = lo;
-          apart = ne;
+          separate = ne;
           type_is = ap (type_in Octagon) e ∙ (let r : oct_column Octagon t o % 10 ≡ 7 + o = omega arith in
               ap (λ b. cond b (oct_column Octagon t o % 10 - 4) (oct_column Octagon t o % 10 - 7)) (le-ltb (oct_column Octagon t o % 10) 7 (omega arith)) ∙ omega arith);
           none = ap (slice_index xs) (first_none xs (octagons_with Octagon t o) (quad_column Octagon t o) (λ c m.

@@ -28,14 +28,14 @@ module _ (polygons arcs points parts : ℕ) (one other left right : ℕ → ℕ)
       side : IsSideOf one other c y
       side = step_end polygons arcs one other p.part_of all (nodes steps) c y step
 
-      apart : one c ≢ other c
-      apart q = elim step.ends [
+      separate : one c ≢ other c
+      separate q = elim step.ends [
         | inl e ↦ (let both : false ≡ true = sym step.new ∙ ap (has (nodes steps)) (sym e.0 ∙ q) ∙ e.1 in cc)
         | inr e ↦ (let both : false ≡ true = sym step.new ∙ ap (has (nodes steps)) (sym e.0 ∙ sym q) ∙ e.1 in cc)
       ]
 
       here : h (left c) ≡ h (right c)
-      here = p.go_round h c y step.inside apart side (λ b l side_too off. outside b l (λ m. elim m [
+      here = p.go_around h c y step.inside separate side (λ b l side_too off. outside b l (λ m. elim m [
         | inl q ↦ off q
         | inr m ↦ off_items polygons arcs one other p.part_of all steps g.1 b y side_too step.new m
       ]))
@@ -49,8 +49,8 @@ module _ (polygons arcs points parts : ℕ) (one other left right : ℕ → ℕ)
   all_joined : JoinParts polygons arcs one other p.part_of all
   all_joined h same = (p.polygons_joined).joined h (λ a l. same a l refl)
 
-  forest : HasForest polygons arcs one other p.part_of all parts (p.polygons_joined).few all_joined
-  forest = forest_there polygons arcs one other p.part_of all parts (p.polygons_joined).few all_joined
+  forest : HasForest polygons arcs one other p.part_of all parts (p.polygons_joined).limited all_joined
+  forest = forest_there polygons arcs one other p.part_of all parts (p.polygons_joined).limited all_joined
 
   -- the arcs that are not in the forest
   abbrev free : ℕ → Bool
@@ -65,14 +65,14 @@ module _ (polygons arcs points parts : ℕ) (one other left right : ℕ → ℕ)
   still_joined : JoinParts points arcs left right p.part_at free
   still_joined h same x y lx ly e = (p.points_joined).joined h (λ a l. peel h forest.steps forest.forest (λ b m off. same b m (free_if b off)) a l) x y lx ly e
 
-  other_forest : HasForest points arcs left right p.part_at free parts (p.points_joined).few still_joined
-  other_forest = forest_there points arcs left right p.part_at free parts (p.points_joined).few still_joined
+  other_forest : HasForest points arcs left right p.part_at free parts (p.points_joined).limited still_joined
+  other_forest = forest_there points arcs left right p.part_at free parts (p.points_joined).limited still_joined
 
   pub at_most_two : points + polygons ≤ arcs + 2 * parts
   at_most_two =
       let xs : List ℕ = items forest.steps in
       let ys : List ℕ = items other_forest.steps in
-      let apart : AreApart (items forest.steps ++ items other_forest.steps) =
+      let separate : AreApart (items forest.steps ++ items other_forest.steps) =
       apart_append xs ys (items_apart polygons arcs one other p.part_of all forest.steps forest.forest) (items_apart points arcs left right p.part_at free other_forest.steps other_forest.forest)
       (λ a h g. let u : not (has (items forest.steps) a) ≡ true = (items_used points arcs left right p.part_at free other_forest.steps other_forest.forest a g).1 in
       let both : false ≡ true = sym (ap not (among_has xs a h)) ∙ u in
@@ -81,6 +81,6 @@ module _ (polygons arcs points parts : ℕ) (one other left right : ℕ → ℕ)
         | inl i ↦ (items_used polygons arcs one other p.part_of all forest.steps forest.forest a i).0
         | inr i ↦ (items_used points arcs left right p.part_at free other_forest.steps other_forest.forest a i).0
       ]) in
-      let few : length (items forest.steps ++ items other_forest.steps) ≤ length (below arcs) = apart_short (items forest.steps ++ items other_forest.steps) (below arcs) apart inside in
+      let limited : length (items forest.steps ++ items other_forest.steps) ≤ length (below arcs) = apart_short (items forest.steps ++ items other_forest.steps) (below arcs) separate inside in
       let sizes : length (items forest.steps ++ items other_forest.steps) ≡ length xs + length ys = length-append xs ys in
       omega (arith, length-range_with_len 0 arcs, forest.size, other_forest.size)

@@ -4,7 +4,7 @@ use Rattle.std.proofs.Common.{◌≡◌, ◌≢◌, ℕ, zero, suc, ◌+◌, ◌
 use Rattle.std.specs.Prelude.{slice_index}
 use Rattle.table_definitions.specs.Lists.{has}
 use Rattle.table_definitions.specs.Permutation.{image}
-use Rattle.table_definitions.specs.Places.{Place, across, carried, edge, turned, IsJoined}
+use Rattle.table_definitions.specs.Places.{Place, across, carried, edge, backwards, IsJoined}
 use Rattle.table_definitions.proofs.ChainLaws.{Steps, steps_across, face_crossed, kept_along}
 use Rattle.table_definitions.proofs.Faces.{face_at}
 use Rattle.table_definitions.proofs.PermutationLaws.{image_below, images_apart}
@@ -127,7 +127,7 @@ module _ (rows : List Row) (coords : Coords) (xs : List ℕ) (s : IsSurface rows
       } in
       subst (IsWide m) (sym x.lands) r
 
-  wide_weight : (m i : ℕ) → IsWide m (edge i) ⊎ IsWide m (turned (edge i)) → weight coords xs i ≡ m
+  wide_weight : (m i : ℕ) → IsWide m (edge i) ⊎ IsWide m (backwards (edge i)) → weight coords xs i ≡ m
   wide_weight m i h =
       let le : i % 6 < 6 = omega arith in
       let four : Four (low (i % 6)) (high (i % 6)) (face_by (i % 6)) (fourth_by (i % 6)) = four_by (i % 6) le in
@@ -136,7 +136,7 @@ module _ (rows : List Row) (coords : Coords) (xs : List ℕ) (s : IsSurface rows
       let b : ℕ = high (i % 6) in
       at_edge xs t coords s.triangles (i % 6) le ∙ elim h [
         | inl x ↦ by_places x a b (ap (λ (p : Place). p.vertices) (edge_pair i)) four
-        | inr x ↦ (let z : width t (face_by (i % 6)) b a ≡ m = by_places x b a (ap (λ (p : Place). p.vertices) (ap turned (edge_pair i))) (first_two a b (face_by (i % 6)) (fourth_by (i % 6)) four) in omega arith)
+        | inr x ↦ (let z : width t (face_by (i % 6)) b a ≡ m = by_places x b a (ap (λ (p : Place). p.vertices) (ap backwards (edge_pair i))) (first_two a b (face_by (i % 6)) (fourth_by (i % 6)) four) in omega arith)
       ]
     where
       by_places : {p : Place} → IsWide m p → (a b : ℕ) → p.vertices ≡ a ∷ b ∷ [] → {f w : ℕ} → Four a b f w → width p.tet f a b ≡ m
@@ -151,10 +151,10 @@ module _ (rows : List Row) (coords : Coords) (xs : List ℕ) (s : IsSurface rows
           ]
 
   -- an edge that is joined to edge i, in either direction, has as many points as edge i
-  pub width_is : (t v u f w i : ℕ) → t < length rows → Four v u f w → IsJoined rows (pair t v u) (edge i) ⊎ IsJoined rows (pair t v u) (turned (edge i)) → weight coords xs i ≡ width t f v u
+  pub width_is : (t v u f w i : ℕ) → t < length rows → Four v u f w → IsJoined rows (pair t v u) (edge i) ⊎ IsJoined rows (pair t v u) (backwards (edge i)) → weight coords xs i ≡ width t f v u
   width_is t v u f w i lt h j =
       let start : IsWide (width t f v u) (pair t v u) = record { v = v; u = u; f = f; w = w; is = refl; tet = lt; four = h; wide = refl } in
       wide_weight (width t f v u) i (elim j [
         | inl x ↦ inl (kept_along rows (IsWide (width t f v u)) (carried_on (width t f v u)) x.0 (pair t v u) (edge i) start x.1)
-        | inr x ↦ inr (kept_along rows (IsWide (width t f v u)) (carried_on (width t f v u)) x.0 (pair t v u) (turned (edge i)) start x.1)
+        | inr x ↦ inr (kept_along rows (IsWide (width t f v u)) (carried_on (width t f v u)) x.0 (pair t v u) (backwards (edge i)) start x.1)
       ])

@@ -23,7 +23,7 @@ use Rattle.table_definitions.proofs.Listed.{below-among}
 pub in_width : (xs : List ℕ) (c k : ℕ) → k < slice_index xs c → c < length xs
 in_width xs c k l = elim (cases_lt c (length xs)) [
   | inl inside ↦ inside
-  | inr past ↦ absurd (let z : slice_index xs c ≡ 0 = get_or_past xs c 0 past in omega arith)
+  | inr exceeded ↦ absurd (let z : slice_index xs c ≡ 0 = get_or_past xs c 0 exceeded in omega arith)
 ]
 
 -- a number below `count`, counted from one end or from the other
@@ -93,7 +93,7 @@ module _ (coords : Coords) (n : ℕ) (xs : List ℕ) (triangles : HasTriangles c
           let m : ℕ = slice_index xs tri in
           let e : ℕ = slice_index xs behind in
           let h : ℕ → ℕ = λ k. belongs xs components i (disc_of coords xs (arc_at t f v k)) in
-          let few : arcs_around coords ys t f v ≡ slice_index ys tri + slice_index ys behind = arcs_are ys (component_inside xs components one_each i) in
+          let limited : arcs_around coords ys t f v ≡ slice_index ys tri + slice_index ys behind = arcs_are ys (component_inside xs components one_each i) in
           let all : arcs_around coords xs t f v ≡ m + e = arcs_are xs (λ c z. z) in
           let low : sum_by h (below m) ≡ in_column xs components i tri =
           sum_by_same h (λ j. belongs xs components i (piece_at tri j)) (below m) (λ k a. ap (belongs xs components i) (triangle_piece k (below-among k m a))) in
@@ -102,7 +102,7 @@ module _ (coords : Coords) (n : ℕ) (xs : List ℕ) (triangles : HasTriangles c
           let split : sum_by h (below (arcs_around coords xs t f v)) ≡ sum_by h (below m) + sum_by (λ j. h (m + j)) (below e) = ap (λ k. sum_by h (below k)) all ∙ below_sum h m e in
           let tris : slice_index ys tri ≡ in_column xs components i tri = component_count xs components one_each i tri in
           let rest : slice_index ys behind ≡ in_column xs components i behind = component_count xs components one_each i behind in
-          few ∙ (λ k. tris k + rest k) ∙ sym (split ∙ (λ k. low k + high k))
+          limited ∙ (λ k. tris k + rest k) ∙ sym (split ∙ (λ k. low k + high k))
 
 -- the tetrahedron of an arc is that of its piece's column
 pub arc_in : (coords : Coords) (n : ℕ) (xs : List ℕ) (triangles : HasTriangles coords) (admissible : IsAdmissible (clash_list coords n) xs) (t f v k : ℕ) → t < n → f < 4 → v < 4 → (v ≡ f → ⊥)

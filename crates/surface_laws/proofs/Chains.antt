@@ -99,9 +99,9 @@ module _ (rows : List Row) (xs : List ℕ) (table : IsTable rows) where
       let b : IsGlued rows (face_of j) t.g = glued_is rows (face_of j) t.g table t.glued in
       let y : Face = other_side (face_of i) s.g in
       let z : Face = other_side (face_of j) t.g in
-      let turned : turned_face xs y ≡ turned_face xs z =
+      let backwards : turned_face xs y ≡ turned_face xs z =
       number_once (turned_face xs y) (turned_face xs z) (turn_below y s.gone a.other_face) (turn_below z t.gone b.other_face) (sym s.is ∙ t.is) in
-      let same : y ≡ z = sym (turn_back y s.gone a.other_face) ∙ ap (turned_face xs) turned ∙ turn_back z t.gone b.other_face in
+      let same : y ≡ z = sym (turn_back y s.gone a.other_face) ∙ ap (turned_face xs) backwards ∙ turn_back z t.gone b.other_face in
       let faces : face_of i ≡ face_of j = glued_once rows (face_of i) (face_of j) s.g t.g table s.glued t.glued same in
       sym (number-face_of i) ∙ ap number faces ∙ number-face_of j
 
@@ -184,8 +184,8 @@ module _ (rows : List Row) (xs : List ℕ) (table : IsTable rows) where
   goes_nowhere : (i k e : ℕ) → leaves rows xs i ≡ None → after (leaves rows xs) i (suc k) ≡ Some e → ⊥
   goes_nowhere i k e none h =
       let more : k + 1 ≡ suc k = omega arith in
-      let past : after (leaves rows xs) i (k + 1) ≡ None = after_none (leaves rows xs) i 1 k none in
-      let past' : after (leaves rows xs) i (suc k) ≡ None = ap (after (leaves rows xs) i) (sym more) ∙ past in
+      let exceeded : after (leaves rows xs) i (k + 1) ≡ None = after_none (leaves rows xs) i 1 k none in
+      let exceeded' : after (leaves rows xs) i (suc k) ≡ None = ap (after (leaves rows xs) i) (sym more) ∙ exceeded in
       cc
 
   -- the chain continues as long as there are further steps
@@ -215,7 +215,7 @@ module _ (rows : List Row) (xs : List ℕ) (table : IsTable rows) where
   -- the chain of a kept face, through fewer tetrahedra than there are faces
   pub record HasChain (x : Face) : Type 0 where
     pub count : ℕ
-    pub few : count < 4 * length rows
+    pub limited : count < 4 * length rows
     pub end : Option Gluing
     pub ends : ChainEnds rows xs x count (glue rows x) end
 
@@ -225,7 +225,7 @@ module _ (rows : List Row) (xs : List ℕ) (table : IsTable rows) where
       chain_ends (4 * length rows) (leaves rows xs) (number x) (record { within = within; injective = injective }) (is_source x k) in
       let r : (end : Option Gluing) × ChainEnds rows xs x f.count (glue rows x) end =
       chain_from f.count x x (glue rows x) f.end k.face k.face (starts x (glue rows x) refl) f.there f.nowhere in
-      record { count = f.count; few = f.few; end = r.0; ends = r.1 }
+      record { count = f.count; limited = f.limited; end = r.0; ends = r.1 }
 
   pub has_one_end : (x : Face) → IsKeptFace rows xs x → HasOneEnd rows xs x
   has_one_end x k =

@@ -1,7 +1,7 @@
 -- A chain from one kept face to another can be read backwards.
 use Rattle.std.proofs.Common.{◌≡◌, ℕ, zero, suc, ◌<◌, true, not, List, length, Option, Some, None, option_map, IsTrue, refl, sym, ap, ◌∙◌, subst}
 use Rattle.table_definitions.specs.Permutation.{IsPermutationOfFour, image, inverse, compose, identity}
-use Rattle.table_definitions.specs.Table.{Gluing, Row, Face, glue, other_side, way_back, IsTable}
+use Rattle.table_definitions.specs.Table.{Gluing, Row, Face, glue, other_side, inverse_gluing, IsTable}
 use Rattle.table_definitions.proofs.Permutations.{image-compose, compose_permutes, inverse_permutes, inverse-of-compose, compose-compose, compose-identity, image_below, identity_permutes, image-identity}
 use Rattle.table_definitions.proofs.PermutationLaws.{image-of_inverse}
 use Rattle.table_definitions.proofs.Faces.{face_at, gluing_to}
@@ -147,7 +147,7 @@ unturned (Some k) h = ap (λ p. Some (gluing_to k.tet p)) (compose-identity k.pe
 pub record IsReadBack (rows : List Row) (xs : List ℕ) (x : Face) (e : Gluing) : Type 0 where
   pub permutes : IsPermutationOfFour e.perm
   pub kept_there : IsKeptFace rows xs (other_side x e)
-  pub back : CrushesTo rows xs (other_side x e) (Some (way_back x e))
+  pub back : CrushesTo rows xs (other_side x e) (Some (inverse_gluing x e))
 
 pub chain_back : (rows : List Row) (xs : List ℕ) (x : Face) (e : Gluing) → IsTable rows → IsKeptFace rows xs x → CrushesTo rows xs x (Some e) → IsReadBack rows xs x e
 chain_back rows xs x e table k c =
@@ -162,7 +162,7 @@ chain_back rows xs x e table k c =
     record {
       permutes = r.permutes;
       kept_there = record { in_range = r.in_range; face = lz; kept = b.kept_there };
-      back = (b.count, subst (λ o. ChainEnds rows xs z b.count o (Some (way_back x e))) same (subst (λ p. ChainEnds rows xs z b.count (onward_by identity (glue rows z)) (Some (gluing_to x.tet p))) ends chain));
+      back = (b.count, subst (λ o. ChainEnds rows xs z b.count o (Some (inverse_gluing x e))) same (subst (λ p. ChainEnds rows xs z b.count (onward_by identity (glue rows z)) (Some (gluing_to x.tet p))) ends chain));
     }
   where
     go : (o : Option Gluing) → glue rows x ≡ o → ChainEnds rows xs x c.0 (glue rows x) (Some e) → ComesBack rows xs table x k.face k.kept e

@@ -49,9 +49,9 @@ module _ (xs components : List ℕ) (one_each : length components ≡ length (di
 
   elsewhere : (c d : ℕ) → (d ≡ c → ⊥) → sum_by (λ j. of_both c (piece_at d j)) (below (slice_index xs d)) ≡ 0
   unfolding of_both
-  elsewhere c d apart =
+  elsewhere c d separate =
       sum_by-none (λ j. of_both c (piece_at d j)) (below (slice_index xs d))
-      (λ j m. ap (λ b. cond (b && (slice_index components (disc_number xs (piece_at d j)) == i)) 1 0) (ne_eqb d c apart))
+      (λ j m. ap (λ b. cond (b && (slice_index components (disc_number xs (piece_at d j)) == i)) 1 0) (ne_eqb d c separate))
 
   here : (c : ℕ) → sum_by (λ j. of_both c (piece_at c j)) (below (slice_index xs c)) ≡ in_column xs components i c
   unfolding of_both
@@ -62,7 +62,7 @@ module _ (xs components : List ℕ) (one_each : length components ≡ length (di
   pub component_entry : (c : ℕ) → c < length xs → slice_index (component_vector xs components i) c ≡ in_column xs components i c
   component_entry c l =
       at_column c l ∙ over_pieces c ∙ by_columns c
-      ∙ one_term (λ d. sum_by (λ j. of_both c (piece_at d j)) (below (slice_index xs d))) c (length xs) (λ d apart. elsewhere c d apart) l ∙ here c
+      ∙ one_term (λ d. sum_by (λ j. of_both c (piece_at d j)) (below (slice_index xs d))) c (length xs) (λ d separate. elsewhere c d separate) l ∙ here c
 
   pub component_width : length (component_vector xs components i) ≡ length xs
   component_width = length-map (below (length xs)) (λ c. count_by (is_counted xs components i c) (below (length components))) ∙ length-range_with_len 0 (length xs)
@@ -74,7 +74,7 @@ module _ (xs components : List ℕ) (one_each : length components ≡ length (di
   pub component_count : (c : ℕ) → slice_index (component_vector xs components i) c ≡ in_column xs components i c
   component_count c = elim (cases_lt c (length xs)) [
     | inl l ↦ component_entry c l
-    | inr past ↦ component_past c past ∙ ap (λ m. sum_by (λ j. belongs xs components i (piece_at c j)) (below m)) (sym (get_or_past xs c 0 past))
+    | inr exceeded ↦ component_past c exceeded ∙ ap (λ m. sum_by (λ j. belongs xs components i (piece_at c j)) (below m)) (sym (get_or_past xs c 0 exceeded))
   ]
 
   -- if the vector is 0 in a column, the component's vector is
@@ -94,7 +94,7 @@ components_add_up rows coords xs components count h c = elim (cases_lt c (length
       ∙ sum_swap (λ i j. belongs xs components i (piece_at c j)) (below count) (below (slice_index xs c))
       ∙ sum_of_ones (λ j. sum_by (λ i. belongs xs components i (piece_at c j)) (below count)) (below (slice_index xs c)) (λ j m. in_one c j l (below-among j (slice_index xs c) m))
       ∙ length-range_with_len 0 (slice_index xs c)
-  | inr past ↦ sum_by-none (λ i. slice_index (component_vector xs components i) c) (below count) (λ i m. component_past xs components h.one_each i c past) ∙ sym (get_or_past xs c 0 past)
+  | inr exceeded ↦ sum_by-none (λ i. slice_index (component_vector xs components i) c) (below count) (λ i m. component_past xs components h.one_each i c exceeded) ∙ sym (get_or_past xs c 0 exceeded)
 ]
   where
     in_one : (c j : ℕ) → c < length xs → j < slice_index xs c → sum_by (λ i. belongs xs components i (piece_at c j)) (below count) ≡ 1
@@ -102,7 +102,7 @@ components_add_up rows coords xs components count h c = elim (cases_lt c (length
         let f : IsFound xs (piece_at c j) = piece_found xs (piece_at c j) (record { column = l; number = m }) in
         let k : ℕ = slice_index components (disc_number xs (piece_at c j)) in
         let lk : k < count = h.in_range (disc_number xs (piece_at c j)) f.in_range in
-        one_term (λ i. cond (k == i) 1 0) k count (λ i apart. ap (λ b. cond b 1 0) (ne_eqb k i (λ e. apart (sym e)))) lk ∙ ap (λ b. cond b 1 0) (eq-eqb k k refl)
+        one_term (λ i. cond (k == i) 1 0) k count (λ i separate. ap (λ b. cond b 1 0) (ne_eqb k i (λ e. separate (sym e)))) lk ∙ ap (λ b. cond b 1 0) (eq-eqb k k refl)
 
 -- one component is the whole
 pub one_is_whole : (rows : List Row) (coords : Coords) (xs components : List ℕ) (count : ℕ) → AreComponents rows coords xs components count → count ≡ 1 → component_vector xs components 0 ≡ xs

@@ -5,7 +5,7 @@ use Rattle.std.specs.Prelude.{◌==◌, slice_index, sum_by}
 use Rattle.std.specs.List.{slice_index_or}
 use Rattle.table_definitions.specs.Lists.{below}
 use Rattle.table_definitions.specs.Permutation.{image, others}
-use Rattle.table_definitions.specs.Table.{Gluing, Row, Face, glue, way_back}
+use Rattle.table_definitions.specs.Table.{Gluing, Row, Face, glue, inverse_gluing}
 use Rattle.table_definitions.proofs.TableLaws.{Among}
 use Rattle.surface_definitions.specs.Coordinates.{clash_list}
 use Rattle.surface_definitions.specs.declared.Coords.{Coords}
@@ -39,7 +39,7 @@ module _ (rows : List Row) (coords : Coords) (xs : List ℕ) (s : IsSurface rows
         let p : NormalDisc = disc_of coords xs a in
         let q : NormalDisc = disc_of coords xs (arc_across g a) in
         let fp : IsFound xs p = piece_found xs p (piece_there a g m) in
-        let fq : IsFound xs q = piece_found xs q (piece_there (arc_across g a) (way_back (face_of_arc a) g) b.meets) in
+        let fq : IsFound xs q = piece_found xs q (piece_there (arc_across g a) (inverse_gluing (face_of_arc a) g) b.meets) in
         let leads : ArcsLead rows coords xs (slice_index_or (discs_of xs) (disc_number xs p) no_piece) (a ∷ []) (slice_index_or (discs_of xs) (disc_number xs q) no_piece) = (g, m, sym fp.there, sym fq.there) in
         (h.together (disc_number xs p) (disc_number xs q) fp.in_range fq.in_range).1 (a ∷ [], leads)
 

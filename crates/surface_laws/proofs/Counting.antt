@@ -49,7 +49,7 @@ range_one f c a (suc n) h l m = elim (cases_eq a c) [
   | inl e ↦ (let same : f a ≡ f c = ap f e in
       let more : sum_by f (range_with_len (a + 1) n) ≡ 0 = range_zero f c (a + 1) n h (omega arith) in
       omega (arith, sum_by-cons f a (range_with_len (a + 1) n)))
-  | inr apart ↦ (let here : f a ≡ 0 = h a apart in
+  | inr separate ↦ (let here : f a ≡ 0 = h a separate in
       let more : sum_by f (range_with_len (a + 1) n) ≡ f c = range_one f c (a + 1) n h (omega arith) (omega arith) in
       omega (arith, sum_by-cons f a (range_with_len (a + 1) n)))
 ]
@@ -82,7 +82,7 @@ pub term_most : (f : ℕ → ℕ) (n i : ℕ) → i < n → f i ≤ sum_by f (be
 term_most f zero i l = absurd (omega arith)
 term_most f (suc n) i l = elim (cases_eq i n) [
   | inl e ↦ (let same : f i ≡ f n = ap f e in omega (arith, last_term f n))
-  | inr apart ↦ (let less : f i ≤ sum_by f (below n) = term_most f n i (omega arith) in omega (arith, last_term f n))
+  | inr separate ↦ (let less : f i ≤ sum_by f (below n) = term_most f n i (omega arith) in omega (arith, last_term f n))
 ]
 
 pub below_sum : (f : ℕ → ℕ) (m n : ℕ) → sum_by f (below (m + n)) ≡ sum_by f (below m) + sum_by (λ j. f (m + j)) (below n)

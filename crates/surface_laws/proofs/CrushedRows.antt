@@ -5,7 +5,7 @@ use Rattle.std.specs.List.{slice_index_or}
 use Rattle.std.proofs.lemmas.Bool.{eqb-true, and_parts, not-true, not_from_false, false_from_ne_true}
 use Rattle.std.proofs.lemmas.List.{get_or-map, length-map}
 use Rattle.table_definitions.specs.Permutation.{four, IsPermutationOfFour, image, inverse}
-use Rattle.table_definitions.specs.Table.{Gluing, Row, Face, glue, other_side, way_back, same_face, IsTable}
+use Rattle.table_definitions.specs.Table.{Gluing, Row, Face, glue, other_side, inverse_gluing, same_face, IsTable}
 use Rattle.table_definitions.proofs.TableLaws.{glued_tet, glued_face}
 use Rattle.table_definitions.proofs.Permutations.{image-identity}
 use Rattle.table_definitions.proofs.Ranks.{rank, rank_fits, StandsAt, at_rank, of_rank, ranks_apart, length-picked, picked}
@@ -104,21 +104,21 @@ module _ (rows : List Row) (xs : List ℕ) (table : IsTable rows) where
         let faces : image (s.g).perm x.face ≡ x.face = ap (λ p. image p x.face) s.perm ∙ eqb-true (image h.perm x.face) x.face parts.1 in
         chain_elsewhere rows xs table (face_at s.was x.face) s.g (s.kept).face s.chain (λ i. face_at (tets i) (faces i))
 
-    crushed_leads_back : (x : Face) (h : Gluing) → glue new x ≡ Some h → glue new (other_side x h) ≡ Some (way_back x h)
+    crushed_leads_back : (x : Face) (h : Gluing) → glue new x ≡ Some h → glue new (other_side x h) ≡ Some (inverse_gluing x h)
     crushed_leads_back x h e =
         let s : GluedFrom x.tet x.face h = glued_from x h e in
         let b : IsReadBack rows xs (face_at s.was x.face) s.g = back_from x h s in
         let there : glue new (face_at (number_kept xs (s.g).tet) (image (s.g).perm x.face)) ≡ Some (gluing_to (number_kept xs s.was) (inverse (s.g).perm)) =
-        c.glued (other_side (face_at s.was x.face) s.g) (Some (way_back (face_at s.was x.face) s.g)) (b.kept_there).in_range (b.kept_there).face (b.kept_there).kept b.back in
+        c.glued (other_side (face_at s.was x.face) s.g) (Some (inverse_gluing (face_at s.was x.face) s.g)) (b.kept_there).in_range (b.kept_there).face (b.kept_there).kept b.back in
         (λ i. glue new (face_at (sym s.other i) (image (sym s.perm i) x.face))) ∙ there ∙ (λ i. Some (gluing_to (s.number i) (inverse (s.perm i))))
 
     pub crushed_is_table : IsTable new
     crushed_is_table = record {
-      few = omega (arith, c.length_is, rank_fits (stays xs) (length rows), table.few);
+      limited = omega (arith, c.length_is, rank_fits (stays xs) (length rows), table.limited);
       four_faces = c.four_faces;
       permutes = crushed_permutes;
       in_range = crushed_in_range;
-      apart = λ x h e. not_from_false (same_face (other_side x h) x) (false_from_ne_true (same_face (other_side x h) x) (never_itself x h e));
+      separate = λ x h e. not_from_false (same_face (other_side x h) x) (false_from_ne_true (same_face (other_side x h) x) (never_itself x h e));
       leads_back = crushed_leads_back;
     }
 
@@ -148,7 +148,7 @@ crushed_are rows xs table = record {
       let entry : slice_index_or (crushed_row rows xs x.tet) x.face None ≡ crushed_gluing rows xs x.tet x.face = get_or-map (crushed_gluing rows xs x.tet) four x.face 0 None lf ∙ ap (crushed_gluing rows xs x.tet) (image-identity x.face lf) in
       let chain : HasChain rows xs table x = has_chain rows xs table x (record { in_range = lt; face = lf; kept = k }) in
       let ends : followed (4 * length rows) rows xs x (glue rows x) ≡ end =
-      follow rows xs x (4 * length rows) chain.count (glue rows x) chain.end (let l = chain.few in omega arith) chain.ends ∙ one_end rows xs x chain.count c.0 (glue rows x) chain.end end chain.ends c.1 in
+      follow rows xs x (4 * length rows) chain.count (glue rows x) chain.end (let l = chain.limited in omega arith) chain.ends ∙ one_end rows xs x chain.count c.0 (glue rows x) chain.end end chain.ends c.1 in
       ap (λ (row : Row). slice_index_or row x.face None) row ∙ entry ∙ ap (option_map (renumbered xs)) ends;
 }
   where

@@ -2,7 +2,7 @@
 use Rattle.std.proofs.Common.{◌≡◌, ℕ, ◌<◌, List, [], ◌∷◌, length, Contains, refl, sym, ap, ◌∙◌, subst}
 use Rattle.std.specs.List.{slice_index_or}
 use Rattle.table_walk_laws.specs.Joined.{LeadsBy, IsJoined}
-use Rattle.table_definitions.specs.Table.{Gluing, Row, way_back}
+use Rattle.table_definitions.specs.Table.{Gluing, Row, inverse_gluing}
 use Rattle.surface_definitions.specs.declared.Coords.{Coords}
 use Rattle.surface_definitions.specs.Pieces.{NormalDisc, Arc, arc_across, disc_of, discs_of, disc_number, Meets, ArcsLead, SamePiece}
 use Rattle.surface_laws.specs.PieceLaws.{IsSurface, face_of_arc, MeetsBack, ChainsOfArcs, PiecesMeet, AreMeetingPieces, JoinComponents}
@@ -16,14 +16,14 @@ module _ (rows : List Row) (coords : Coords) (xs : List ℕ) (neighbours : ℕ �
   found a g m = piece_found xs (disc_of coords xs a) (piece_there rows coords xs s a g m)
 
   found_across : (a : Arc) (g : Gluing) → Meets rows coords xs a g → IsFound xs (disc_of coords xs (arc_across g a))
-  found_across a g m = let b : MeetsBack rows coords xs a g = meets_back rows coords xs s a g m in found (arc_across g a) (way_back (face_of_arc a) g) b.meets
+  found_across a g m = let b : MeetsBack rows coords xs a g = meets_back rows coords xs s a g m in found (arc_across g a) (inverse_gluing (face_of_arc a) g) b.meets
 
   meet_back : (i j : ℕ) → PiecesMeet rows coords xs i j → PiecesMeet rows coords xs j i
   meet_back i j p =
       let b : MeetsBack rows coords xs p.arc p.gluing = meets_back rows coords xs s p.arc p.gluing p.meets in
       record {
         arc = arc_across p.gluing p.arc;
-        gluing = way_back (face_of_arc p.arc) p.gluing;
+        gluing = inverse_gluing (face_of_arc p.arc) p.gluing;
         meets = b.meets;
         one = p.other;
         other = ap (λ (a : Arc). disc_number xs (disc_of coords xs a)) b.same ∙ p.one;

@@ -3,7 +3,7 @@ use Rattle.std.proofs.Common.{◌≡◌, ℕ, zero, suc, ◌<◌, true, List, Op
 use Rattle.std.specs.Prelude.{◌==◌}
 use Rattle.std.proofs.lemmas.Bool.{and_from, eq-eqb}
 use Rattle.table_definitions.specs.Permutation.{image}
-use Rattle.table_definitions.specs.Table.{Gluing, Row, Face, glue, other_side, way_back, same_face, IsTable}
+use Rattle.table_definitions.specs.Table.{Gluing, Row, Face, glue, other_side, inverse_gluing, same_face, IsTable}
 use Rattle.table_definitions.proofs.Faces.{face_at}
 use Rattle.surface_definitions.specs.Crushing.{is_removed, passed, ChainEnds, CrushesTo}
 use Rattle.surface_laws.proofs.Chains.{kept_or_gone, turned_face, turn_back, Stands, stands_on, starts}
@@ -34,14 +34,14 @@ module _ (rows : List Row) (xs : List ℕ) (table : IsTable rows) where
   other_way : (y u : Face) (g h : Gluing) → glue rows y ≡ Some g → glue rows u ≡ Some h → other_side u h ≡ y → other_side y g ≡ u
   other_way y u g h e f same =
       let a : IsGlued rows u h = glued_is rows u h table f in
-      let k : Some g ≡ Some (way_back u h) = sym e ∙ ap (glue rows) (sym same) ∙ a.back in
-      let one : g ≡ way_back u h = cc in
+      let k : Some g ≡ Some (inverse_gluing u h) = sym e ∙ ap (glue rows) (sym same) ∙ a.back in
+      let one : g ≡ inverse_gluing u h = cc in
       (λ i. other_side (sym same i) (one i)) ∙ a.returns
 
   no_return : (k : ℕ) (y : Face) → Leads k y y → ⊥
   no_return zero y (g, e, same) =
       let t : same_face (other_side y g) y ≡ true = and_from (g.tet == y.tet) (image g.perm y.face == y.face) (eq-eqb g.tet y.tet (ap (λ (z : Face). z.tet) same)) (eq-eqb (image g.perm y.face) y.face (ap (λ (z : Face). z.face) same)) in
-      kept_or_gone (same_face (other_side y g) y) (table.apart y g e) t
+      kept_or_gone (same_face (other_side y g) y) (table.separate y g e) t
   no_return (suc zero) y (g, e, r, (h, f, same)) =
       let z : Face = other_side y g in
       let back : z ≡ turned_face xs z = other_way y (turned_face xs z) g h e f same in

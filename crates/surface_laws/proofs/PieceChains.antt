@@ -1,6 +1,6 @@
 -- Chains of meeting arcs can be joined and read backwards.
 use Rattle.std.proofs.Common.{ℕ, List, [], ◌∷◌, ◌++◌, refl, sym, ap, ◌∙◌, subst}
-use Rattle.table_definitions.specs.Table.{Row, way_back}
+use Rattle.table_definitions.specs.Table.{Row, inverse_gluing}
 use Rattle.surface_definitions.specs.declared.Coords.{Coords}
 use Rattle.surface_definitions.specs.Pieces.{NormalDisc, Arc, arc_across, disc_of, ArcsLead}
 use Rattle.surface_laws.specs.PieceLaws.{IsSurface, face_of_arc, MeetsBack, ChainsOfArcs}
@@ -17,7 +17,7 @@ module _ (rows : List Row) (coords : Coords) (xs : List ℕ) where
       let next : NormalDisc = disc_of coords xs (arc_across g a) in
       let rest : (back : List Arc) × ArcsLead rows coords xs q back next = leads_back s next q arcs h in
       let b : MeetsBack rows coords xs a g = meets_back rows coords xs s a g m in
-      let step : ArcsLead rows coords xs next (arc_across g a ∷ []) p = (way_back (face_of_arc a) g, b.meets, refl, ap (disc_of coords xs) b.same ∙ e) in
+      let step : ArcsLead rows coords xs next (arc_across g a ∷ []) p = (inverse_gluing (face_of_arc a) g, b.meets, refl, ap (disc_of coords xs) b.same ∙ e) in
       (rest.0 ++ arc_across g a ∷ [], leads_further q next p rest.0 (arc_across g a ∷ []) rest.1 step)
 
   pub chains_of_arcs : IsSurface rows coords xs → ChainsOfArcs rows coords xs

@@ -43,8 +43,8 @@ module _ (rows : List Row) (coords : Coords) (xs : List ℕ) (s : IsSurface rows
   pub pieces_answer : (a : Result (List Component) ManyPieces) × IsPiecesAnswer rows coords xs a
   pieces_answer = elim (cases_lt most_pieces (sum xs)) [
     | inl many ↦ (Err (record { count = sum xs }), (many, refl))
-    | inr few ↦ (let c : HasComponents rows coords xs = components_found rows coords xs s in
+    | inr limited ↦ (let c : HasComponents rows coords xs = components_found rows coords xs s in
         let l : (cs : List Component) × AllZip (IsComponent rows coords xs c.components) (below c.count) cs =
         listed_each (IsComponent rows coords xs c.components) (below c.count) (λ i m. component_told c.components c.count c.are i (below-among i c.count m)) in
-        (Ok l.0, (few, record { classes = c.components; count = c.count; numbered = c.are; each = l.1 })))
+        (Ok l.0, (limited, record { classes = c.components; count = c.count; numbered = c.are; each = l.1 })))
   ]

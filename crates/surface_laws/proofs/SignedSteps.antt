@@ -8,21 +8,21 @@ use Rattle.basic_lemmas.proofs.Truths.{not_itself, agree_if}
 use Rattle.table_walk_laws.specs.Joined.{LeadsBy, IsJoined, IsSymmetric, HasNeighboursBelow}
 use Rattle.table_definitions.specs.Classes.{IsNumbering}
 use Rattle.table_definitions.specs.Permutation.{is_odd, inverse}
-use Rattle.table_definitions.specs.Table.{Gluing, Row, way_back}
+use Rattle.table_definitions.specs.Table.{Gluing, Row, inverse_gluing}
 use Rattle.table_definitions.proofs.Permutations.{is_odd-inverse}
 use Rattle.skeleton_definitions.proofs.Signs.{says, says_behind}
 use Rattle.surface_definitions.specs.declared.Coords.{Coords}
 use Rattle.surface_definitions.specs.Pieces.{NormalDisc, Arc, arc_across, disc_of, discs_of, disc_number, Meets, ArcsLead, SamePiece, AreComponents, HasSigns, looks_positive, keeps_sides}
-use Rattle.surface_laws.specs.PieceLaws.{IsSurface, face_of_arc, MeetsBack, IsFreePiece, turned_if}
+use Rattle.surface_laws.specs.PieceLaws.{IsSurface, face_of_arc, MeetsBack, IsFreePiece, reversed_if}
 use Rattle.surface_laws.proofs.MeetingArcs.{meets_back}
 use Rattle.surface_laws.proofs.PieceNumbers.{no_piece, IsFound, piece_found, number-piece}
 use Rattle.surface_laws.proofs.ComponentSurfaces.{piece_there, one_component}
 
-turned_low : (b : Bool) (k : ℕ) → k < 2 → turned_if b k < 2
+turned_low : (b : Bool) (k : ℕ) → k < 2 → reversed_if b k < 2
 turned_low true k l = l
 turned_low false k l = omega arith
 
-turned_twice : (b : Bool) (k : ℕ) → k < 2 → turned_if b (turned_if b k) ≡ k
+turned_twice : (b : Bool) (k : ℕ) → k < 2 → reversed_if b (reversed_if b k) ≡ k
 turned_twice true k l = refl
 turned_twice false k l = omega arith
 
@@ -32,11 +32,11 @@ pub record SignedStep (rows : List Row) (coords : Coords) (xs : List ℕ) (stays
   pub gluing : Gluing
   pub meets : Meets rows coords xs arc gluing
   pub one : disc_number xs (disc_of coords xs arc) ≡ k / 2
-  pub other : 2 * disc_number xs (disc_of coords xs (arc_across gluing arc)) + turned_if (stays arc gluing) (k % 2) ≡ l
+  pub other : 2 * disc_number xs (disc_of coords xs (arc_across gluing arc)) + reversed_if (stays arc gluing) (k % 2) ≡ l
 
 module _ (rows : List Row) (coords : Coords) (xs : List ℕ) (s : IsSurface rows coords xs) where
   -- whether a gluing keeps sides does not depend on the side from which it is read
-  pub sides_back : (a : Arc) (g : Gluing) → Meets rows coords xs a g → keeps_sides coords xs (arc_across g a) (way_back (face_of_arc a) g) ≡ keeps_sides coords xs a g
+  pub sides_back : (a : Arc) (g : Gluing) → Meets rows coords xs a g → keeps_sides coords xs (arc_across g a) (inverse_gluing (face_of_arc a) g) ≡ keeps_sides coords xs a g
   sides_back a g m =
       let b : MeetsBack rows coords xs a g = meets_back rows coords xs s a g m in
       ap (λ (c : Arc). if looks_positive coords xs (arc_across g a) then looks_positive coords xs c else not (looks_positive coords xs c)) b.same
@@ -46,7 +46,7 @@ module _ (rows : List Row) (coords : Coords) (xs : List ℕ) (s : IsSurface rows
   abbrev pub stays_oriented : Arc → Gluing → Bool
   stays_oriented a g = if is_odd g.perm then keeps_sides coords xs a g else not (keeps_sides coords xs a g)
 
-  pub orientation_back : (a : Arc) (g : Gluing) → Meets rows coords xs a g → stays_oriented (arc_across g a) (way_back (face_of_arc a) g) ≡ stays_oriented a g
+  pub orientation_back : (a : Arc) (g : Gluing) → Meets rows coords xs a g → stays_oriented (arc_across g a) (inverse_gluing (face_of_arc a) g) ≡ stays_oriented a g
   orientation_back a g m =
       let odd : is_odd (inverse g.perm) ≡ is_odd g.perm = is_odd-inverse g.perm ((s.table).permutes (face_of_arc a) g m.glued) in
       (λ i. if odd i then sides_back a g m i else not (sides_back a g m i))
@@ -55,7 +55,7 @@ module _ (rows : List Row) (coords : Coords) (xs : List ℕ) (s : IsSurface rows
   pub arc_found : (a : Arc) (g : Gluing) → Meets rows coords xs a g → IsFound xs (disc_of coords xs a)
   arc_found a g m = piece_found xs (disc_of coords xs a) (piece_there rows coords xs s a g m)
 
-  module _ (stays : Arc → Gluing → Bool) (stays_back : (a : Arc) (g : Gluing) → Meets rows coords xs a g → stays (arc_across g a) (way_back (face_of_arc a) g) ≡ stays a g)
+  module _ (stays : Arc → Gluing → Bool) (stays_back : (a : Arc) (g : Gluing) → Meets rows coords xs a g → stays (arc_across g a) (inverse_gluing (face_of_arc a) g) ≡ stays a g)
       (signed : ℕ → List ℕ) (step_of : (k l : ℕ) → Contains (signed k) l → SignedStep rows coords xs stays k l) (of_step : (k l : ℕ) → SignedStep rows coords xs stays k l → Contains (signed k) l) where
     abbrev n : ℕ
     n = length (discs_of xs)
@@ -70,10 +70,10 @@ module _ (rows : List Row) (coords : Coords) (xs : List ℕ) (s : IsSurface rows
     steps_below k l h c =
         let p : SignedStep rows coords xs stays k l = step_of k l c in
         let b : MeetsBack rows coords xs p.arc p.gluing = meets_back rows coords xs s p.arc p.gluing p.meets in
-        let f : piece (arc_across p.gluing p.arc) < n = (arc_found (arc_across p.gluing p.arc) (way_back (face_of_arc p.arc) p.gluing) b.meets).in_range in
+        let f : piece (arc_across p.gluing p.arc) < n = (arc_found (arc_across p.gluing p.arc) (inverse_gluing (face_of_arc p.arc) p.gluing) b.meets).in_range in
         let low : k % 2 < 2 = omega arith in
-        let t : turned_if (stays p.arc p.gluing) (k % 2) < 2 = turned_low (stays p.arc p.gluing) (k % 2) low in
-        let e : 2 * piece (arc_across p.gluing p.arc) + turned_if (stays p.arc p.gluing) (k % 2) ≡ l = p.other in
+        let t : reversed_if (stays p.arc p.gluing) (k % 2) < 2 = turned_low (stays p.arc p.gluing) (k % 2) low in
+        let e : 2 * piece (arc_across p.gluing p.arc) + reversed_if (stays p.arc p.gluing) (k % 2) ≡ l = p.other in
         omega arith
 
     pub steps_back : IsSymmetric signed
@@ -82,30 +82,30 @@ module _ (rows : List Row) (coords : Coords) (xs : List ℕ) (s : IsSurface rows
         let b : MeetsBack rows coords xs p.arc p.gluing = meets_back rows coords xs s p.arc p.gluing p.meets in
         let low : k % 2 < 2 = omega arith in
         let q : ℕ = piece (arc_across p.gluing p.arc) in
-        let r : (l / 2 ≡ q) × (l % 2 ≡ turned_if (stays p.arc p.gluing) (k % 2)) = parts q (turned_if (stays p.arc p.gluing) (k % 2)) l (turned_low (stays p.arc p.gluing) (k % 2) low) p.other in
-        let back : piece (arc_across (way_back (face_of_arc p.arc) p.gluing) (arc_across p.gluing p.arc)) ≡ k / 2 = ap (λ (a : Arc). piece a) b.same ∙ p.one in
-        let sign : turned_if (stays (arc_across p.gluing p.arc) (way_back (face_of_arc p.arc) p.gluing)) (l % 2) ≡ k % 2 =
-        (λ i. turned_if (stays_back p.arc p.gluing p.meets i) (r.1 i)) ∙ turned_twice (stays p.arc p.gluing) (k % 2) low in
+        let r : (l / 2 ≡ q) × (l % 2 ≡ reversed_if (stays p.arc p.gluing) (k % 2)) = parts q (reversed_if (stays p.arc p.gluing) (k % 2)) l (turned_low (stays p.arc p.gluing) (k % 2) low) p.other in
+        let back : piece (arc_across (inverse_gluing (face_of_arc p.arc) p.gluing) (arc_across p.gluing p.arc)) ≡ k / 2 = ap (λ (a : Arc). piece a) b.same ∙ p.one in
+        let sign : reversed_if (stays (arc_across p.gluing p.arc) (inverse_gluing (face_of_arc p.arc) p.gluing)) (l % 2) ≡ k % 2 =
+        (λ i. reversed_if (stays_back p.arc p.gluing p.meets i) (r.1 i)) ∙ turned_twice (stays p.arc p.gluing) (k % 2) low in
         let whole : 2 * (k / 2) + k % 2 ≡ k = omega arith in
-        of_step l k (record { arc = arc_across p.gluing p.arc; gluing = way_back (face_of_arc p.arc) p.gluing; meets = b.meets; one = sym r.0; other = (λ i. 2 * back i + sign i) ∙ whole })
+        of_step l k (record { arc = arc_across p.gluing p.arc; gluing = inverse_gluing (face_of_arc p.arc) p.gluing; meets = b.meets; one = sym r.0; other = (λ i. 2 * back i + sign i) ∙ whole })
 
     module _ (classes : List ℕ) (number : ℕ) (numbered : IsNumbering (2 * n) (IsJoined signed) classes number) where
       abbrev class_of : ℕ → ℕ
       class_of k = slice_index classes k
 
       -- an arc joins a piece with a sign to the next piece
-      class_across : (a : Arc) (g : Gluing) → Meets rows coords xs a g → (k : ℕ) → k < 2 → class_of (2 * piece a + k) ≡ class_of (2 * piece (arc_across g a) + turned_if (stays a g) k)
+      class_across : (a : Arc) (g : Gluing) → Meets rows coords xs a g → (k : ℕ) → k < 2 → class_of (2 * piece a + k) ≡ class_of (2 * piece (arc_across g a) + reversed_if (stays a g) k)
       class_across a g m k l =
           let b : MeetsBack rows coords xs a g = meets_back rows coords xs s a g m in
           let p : ℕ = 2 * piece a + k in
-          let q : ℕ = 2 * piece (arc_across g a) + turned_if (stays a g) k in
-          let t : turned_if (stays a g) k < 2 = turned_low (stays a g) k l in
+          let q : ℕ = 2 * piece (arc_across g a) + reversed_if (stays a g) k in
+          let t : reversed_if (stays a g) k < 2 = turned_low (stays a g) k l in
           let fa : piece a < n = (arc_found a g m).in_range in
-          let fb : piece (arc_across g a) < n = (arc_found (arc_across g a) (way_back (face_of_arc a) g) b.meets).in_range in
+          let fb : piece (arc_across g a) < n = (arc_found (arc_across g a) (inverse_gluing (face_of_arc a) g) b.meets).in_range in
           let lp : p < 2 * n = omega arith in
           let lq : q < 2 * n = omega arith in
           let r : (p / 2 ≡ piece a) × (p % 2 ≡ k) = parts (piece a) k p l refl in
-          let step : Contains (signed p) q = of_step p q (record { arc = a; gluing = g; meets = m; one = sym r.0; other = ap (λ i. 2 * piece (arc_across g a) + turned_if (stays a g) i) r.1 }) in
+          let step : Contains (signed p) q = of_step p q (record { arc = a; gluing = g; meets = m; one = sym r.0; other = ap (λ i. 2 * piece (arc_across g a) + reversed_if (stays a g) i) r.1 }) in
           (numbered.together p q lp lq).1 (q ∷ [], (step, refl))
 
       -- along a chain of arcs, the class of the first piece with a sign is that of the last piece with one of the two
@@ -117,8 +117,8 @@ module _ (rows : List Row) (coords : Coords) (xs : List ℕ) (s : IsSurface rows
       class_along [] p q (suc (suc k)) l e = absurd (omega arith)
       class_along (a ∷ arcs) p q k l (g, m, e, h) =
           let next : NormalDisc = disc_of coords xs (arc_across g a) in
-          let here : class_of (2 * disc_number xs p + k) ≡ class_of (2 * disc_number xs next + turned_if (stays a g) k) = ap (λ (u : NormalDisc). class_of (2 * disc_number xs u + k)) (sym e) ∙ class_across a g m k l in
-          elim (class_along arcs next q (turned_if (stays a g) k) (turned_low (stays a g) k l) h) [ inl f ↦ inl (here ∙ f) | inr f ↦ inr (here ∙ f) ]
+          let here : class_of (2 * disc_number xs p + k) ≡ class_of (2 * disc_number xs next + reversed_if (stays a g) k) = ap (λ (u : NormalDisc). class_of (2 * disc_number xs u + k)) (sym e) ∙ class_across a g m k l in
+          elim (class_along arcs next q (reversed_if (stays a g) k) (turned_low (stays a g) k l) h) [ inl f ↦ inl (here ∙ f) | inr f ↦ inr (here ∙ f) ]
 
       module _ (components : List ℕ) (count : ℕ) (are : AreComponents rows coords xs components count) (i : ℕ) where
         -- if there are signs, no piece is joined to itself with the other sign
@@ -131,7 +131,7 @@ module _ (rows : List Row) (coords : Coords) (xs : List ℕ) (s : IsSurface rows
             let p : SignedStep rows coords xs stays k j = step_of k j h.0 in
             let q : ℕ = piece (arc_across p.gluing p.arc) in
             let low : k % 2 < 2 = omega arith in
-            let r : (j / 2 ≡ q) × (j % 2 ≡ turned_if (stays p.arc p.gluing) (k % 2)) = parts q (turned_if (stays p.arc p.gluing) (k % 2)) j (turned_low (stays p.arc p.gluing) (k % 2) low) p.other in
+            let r : (j / 2 ≡ q) × (j % 2 ≡ reversed_if (stays p.arc p.gluing) (k % 2)) = parts q (reversed_if (stays p.arc p.gluing) (k % 2)) j (turned_low (stays p.arc p.gluing) (k % 2) low) p.other in
             let in_one : slice_index components (piece p.arc) ≡ i = ap (slice_index components) p.one ∙ c in
             let in_other : slice_index components (j / 2) ≡ i = ap (slice_index components) r.0 ∙ sym (one_component rows coords xs s components count are p.arc p.gluing p.meets) ∙ in_one in
             let here : value signs.0 j ≡ value signs.0 k =
@@ -174,13 +174,13 @@ module _ (rows : List Row) (coords : Coords) (xs : List ℕ) (s : IsSurface rows
                 → (class_of (2 * piece (arc_across g a) + 0) == class_of (2 * start.0 + 0))
                 ≡ (if stays a g then class_of (2 * piece a + 0) == class_of (2 * start.0 + 0) else not (class_of (2 * piece a + 0) == class_of (2 * start.0 + 0)))
             at a g m e true t =
-                let same : class_of (2 * piece a + 0) ≡ class_of (2 * piece (arc_across g a) + 0) = class_across a g m 0 (omega arith) ∙ ap (λ b. class_of (2 * piece (arc_across g a) + turned_if b 0)) t in
+                let same : class_of (2 * piece a + 0) ≡ class_of (2 * piece (arc_across g a) + 0) = class_across a g m 0 (omega arith) ∙ ap (λ b. class_of (2 * piece (arc_across g a) + reversed_if b 0)) t in
                 ap (λ c. c == class_of (2 * start.0 + 0)) (sym same)
                 ∙ sym (ap (λ b. if b then class_of (2 * piece a + 0) == class_of (2 * start.0 + 0) else not (class_of (2 * piece a + 0) == class_of (2 * start.0 + 0))) t)
             at a g m e false t =
                 let la : piece a < n = (arc_found a g m).in_range in
                 let zero_sign : 2 * piece a + 0 ≡ 2 * piece a = omega arith in
-                let same : class_of (2 * piece a + 1) ≡ class_of (2 * piece (arc_across g a) + 0) = class_across a g m 1 (omega arith) ∙ ap (λ b. class_of (2 * piece (arc_across g a) + turned_if b 1)) t in
+                let same : class_of (2 * piece a + 1) ≡ class_of (2 * piece (arc_across g a) + 0) = class_across a g m 1 (omega arith) ∙ ap (λ b. class_of (2 * piece (arc_across g a) + reversed_if b 1)) t in
                 ap (λ c. c == class_of (2 * start.0 + 0)) (sym same)
                 ∙ equals_one_of_two (class_of (2 * piece a + 0)) (class_of (2 * piece a + 1)) (class_of (2 * start.0 + 0)) (λ f. free (piece a) la e (sym (ap class_of zero_sign) ∙ f)) (from_start (piece a) la e)
                 ∙ sym (ap (λ b. if b then class_of (2 * piece a + 0) == class_of (2 * start.0 + 0) else not (class_of (2 * piece a + 0) == class_of (2 * start.0 + 0))) t)

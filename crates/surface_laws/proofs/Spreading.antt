@@ -112,7 +112,7 @@ module _ (s : Skeleton) (k : IsSkeleton s) (xs : List ℕ) (width : length xs �
     spread_by : (j : ℕ) → (j < n) ⊎ (n ≤ j) → (class_of j ≡ c) ⊎ (class_of j ≡ c → ⊥) → ℕ × ℕ
     spread_by j (inl l) (inl e) = ((rise_to j l e).up, (rise_to j l e).down)
     spread_by j (inl l) (inr out) = (0, 0)
-    spread_by j (inr past) o = (0, 0)
+    spread_by j (inr exceeded) o = (0, 0)
 
     spread : ℕ → ℕ × ℕ
     spread j = spread_by j (cases_lt j n) (cases_eq (class_of j) c)
@@ -124,7 +124,7 @@ module _ (s : Skeleton) (k : IsSkeleton s) (xs : List ℕ) (width : length xs �
         go : (o : (j < n) ⊎ (n ≤ j)) (p : (class_of j ≡ c) ⊎ (class_of j ≡ c → ⊥)) → h start + (spread_by j o p).0 ≡ h j + (spread_by j o p).1
         go (inl l) (inl e) = (rise_to j l e).forced h a
         go (inl l) (inr out) = absurd (out cj)
-        go (inr past) p = absurd (omega arith)
+        go (inr exceeded) p = absurd (omega arith)
 
     all_down : ℕ
     all_down = sum_by (λ j. (spread j).1) (below n)

@@ -4,7 +4,7 @@ use Rattle.std.specs.List.{slice_index_or, position_or_len}
 use Rattle.cone_definitions.specs.Rows.{IsSolution}
 use Rattle.cone_definitions.specs.Surfaces.{IsAdmissible}
 use Rattle.table_definitions.specs.Lists.{below}
-use Rattle.table_definitions.specs.Table.{Gluing, Row, Face, way_back, IsTable}
+use Rattle.table_definitions.specs.Table.{Gluing, Row, Face, inverse_gluing, IsTable}
 use Rattle.surface_definitions.specs.Coordinates.{columns, clash_list}
 use Rattle.surface_definitions.specs.declared.Coords.{Coords}
 use Rattle.surface_definitions.specs.Equations.{matching_rows}
@@ -27,8 +27,8 @@ face_of_arc a = record { tet = a.tet; face = a.face }
 
 -- the arc across a gluing meets the first one, across the gluing that leads back
 pub record MeetsBack (rows : List Row) (coords : Coords) (xs : List ℕ) (a : Arc) (g : Gluing) : Type 0 where
-  pub meets : Meets rows coords xs (arc_across g a) (way_back (face_of_arc a) g)
-  pub same : arc_across (way_back (face_of_arc a) g) (arc_across g a) ≡ a
+  pub meets : Meets rows coords xs (arc_across g a) (inverse_gluing (face_of_arc a) g)
+  pub same : arc_across (inverse_gluing (face_of_arc a) g) (arc_across g a) ≡ a
 
 abbrev pub ArcsMeetBack : Type 0
 ArcsMeetBack = (rows : List Row) (coords : Coords) (xs : List ℕ) (a : Arc) (g : Gluing) → IsSurface rows coords xs → Meets rows coords xs a g → MeetsBack rows coords xs a g
@@ -38,8 +38,8 @@ abbrev pub IsFreePiece : List ℕ → List ℕ → ℕ → ℕ → Type 0
 IsFreePiece classes components i p = slice_index components p ≡ i → slice_index classes (2 * p) ≢ slice_index classes (2 * p + 1)
 
 -- sign 0 or 1, or the other
-abbrev pub turned_if : Bool → ℕ → ℕ
-turned_if b k = if b then k else 1 - k
+abbrev pub reversed_if : Bool → ℕ → ℕ
+reversed_if b k = if b then k else 1 - k
 
 -- the vectors of the components add up to the vector, column by column
 abbrev pub ComponentsAddUp : Type 0

@@ -2,7 +2,7 @@
 use Rattle.std.proofs.Common.{◌≡◌, ℕ, ◌*◌, ◌/◌, ◌%◌, ◌<◌, List, [], ◌∷◌, ◌⊎◌, inl, inr, sym, ap, subst₂, arith}
 use Rattle.std.specs.Prelude.{slice_index}
 use Rattle.table_definitions.specs.Permutation.{others}
-use Rattle.table_definitions.specs.Places.{edge, ends, edge_number, turned, IsJoined, SameEdge}
+use Rattle.table_definitions.specs.Places.{edge, ends, edge_number, backwards, IsJoined, SameEdge}
 use Rattle.table_definitions.specs.Table.{Row}
 use Rattle.table_definitions.proofs.ChainLaws.{joined_turned}
 use Rattle.skeleton_definitions.specs.Links.{directed}
@@ -35,13 +35,13 @@ pub edge_of_below : (i n : ℕ) → i < 12 * n → edge_of i < 6 * n
 edge_of_below i n l = let small = (has_edge_of i).small in let lt : i / 12 < n = omega arith in omega arith
 
 -- the edge is the directed one, or that in the other direction
-one_of_two : (i : ℕ) → (edge (edge_of i) ≡ directed i) ⊎ (edge (edge_of i) ≡ turned (directed i))
+one_of_two : (i : ℕ) → (edge (edge_of i) ≡ directed i) ⊎ (edge (edge_of i) ≡ backwards (directed i))
 one_of_two i = by_ends h.ends_are
   where
     h : HasEdge (tail i) (head i)
     h = has_edge_of i
 
-    by_ends : (ends (edge_number (tail i) (head i)) ≡ tail i ∷ head i ∷ []) ⊎ (ends (edge_number (tail i) (head i)) ≡ head i ∷ tail i ∷ []) → (edge (edge_of i) ≡ directed i) ⊎ (edge (edge_of i) ≡ turned (directed i))
+    by_ends : (ends (edge_number (tail i) (head i)) ≡ tail i ∷ head i ∷ []) ⊎ (ends (edge_number (tail i) (head i)) ≡ head i ∷ tail i ∷ []) → (edge (edge_of i) ≡ directed i) ⊎ (edge (edge_of i) ≡ backwards (directed i))
     by_ends (inl e) = inl (edge_by_ends (i / 12) (tail i) (head i) (tail i) (head i) h.small e)
     by_ends (inr e) = inr (edge_by_ends (i / 12) (tail i) (head i) (head i) (tail i) h.small e)
 
@@ -50,23 +50,23 @@ module _ (rows : List Row) (i j t a b : ℕ) (is : edge j ≡ pair t a b) where
   abbrev EitherWay : Type 0
   EitherWay = IsJoined rows (directed i) (pair t a b) ⊎ IsJoined rows (directed i) (pair t b a)
 
-  is_turned : turned (edge j) ≡ pair t b a
-  is_turned = ap turned is
+  is_negated : backwards (edge j) ≡ pair t b a
+  is_negated = ap backwards is
 
   pub same_either_way : EitherWay → SameEdge rows (edge_of i) j
   same_either_way w = go (one_of_two i) w
     where
-      go : (edge (edge_of i) ≡ directed i) ⊎ (edge (edge_of i) ≡ turned (directed i)) → EitherWay → SameEdge rows (edge_of i) j
+      go : (edge (edge_of i) ≡ directed i) ⊎ (edge (edge_of i) ≡ backwards (directed i)) → EitherWay → SameEdge rows (edge_of i) j
       go (inl e) (inl w) = inl (subst₂ (IsJoined rows) (sym e) (sym is) w)
-      go (inl e) (inr w) = inr (subst₂ (IsJoined rows) (sym e) (sym is_turned) w)
-      go (inr e) (inl w) = inr (subst₂ (IsJoined rows) (sym e) (sym is_turned) (joined_turned rows (directed i) (pair t a b) w))
+      go (inl e) (inr w) = inr (subst₂ (IsJoined rows) (sym e) (sym is_negated) w)
+      go (inr e) (inl w) = inr (subst₂ (IsJoined rows) (sym e) (sym is_negated) (joined_turned rows (directed i) (pair t a b) w))
       go (inr e) (inr w) = inl (subst₂ (IsJoined rows) (sym e) (sym is) (joined_turned rows (directed i) (pair t b a) w))
 
   pub either_way : SameEdge rows (edge_of i) j → EitherWay
   either_way h = go (one_of_two i) h
     where
-      go : (edge (edge_of i) ≡ directed i) ⊎ (edge (edge_of i) ≡ turned (directed i)) → SameEdge rows (edge_of i) j → EitherWay
+      go : (edge (edge_of i) ≡ directed i) ⊎ (edge (edge_of i) ≡ backwards (directed i)) → SameEdge rows (edge_of i) j → EitherWay
       go (inl e) (inl w) = inl (subst₂ (IsJoined rows) e is w)
-      go (inl e) (inr w) = inr (subst₂ (IsJoined rows) e is_turned w)
-      go (inr e) (inl w) = inr (joined_turned rows (turned (directed i)) (pair t a b) (subst₂ (IsJoined rows) e is w))
-      go (inr e) (inr w) = inl (joined_turned rows (turned (directed i)) (pair t b a) (subst₂ (IsJoined rows) e is_turned w))
+      go (inl e) (inr w) = inr (subst₂ (IsJoined rows) e is_negated w)
+      go (inr e) (inl w) = inr (joined_turned rows (backwards (directed i)) (pair t a b) (subst₂ (IsJoined rows) e is w))
+      go (inr e) (inr w) = inl (joined_turned rows (backwards (directed i)) (pair t b a) (subst₂ (IsJoined rows) e is_negated w))

@@ -24,7 +24,7 @@ use Rattle.surface_laws.proofs.PieceNumbers.{piece_at, no_piece, of_column}
 use Rattle.surface_quad_laws.specs.LinkLaws.{link_of}
 use Rattle.surface_quad_laws.proofs.LinkSums.{by_column}
 use Rattle.surface_quad_laws.proofs.VertexLinks.{member, length-link, triangle-link, link-one, others-link, link_surface}
-use Rattle.surface_link_laws.proofs.Triangles.{arcs_round-link}
+use Rattle.surface_link_laws.proofs.Triangles.{arcs_around_vertex-link}
 
 -- the triangle at vertex v of tetrahedron t
 abbrev pub triangle : Coords → ℕ → ℕ → NormalDisc
@@ -108,7 +108,7 @@ module _ (s : Skeleton) (k : IsSkeleton s) (c : ℕ) (coords : Coords) (h : HasT
   pub arc_is : (a : Arc) (g : Gluing) → Meets s.rows coords (link_of s coords c) a g → IsLinkArc a
   arc_is a g m =
       let i : IsGlued s.rows (face_of_arc a) g = glued_is s.rows (face_of_arc a) g k.table m.glued in
-      let t = counted a.tet a.vertex a.place (subst (λ x. a.place < x) (arcs_round-link n s.vertices.classes c coords h a.tet a.face a.vertex m.in_range i.face m.is_vertex m.off_vertex) m.there) in
+      let t = counted a.tet a.vertex a.place (subst (λ x. a.place < x) (arcs_around_vertex-link n s.vertices.classes c coords h a.tet a.face a.vertex m.in_range i.face m.is_vertex m.off_vertex) m.there) in
       record { is_member = record { tet = m.in_range; below_four = m.is_vertex; chosen = t.0 }; first = t.1 }
 
   across_is_arc : (a : Arc) (g : Gluing) → Meets s.rows coords (link_of s coords c) a g → IsLinkArc (arc_across g a)
@@ -147,7 +147,7 @@ module _ (s : Skeleton) (k : IsSkeleton s) (c : ℕ) (coords : Coords) (h : HasT
     in_range = m.tet;
     is_vertex = m.below_four;
     off_vertex = off;
-    there = (let one : arcs_around coords (link_of s coords c) t f v ≡ 1 = arcs_round-link n s.vertices.classes c coords h t f v m.tet lf m.below_four off
+    there = (let one : arcs_around coords (link_of s coords c) t f v ≡ 1 = arcs_around_vertex-link n s.vertices.classes c coords h t f v m.tet lf m.below_four off
         ∙ ap (λ (b : Bool). if b then 1 else 0) (eq-eqb (class_of (vertex_number t v)) c m.chosen) in omega arith);
     glued = e;
   }

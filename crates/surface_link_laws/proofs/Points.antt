@@ -6,7 +6,7 @@ use Rattle.std.proofs.lemmas.List.Sums.{length-filter}
 use Rattle.std.proofs.lemmas.Bool.{and_parts, and_from, cases_eq, eqb-true, eq-eqb, ne_eqb}
 use Rattle.table_definitions.specs.Classes.{IsNumbering, least, is_least}
 use Rattle.table_definitions.specs.Lists.{below}
-use Rattle.table_definitions.specs.Places.{edge, turned, IsJoined, IsInvalidEdge, SameEdge}
+use Rattle.table_definitions.specs.Places.{edge, backwards, IsJoined, IsInvalidEdge, SameEdge}
 use Rattle.table_definitions.proofs.ChainLaws.{joined_sym}
 use Rattle.table_definitions.proofs.ClassLaws.{IsLeastOf, least_of}
 use Rattle.table_definitions.proofs.Listed.{below-among, Among-filter, filter-among, among_contains, contains_among}
@@ -79,8 +79,8 @@ module _ (s : Skeleton) (k : IsSkeleton s) (c : ℕ) (directions : List ℕ) (co
         (λ j. one_if (eq-eqb (least directions (slice_index directions i)) i same j && (one_tail i t a b la first_joined j == c)))
 
     -- a directed edge that is joined to it, and is the least of its class, is this vertex
-    told : (i : ℕ) → i < 12 * n → is_least directions i ≡ true → IsJoined s.rows (directed i) (pair t a b) → i ≡ vertex_of t a b
-    told i l e j =
+    reported : (i : ℕ) → i < 12 * n → is_least directions i ≡ true → IsJoined s.rows (directed i) (pair t a b) → i ≡ vertex_of t a b
+    reported i l e j =
         let d : ℕ = direction_number t a b in
         let same : slice_index directions i ≡ slice_index directions (direction_number t a b) =
         (numbered.together i d l (direction_below n t a b lt la lb ne)).1 (subst (IsJoined s.rows (directed i)) (sym (pair_is t a b la lb ne)) j) in
@@ -135,7 +135,7 @@ module _ (s : Skeleton) (k : IsSkeleton s) (c : ℕ) (directions : List ℕ) (co
     lb = (are_ends (j % 6) small).higher
 
     ne : a ≢ b
-    ne = (are_ends (j % 6) small).apart
+    ne = (are_ends (j % 6) small).separate
 
     back : b ≢ a
     back q = ne (sym q)
@@ -180,8 +180,8 @@ module _ (s : Skeleton) (k : IsSkeleton s) (c : ℕ) (directions : List ℕ) (co
       where
         not_least : edge_class i ≡ e → is_least directions i ≡ true → ⊥
         not_least q h = elim (either_way s.rows i j t a b (edge_pair j) (((k.edges).together (edge_of i) j (edge_of_below i n l) lj).0 (q ∙ sym cj))) [
-          | inl w ↦ off (told t a b lt la lb ne i l h w)
-          | inr w ↦ too (told t b a lt lb la back i l h w)
+          | inl w ↦ off (reported t a b lt la lb ne i l h w)
+          | inr w ↦ too (reported t b a lt lb la back i l h w)
         ]
 
         by_least : edge_class i ≡ e → (x : Bool) → is_least directions i ≡ x → one_if (is_least directions i && (class_of (vertex_number (i / 12) (tail i)) == c)) ≡ 0
@@ -207,7 +207,7 @@ module _ (s : Skeleton) (k : IsSkeleton s) (c : ℕ) (directions : List ℕ) (co
     invalid_edge =
         let together = numbered.together there back_there (direction_below n t a b lt la lb ne) (direction_below n t b a lt lb la back) in
         let to : directed there ≡ edge j = pair_is t a b la lb ne ∙ sym (edge_pair j) in
-        let from : directed back_there ≡ turned (edge j) = pair_is t b a lb la back ∙ sym (ap turned (edge_pair j)) in (
+        let from : directed back_there ≡ backwards (edge j) = pair_is t b a lb la back ∙ sym (ap backwards (edge_pair j)) in (
           (λ h. subst₂ (IsJoined s.rows) to from (together.0 (eqb-true (slice_index directions there) (slice_index directions back_there) h))),
           (λ i. eq-eqb (slice_index directions there) (slice_index directions back_there) (together.1 (subst₂ (IsJoined s.rows) (sym to) (sym from) i))),
         )

@@ -16,9 +16,9 @@ use Rattle.surface_laws.proofs.Turns.{keeping_below}
 
 -- what holds of each item of a list, and of the value beyond its end, holds at each index
 at_place : (P : ℕ → Type 0) (os : List ℕ) (k q : ℕ) → P q → AllByRecursion P os → P (slice_index_or os k q)
-at_place P [] k q past all = past
-at_place P (o ∷ os) zero q past all = all.0
-at_place P (o ∷ os) (suc k) q past all = at_place P os k q past all.1
+at_place P [] k q exceeded all = exceeded
+at_place P (o ∷ os) zero q exceeded all = all.0
+at_place P (o ∷ os) (suc k) q exceeded all = at_place P os k q exceeded all.1
 
 abbrev IsIn : Coords → ℕ → ℕ → Type 0
 IsIn coords t c = c / columns_each coords ≡ t

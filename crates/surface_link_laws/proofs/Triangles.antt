@@ -27,13 +27,13 @@ module _ (n : ℕ) (classes : List ℕ) (c : ℕ) where
     pub link_bare : IsBare coords n (vertex_link coords n classes c)
     link_bare i l high = others-link n classes c coords i h l high
 
-    pub arcs_round-link : (t f v : ℕ) → t < n → f < 4 → v < 4 → (v ≡ f → ⊥) → arcs_around coords link t f v ≡ member classes c (vertex_number t v)
-    arcs_round-link t f v lt lf lv off = arcs_alone coords n link h link_bare t f v lt lf lv off ∙ triangle-link n classes c coords t v h lt lv
+    pub arcs_around_vertex-link : (t f v : ℕ) → t < n → f < 4 → v < 4 → (v ≡ f → ⊥) → arcs_around coords link t f v ≡ member classes c (vertex_number t v)
+    arcs_around_vertex-link t f v lt lf lv off = arcs_alone coords n link h link_bare t f v lt lf lv off ∙ triangle-link n classes c coords t v h lt lv
 
     -- the arcs in a face are those of the triangles at its vertices
     pub arcs_in-link : (t f : ℕ) → t < n → f < 4 → arcs_in coords (vertex_link coords n classes c) (record { tet = t; face = f }) ≡ sum_by (λ v. member classes c (vertex_number t v)) (others f)
     arcs_in-link t f lt lf = sum_by_same (arcs_around coords link t f) (λ v. member classes c (vertex_number t v)) (others f)
-        (λ v a. let o = other_is f v a in arcs_round-link t f v lt lf o.0 o.1)
+        (λ v a. let o = other_is f v a in arcs_around_vertex-link t f v lt lf o.0 o.1)
 
   -- the pieces in a tetrahedron
   four_alone : (f g : ℕ → ℕ) (r : ℕ) → ((v : ℕ) → v < 4 → f v ≡ g v) → ((j : ℕ) → j < r → f (4 + j) ≡ 0) → sum_by f (below (4 + r)) ≡ sum_by g (below 4)

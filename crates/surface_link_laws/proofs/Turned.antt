@@ -10,8 +10,8 @@ use Rattle.surface_definitions.specs.Pieces.{Arc, arc_across, disc_of, disc_numb
 use Rattle.surface_definitions.specs.declared.Coords.{Coords}
 use Rattle.surface_laws.specs.PieceLaws.{IsSurface, face_of_arc, MeetsBack}
 use Rattle.surface_laws.proofs.MeetingArcs.{meets_back}
-use Rattle.table_definitions.specs.Table.{way_back}
-use Rattle.surface_link_laws.specs.Orientation.{SidesTellOrientation, OneAnswerToBoth}
+use Rattle.table_definitions.specs.Table.{inverse_gluing}
+use Rattle.surface_link_laws.specs.Orientation.{SidesDetermineOrientation, OneAnswerToBoth}
 use Rattle.surface_link_laws.proofs.Tetrahedra.{tet_of, arc_tet}
 
 -- the sign, or the other
@@ -47,7 +47,7 @@ module _ (rows : List Row) (coords : Coords) (xs components : List ℕ) (compone
   sign_over : (a : Arc) (g : Gluing) → Meets rows coords xs a g → sign_of signs (tet_of coords xs (disc_number xs (disc_of coords xs (arc_across g a)))) ≡ if_so (is_odd g.perm) (sign_of signs (tet_of coords xs (disc_number xs (disc_of coords xs a))))
   sign_over a g m =
       let back : MeetsBack rows coords xs a g = meets_back rows coords xs s a g m in
-      ap (sign_of signs) (arc_tet rows coords xs s (arc_across g a) (way_back (face_of_arc a) g) back.meets)
+      ap (sign_of signs) (arc_tet rows coords xs s (arc_across g a) (inverse_gluing (face_of_arc a) g) back.meets)
       ∙ agree.agree (face_of_arc a) g m.glued
       ∙ ap (λ t. if_so (is_odd g.perm) (sign_of signs t)) (sym (arc_tet rows coords xs s a g m))
 
@@ -66,13 +66,13 @@ module _ (rows : List Row) (coords : Coords) (xs components : List ℕ) (compone
         λ a g m c. again.1 a g m c ∙ ap (λ b. if_so b (again.0 (disc_number xs (disc_of coords xs a)))) (twice (is_odd g.perm) (stays a g)),
       )
 
-pub sides_tell_orientation_lem : SidesTellOrientation
+pub sides_tell_orientation_lem : SidesDetermineOrientation
 sides_tell_orientation_lem rows coords xs components component s orientable = (
   turned_signs rows coords xs components component s orientable.0 orientable.1 (keeps_sides coords xs),
   turned_back rows coords xs components component s orientable.0 orientable.1 (keeps_sides coords xs),
 )
 
 pub one_answer_to_both : OneAnswerToBoth
-one_answer_to_both rows coords xs classes i c s orientable told =
+one_answer_to_both rows coords xs classes i c s orientable reported =
     let both = sides_tell_orientation_lem rows coords xs classes i s orientable in
-    same_truth c.two_sided c.orientable (λ t. told.orientable.1 (both.0 (told.two_sided.0 t))) (λ t. told.two_sided.1 (both.1 (told.orientable.0 t)))
+    same_truth c.two_sided c.orientable (λ t. reported.orientable.1 (both.0 (reported.two_sided.0 t))) (λ t. reported.two_sided.1 (both.1 (reported.orientable.0 t)))

@@ -13,8 +13,8 @@ use Rattle.surface_vector_definitions.specs.Components.{Component, IsComponent}
 use Rattle.surface_laws.specs.PieceLaws.{IsSurface}
 
 -- there a component of a surface is two-sided if and only if it is orientable
-abbrev pub SidesTellOrientation : Type 0
-SidesTellOrientation =
+abbrev pub SidesDetermineOrientation : Type 0
+SidesDetermineOrientation =
     (rows : List Row) (coords : Coords) (xs components : List ℕ) (component : ℕ) → IsSurface rows coords xs → IsOrientable rows
     → IsTwoSided rows coords xs components component ↔ IsOrientableComponent rows coords xs components component
 

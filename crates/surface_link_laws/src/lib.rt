@@ -8,7 +8,7 @@
 #![tactic(auto)]
 
 ghost use Rattle.surface_link_laws.specs.Laws.{LinksHaveEdgesAndTriangles, LinksHaveVertices, LinkCharacteristicsAgree, LinksAreOneComponent};
-ghost use Rattle.surface_link_laws.specs.Orientation.{SidesTellOrientation, OneAnswerToBoth, DescribedAlike};
+ghost use Rattle.surface_link_laws.specs.Orientation.{SidesDetermineOrientation, OneAnswerToBoth, DescribedAlike};
 
 /// Theorem: let c be a vertex class. In standard or octagon coordinates, its vertex link has as many arcs as the link
 /// of c has edges, and as many discs as that has triangles. It meets the boundary if and only if the link is not
@@ -41,8 +41,8 @@ pub fn links_are_one_component()
 /// 1. A component of x is two-sided if and only if it is orientable.
 /// 2. The same is listed for both of each component of x.
 /// 3. `describe` prints the same for both, for each component of a vector that it describes.
-pub fn sides_tell_orientation()
-    ensures signs { SidesTellOrientation }
-    ensures told { OneAnswerToBoth }
+pub fn sides_determine_orientation()
+    ensures signs { SidesDetermineOrientation }
+    ensures reported { OneAnswerToBoth }
     ensures described { DescribedAlike }
 {}

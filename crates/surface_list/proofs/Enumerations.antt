@@ -10,7 +10,7 @@ use Rattle.surface_definitions.specs.QuadEquations.{AreEquations}
 use Rattle.surface_definitions.specs.TableSurfaces.{table_enumeration}
 use Rattle.cone_definitions.specs.Surfaces.{Clash}
 use Rattle.cone_definitions.specs.Systems.{System}
-use Rattle.cone_definitions.specs.Listings.{IsPastLimit}
+use Rattle.cone_definitions.specs.Listings.{ExceedsLimit}
 use Rattle.cone_definitions.specs.declared.Order.{Order}
 use Rattle.double_description.specs.declared.engine.LargeStep.{LargeStep}
 use Rattle.vertex_enumeration.specs.Lists.{enumeration_of, AreAlwaysWithin, IsOnlyListing, AreRefused}
@@ -54,7 +54,7 @@ module _ (limit : ℕ) (coords : Coords) (rows : List Row) (system : System) (pa
   pub table_refused : (A : Type 0) (result : Result A (Failure LargeStep)) → IfErr result (AreRefused (enumeration_of system pairs order limit)) → IfErr result (IsTableRefused limit coords rows order)
   table_refused A (Ok list) h = tt
   table_refused A (Err NoMemory) h = tt
-  table_refused A (Err (Fault large)) h = (system.rows, equations, subst (λ e. IsPastLimit e large.order.items large.kind) same h)
+  table_refused A (Err (Fault large)) h = (system.rows, equations, subst (λ e. ExceedsLimit e large.order.items large.kind) same h)
 
   -- if the bound is within the limit, so are all numbers
   pub numbers_within : (n : ℕ) → n ≡ length rows → IsTable rows → number_bound coords n ≤ limit → AreAlwaysWithin limit system pairs

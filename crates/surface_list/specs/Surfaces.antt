@@ -7,7 +7,7 @@ use Rattle.surface_definitions.specs.declared.Coords.{Coords}
 use Rattle.surface_definitions.specs.QuadEquations.{AreEquations}
 use Rattle.surface_definitions.specs.TableSurfaces.{table_enumeration}
 use Rattle.cone_definitions.specs.Rows.{Row as EquationRow}
-use Rattle.cone_definitions.specs.Listings.{IsPastLimit}
+use Rattle.cone_definitions.specs.Listings.{ExceedsLimit}
 use Rattle.cone_definitions.specs.declared.Order.{Order}
 use Rattle.double_description.specs.declared.engine.LargeStep.{LargeStep}
 use Rattle.vertex_enumeration.specs.Lists.{IsOnlyListing}
@@ -20,4 +20,4 @@ AreTableSurfaces limit coords rows order list =
 -- why a table has no list
 abbrev pub IsTableRefused : ℕ → Coords → List Row → Order → Failure LargeStep → Type 0
 IsTableRefused limit coords rows order failure =
-    IfFault failure (λ step. (equations : List EquationRow) × AreEquations coords rows equations × IsPastLimit (table_enumeration coords order limit rows equations) step.order.items step.kind)
+    IfFault failure (λ step. (equations : List EquationRow) × AreEquations coords rows equations × ExceedsLimit (table_enumeration coords order limit rows equations) step.order.items step.kind)

@@ -2,7 +2,7 @@
 
 ghost use Rattle.std.specs.Prelude.{◌≡◌, IsTrue, IsFalse, IfOk};
 ghost use Rattle.surface_definitions.specs.Coordinates as coordinates;
-ghost use Rattle.surface_list.specs.Bounded.{AreNumbersBounded, AreBothPast};
+ghost use Rattle.surface_list.specs.Bounded.{AreNumbersBounded, BothExceed};
 
 use crate::bounds::numbers_fit;
 use cone_arithmetic::System;
@@ -23,7 +23,7 @@ pub fn are_numbers_bounded(
 ) -> Result<bool, NoMemory>
     requires { system.now.columns ≡ coordinates.columns coords tets }
     ensures bounded { IfOk result (λ fit. IsTrue fit → AreNumbersBounded coords tets system.now limit) }
-    ensures past { IfOk result (λ fit. IsFalse fit → AreBothPast coords tets system.now limit) }
+    ensures exceeded { IfOk result (λ fit. IsFalse fit → BothExceed coords tets system.now limit) }
 {
     if numbers_fit(coords, tets, limit) {
         return Ok(true);

@@ -22,20 +22,20 @@ module _ (coords : Coords) (n : ℕ) (xs : List ℕ) (triangles : HasTriangles c
   abbrev pub tri : ℕ
   tri = tri_column coords t v
 
-  abbrev pub behind : ℕ
-  behind = first_nonzero xs (octagon_arcs coords t f v) (quad_column coords t (keeping v f))
+  abbrev pub across : ℕ
+  across = first_nonzero xs (octagon_arcs coords t f v) (quad_column coords t (keeping v f))
 
-  apart : tri ≡ behind → ⊥
-  apart e =
+  separate : tri ≡ across → ⊥
+  separate e =
       let low : tri % columns_each coords < 4 = low_triangle coords t v triangles lv in
-      let high : 4 ≤ behind % columns_each coords = high_behind coords xs t f v triangles lf lv off in
-      let same : tri % columns_each coords ≡ behind % columns_each coords = ap (λ c. c % columns_each coords) e in
+      let high : 4 ≤ across % columns_each coords = high_behind coords xs t f v triangles lf lv off in
+      let same : tri % columns_each coords ≡ across % columns_each coords = ap (λ c. c % columns_each coords) e in
       omega arith
 
   abbrev by_zero : Bool
-  by_zero = keeps_by_zero (type_in coords behind) v
+  by_zero = keeps_by_zero (type_in coords across) v
 
-  all_arcs : arcs_around coords xs t f v ≡ slice_index xs tri + slice_index xs behind
+  all_arcs : arcs_around coords xs t f v ≡ slice_index xs tri + slice_index xs across
   all_arcs = arcs_are coords n xs triangles admissible t f v lt lf lv off xs (λ c z. z)
 
   column_is : (p q : NormalDisc) → p ≡ q → p.column ≡ q.column
@@ -68,29 +68,29 @@ module _ (coords : Coords) (n : ℕ) (xs : List ℕ) (triangles : HasTriangles c
             | inl less ↦ number_is (piece_at tri i) p (sym (triangle_piece coords n xs triangles admissible t f v lt lf lv off i less) ∙ d)
             | inr more ↦ (let j : ℕ = i - slice_index xs tri in
                 let again : slice_index xs tri + j ≡ i = omega arith in
-                absurd (apart (sym e ∙ sym (column_is (piece_at behind (from_end (slice_index xs behind) by_zero j)) p (sym (behind_piece coords n xs triangles admissible t f v lt lf lv off j) ∙ ap (λ k. disc_of coords xs (arc_at t f v k)) again ∙ d)))))
+                absurd (separate (sym e ∙ sym (column_is (piece_at across (from_end (slice_index xs across) by_zero j)) p (sym (behind_piece coords n xs triangles admissible t f v lt lf lv off j) ∙ ap (λ k. disc_of coords xs (arc_at t f v k)) again ∙ d)))))
           ]),
         )
 
-    pub further_arc : p.column ≡ behind → IsOnlyArcOf coords xs p f v (arc_at t f v (slice_index xs tri + from_end (slice_index xs behind) by_zero p.number))
+    pub further_arc : p.column ≡ across → IsOnlyArcOf coords xs p f v (arc_at t f v (slice_index xs tri + from_end (slice_index xs across) by_zero p.number))
     further_arc e =
-        let low : p.number < slice_index xs behind = subst (λ c. p.number < slice_index xs c) e some in
-        let same : piece_at behind p.number ≡ p = ap (λ c. piece_at c p.number) (sym e) in
-        let inside : from_end (slice_index xs behind) by_zero p.number < slice_index xs behind = from_end_below (slice_index xs behind) by_zero p.number low in (
+        let low : p.number < slice_index xs across = subst (λ c. p.number < slice_index xs c) e some in
+        let same : piece_at across p.number ≡ p = ap (λ c. piece_at c p.number) (sym e) in
+        let inside : from_end (slice_index xs across) by_zero p.number < slice_index xs across = from_end_below (slice_index xs across) by_zero p.number low in (
           record {
             tet = here;
             face = refl;
             vertex = refl;
             there = omega (arith, all_arcs);
-            piece = behind_piece coords n xs triangles admissible t f v lt lf lv off (from_end (slice_index xs behind) by_zero p.number) ∙ ap (piece_at behind) (from_end_twice (slice_index xs behind) by_zero p.number low) ∙ same;
+            piece = behind_piece coords n xs triangles admissible t f v lt lf lv off (from_end (slice_index xs across) by_zero p.number) ∙ ap (piece_at across) (from_end_twice (slice_index xs across) by_zero p.number low) ∙ same;
           },
-          same_arc (slice_index xs tri + from_end (slice_index xs behind) by_zero p.number) (λ i l d. elim (cases_lt i (slice_index xs tri)) [
-            | inl less ↦ absurd (apart (column_is (piece_at tri i) p (sym (triangle_piece coords n xs triangles admissible t f v lt lf lv off i less) ∙ d) ∙ e))
+          same_arc (slice_index xs tri + from_end (slice_index xs across) by_zero p.number) (λ i l d. elim (cases_lt i (slice_index xs tri)) [
+            | inl less ↦ absurd (separate (column_is (piece_at tri i) p (sym (triangle_piece coords n xs triangles admissible t f v lt lf lv off i less) ∙ d) ∙ e))
             | inr more ↦ (let j : ℕ = i - slice_index xs tri in
                 let again : slice_index xs tri + j ≡ i = omega arith in
-                let lj : j < slice_index xs behind = omega (arith, all_arcs) in
-                let number : from_end (slice_index xs behind) by_zero j ≡ p.number = number_is (piece_at behind (from_end (slice_index xs behind) by_zero j)) p (sym (behind_piece coords n xs triangles admissible t f v lt lf lv off j) ∙ ap (λ k. disc_of coords xs (arc_at t f v k)) again ∙ d) in
-                let back : j ≡ from_end (slice_index xs behind) by_zero p.number = sym (from_end_twice (slice_index xs behind) by_zero j lj) ∙ ap (from_end (slice_index xs behind) by_zero) number in
+                let lj : j < slice_index xs across = omega (arith, all_arcs) in
+                let number : from_end (slice_index xs across) by_zero j ≡ p.number = number_is (piece_at across (from_end (slice_index xs across) by_zero j)) p (sym (behind_piece coords n xs triangles admissible t f v lt lf lv off j) ∙ ap (λ k. disc_of coords xs (arc_at t f v k)) again ∙ d) in
+                let back : j ≡ from_end (slice_index xs across) by_zero p.number = sym (from_end_twice (slice_index xs across) by_zero j lj) ∙ ap (from_end (slice_index xs across) by_zero) number in
                 omega arith)
           ]),
         )

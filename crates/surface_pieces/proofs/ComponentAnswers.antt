@@ -19,7 +19,7 @@ use Rattle.surface_laws.proofs.MeetingPieces.{join_components}
 use Rattle.surface_laws.proofs.PieceNumbers.{no_piece, IsFound, piece_found, number-piece}
 use Rattle.surface_pieces.specs.declared.joined.SearchKind.TheVariants.{Pieces}
 use Rattle.surface_pieces.specs.declared.joined.SignKind.TheVariants.{Sides, Orientation}
-use Rattle.surface_pieces.specs.Searches.{LeadsTo, AreRows, HasClasses, AreSigned}
+use Rattle.surface_pieces.specs.Searches.{IsArcTo, AreRows, HasClasses, AreSigned}
 use Rattle.surface_pieces.specs.Vectors.{AreVectors}
 use Rattle.surface_pieces.specs.ComponentLists.{component_at, all_components, no_component}
 
@@ -34,7 +34,7 @@ module _ (rows : List Row) (coords : Coords) (xs : List ℕ) (s : IsSurface rows
   nothing l (k, lk, e) = absurd (omega arith)
 
   none_past : (k l : ℕ) → n ≤ k → Contains (neighbours_of table k) l → ⊥
-  none_past k l past c =
+  none_past k l exceeded c =
       let empty : slice_index_or table k [] ≡ [] = get_or_past table k [] (let z = are.size in omega arith) in
       nothing l (subst (λ (r : List (Option ℕ)). Contains (neighbours_of (r ∷ []) 0) l) empty c)
 
@@ -42,8 +42,8 @@ module _ (rows : List Row) (coords : Coords) (xs : List ℕ) (s : IsSurface rows
   meeting : AreMeetingPieces rows coords xs (neighbours_of table)
   meeting i j = (
     (λ c. elim (cases_lt i n) [
-      | inr past ↦ absurd (none_past i j past c)
-      | inl low ↦ (let d : LeadsTo Pieces rows coords xs (slice_index_or (discs_of xs) i no_piece) i j = (are.each i low j).0 c in
+      | inr exceeded ↦ absurd (none_past i j exceeded c)
+      | inl low ↦ (let d : IsArcTo Pieces rows coords xs (slice_index_or (discs_of xs) i no_piece) i j = (are.each i low j).0 c in
           record { arc = d.arc; gluing = d.gluing; meets = d.meets; one = ap (disc_number xs) d.one ∙ number-piece xs i no_piece low; other = d.other })
     ]),
     (λ p. (let f : IsFound xs (disc_of coords xs p.arc) = piece_found xs (disc_of coords xs p.arc) (piece_there rows coords xs s p.arc p.gluing p.meets) in
@@ -83,10 +83,10 @@ zip_map R f [] h = tt
 zip_map R f (x ∷ xs) h = (h x (inl refl), zip_map R f xs (λ y m. h y (inr m)))
 
 -- the classes, vectors and signs determine the list of components
-pub told : (rows : List Row) (coords : Coords) (xs classes : List ℕ) (count : ℕ) (vectors : List (List ℕ)) (two_sided orientable : List Bool) → AreComponents rows coords xs classes count
+pub reported : (rows : List Row) (coords : Coords) (xs classes : List ℕ) (count : ℕ) (vectors : List (List ℕ)) (two_sided orientable : List Bool) → AreComponents rows coords xs classes count
     → AreVectors xs classes count vectors → AreSigned Sides rows coords xs classes count two_sided → AreSigned Orientation rows coords xs classes count orientable
     → AreListedComponents rows coords xs (all_components vectors two_sided orientable)
-told rows coords xs classes count vectors two_sided orientable are v t o = record {
+reported rows coords xs classes count vectors two_sided orientable are v t o = record {
   classes = classes;
   count = count;
   numbered = are;

@@ -28,15 +28,15 @@ module _ (signed components : List ℕ) (count n : ℕ) (free : List Bool) (u : 
         (λ t. absurd (false≢true (sym (get_or-set_same free here false true (omega (arith, u.size))) ∙ ap (λ k. slice_index_or (set free here false) k true) (sym at) ∙ t))),
         (λ h. absurd (h n (omega arith) (sym at) e)),
       )
-      | inr apart ↦ (
-        (λ t p lp c. (u.each i l).0 (sym (get_or-set_other free here i false true apart) ∙ t) p (less i apart p lp c) c),
-        (λ h. get_or-set_other free here i false true apart ∙ (u.each i l).1 (λ p lp c. h p (omega arith) c)),
+      | inr separate ↦ (
+        (λ t p lp c. (u.each i l).0 (sym (get_or-set_other free here i false true separate) ∙ t) p (less i separate p lp c) c),
+        (λ h. get_or-set_other free here i false true separate ∙ (u.each i l).1 (λ p lp c. h p (omega arith) c)),
       )
     ];
   }
     where
       less : (i : ℕ) → i ≢ here → (p : ℕ) → p < n + 1 → slice_index components p ≡ i → p < n
-      less i apart p lp c = elim (cases_eq p n) [ inl same ↦ absurd (apart (sym c ∙ ap (slice_index components) same)) | inr other ↦ omega arith ]
+      less i separate p lp c = elim (cases_eq p n) [ inl same ↦ absurd (separate (sym c ∙ ap (slice_index components) same)) | inr other ↦ omega arith ]
 
   free_apart : slice_index signed (2 * n) ≢ slice_index signed (2 * n + 1) → AreFreeUpTo signed components count (n + 1) free
   free_apart out = record {

@@ -3,7 +3,7 @@ use Rattle.std.proofs.Common.{◌≡◌, ℕ, ◌/◌, ◌<◌, Bool, true, fals
 use Rattle.std.specs.Prelude.{sum, if◌then◌else◌}
 use mathlib.Core.Bool.{beq}
 use Rattle.table_definitions.specs.Permutation.{is_odd}
-use Rattle.table_definitions.specs.Table.{Gluing, Row, glue, way_back}
+use Rattle.table_definitions.specs.Table.{Gluing, Row, glue, inverse_gluing}
 use Rattle.surface_definitions.specs.Coordinates.{columns_each}
 use Rattle.surface_definitions.specs.declared.Coords.{Coords}
 use Rattle.surface_definitions.specs.Pieces.{NormalDisc, Arc, arc_across, disc_of, disc_number, looks_positive, keeps_sides, Meets}
@@ -59,7 +59,7 @@ module _ (rows : List Row) (coords : Coords) (xs : List ℕ) (s : IsSurface rows
         vertex = i.vertex;
         in_range = l;
         other_in_range = subst (λ (c : Arc). c.tet < length rows) (sym eb) (back.meets).in_range;
-        other_piece = subst (λ (c : Arc). IsPieceOf xs (disc_of coords xs c)) (sym eb) (piece_there rows coords xs s (arc_across g a) (way_back (face_of_arc a) g) back.meets);
+        other_piece = subst (λ (c : Arc). IsPieceOf xs (disc_of coords xs c)) (sym eb) (piece_there rows coords xs s (arc_across g a) (inverse_gluing (face_of_arc a) g) back.meets);
         only = λ c h n ef ev e.
             let same : c ≡ a = one.1 c (meets_of p f v c h n ef ev e) in
             (same, some_same g h (glue rows (face_of_arc a)) glued (ap (λ (d : Arc). glue rows (face_of_arc d)) (sym same) ∙ n.glued));

@@ -10,7 +10,7 @@ use Rattle.table_walk_laws.specs.Joined.{present}
 use Rattle.table_walk_laws.proofs.Rows.{present_contains}
 use Rattle.surface_definitions.specs.declared.Coords.{Coords}
 use Rattle.surface_definitions.specs.Pieces.{NormalDisc, Arc, arc_across, disc_of, discs_of, disc_number}
-use Rattle.surface_laws.specs.PieceLaws.{IsSurface, IsPieceOf, turned_if}
+use Rattle.surface_laws.specs.PieceLaws.{IsSurface, IsPieceOf, reversed_if}
 use Rattle.surface_laws.proofs.PieceNumbers.{no_piece, listed_piece}
 use Rattle.surface_pieces.specs.Across.{Across}
 use Rattle.surface_pieces.specs.declared.joined.SearchKind.{SearchKind}
@@ -18,7 +18,7 @@ use Rattle.surface_pieces.specs.declared.joined.SearchKind.TheVariants.{Pieces, 
 use Rattle.surface_pieces.specs.declared.joined.SignKind.TheVariants.{Sides, Orientation}
 use Rattle.surface_pieces.specs.Meetings.{HasNoMeeting}
 use Rattle.surface_pieces.specs.Joinings.{IsJoinedAt, IsJoinedUpTo, IsJoinedRow, AreJoined}
-use Rattle.surface_pieces.specs.Searches.{numbers, piece_in, number_across, LeadsTo, IsRow, AreRows}
+use Rattle.surface_pieces.specs.Searches.{numbers, piece_in, number_across, IsArcTo, IsRow, AreRows}
 use Rattle.surface_pieces.specs.Readings.{read_across, read_at, IsReadRow, AreReadRows}
 use Rattle.surface_pieces.specs.Slots.{slots_each, vertex_of_slot}
 use Rattle.surface_pieces.proofs.SlotsOfArcs.{HasSlot, slot_of_arc}
@@ -48,11 +48,11 @@ module _ (rows : List Row) (coords : Coords) (xs : List ℕ) (p : NormalDisc) wh
     size = length-set row slot o ∙ u.size;
     some = λ s j ls e. elim (cases_eq s slot) [
       | inl same ↦ subst (λ t. IsJoinedAt rows coords xs p (t % 4) (vertex_of_slot coords p t) j) (sym same) (slot_some slot j o h (here s same ∙ e))
-      | inr apart ↦ u.some s j (omega arith) (sym (get_or-set_other row slot s o None apart) ∙ e)
+      | inr separate ↦ u.some s j (omega arith) (sym (get_or-set_other row slot s o None separate) ∙ e)
     ];
     none = λ s ls e. elim (cases_eq s slot) [
       | inl same ↦ subst (λ t. HasNoMeeting rows coords xs p (t % 4) (vertex_of_slot coords p t)) (sym same) (slot_none slot o h (here s same ∙ e))
-      | inr apart ↦ u.none s (omega arith) (sym (get_or-set_other row slot s o None apart) ∙ e)
+      | inr separate ↦ u.none s (omega arith) (sym (get_or-set_other row slot s o None separate) ∙ e)
     ];
   }
     where
@@ -69,19 +69,19 @@ module _ (rows : List Row) (coords : Coords) (xs : List ℕ) (p : NormalDisc) wh
       where
         by_kind : (kind : SearchKind) (i : IsJoinedAt rows coords xs p f v j) → number_across kind coords xs i.arc i.gluing k (disc_number xs (disc_of coords xs (arc_across i.gluing i.arc))) ≡ read_across kind k j
         by_kind Pieces i = sym i.piece
-        by_kind (Signed Sides) i = λ t. 2 * sym i.piece t + turned_if (sym i.sides t) (k % 2)
-        by_kind (Signed Orientation) i = λ t. 2 * sym i.piece t + turned_if (sym i.orientation t) (k % 2)
+        by_kind (Signed Sides) i = λ t. 2 * sym i.piece t + reversed_if (sym i.sides t) (k % 2)
+        by_kind (Signed Orientation) i = λ t. 2 * sym i.piece t + reversed_if (sym i.orientation t) (k % 2)
 
-    leads_from : (slot m : ℕ) (row : List (Option Across)) (o : Option Across) → IsJoinedRow rows coords xs p row → slot < slots_each coords → slice_index_or row slot None ≡ o → read_at kind k o ≡ Some m → LeadsTo kind rows coords xs p k m
+    leads_from : (slot m : ℕ) (row : List (Option Across)) (o : Option Across) → IsJoinedRow rows coords xs p row → slot < slots_each coords → slice_index_or row slot None ≡ o → read_at kind k o ≡ Some m → IsArcTo kind rows coords xs p k m
     leads_from slot m row None u l e n = absurd (let q : None ≡ Some m = n in cc)
     leads_from slot m row (Some j) u l e n =
         let i : IsJoinedAt rows coords xs p (slot % 4) (vertex_of_slot coords p slot) j = u.some slot j l e in
         record { arc = i.arc; gluing = i.gluing; meets = i.meets; one = i.one; other = across_is (slot % 4) (vertex_of_slot coords p slot) j i ∙ (let q : Some (read_across kind k j) ≡ Some m = n in cc) }
 
-    leads_to : (slot m : ℕ) (row : List (Option Across)) (o : Option Across) → IsJoinedRow rows coords xs p row → slot < slots_each coords → slice_index_or row slot None ≡ o
-        → (d : LeadsTo kind rows coords xs p k m) → (d.arc).face ≡ slot % 4 → (d.arc).vertex ≡ vertex_of_slot coords p slot → read_at kind k o ≡ Some m
-    leads_to slot m row None u l e d ef ev = absurd (u.none slot l e d.arc d.gluing d.meets ef ev d.one)
-    leads_to slot m row (Some j) u l e d ef ev =
+    inverse_if_reached : (slot m : ℕ) (row : List (Option Across)) (o : Option Across) → IsJoinedRow rows coords xs p row → slot < slots_each coords → slice_index_or row slot None ≡ o
+        → (d : IsArcTo kind rows coords xs p k m) → (d.arc).face ≡ slot % 4 → (d.arc).vertex ≡ vertex_of_slot coords p slot → read_at kind k o ≡ Some m
+    inverse_if_reached slot m row None u l e d ef ev = absurd (u.none slot l e d.arc d.gluing d.meets ef ev d.one)
+    inverse_if_reached slot m row (Some j) u l e d ef ev =
         let i : IsJoinedAt rows coords xs p (slot % 4) (vertex_of_slot coords p slot) j = u.some slot j l e in
         let o : (d.arc ≡ i.arc) × (d.gluing ≡ i.gluing) = i.only d.arc d.gluing d.meets ef ev d.one in
         ap Some (sym (across_is (slot % 4) (vertex_of_slot coords p slot) j i) ∙ (λ t. number_by (sym o.0 t) (sym o.1 t)) ∙ d.other)
@@ -92,7 +92,7 @@ module _ (rows : List Row) (coords : Coords) (xs : List ℕ) (p : NormalDisc) wh
           let l : q.0 < slots_each coords = (let b = q.1 in omega (arith, r.size, u.size)) in
           leads_from q.0 m joined (slice_index_or joined q.0 None) u l refl (sym (r.each q.0 (omega (arith, u.size))) ∙ q.2))),
       (λ d. (let h : HasSlot coords (d.arc).face (d.arc).vertex p = slot_of_arc rows coords xs s p d.arc d.gluing d.meets d.one in
-          present_contains row h.slot m (r.each h.slot (let l = h.in_range in omega (arith, u.size)) ∙ leads_to h.slot m joined (slice_index_or joined h.slot None) u h.in_range refl d (sym h.face) (sym h.vertex)))),
+          present_contains row h.slot m (r.each h.slot (let l = h.in_range in omega (arith, u.size)) ∙ inverse_if_reached h.slot m joined (slice_index_or joined h.slot None) u h.in_range refl d (sym h.face) (sym h.vertex)))),
     )
 
 pub piece_low : (kind : SearchKind) (i n : ℕ) → i < numbers kind n → piece_in kind i < n
@@ -117,7 +117,7 @@ pub rows_push : {A : Type 0} (P : ℕ → List A → Type 0) (listed more : List
     → (i : ℕ) → i < n + 1 → P i (slice_index_or more i [])
 rows_push {A} P listed more r n size each last e i l = subst (λ (ls : List (List A)). P i (slice_index_or ls i [])) (sym e) (elim (cases_eq i n) [
   | inl same ↦ subst (λ k. P k (slice_index_or (listed ++ r ∷ []) k [])) (sym same) (subst (P n) (sym (get_or_push listed r [] n size)) last)
-  | inr apart ↦ (let before : i < n = omega arith in subst (P i) (sym (get_or_append_left listed (r ∷ []) [] i (omega arith))) (each i before))
+  | inr separate ↦ (let before : i < n = omega arith in subst (P i) (sym (get_or_append_left listed (r ∷ []) [] i (omega arith))) (each i before))
 ])
 
 -- an item of the list of all pieces

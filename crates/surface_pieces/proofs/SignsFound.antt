@@ -6,7 +6,7 @@ use Rattle.std.proofs.lemmas.Bool.{cases_lt}
 use Rattle.std.proofs.lemmas.List.{get_or_past}
 use Rattle.table_walk_laws.specs.Joined.{IsJoined, IsSymmetric, HasNeighboursBelow, neighbours_of}
 use Rattle.table_definitions.specs.Classes.{IsNumbering}
-use Rattle.table_definitions.specs.Table.{Gluing, Row, way_back}
+use Rattle.table_definitions.specs.Table.{Gluing, Row, inverse_gluing}
 use Rattle.surface_definitions.specs.declared.Coords.{Coords}
 use Rattle.surface_definitions.specs.Pieces.{Arc, arc_across, disc_of, discs_of, disc_number, Meets, AreComponents, HasSigns}
 use Rattle.surface_laws.specs.PieceLaws.{IsSurface, face_of_arc}
@@ -15,11 +15,11 @@ use Rattle.surface_laws.proofs.SignedSteps.{SignedStep, arc_found, sides_back, o
 use Rattle.surface_pieces.specs.declared.joined.SignKind.{SignKind}
 use Rattle.surface_pieces.specs.declared.joined.SignKind.TheVariants.{Sides, Orientation}
 use Rattle.surface_pieces.specs.declared.joined.SearchKind.TheVariants.{Signed}
-use Rattle.surface_pieces.specs.Searches.{stays_at, LeadsTo, AreRows, IsFree}
+use Rattle.surface_pieces.specs.Searches.{stays_at, IsArcTo, AreRows, IsFree}
 
 module _ (rows : List Row) (coords : Coords) (xs : List ℕ) (s : IsSurface rows coords xs) where
   -- whether signs stay the same across a gluing does not depend on the side from which it is read
-  stays_back : (signs : SignKind) (a : Arc) (g : Gluing) → Meets rows coords xs a g → stays_at signs coords xs (arc_across g a) (way_back (face_of_arc a) g) ≡ stays_at signs coords xs a g
+  stays_back : (signs : SignKind) (a : Arc) (g : Gluing) → Meets rows coords xs a g → stays_at signs coords xs (arc_across g a) (inverse_gluing (face_of_arc a) g) ≡ stays_at signs coords xs a g
   stays_back Sides a g m = sides_back rows coords xs s a g m
   stays_back Orientation a g m = orientation_back rows coords xs s a g m
 
@@ -37,7 +37,7 @@ module _ (rows : List Row) (coords : Coords) (xs : List ℕ) (s : IsSurface rows
     piece a = disc_number xs (disc_of coords xs a)
 
     none_past : (k l : ℕ) → 2 * n ≤ k → Contains (signed k) l → ⊥
-    none_past k l past c =
+    none_past k l exceeded c =
         let empty : slice_index_or table k [] ≡ [] = get_or_past table k [] (let z = are_rows.size in omega arith) in
         nothing l (subst (λ (r : List (Option ℕ)). Contains (neighbours_of (r ∷ []) 0) l) empty c)
       where
@@ -49,8 +49,8 @@ module _ (rows : List Row) (coords : Coords) (xs : List ℕ) (s : IsSurface rows
 
     step_of : (k l : ℕ) → Contains (signed k) l → SignedStep rows coords xs stays k l
     step_of k l c = elim (cases_lt k (2 * n)) [
-      | inr past ↦ absurd (none_past k l past c)
-      | inl low ↦ (let d : LeadsTo (Signed signs) rows coords xs (slice_index_or (discs_of xs) (k / 2) no_piece) k l = (are_rows.each k low l).0 c in
+      | inr exceeded ↦ absurd (none_past k l exceeded c)
+      | inl low ↦ (let d : IsArcTo (Signed signs) rows coords xs (slice_index_or (discs_of xs) (k / 2) no_piece) k l = (are_rows.each k low l).0 c in
           record {
             arc = d.arc;
             gluing = d.gluing;

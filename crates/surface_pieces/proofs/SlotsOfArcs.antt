@@ -51,7 +51,7 @@ eight_slots coords k = go (has_octagons coords)
     go false l = absurd (omega arith)
 
 pub place_low : (coords : Coords) (c : ℕ) → c % columns_each coords < 10
-place_low coords c = let below = index_below coords c in let few = few_columns coords in omega (arith, below, few)
+place_low coords c = let below = index_below coords c in let limited = few_columns coords in omega (arith, below, limited)
 
 -- the arcs of a triangle
 tri_fits : ℕ → ℕ → Bool
@@ -109,7 +109,7 @@ module _ (f v : ℕ) (lf : f < 4) (lv : v < 4) (off : v ≡ f → ⊥) where
       → HasPlaceSlot (slots_each coords) (oct_column coords t k % columns_each coords) f v
   octagon_at coords h t k l other =
       let all : triangles_each coords ≡ 4 = four_triangles coords h in
-      let low : k < 3 = let few = few_octagons coords in omega (arith, l, few) in
+      let low : k < 3 = let limited = few_octagons coords in omega (arith, l, limited) in
       let at : oct_column coords t k % columns_each coords ≡ before_octagons coords + k =
       ap (λ c. c % columns_each coords) (add_assoc (columns_each coords * t) (before_octagons coords) k) ∙ index_of_index coords t (before_octagons coords + k) (omega (arith, l)) in
       let seven : before_octagons coords + k ≡ 7 + k = omega (arith, all) in

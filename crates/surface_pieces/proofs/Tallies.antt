@@ -42,11 +42,11 @@ module _ (xs components : List ℕ) where
 
   -- the vectors of other components do not change
   tally_elsewhere : (n i : ℕ) (ys : List ℕ) → i ≢ slice_index components n → IsTally xs components n i ys → IsTally xs components (n + 1) i ys
-  tally_elsewhere n i ys apart t = record {
+  tally_elsewhere n i ys separate t = record {
     width = t.width;
     entry = λ c l.
         let zero_more : one_if (((piece n).column == c) && (slice_index components n == i)) ≡ 0 =
-        ap (λ b. one_if (((piece n).column == c) && b)) (ne_eqb (slice_index components n) i (λ e. apart (sym e))) ∙ no_and ((piece n).column == c) in
+        ap (λ b. one_if (((piece n).column == c) && b)) (ne_eqb (slice_index components n) i (λ e. separate (sym e))) ∙ no_and ((piece n).column == c) in
         t.entry c l ∙ omega (arith, tally_next n i c);
   }
 
@@ -60,9 +60,9 @@ module _ (xs components : List ℕ) where
           let more : tally xs components (n + 1) k c ≡ tally xs components n k c + one_if ((d == c) && (k == k)) = tally_next n k c in
           ap (slice_index (set ys d (slice_index ys d + 1))) at ∙ get_or-set_same ys d (slice_index ys d + 1) 0 (omega (arith, t.width))
           ∙ ap (λ j. slice_index ys j + 1) (sym at) ∙ ap (λ j. j + 1) (t.entry c l) ∙ omega arith)
-      | inr apart ↦ (let none : one_if ((d == c) && (k == k)) ≡ 0 = ap (λ b. one_if (b && (k == k))) (ne_eqb d c (λ e. apart (sym e))) in
+      | inr separate ↦ (let none : one_if ((d == c) && (k == k)) ≡ 0 = ap (λ b. one_if (b && (k == k))) (ne_eqb d c (λ e. separate (sym e))) in
           let more : tally xs components (n + 1) k c ≡ tally xs components n k c + one_if ((d == c) && (k == k)) = tally_next n k c in
-          get_or-set_other ys d c (slice_index ys d + 1) 0 apart ∙ t.entry c l ∙ omega arith)
+          get_or-set_other ys d c (slice_index ys d + 1) 0 separate ∙ t.entry c l ∙ omega arith)
     ];
   }
     where
@@ -108,7 +108,7 @@ module _ (xs components : List ℕ) where
         at i li = elim (cases_eq i k) [
           | inl same ↦ subst (λ j. IsTally xs components (n + 1) j (slice_index_or (set (all_entries vectors) k w.items) j [])) (sym same)
               (subst (IsTally xs components (n + 1) k) (sym (get_or-set_same (all_entries vectors) k w.items [] long ∙ f)) (tally_here n v.items inside (held n vectors v t l e)))
-          | inr apart ↦ subst (IsTally xs components (n + 1) i) (sym (get_or-set_other (all_entries vectors) k i w.items [] apart)) (tally_elsewhere n i (slice_index_or (all_entries vectors) i []) apart (t.each i li))
+          | inr separate ↦ subst (IsTally xs components (n + 1) i) (sym (get_or-set_other (all_entries vectors) k i w.items [] separate)) (tally_elsewhere n i (slice_index_or (all_entries vectors) i []) separate (t.each i li))
         ]
 
     pub tallies_end : (n : ℕ) (vectors : List (Vec ℕ Global)) → n ≡ length components → AreTallies xs components count n vectors → AreVectors xs components count (all_entries vectors)

@@ -1,7 +1,7 @@
 -- The rows of numbers that are read off from the neighbours of the discs.
 use Rattle.std.specs.Prelude.{◌≡◌, ℕ, ◌+◌, ◌*◌, ◌%◌, ◌<◌, Bool, List, [], length, Option, Some, None}
 use Rattle.std.specs.List.{slice_index_or}
-use Rattle.surface_laws.specs.PieceLaws.{turned_if}
+use Rattle.surface_laws.specs.PieceLaws.{reversed_if}
 use Rattle.surface_pieces.specs.Across.{Across}
 use Rattle.surface_pieces.specs.declared.joined.SignKind.{SignKind}
 use Rattle.surface_pieces.specs.declared.joined.SignKind.TheVariants.{Sides, Orientation}
@@ -17,7 +17,7 @@ keeps Orientation j = j.keeps_orientation
 -- the number of the neighbour of number k
 abbrev pub read_across : SearchKind → ℕ → Across → ℕ
 read_across Pieces k j = j.piece
-read_across (Signed signs) k j = 2 * j.piece + turned_if (keeps signs j) (k % 2)
+read_across (Signed signs) k j = 2 * j.piece + reversed_if (keeps signs j) (k % 2)
 
 -- read_across, if there is a neighbour
 abbrev pub read_at : SearchKind → ℕ → Option Across → Option ℕ

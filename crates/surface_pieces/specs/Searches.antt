@@ -7,7 +7,7 @@ use Rattle.table_definitions.specs.Table.{Gluing, Row}
 use Rattle.table_walk_laws.specs.Joined.{IsJoined, neighbours_of}
 use Rattle.surface_definitions.specs.declared.Coords.{Coords}
 use Rattle.surface_definitions.specs.Pieces.{NormalDisc, Arc, arc_across, disc_of, discs_of, disc_number, Meets, keeps_sides, HasSigns}
-use Rattle.surface_laws.specs.PieceLaws.{IsFreePiece, turned_if}
+use Rattle.surface_laws.specs.PieceLaws.{IsFreePiece, reversed_if}
 use Rattle.surface_pieces.specs.declared.joined.SignKind.{SignKind}
 use Rattle.surface_pieces.specs.declared.joined.SignKind.TheVariants.{Sides, Orientation}
 use Rattle.surface_pieces.specs.declared.joined.SearchKind.{SearchKind}
@@ -31,10 +31,10 @@ piece_in (Signed signs) i = i / 2
 -- the number of disc i across an arc of the disc of number k
 abbrev pub number_across : SearchKind → Coords → List ℕ → Arc → Gluing → ℕ → ℕ → ℕ
 number_across Pieces coords xs a g k i = i
-number_across (Signed signs) coords xs a g k i = 2 * i + turned_if (stays_at signs coords xs a g) (k % 2)
+number_across (Signed signs) coords xs a g k i = 2 * i + reversed_if (stays_at signs coords xs a g) (k % 2)
 
 -- an arc of disc p, which has number k, is glued to one of a disc with number l
-pub record LeadsTo (kind : SearchKind) (rows : List Row) (coords : Coords) (xs : List ℕ) (p : NormalDisc) (k l : ℕ) : Type 0 where
+pub record IsArcTo (kind : SearchKind) (rows : List Row) (coords : Coords) (xs : List ℕ) (p : NormalDisc) (k l : ℕ) : Type 0 where
   pub arc : Arc
   pub gluing : Gluing
   pub meets : Meets rows coords xs arc gluing
@@ -43,7 +43,7 @@ pub record LeadsTo (kind : SearchKind) (rows : List Row) (coords : Coords) (xs :
 
 -- a row lists the neighbours of number k of disc p
 abbrev pub IsRow : SearchKind → List Row → Coords → List ℕ → NormalDisc → ℕ → List (Option ℕ) → Type 0
-IsRow kind rows coords xs p k row = (l : ℕ) → Contains (filter_map (λ o. o) row) l ↔ LeadsTo kind rows coords xs p k l
+IsRow kind rows coords xs p k row = (l : ℕ) → Contains (filter_map (λ o. o) row) l ↔ IsArcTo kind rows coords xs p k l
 
 -- rows of all numbers
 pub record AreRows (kind : SearchKind) (rows : List Row) (coords : Coords) (xs : List ℕ) (listed : List (List (Option ℕ))) : Type 0 where

@@ -38,7 +38,7 @@ impl<'a> ArcInSurface<'a> {
     }
 
     /// The column of the arcs after those of the triangles around the vertex of the arc.
-    fn behind(&self) -> Further
+    fn across(&self) -> Further
         ensures column { result.column ≡ pieces.further_column self.now.surface.coords.system self.now.surface.entries.now self.now.arc }
         ensures in_range { result.column < length self.now.surface.entries.now }
         ensures side { result.by_zero ≡ pieces.keeps_by_zero (pieces.type_in self.now.surface.coords.system result.column) self.now.arc.vertex }
@@ -68,7 +68,7 @@ impl<'a> ArcInSurface<'a> {
                 number: arc.place,
             };
         }
-        let further = self.behind();
+        let further = self.across();
         let entry = self.surface.entries[further.column as usize];
         NumberedDisc {
             column: further.column,
@@ -83,7 +83,7 @@ impl<'a> ArcInSurface<'a> {
         if self.arc.place < self.triangles() {
             return true;
         }
-        self.behind().by_zero
+        self.across().by_zero
     }
 }
 
@@ -115,7 +115,7 @@ impl<'a> ListedDisc<'a> {
             surface,
             arc: first,
         };
-        let further = around.behind();
+        let further = around.across();
         if piece.column != further.column {
             return None;
         }

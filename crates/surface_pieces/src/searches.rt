@@ -74,7 +74,7 @@ impl<'a, const N: usize> AdjacentDiscs<'a, N> {
     /// The number of numbers in a search of kind `kind`.
     fn numbers(&self, kind: SearchKind) -> usize
         ensures value { result ≡ searches.numbers kind (length self.now.rows.now) }
-        ensures few { result ≤ 2 * most_pieces }
+        ensures limited { result ≤ 2 * most_pieces }
     {
         match kind {
             SearchKind::Pieces => self.rows.len(),

@@ -21,8 +21,8 @@ pub struct SmallSurface<'a> {
     pub coords: DiscCoords,
     pub entries: &'a [u32],
     pub ghost normal: { ∥ IsSurface table.now coords.system entries.now ∥₁ },
-    pub ghost few: { sum entries.now ≤ most_pieces },
-    pub ghost few_tets: { length table.now ≤ max_tets },
+    pub ghost limited: { sum entries.now ≤ most_pieces },
+    pub ghost bounded_tets: { length table.now ≤ max_tets },
     pub ghost width: { length entries.now ≡ columns coords.system (length table.now) },
 }
 
@@ -67,6 +67,6 @@ pub struct DiscComponents<'a> {
 pub struct AdjacentDiscs<'a, const N: usize> {
     pub surface: SmallSurface<'a>,
     pub rows: &'a [[Option<Adjacent>; N]],
-    pub ghost few: { length rows.now ≤ most_pieces },
-    pub ghost few_slots: { N ≤ 8 },
+    pub ghost limited: { length rows.now ≤ most_pieces },
+    pub ghost bounded_slots: { N ≤ 8 },
 }

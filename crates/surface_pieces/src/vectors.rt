@@ -21,7 +21,7 @@ fn zeros(alloc: Global, count: u32, columns: usize) -> Result<Vec<Vec<u128>>, Al
 /// Adds a disc of `column` to `vector`.
 fn count_piece(vector: &mut [u128], column: u32)
     requires in_range { column < length vector.old }
-    requires few { slice_index vector.old column < 2 ^ 64 }
+    requires limited { slice_index vector.old column < 2 ^ 64 }
     ensures { vector.new ≡ slice_set vector.old column (slice_index vector.old column + 1) }
 {
     vector[column as usize] += 1;

@@ -41,7 +41,7 @@ impl<'a> VectorFace<'a> {
     }
 
     /// The number of arcs in the face around its vertex `number` (0 to 2).
-    fn arcs_round(&self, number: usize) -> u128
+    fn arcs_around_vertex(&self, number: usize) -> u128
         requires { number < 3 }
         ensures a_face { self.now.face.face < 4 }
         ensures value { result ≡ capped (pieces.arcs_around self.now.vector.coords.system self.now.vector.entries.now self.now.face.tet self.now.face.face (slice_index (others self.now.face.face) number)) }
@@ -56,9 +56,9 @@ impl<'a> VectorFace<'a> {
     pub fn arcs_in(&self) -> u128
         ensures { result ≡ capped (characteristic.arcs_in self.now.vector.coords.system self.now.vector.entries.now self.now.face) }
     {
-        let one = self.arcs_round(0);
-        let two = add(one, self.arcs_round(1));
-        add(two, self.arcs_round(2))
+        let one = self.arcs_around_vertex(0);
+        let two = add(one, self.arcs_around_vertex(1));
+        add(two, self.arcs_around_vertex(2))
     }
 }
 

@@ -14,7 +14,7 @@ pub struct DiscVector<'a> {
     pub table: &'a Table,
     pub coords: DiscCoords,
     pub entries: &'a [u128],
-    pub ghost few: { length table.now ≤ max_tets },
+    pub ghost limited: { length table.now ≤ max_tets },
     pub ghost width: { length entries.now ≡ columns coords.system (length table.now) },
 }
 

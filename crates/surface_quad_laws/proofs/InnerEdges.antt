@@ -7,7 +7,7 @@ use Rattle.table_definitions.specs.Lists.{below, has}
 use Rattle.table_definitions.specs.Permutation.{four}
 use Rattle.table_definitions.specs.Table.{Gluing, Row, glue, IsTable}
 use Rattle.table_definitions.specs.Classes.{IsNumbering, least}
-use Rattle.table_definitions.specs.Places.{carried, edge, ends, edge_number, turned, IsJoined, SameEdge, is_boundary, lies_in_boundary, is_boundary_edge}
+use Rattle.table_definitions.specs.Places.{carried, edge, ends, edge_number, backwards, IsJoined, SameEdge, is_boundary, lies_in_boundary, is_boundary_edge}
 use Rattle.table_definitions.proofs.TableLaws.{Among, Among-below, Among-four}
 use Rattle.table_definitions.proofs.ClassLaws.{least_class}
 use Rattle.table_definitions.proofs.ChainLaws.{joined_refl, joined_more, across_by}
@@ -38,7 +38,7 @@ pub record HasEdge (a b : ℕ) : Type 0 where
   pub ends_are : (ends (edge_number a b) ≡ a ∷ b ∷ []) ⊎ (ends (edge_number a b) ≡ b ∷ a ∷ [])
 
 pub has_edge : (a b : ℕ) → a < 4 → b < 4 → a ≢ b → HasEdge a b
-has_edge a b la lb apart = let e = ends-edge_number a b la lb apart in record { small = e.0; ends_are = e.1 }
+has_edge a b la lb separate = let e = ends-edge_number a b la lb separate in record { small = e.0; ends_are = e.1 }
 
 abbrev pub edge_at : ℕ → ℕ → ℕ → ℕ
 edge_at t a b = 6 * t + edge_number a b
@@ -55,7 +55,7 @@ same_edge rows i t a b h j = by_ends h.ends_are
   where
     by_ends : (ends (edge_number a b) ≡ a ∷ b ∷ []) ⊎ (ends (edge_number a b) ≡ b ∷ a ∷ []) → SameEdge rows i (edge_at t a b)
     by_ends (inl e) = inl (subst (IsJoined rows (edge i)) (sym (edge_by_ends t a b a b h.small e)) j)
-    by_ends (inr e) = inr (subst (IsJoined rows (edge i)) (sym (ap turned (edge_by_ends t a b b a h.small e))) j)
+    by_ends (inr e) = inr (subst (IsJoined rows (edge i)) (sym (ap backwards (edge_by_ends t a b b a h.small e))) j)
 
 -- the two vertices are not opposite the face, so the face contains their edge
 pub off_edge : (a b c : ℕ) → HasEdge a b → a ≢ c → b ≢ c → has (ends (edge_number a b)) c ≡ false

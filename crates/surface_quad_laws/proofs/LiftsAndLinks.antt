@@ -57,7 +57,7 @@ module _ (s : Skeleton) (k : IsSkeleton s) where
 
       times_by : (c : ℕ) → (c < s.vertices.count) ⊎ (s.vertices.count ≤ c) → ℕ
       times_by c (inl lc) = triangle_at ys (low_of c lc)
-      times_by c (inr past) = 0
+      times_by c (inr exceeded) = 0
 
       times : ℕ → ℕ
       times c = times_by c (cases_lt c s.vertices.count)
@@ -72,7 +72,7 @@ module _ (s : Skeleton) (k : IsSkeleton s) where
               let d : triangle_at ys i + triangle_at zs l.0 ≡ triangle_at zs i + triangle_at ys l.0 =
               triangles_differ s k ys zs (class_of i) solution lift_solution (sym same_quads) i l.0 li (let m = l.1 in let e = (k.vertices).one_each in omega arith) refl l.2 in
               let z : triangle_at zs l.0 ≡ 0 = l.3 in omega arith
-          go (inr past) = absurd (let lc = (k.vertices).in_range i li in omega arith)
+          go (inr exceeded) = absurd (let lc = (k.vertices).in_range i li in omega arith)
 
       adds : (column : ℕ) → column < 7 * n → slice_index ys column ≡ with_links s times zs column
       adds = by_columns (λ i. slice_index ys i ≡ with_links s times zs i)
@@ -96,11 +96,11 @@ module _ (s : Skeleton) (k : IsSkeleton s) where
         h.adds (tri_column Standard (i / 4) (i % 4)) lcol ∙ triangle_with many zs (i / 4) (i % 4) lt lv
         ∙ ap (λ a. a + many (class_of (vertex_number (i / 4) (i % 4)))) z ∙ ap (λ d. 0 + many d) (ap class_of (number-vertex i) ∙ ci) ∙ omega arith
 
-    same_number : (zs ws : List ℕ) (few many : ℕ → ℕ) → IsLiftWithLinks s ys zs few → IsLiftWithLinks s ys ws many → (c : ℕ) → c < s.vertices.count → many c ≡ few c
-    same_number zs ws few many a b c lc =
+    same_number : (zs ws : List ℕ) (limited many : ℕ → ℕ) → IsLiftWithLinks s ys zs limited → IsLiftWithLinks s ys ws many → (c : ℕ) → c < s.vertices.count → many c ≡ limited c
+    same_number zs ws limited many a b c lc =
         let l = (((a.is_lift).each c lc).least) in
         let li : l.0 < 4 * n = let m = l.1 in let e = (k.vertices).one_each in omega arith in
-        sym (number_told ws many b c lc l.0 li l.2 (ap (λ us. triangle_at us l.0) (same_lift zs ws a.is_lift b.is_lift) ∙ l.3)) ∙ number_told zs few a c lc l.0 li l.2 l.3
+        sym (number_told ws many b c lc l.0 li l.2 (ap (λ us. triangle_at us l.0) (same_lift zs ws a.is_lift b.is_lift) ∙ l.3)) ∙ number_told zs limited a c lc l.0 li l.2 l.3
 
     pub one_lift_with_links : HasOneLiftWithLinks s ys
     one_lift_with_links = record {
@@ -116,7 +116,7 @@ module _ (s : Skeleton) (k : IsSkeleton s) where
   exchanged a b l m f ea eb = omega arith
 
   pub differ_by_links : (ys zs : List ℕ) → IsStandardSolution s ys → IsStandardSolution s zs → projected n ys ≡ projected n zs
-      → (many few : ℕ → ℕ) × ((column : ℕ) → column < columns Standard n → with_links s many ys column ≡ with_links s few zs column)
+      → (many limited : ℕ → ℕ) × ((column : ℕ) → column < columns Standard n → with_links s many ys column ≡ with_links s limited zs column)
   differ_by_links ys zs one other e =
       let a : HasOneLiftWithLinks s ys = one_lift_with_links ys one in
       let b : HasOneLiftWithLinks s zs = one_lift_with_links zs other in

@@ -55,7 +55,7 @@ CanonicalAreLifts = (s : Skeleton) (ys : List ℕ) → IsSkeleton s → IsStanda
 abbrev pub SameQuadsDifferByLinks : Type 0
 SameQuadsDifferByLinks =
     (s : Skeleton) (ys zs : List ℕ) → IsSkeleton s → IsStandardSolution s ys → IsStandardSolution s zs → quads_of s ys ≡ quads_of s zs
-    → (many few : ℕ → ℕ) × ((column : ℕ) → column < columns Standard (length s.rows) → with_links s many ys column ≡ with_links s few zs column)
+    → (many limited : ℕ → ℕ) × ((column : ℕ) → column < columns Standard (length s.rows) → with_links s many ys column ≡ with_links s limited zs column)
 
 -- the quad vectors that have a lift are the quads of the standard solutions
 abbrev pub LiftedAreQuads : Type 0

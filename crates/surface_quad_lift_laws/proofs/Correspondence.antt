@@ -35,7 +35,7 @@ module _ (s : Skeleton) (k : IsSkeleton s) (links : List Link) (h : HasSphereAnd
       let link : Link = get_or links c any_link in
       let itself : link ≡ get_or links c link = get_or_default links c any_link link low in
       let are = h.are in
-      let has : HasLink s c link = record { directions = are.0; count = are.1; numbered = are.2; is_link = (are.3).told c link low itself } in
+      let has : HasLink s c link = record { directions = are.0; count = are.1; numbered = are.2; is_link = (are.3).reported c link low itself } in
       link_lift s c k lc link has quad_rows equations xs solution (h.kinds c any_link low)
 
   lifted : (xs : List ℕ) → IsSolution (columns Quad n) quad_rows xs → (ys : List ℕ) × IsLiftOf s xs ys

@@ -75,7 +75,7 @@ module _ (s : Skeleton) (c : ℕ) (z : IsVertexClass s c) where
           let there : left_through (mate s.rows k) ≡ other_side x g = ap (λ o. left_through (where_led mate_behind k o)) q in
           let after : is_face_before x (other_side x g) ≡ false = ap (is_first_side x) (sym q) ∙ e in
           ap (λ y. is_first_side y (glue s.rows y)) there ∙ ap (is_first_side (other_side x g)) i.back ∙ ap (is_face_before (other_side x g)) i.returns
-          ∙ elim (before_or_after x (other_side x g) ((z.skeleton).table.apart x g q)) [
+          ∙ elim (before_or_after x (other_side x g) ((z.skeleton).table.separate x g q)) [
             | inl b ↦ absurd (let o : false ≡ true = sym after ∙ b in cc)
             | inr b ↦ b
           ]

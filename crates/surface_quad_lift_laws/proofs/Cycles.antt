@@ -29,7 +29,7 @@ use Rattle.surface_quad_lift_laws.proofs.OneWay.{flip_corner, one_way}
 -- different corners, with each the corner across its gluing, and none with its two faces exchanged; around them the
 -- quads on both sides have the same sum
 pub record IsCycle (rows : List Row) (xs : List ℕ) (ks : List Corner) : Type 0 where
-  pub apart : AreApart ks
+  pub separate : AreApart ks
   pub four : (k : Corner) → Among k ks → HasFourVertices (length rows) k
   pub on : (k : Corner) → Among k ks → LeadsOn rows k
   pub closed : (k : Corner) → Among k ks → Among (next rows k) ks
@@ -63,7 +63,7 @@ module _ (rows : List Row) (table : IsTable rows) (xs : List ℕ) where
   -- a cycle from the other end of its edge
   pub opposite_cycle : (ks : List Corner) → IsCycle rows xs ks → IsCycle rows xs (map opposite ks)
   opposite_cycle ks h = record {
-    apart = map_apart opposite ks h.apart (λ k l a b e. ap opposite e);
+    separate = map_apart opposite ks h.separate (λ k l a b e. ap opposite e);
     four = λ k a. let m = map-among opposite k ks a in subst (HasFourVertices (length rows)) (sym m.2) (opposite_corner m.0 (h.four m.0 m.1));
     on = λ k a. let m = map-among opposite k ks a in let w = h.on m.0 m.1 in subst (LeadsOn rows) (sym m.2) (record { g = w.g; glued = w.glued });
     closed = λ k a. let m = map-among opposite k ks a in
@@ -88,7 +88,7 @@ module _ (rows : List Row) (table : IsTable rows) (xs : List ℕ) where
     -- the corners of a quad equation are a cycle
     pub corners_cycle : IsCycle rows xs ks
     corners_cycle = record {
-      apart = apart_from first ks are.once;
+      separate = apart_from first ks are.once;
       four = four;
       on = on;
       closed = closed_under;

@@ -12,7 +12,7 @@ use Rattle.table_definitions.specs.Classes.{IsNumbering, least}
 use Rattle.table_definitions.specs.Lists.{below, has}
 use Rattle.table_definitions.specs.Permutation.{four}
 use Rattle.table_definitions.specs.Table.{Gluing, glue}
-use Rattle.table_definitions.specs.Places.{Place, edge, ends, turned, IsJoined, SameEdge, is_boundary, lies_in_boundary, is_boundary_edge}
+use Rattle.table_definitions.specs.Places.{Place, edge, ends, backwards, IsJoined, SameEdge, is_boundary, lies_in_boundary, is_boundary_edge}
 use Rattle.table_definitions.proofs.ChainLaws.{joined_sym, joined_trans, joined_turned}
 use Rattle.table_definitions.proofs.Listed.{contains_among, among_contains, map-among, all_mapped, all_at, Among-filter, below-among}
 use Rattle.table_definitions.proofs.TableLaws.{Among, Among-below, Among-map, four-among}
@@ -98,9 +98,9 @@ module _ (s : Skeleton) (c : ℕ) (z : IsVertexClass s c) (directions : List ℕ
         by_edge : (edge j ≡ pair k.tet k.a k.b) ⊎ (edge j ≡ pair k.tet k.b k.a) → SameEdge s.rows j i
             → IsJoined s.rows (pair k.tet k.a k.b) (pair (i / 6) (low (i % 6)) (high (i % 6))) ⊎ IsJoined s.rows (pair k.tet k.a k.b) (pair (i / 6) (high (i % 6)) (low (i % 6)))
         by_edge (inl e) (inl d) = inl (subst₂ (IsJoined s.rows) e (edge_pair i) d)
-        by_edge (inl e) (inr d) = inr (subst₂ (IsJoined s.rows) e (ap turned (edge_pair i)) d)
-        by_edge (inr e) (inl d) = inr (subst₂ (IsJoined s.rows) (ap turned e) (ap turned (edge_pair i)) (joined_turned s.rows (edge j) (edge i) d))
-        by_edge (inr e) (inr d) = inl (subst₂ (IsJoined s.rows) (ap turned e) (ap (λ p. turned (turned p)) (edge_pair i)) (joined_turned s.rows (edge j) (turned (edge i)) d))
+        by_edge (inl e) (inr d) = inr (subst₂ (IsJoined s.rows) e (ap backwards (edge_pair i)) d)
+        by_edge (inr e) (inl d) = inr (subst₂ (IsJoined s.rows) (ap backwards e) (ap backwards (edge_pair i)) (joined_turned s.rows (edge j) (edge i) d))
+        by_edge (inr e) (inr d) = inl (subst₂ (IsJoined s.rows) (ap backwards e) (ap (λ p. backwards (backwards p)) (edge_pair i)) (joined_turned s.rows (edge j) (backwards (edge i)) d))
 
     -- no face around such an edge is a boundary face
     never_free : (t v w f : ℕ) → t < n → w < 4 → f < 4 → v ≢ f → w ≢ f → v ≢ w → IsJoined s.rows (pair k.tet k.a k.b) (pair t v w) → is_boundary s.rows (face_at t f) ≡ true → ⊥
@@ -133,8 +133,8 @@ module _ (s : Skeleton) (c : ℕ) (z : IsVertexClass s c) (directions : List ℕ
               let lt : i / 6 < n = omega arith in
               let apart_ends = are_ends (i % 6) (omega arith) in
               elim (joined_either i ((edge_classes.together j i low_j li).0 (sym same))) [
-                | inl d ↦ never_free (i / 6) (low (i % 6)) (high (i % 6)) f lt apart_ends.higher lf first_off last_off apart_ends.apart d free
-                | inr d ↦ never_free (i / 6) (high (i % 6)) (low (i % 6)) f lt apart_ends.lower lf last_off first_off (λ q. apart_ends.apart (sym q)) d free
+                | inl d ↦ never_free (i / 6) (low (i % 6)) (high (i % 6)) f lt apart_ends.higher lf first_off last_off apart_ends.separate d free
+                | inr d ↦ never_free (i / 6) (high (i % 6)) (low (i % 6)) f lt apart_ends.lower lf last_off first_off (λ q. apart_ends.separate (sym q)) d free
               ]
 
           by_test : (b : Bool) → is_boundary_edge s.rows classes class_e ≡ b → is_boundary_edge s.rows classes class_e ≡ false
@@ -186,8 +186,8 @@ module _ (s : Skeleton) (c : ℕ) (z : IsVertexClass s c) (directions : List ℕ
                 → IsJoined s.rows (pair first.tet first.a first.b) (pair k.tet k.a k.b) ⊎ IsJoined s.rows (pair first.tet first.a first.b) (pair k.tet k.b k.a)
             by_edge (inl e) (inl d) = inl (subst₂ (IsJoined s.rows) (edge_pair (least classes class_e)) e d)
             by_edge (inr e) (inl d) = inr (subst₂ (IsJoined s.rows) (edge_pair (least classes class_e)) e d)
-            by_edge (inl e) (inr d) = inr (subst₂ (IsJoined s.rows) (edge_pair (least classes class_e)) (ap turned e) d)
-            by_edge (inr e) (inr d) = inl (subst₂ (IsJoined s.rows) (edge_pair (least classes class_e)) (ap turned e) d)
+            by_edge (inl e) (inr d) = inr (subst₂ (IsJoined s.rows) (edge_pair (least classes class_e)) (ap backwards e) d)
+            by_edge (inr e) (inr d) = inl (subst₂ (IsJoined s.rows) (edge_pair (least classes class_e)) (ap backwards e) d)
 
         -- a corner whose directed edge is joined to the flag's is a flag with the same end
         flag_by : (l : Corner) → HasFourVertices n l → IsJoined s.rows (pair k.tet k.a k.b) (pair l.tet l.a l.b) → IsFlag s c z l × (end l ≡ end k)

@@ -102,13 +102,13 @@ module _ (s : Skeleton) (c : ℕ) (z : IsVertexClass s c) (directions : List ℕ
   -- two flags for each of some ends, all different
   record AreDoubled (ps : List ℕ) : Type 0 where
     codes : List ℕ
-    apart : AreApart codes
+    separate : AreApart codes
     twice : length codes ≡ length ps + length ps
     from : (x : ℕ) → Among x codes → (k : Corner) × IsFreeFlag k × (code k ≡ x) × Among (end k) ps
 
   doubled : (ps : List ℕ) → AreApart ps → ((p : ℕ) → Among p ps → (k : Corner) × IsFreeFlag k × (end k ≡ p)) → AreDoubled ps
-  doubled [] apart each = record { codes = []; apart = tt; twice = refl; from = λ x a. absurd a }
-  doubled (p ∷ ps) apart each = join (each p (inl refl)) (doubled ps apart.1 (λ q a. each q (inr a)))
+  doubled [] separate each = record { codes = []; separate = tt; twice = refl; from = λ x a. absurd a }
+  doubled (p ∷ ps) separate each = join (each p (inl refl)) (doubled ps separate.1 (λ q a. each q (inr a)))
     where
       join : (k : Corner) × IsFreeFlag k × (end k ≡ p) → AreDoubled ps → AreDoubled (p ∷ ps)
       join k more =
@@ -118,12 +118,12 @@ module _ (s : Skeleton) (c : ℕ) (z : IsVertexClass s c) (directions : List ℕ
           let new : (l : Corner) → IsFreeFlag l → end l ≡ p → Among (code l) more.codes → ⊥ = λ l g e a.
           let m = more.from (code l) a in
           let one : m.0 ≡ l = code_tells s c z m.0 l (m.1).flag g.flag m.2 in
-          apart.0 (subst (λ i. Among i ps) (ap end one ∙ e) m.3) in
+          separate.0 (subst (λ i. Among i ps) (ap end one ∙ e) m.3) in
           record {
             codes = code k.0 ∷ code w.w ∷ more.codes;
-            apart = (
+            separate = (
               (λ a. elim a [ inl q ↦ w.other (sym q) | inr b ↦ new k.0 f k.2 b ]),
-              ((λ b. new w.w (record { flag = w.flag; free = w.free }) end_w b), more.apart),
+              ((λ b. new w.w (record { flag = w.flag; free = w.free }) end_w b), more.separate),
             );
             twice = (let t = more.twice in omega arith);
             from = λ x a. elim a [
@@ -138,7 +138,7 @@ module _ (s : Skeleton) (c : ℕ) (z : IsVertexClass s c) (directions : List ℕ
   pub few_ends : length free_end_list ≤ length (free_sides s c z)
   few_ends =
       let d : AreDoubled free_end_list = doubled free_end_list free_end_apart of_end in
-      let short : length d.codes ≤ length (map code free_flags) = apart_short d.codes (map code free_flags) d.apart
+      let short : length d.codes ≤ length (map code free_flags) = apart_short d.codes (map code free_flags) d.separate
       (λ x a. let m = d.from x a in subst (λ i. Among i (map code free_flags)) m.2 (Among-map code m.0 free_flags (free_in m.0 m.1))) in
       let size : length (map code free_flags) ≡ length free_flags = length-map free_flags code in
       let both : length free_flags ≡ length (free_sides s c z) + length (free_sides s c z) = length-free in

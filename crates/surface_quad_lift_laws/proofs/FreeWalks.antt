@@ -88,12 +88,12 @@ module _ (s : Skeleton) (c : ℕ) (z : IsVertexClass s c) where
         pub free : glue s.rows (left_through w) ≡ None
 
       walk : (fuel : ℕ) (vs : List Corner) → AreApart (map code vs) → AreApart vs → ((w : Corner) → Among w vs → IsReached w) → Among start vs → 64 * n < length vs + fuel → HasFree
-      walk zero vs apart apart_vs all there l =
-          absurd (let short : length (map code vs) ≤ length (below (64 * n)) = apart_short (map code vs) (below (64 * n)) apart (λ x a. let m = map-among code x vs a in subst (λ u. Among u (below (64 * n))) (sym m.2) (Among-below (code m.0) (64 * n) (code_below m.0 (all m.0 m.1).flag))) in
+      walk zero vs separate apart_vs all there l =
+          absurd (let short : length (map code vs) ≤ length (below (64 * n)) = apart_short (map code vs) (below (64 * n)) separate (λ x a. let m = map-among code x vs a in subst (λ u. Among u (below (64 * n))) (sym m.2) (Among-below (code m.0) (64 * n) (code_below m.0 (all m.0 m.1).flag))) in
           let size : length (map code vs) ≡ length vs = length-map vs code in
           let bound : length (below (64 * n)) ≡ 64 * n = length-range_with_len 0 (64 * n) in
           omega arith)
-      walk (suc fuel) vs apart apart_vs all there l = by_search (search_list test vs) (λ w a on new. walk fuel (next s.rows w ∷ vs) (has_not (map code vs) (code (next s.rows w)) new, apart)
+      walk (suc fuel) vs separate apart_vs all there l = by_search (search_list test vs) (λ w a on new. walk fuel (next s.rows w ∷ vs) (has_not (map code vs) (code (next s.rows w)) new, separate)
           ((λ b. has_not (map code vs) (code (next s.rows w)) new (Among-map code (next s.rows w) vs b)), apart_vs)
           (λ v b. elim b [ inl q ↦ subst IsReached (sym q) (reached_next w (all w a) on) | inr d ↦ all v d ]) (inr there) (omega arith))
         where

@@ -54,7 +54,7 @@ module _ (rows : List Row) (table : IsTable rows) where
       let w : IsStep rows k f.0 = step_is rows k f.0 f.1 in
       let is : corner_across k w.on.g ≡ flip k = w.is ∙ same in
       let x : Face = left_through k in
-      not_itself (same_face (other_side x w.on.g) x) (table.apart x w.on.g w.on.glued)
+      not_itself (same_face (other_side x w.on.g) x) (table.separate x w.on.g w.on.glued)
       (and_from (w.on.g.tet == k.tet) (image w.on.g.perm k.c == k.c) (eq-eqb w.on.g.tet k.tet (ap (λ (l : Corner). l.tet) is)) (eq-eqb (image w.on.g.perm k.c) k.c (ap (λ (l : Corner). l.d) is)))
   no_flip (suc (suc n)) k four e =
       let f = first_step rows (suc n) (flip k) (step rows k) e in

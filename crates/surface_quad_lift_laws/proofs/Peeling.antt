@@ -56,12 +56,12 @@ module _ (s : Skeleton) (c : ℕ) (z : IsVertexClass s c) (directions : List ℕ
       sum_by_plus (λ k. h (triangle_of k)) (quads xs) here (λ k. refl) ks
       ∙ ap (λ m. sum_by (λ k. h (triangle_of k)) ks + m) w.sums
       ∙ sym (sum_by_plus (λ k. h (triangle_of k)) (λ k. quads xs (flip k)) (λ k. h (triangle_of k) + quads xs (flip k)) (λ k. refl) ks)
-      ∙ sym (moved_sum (λ k. h (triangle_of k) + quads xs (flip k)) (next s.rows) ks w.apart w.closed (λ k l a b e. next_once s.rows (z.skeleton).table k l (w.four k a) (w.on k a) (w.four l b) (w.on l b) e))
+      ∙ sym (moved_sum (λ k. h (triangle_of k) + quads xs (flip k)) (next s.rows) ks w.separate w.closed (λ k l a b e. next_once s.rows (z.skeleton).table k l (w.four k a) (w.on k a) (w.four l b) (w.on l b) e))
       ∙ sum_by_same (λ k. h (triangle_of (next s.rows k)) + quads xs (flip (next s.rows k))) there ks (λ k a. ap (λ (l : Corner). h (triangle_of l) + quads xs l) (sym (mate-next s.rows k (w.on k a))))
 
   -- if the equation holds at all other flags of a cycle, it holds at the remaining one
   last_level : (ks : List Corner) → IsCycle s.rows xs ks → (k : Corner) → Among k ks → ((l : Corner) → Among l ks → l ≢ k → Level l) → Level k
-  last_level ks w k a others = one_left here there k ks w.apart a others (cycle_sums ks w)
+  last_level ks w k a others = one_left here there k ks w.separate a others (cycle_sums ks w)
 
   -- the equation holds at a boundary side
   free_level : (m : Corner) → glue s.rows (left_through m) ≡ None → Level m

@@ -137,14 +137,14 @@ module _ (s : Skeleton) (c : ℕ) (skeleton : IsSkeleton s) (low_c : c < s.verti
         → ((k : Corner) → IsFlag s c z k → glue s.rows (left_through k) ≡ None → Among (end k) firsts)
         → link_edges s.rows s.vertices.classes c + 1 + length firsts ≤ link_vertices s.vertices.classes has.directions c + times_in s.vertices.classes c + length (free_sides s c z)
         → (h : ℕ → ℕ) × AreHeights s xs c h
-    heights_from start flag firsts start_in inside apart free_ends numbers =
+    heights_from start flag firsts start_in inside separate free_ends numbers =
         let f = flag.four in
         let la : start.a < 4 = f.a in
         let lt : start.tet < n = f.tet in
         let root : ℕ = triangle_of start in
         let low : root < 4 * n = omega arith in
         let d = hung s c z root low flag.chosen in
-        let g = all_joined s c z has.directions has.count has.numbered d.0 root low flag.chosen d.1 d.2 start flag refl firsts start_in inside apart in (
+        let g = all_joined s c z has.directions has.count has.numbered d.0 root low flag.chosen d.1 d.2 start flag refl firsts start_in inside separate in (
           height s c z root low flag.chosen xs (sum_by (quads xs) d.0) d.0,
           all_heights s c z has.directions has.count has.numbered quad_rows equations xs solution (height s c z root low flag.chosen xs (sum_by (quads xs) d.0) d.0)
               d.0 (λ m a. (fits triangle_of (beyond s) (IsFlag s c z) (root ∷ []) d.0 m d.1 a, tree_level s c z root low flag.chosen xs d.0 d.1 m a)) firsts free_ends g.0 g.1
@@ -181,7 +181,7 @@ module _ (s : Skeleton) (c : ℕ) (skeleton : IsSkeleton s) (low_c : c < s.verti
         let v : link.vertices ≡ link_vertices s.vertices.classes has.directions c = is_link.vertices in
         let e : link.edges ≡ link_edges s.rows s.vertices.classes c = is_link.edges in
         let t : link.triangles ≡ times_in s.vertices.classes c = is_link.triangles in
-        let few : length (free_end_list s c z has.directions has.count has.numbered) ≤ length (free_sides s c z) = few_ends s c z has.directions has.count has.numbered in
+        let limited : length (free_end_list s c z has.directions has.count has.numbered) ≤ length (free_sides s c z) = few_ends s c z has.directions has.count has.numbered in
         let k = some_free (sym is_link.closed ∙ kind.0) in
         heights_from k.0 k.1 (free_end_list s c z has.directions has.count has.numbered) (free_end_listed s c z has.directions has.count has.numbered k.0 k.1 k.2)
         (free_end_within s c z has.directions has.count has.numbered) (free_end_apart s c z has.directions has.count has.numbered) (free_end_listed s c z has.directions has.count has.numbered) (omega arith)

@@ -15,7 +15,7 @@ pub fn check(coords: Coords, table: &Table, system: &System, x: &[u128]) -> Resu
     requires { system.now.columns ≡ columns coords (length table.now) }
     ensures verdict { result ≡ verdict_in coords table.now system.now.rows x.now }
     ensures width { IsOk result → length x.now ≡ columns coords (length table.now) }
-    ensures few { IsOk result → length x.now < 2 ^ 32 }
+    ensures limited { IsOk result → length x.now < 2 ^ 32 }
 {
     check_vector(coords, table.len(), system, x)
 }

@@ -53,7 +53,7 @@ module _ (coords : Coords) (n : ℕ) (by : Relabelling) (is : IsRelabelling n by
 
     pub are_images : AreImages (relabelled_vector coords by) list listed
     are_images = record {
-      apart = ascending_apart list one.ascending;
+      separate = ascending_apart list one.ascending;
       others_apart = ascending_apart listed other.ascending;
       into = λ x a. among_contains (relabelled_vector coords by x) listed (other.complete (relabelled_vector coords by x) ((vertices_correspond x).0 (vertex_of x a)));
       once = λ x z a b e. one_source coords n by is x z (relabelled_vector coords by z)

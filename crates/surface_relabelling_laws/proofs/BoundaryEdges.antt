@@ -31,7 +31,7 @@ module _ (old : List Row) (new : List Row) (table : IsTable old) (table' : IsTab
       let there : image p (preimage p f) ≡ f = image-preimage p h f lf in
       let e = image_ends old new table table' by is carries i l in
       let a = ends_of i in
-      let n = ends-edge_number (image p (low (i % 6))) (image p (high (i % 6))) e.lower e.higher e.apart in
+      let n = ends-edge_number (image p (low (i % 6))) (image p (high (i % 6))) e.lower e.higher e.separate in
       let place : image_edge by i % 6 ≡ edge_number (image p (low (i % 6))) (image p (high (i % 6))) = (let s = n.0 in omega arith) in
       let tet : image_edge by i / 6 ≡ slice_index by.images (i / 6) = (let s = n.0 in omega arith) in
       let out : has (ends (edge_number (image p (low (i % 6))) (image p (high (i % 6))))) f ≡ false = ap (λ m. has (ends m) f) (sym place) ∙ off in

@@ -95,15 +95,15 @@ module _ (rows : List Row) (new : List Row) (by : Relabelling) (is : IsRelabelli
       let c : ℕ = placed coords t i in
       let side : Bool = stays coords (slice_index_or by.perms f.0 []) f.1 in
       let same : slice_index ys d.column ≡ slice_index xs c = ap (slice_index ys) (sym f.4) ∙ carried.entries f.0 f.1 f.2 f.3 in
-      let few : d.number < slice_index xs c = subst (λ m. d.number < m) same h.number in
-      let low : from_end (slice_index xs c) side d.number < slice_index xs c = from_end_below (slice_index xs c) side d.number few in
+      let limited : d.number < slice_index xs c = subst (λ m. d.number < m) same h.number in
+      let low : from_end (slice_index xs c) side d.number < slice_index xs c = from_end_below (slice_index xs c) side d.number limited in
       let tet : c / columns_each coords ≡ t = tet_of_index coords t i f.3 in
       let index : c % columns_each coords ≡ i = index_of_index coords t i f.3 in
       record {
         source = piece_at c (from_end (slice_index xs c) side d.number);
         is_disc = record { column = in_width xs c (from_end (slice_index xs c) side d.number) low; number = low };
         to_it = (λ m. piece_at (column_at coords by t i f.3 m) (from_end (slice_index xs c) (stays coords (slice_index_or by.perms (tet m) []) (index m)) (from_end (slice_index xs c) side d.number)))
-            ∙ (λ m. piece_at (f.4 m) (from_end_twice (slice_index xs c) side d.number few m));
+            ∙ (λ m. piece_at (f.4 m) (from_end_twice (slice_index xs c) side d.number limited m));
       }
 
   -- a surface in one component is carried to one

@@ -134,7 +134,7 @@ module _ (rows : List Row) (new : List Row) (by : Relabelling) (is : IsRelabelli
       where
         images : AreImages to (below count) (below amount)
         images = record {
-          apart = apart_below count;
+          separate = apart_below count;
           others_apart = apart_below amount;
           into = λ c a. Among-below (to c) amount (to_below c (below-among c count a));
           once = λ c d a b e. to_once c d (below-among c count a) (below-among d count b) e;

@@ -94,8 +94,8 @@ module _ (rows new : List Row) (by : Relabelling) (table : IsTable rows) (is : I
   further_reached : (g h : Gluing) → Reached g → is_removed xs g.tet ≡ true → glue rows (face_at g.tet (turn g)) ≡ Some h → Reached (further g h)
   further_reached g h r gone e =
       let a = glued_is rows (face_at g.tet (turn g)) h table e in
-      let turned = compose_permutes (exchange (at g) (turn g)) g.perm (exchange_is (at g) (turn g) (at_below g r) (turn_below g r gone)).permutes r.permutes in
-      record { tet = a.other_tet; permutes = compose_permutes h.perm (compose (exchange (at g) (turn g)) g.perm) a.permutes turned }
+      let backwards = compose_permutes (exchange (at g) (turn g)) g.perm (exchange_is (at g) (turn g) (at_below g r) (turn_below g r gone)).permutes r.permutes in
+      record { tet = a.other_tet; permutes = compose_permutes h.perm (compose (exchange (at g) (turn g)) g.perm) a.permutes backwards }
 
   -- the image of a passage is the passage of the image
   at_under : (g : Gluing) → Reached g → image (under g).perm from_image.face ≡ image (perm g.tet) (at g)

@@ -47,7 +47,7 @@ module _ (rows new : List Row) (by : Relabelling) (table : IsTable rows) (is : I
   -- as many tetrahedra are retained
   tets_images : AreImages to (below n) (below n)
   tets_images = record {
-    apart = apart_below n;
+    separate = apart_below n;
     others_apart = apart_below n;
     into = λ t a. Among-below (to t) n (image_in_range n by is t (below-among t n a));
     once = λ t u a b e. images_apart n by is t u (below-among t n a) (below-among u n b) e;
@@ -94,8 +94,8 @@ module _ (rows new : List Row) (by : Relabelling) (table : IsTable rows) (is : I
       let m = as_many in
       omega arith
 
-  apart : (i j : ℕ) → i < length crushed → j < length crushed → (place i).tet ≡ (place j).tet → i ≡ j
-  apart i j li lj e =
+  separate : (i j : ℕ) → i < length crushed → j < length crushed → (place i).tet ≡ (place j).tet → i ≡ j
+  separate i j li lj e =
       let l = one.length_is in
       let r = retained i (omega arith) in
       let s = retained j (omega arith) in
@@ -106,7 +106,7 @@ module _ (rows new : List Row) (by : Relabelling) (table : IsTable rows) (is : I
   is_relabelling : IsRelabelling (length crushed) relabelling
   is_relabelling = made_relabelling (length crushed) place (record {
     in_range = in_range;
-    apart = apart;
+    separate = separate;
     permutes = λ i l. let e = one.length_is in perm_permutes n by is (was i) (retained i (omega arith)).tet;
   })
 

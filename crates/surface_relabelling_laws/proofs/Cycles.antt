@@ -5,7 +5,7 @@ use Rattle.std.proofs.lemmas.List.{length-map}
 use Rattle.std.specs.List.Sorted.{IsPermutation}
 use Rattle.std.proofs.lemmas.List.Sorted.{sum_by-IsPermutation}
 use Rattle.table_definitions.proofs.PermutationLaws.{image-of_inverse}
-use Rattle.table_definitions.specs.Table.{Row, way_back, IsTable}
+use Rattle.table_definitions.specs.Table.{Row, inverse_gluing, IsTable}
 use Rattle.table_definitions.proofs.ChainLaws.{joined_sym, joined_turned}
 use Rattle.table_definitions.proofs.DistinctLists.{AreApart, apart_from, apart_short, map_apart}
 use Rattle.table_definitions.proofs.Listed.{contains_among, among_contains, map-among}
@@ -28,7 +28,7 @@ module _ (rows : List Row) (table : IsTable rows) where
   -- each corner of a cycle is the next of one
   pub from_next : (xs : List ℕ) (ks : List Corner) → IsCycle rows xs ks → (k : Corner) → Among k ks → (m : Corner) × Among m ks × (k ≡ next rows m)
   from_next xs ks h k a = map-among (next rows) k ks (apart_covers (map (next rows) ks) ks
-      (map_apart (next rows) ks h.apart (λ k l a b e. next_once rows table k l (h.four k a) (h.on k a) (h.four l b) (h.on l b) e))
+      (map_apart (next rows) ks h.separate (λ k l a b e. next_once rows table k l (h.four k a) (h.on k a) (h.four l b) (h.on l b) e))
       (λ x b. let w = map-among (next rows) x ks b in subst (λ (u : Corner). Among u ks) (sym w.2) (h.closed w.0 w.1))
       (let size : length (map (next rows) ks) ≡ length ks = length-map ks (next rows) in omega arith) k a)
 
@@ -48,7 +48,7 @@ module _ (rows : List Row) (table : IsTable rows) where
       let e : next rows m ≡ corner_across m w.g = next_is rows m w in
       let back = table.leads_back (left_through m) w.g w.glued in
       let p = table.permutes (left_through m) w.g w.glued in
-      let here : LeadsOn rows (flip (corner_across m w.g)) = record { g = way_back (left_through m) w.g; glued = back } in
+      let here : LeadsOn rows (flip (corner_across m w.g)) = record { g = inverse_gluing (left_through m) w.g; glued = back } in
       let flips : next rows (flip (corner_across m w.g)) ≡ flip m =
       next_is rows (flip (corner_across m w.g)) here
       ∙ (λ i. record {
@@ -65,7 +65,7 @@ module _ (rows : List Row) (table : IsTable rows) where
   -- a cycle in the other direction
   flipped_cycle : (xs : List ℕ) (ks : List Corner) → IsCycle rows xs ks → IsCycle rows xs (map flip ks)
   flipped_cycle xs ks h = record {
-    apart = map_apart flip ks h.apart (λ k l a b e. ap flip e);
+    separate = map_apart flip ks h.separate (λ k l a b e. ap flip e);
     four = λ k a. let m = map-among flip k ks a in subst (HasFourVertices (length rows)) (sym m.2) (flip_corner rows table m.0 (h.four m.0 m.1));
     on = λ k a. let m = map-among flip k ks a in let b = from_next xs ks h m.0 m.1 in
         subst (LeadsOn rows) (sym (m.2 ∙ ap flip b.2)) (comes_back b.0 (h.four b.0 b.1) (h.on b.0 b.1)).leads;
@@ -155,6 +155,6 @@ module _ (rows : List Row) (table : IsTable rows) where
         let long : length ks ≤ length ls = at_most second ls others four' on' first ks are four on along_back in
         let size : length chosen.list ≡ length ks = chosen.size in
         let within : (l : Corner) → Among l ls → Among l chosen.list = inside first ks are four on second ls others four' on' along in
-        let apart : AreApart ls = apart_from second ls others.once in
-        let same : IsPermutation chosen.list ls = same_members chosen.list ls h.apart apart (λ k a. apart_covers ls chosen.list apart within (omega arith) k a) within in
+        let separate : AreApart ls = apart_from second ls others.once in
+        let same : IsPermutation chosen.list ls = same_members chosen.list ls h.separate separate (λ k a. apart_covers ls chosen.list separate within (omega arith) k a) within in
         sum_by-IsPermutation (quads xs) chosen.list ls same ∙ h.sums ∙ sym (sum_by-IsPermutation (λ k. quads xs (flip k)) chosen.list ls same)

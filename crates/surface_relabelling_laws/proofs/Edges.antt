@@ -5,43 +5,43 @@ use Rattle.std.specs.Prelude.{slice_index}
 use Rattle.std.specs.List.{slice_index_or}
 use Rattle.table_definitions.specs.Permutation.{IsPermutationOfFour, image, preimage}
 use Rattle.table_definitions.specs.Table.{Row, IsTable}
-use Rattle.table_definitions.specs.Places.{Place, edge, ends, edge_number, turned, IsJoined, SameEdge}
+use Rattle.table_definitions.specs.Places.{Place, edge, ends, edge_number, backwards, IsJoined, SameEdge}
 use Rattle.table_definitions.specs.Relabelling.{Relabelling, IsRelabelling, Carries}
 use Rattle.table_definitions.proofs.Carried.{image_in_range, perm_permutes, comes_from}
 use Rattle.table_definitions.proofs.ChainLaws.{joined_turned}
 use Rattle.table_definitions.proofs.PermutationLaws.{images_apart}
 use Rattle.table_definitions.proofs.Permutations.{image_below, preimage_below, image-preimage}
 use Rattle.skeleton_class_laws.specs.Crossings.{pair}
-use Rattle.skeleton_class_laws.proofs.Cases.{AreEnds, are_ends, low, high, ends-edge_number, edge_number-ends, edge_number-turned}
+use Rattle.skeleton_class_laws.proofs.Cases.{AreEnds, are_ends, low, high, ends-edge_number, edge_number-ends, edge_number-backwards}
 use Rattle.skeleton_class_laws.proofs.EdgeTies.{edge_pair, pair_either, turned_twice}
 use Rattle.skeleton_laws.proofs.EdgeEnds.{edge_below}
 use Rattle.move_link_laws.proofs.Relabelled.{IsWithin, joined_both}
 
 -- a chain joins one place to another, or to the other in the other direction
 abbrev pub Along : List Row → Place → Place → Type 0
-Along rows p q = IsJoined rows p q ⊎ IsJoined rows p (turned q)
+Along rows p q = IsJoined rows p q ⊎ IsJoined rows p (backwards q)
 
 -- the same place, in either direction
 abbrev pub Either : Place → Place → Type 0
-Either p q = (p ≡ q) ⊎ (p ≡ turned q)
+Either p q = (p ≡ q) ⊎ (p ≡ backwards q)
 
 module _ (rows : List Row) where
-  to_either : (p q q' : Place) → turned (turned q') ≡ q' → Either q q' → Along rows p q → Along rows p q'
+  to_either : (p q q' : Place) → backwards (backwards q') ≡ q' → Either q q' → Along rows p q → Along rows p q'
   to_either p q q' twice (inl e) j = subst (Along rows p) e j
   to_either p q q' twice (inr e) (inl j) = inr (subst (IsJoined rows p) e j)
-  to_either p q q' twice (inr e) (inr j) = inl (subst (IsJoined rows p) (ap turned e ∙ twice) j)
+  to_either p q q' twice (inr e) (inr j) = inl (subst (IsJoined rows p) (ap backwards e ∙ twice) j)
 
-  from_either : (p p' q : Place) → turned (turned p') ≡ p' → turned (turned q) ≡ q → Either p p' → Along rows p q → Along rows p' q
+  from_either : (p p' q : Place) → backwards (backwards p') ≡ p' → backwards (backwards q) ≡ q → Either p p' → Along rows p q → Along rows p' q
   from_either p p' q twice same (inl e) j = subst (λ z. Along rows z q) e j
-  from_either p p' q twice same (inr e) (inl j) = inr (subst (λ z. IsJoined rows z (turned q)) (ap turned e ∙ twice) (joined_turned rows p q j))
-  from_either p p' q twice same (inr e) (inr j) = inl (subst₂ (IsJoined rows) (ap turned e ∙ twice) same (joined_turned rows p (turned q) j))
+  from_either p p' q twice same (inr e) (inl j) = inr (subst (λ z. IsJoined rows z (backwards q)) (ap backwards e ∙ twice) (joined_turned rows p q j))
+  from_either p p' q twice same (inr e) (inr j) = inl (subst₂ (IsJoined rows) (ap backwards e ∙ twice) same (joined_turned rows p (backwards q) j))
 
-  pub along_either : (p p' q q' : Place) → turned (turned p') ≡ p' → turned (turned q') ≡ q' → Either p p' → Either q q' → Along rows p q → Along rows p' q'
+  pub along_either : (p p' q q' : Place) → backwards (backwards p') ≡ p' → backwards (backwards q') ≡ q' → Either p p' → Either q q' → Along rows p q → Along rows p' q'
   along_either p p' q q' tp tq ep eq j = from_either p p' q' tp tq ep (to_either p q q' tq eq j)
 
-pub either_back : (p q : Place) → turned (turned q) ≡ q → Either p q → Either q p
+pub either_back : (p q : Place) → backwards (backwards q) ≡ q → Either p q → Either q p
 either_back p q twice (inl e) = inl (sym e)
-either_back p q twice (inr e) = inr (sym (ap turned e ∙ twice))
+either_back p q twice (inr e) = inr (sym (ap backwards e ∙ twice))
 
 -- edge i as a pair of vertices
 abbrev pub pair_of : ℕ → Place
@@ -72,7 +72,7 @@ module _ (old : List Row) (new : List Row) (table : IsTable old) (table' : IsTab
   pub record ImageEnds (i : ℕ) : Type 0 where
     pub lower : image (perm_of by i) (low (i % 6)) < 4
     pub higher : image (perm_of by i) (high (i % 6)) < 4
-    pub apart : image (perm_of by i) (low (i % 6)) ≢ image (perm_of by i) (high (i % 6))
+    pub separate : image (perm_of by i) (low (i % 6)) ≢ image (perm_of by i) (high (i % 6))
     pub tet : slice_index by.images (i / 6) < length new
 
   pub image_ends : (i : ℕ) → i < 6 * length old → ImageEnds i
@@ -81,22 +81,22 @@ module _ (old : List Row) (new : List Row) (table : IsTable old) (table' : IsTab
       let h = perm_is i l in record {
         lower = image_below (perm_of by i) h (low (i % 6)) e.lower;
         higher = image_below (perm_of by i) h (high (i % 6)) e.higher;
-        apart = images_apart (perm_of by i) (low (i % 6)) (high (i % 6)) h e.lower e.higher e.apart;
+        separate = images_apart (perm_of by i) (low (i % 6)) (high (i % 6)) h e.lower e.higher e.separate;
         tet = subst (λ n. slice_index by.images (i / 6) < n) (sym carries.same_length) (image_in_range (length old) by is (i / 6) (edge_tet i l));
       }
 
   pub image_edge_below : (i : ℕ) → i < 6 * length old → image_edge by i < 6 * length new
   image_edge_below i l =
       let e = image_ends i l in
-      edge_below (slice_index by.images (i / 6)) (image (perm_of by i) (low (i % 6))) (image (perm_of by i) (high (i % 6))) (length new) e.lower e.higher e.apart e.tet
+      edge_below (slice_index by.images (i / 6)) (image (perm_of by i) (low (i % 6))) (image (perm_of by i) (high (i % 6))) (length new) e.lower e.higher e.separate e.tet
 
   pub image_either : (i : ℕ) → i < 6 * length old → Either (image_pair by i) (edge (image_edge by i))
-  image_either i l = let e = image_ends i l in pair_either (slice_index by.images (i / 6)) (image (perm_of by i) (low (i % 6))) (image (perm_of by i) (high (i % 6))) e.lower e.higher e.apart
+  image_either i l = let e = image_ends i l in pair_either (slice_index by.images (i / 6)) (image (perm_of by i) (low (i % 6))) (image (perm_of by i) (high (i % 6))) e.lower e.higher e.separate
 
   within : (i : ℕ) → i < 6 * length old → IsWithin old (pair_of i)
   within i l = let e = ends_of i in record { below = edge_tet i l; place = (e.lower, (e.higher, tt)) }
 
-  within_turned : (i : ℕ) → i < 6 * length old → IsWithin old (turned (pair_of i))
+  within_turned : (i : ℕ) → i < 6 * length old → IsWithin old (backwards (pair_of i))
   within_turned i l = let e = ends_of i in record { below = edge_tet i l; place = (e.higher, (e.lower, tt)) }
 
   pub edges_forth : (i j : ℕ) → i < 6 * length old → j < 6 * length old → SameEdge old i j → SameEdge new (image_edge by i) (image_edge by j)
@@ -104,7 +104,7 @@ module _ (old : List Row) (new : List Row) (table : IsTable old) (table' : IsTab
       along_either new (image_pair by i) (edge (image_edge by i)) (image_pair by j) (edge (image_edge by j)) (turned_twice (image_edge by i)) (turned_twice (image_edge by j)) (image_either i li) (image_either j lj)
       (elim (subst₂ (Along old) (edge_pair i) (edge_pair j) s) [
         | inl c ↦ inl ((joined_both old new table table' by is carries (pair_of i) (pair_of j) (within i li) (within j lj)).0 c)
-        | inr c ↦ inr ((joined_both old new table table' by is carries (pair_of i) (turned (pair_of j)) (within i li) (within_turned j lj)).0 c)
+        | inr c ↦ inr ((joined_both old new table table' by is carries (pair_of i) (backwards (pair_of j)) (within i li) (within_turned j lj)).0 c)
       ])
 
   pub edges_back : (i j : ℕ) → i < 6 * length old → j < 6 * length old → SameEdge new (image_edge by i) (image_edge by j) → SameEdge old i j
@@ -114,7 +114,7 @@ module _ (old : List Row) (new : List Row) (table : IsTable old) (table' : IsTab
       (either_back (image_pair by i) (edge (image_edge by i)) (turned_twice (image_edge by i)) (image_either i li)) (either_back (image_pair by j) (edge (image_edge by j)) (turned_twice (image_edge by j)) (image_either j lj)) s in
       subst₂ (Along old) (sym (edge_pair i)) (sym (edge_pair j)) (elim a [
         | inl c ↦ inl ((joined_both old new table table' by is carries (pair_of i) (pair_of j) (within i li) (within j lj)).1 c)
-        | inr c ↦ inr ((joined_both old new table table' by is carries (pair_of i) (turned (pair_of j)) (within i li) (within_turned j lj)).1 c)
+        | inr c ↦ inr ((joined_both old new table table' by is carries (pair_of i) (backwards (pair_of j)) (within i li) (within_turned j lj)).1 c)
       ])
 
   -- each edge is the image of one
@@ -157,7 +157,7 @@ module _ (old : List Row) (new : List Row) (table : IsTable old) (table' : IsTab
       to_b = image-preimage p h (high (j % 6)) e.higher
 
       ne : a ≢ b
-      ne s = e.apart (sym to_a ∙ ap (image p) s ∙ to_b)
+      ne s = e.separate (sym to_a ∙ ap (image p) s ∙ to_b)
 
       ends_are : (edge_number a b < 6) × ((ends (edge_number a b) ≡ a ∷ b ∷ []) ⊎ (ends (edge_number a b) ≡ b ∷ a ∷ []))
       ends_are = ends-edge_number a b la lb ne
@@ -178,7 +178,7 @@ module _ (old : List Row) (new : List Row) (table : IsTable old) (table' : IsTab
             | inl s ↦ (let q = by_list (edge_number a b) a b (are_ends (edge_number a b) ends_are.0) s in
                 (λ k. edge_number (image p (q.0 k)) (image p (q.1 k))) ∙ (λ k. edge_number (to_a k) (to_b k)) ∙ last)
             | inr s ↦ (let q = by_list (edge_number a b) b a (are_ends (edge_number a b) ends_are.0) s in
-                (λ k. edge_number (image p (q.0 k)) (image p (q.1 k))) ∙ (λ k. edge_number (to_b k) (to_a k)) ∙ edge_number-turned (low (j % 6)) (high (j % 6)) e.lower e.higher ∙ last)
+                (λ k. edge_number (image p (q.0 k)) (image p (q.1 k))) ∙ (λ k. edge_number (to_b k) (to_a k)) ∙ edge_number-backwards (low (j % 6)) (high (j % 6)) e.lower e.higher ∙ last)
           ]
 
       whole : 6 * (j / 6) + j % 6 ≡ j

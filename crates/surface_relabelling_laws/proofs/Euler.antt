@@ -36,7 +36,7 @@ module _ (coords : Coords) (n : ℕ) (by : Relabelling) (is : IsRelabelling n by
 
   columns_images : AreImages (column_under coords by) (below (columns coords n)) (below (columns coords n))
   columns_images = record {
-    apart = apart_below (columns coords n);
+    separate = apart_below (columns coords n);
     others_apart = apart_below (columns coords n);
     into = λ c a. (let l = below-among c (columns coords n) a in
         subst (λ d. Among d (below (columns coords n))) (sym (column_is c)) (Among-below (image_at coords by (c / columns_each coords) (c % columns_each coords)) (columns coords n) (image_below coords n by is (c / columns_each coords) (c % columns_each coords) (tet_below coords n c l) (index_below coords c))));

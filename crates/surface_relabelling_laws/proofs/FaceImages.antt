@@ -40,7 +40,7 @@ apart_faces n = map_apart (λ (p : ℕ × ℕ). face_at p.0 p.1) (pairs_of (belo
 -- the other vertices of a tetrahedron under a permutation
 pub others_images : (p : List ℕ) (f : ℕ) → IsPermutationOfFour p → f < 4 → AreImages (image p) (others f) (others (image p f))
 others_images p f h lf = record {
-  apart = apart_filter (λ v. not (v == f)) four (apart_below 4);
+  separate = apart_filter (λ v. not (v == f)) four (apart_below 4);
   others_apart = apart_filter (λ v. not (v == image p f)) four (apart_below 4);
   into = λ v a. (let o = other_is f v a in Among-others (image p f) (image p v) (image_below p h v o.0) (images_apart p v f h o.0 lf o.1));
   once = λ v w a b e. sym (preimage-image p h v (other_is f v a).0) ∙ ap (preimage p) e ∙ preimage-image p h w (other_is f w b).0;
@@ -56,7 +56,7 @@ module _ (rows : List Row) (new : List Row) (by : Relabelling) (is : IsRelabelli
 
   pub faces_images : AreImages under (faces (length rows)) (faces (length new))
   faces_images = record {
-    apart = apart_faces (length rows);
+    separate = apart_faces (length rows);
     others_apart = apart_faces (length new);
     into = λ x a. (let f = faces-among x (length rows) a in
         Among-faces (under x) (length new) (let e = carries.same_length in let l = image_in_range (length rows) by is x.tet f.0 in omega arith)
@@ -126,13 +126,13 @@ module _ (rows : List Row) (table : IsTable rows) where
             sides = (λ i. one_if (is_first_side x (e i)) + one_if (is_first_side (goes i) (glue rows (goes i))))
                 ∙ (λ i. one_if (is_face_before x (other_side x g)) + one_if (is_first_side (other_side x g) (a.back i)))
                 ∙ (λ i. one_if (is_face_before x (other_side x g)) + one_if (is_face_before (other_side x g) (a.returns i)))
-                ∙ one_of (is_face_before x (other_side x g)) (is_face_before (other_side x g) x) (before_or_after x (other_side x g) (table.apart x g e)) (not_both_before x (other_side x g))
+                ∙ one_of (is_face_before x (other_side x g)) (is_face_before (other_side x g) x) (before_or_after x (other_side x g) (table.separate x g e)) (not_both_before x (other_side x g))
                 ∙ ap sides_of (sym e);
           }
 
   across_images : AreImages across (faces (length rows)) (faces (length rows))
   across_images = record {
-    apart = apart_faces (length rows);
+    separate = apart_faces (length rows);
     others_apart = apart_faces (length rows);
     into = λ x a. (let f = faces-among x (length rows) a in let c = crosses x f.0 f.1 in Among-faces (across x) (length rows) c.tet c.face);
     once = λ x z a b e. (let f = faces-among x (length rows) a in let g = faces-among z (length rows) b in sym (crosses x f.0 f.1).back ∙ ap across e ∙ (crosses z g.0 g.1).back);

@@ -75,7 +75,7 @@ module _ (s : Skeleton) (s' : Skeleton) (k : IsSkeleton s) (k' : IsSkeleton s') 
 
     lift_images : AreImages (relabelled_vector Standard by) lifts lifted
     lift_images = record {
-      apart = zip_apart (IsLiftOf s) quads lifts zip (λ x z y a b l m. sym (over x y a l) ∙ over z y b m) images.apart;
+      separate = zip_apart (IsLiftOf s) quads lifts zip (λ x z y a b l m. sym (over x y a l) ∙ over z y b m) images.separate;
       others_apart = zip_apart (IsLiftOf s') listed lifted zip' (λ x z y a b l m. sym (over' x y a l) ∙ over' z y b m) images.others_apart;
       into = λ y b.
           let f = zip-among (IsLiftOf s) y quads lifts zip b in

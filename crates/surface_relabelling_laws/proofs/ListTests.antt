@@ -47,7 +47,7 @@ inside_by columns v x support w all some = each_column columns (λ c. slice_inde
     (λ c l z. entry_past v columns c w l)
 
 module _ (limit columns : ℕ) (rows : List EquationRow) (pairs : List Clash) (list : List (List ℕ)) (solved : AllByRecursion (λ v. verdict limit columns rows pairs v ≡ solution) list)
-    (ones : list_all (has_one columns) list ≡ true) (apart : list_all (λ v. list_all (λ w. same_list w v || not (fits_in columns w v)) list) list ≡ true)
+    (ones : list_all (has_one columns) list ≡ true) (separate : list_all (λ v. list_all (λ w. same_list w v || not (fits_in columns w v)) list) list ≡ true)
     (cover : (x : List ℕ) → IsSolution columns rows x → IsAdmissible pairs x → (j : ℕ) → j < columns → slice_index x j ≢ 0 → (v : List ℕ) × Among v list × IsInside v x) where
   accepted : (v : List ℕ) → Among v list → IsAcceptedVector limit columns rows pairs v
   accepted v a = accepted_by limit columns rows pairs v (all_at (λ v. verdict limit columns rows pairs v ≡ solution) list v solved a)
@@ -63,7 +63,7 @@ module _ (limit columns : ℕ) (rows : List EquationRow) (pairs : List Clash) (l
 
   -- no vector of the list lies inside another
   one_inside : (v w : List ℕ) → Among v list → Among w list → IsInside w v → w ≡ v
-  one_inside v w a b h = elim (or_cases (same_list w v) (not (fits_in columns w v)) (list_all-among (λ w. same_list w v || not (fits_in columns w v)) w list (list_all-among (λ v. list_all (λ w. same_list w v || not (fits_in columns w v)) list) v list apart a) b)) [
+  one_inside v w a b h = elim (or_cases (same_list w v) (not (fits_in columns w v)) (list_all-among (λ w. same_list w v || not (fits_in columns w v)) w list (list_all-among (λ v. list_all (λ w. same_list w v || not (fits_in columns w v)) list) v list separate a) b)) [
     | inl e ↦ same_list-true w v e
     | inr off ↦ absurd (both_ways (fits_in columns w v) (not-true (fits_in columns w v) off) (fits_from columns w v h))
   ]

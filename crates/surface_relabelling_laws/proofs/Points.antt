@@ -100,7 +100,7 @@ module _ (old : List Row) (new : List Row) (by : Relabelling) (is : IsRelabellin
     classes_images : AreImages image_class (below count) (below count')
     unfolding image_class
     classes_images = record {
-      apart = apart_below count;
+      separate = apart_below count;
       others_apart = apart_below count';
       into = λ c a. (let m = least_is c (below-among c count a) in Among-below (image_class c) count' (numbered'.in_range (image_edge by (least es c)) (below_new (least es c) m.0)));
       once = λ c d a b e. (let m = least_is c (below-among c count a) in let k = least_is d (below-among d count b) in

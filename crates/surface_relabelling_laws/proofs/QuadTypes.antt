@@ -133,10 +133,10 @@ module _ (n : ℕ) (by : Relabelling) (is : IsRelabelling n by) (xs ys : List �
     one_type : (t i k : ℕ) → t < n → i < 3 → k < 3 → has_quad xs t i ≡ true → has_quad xs t k ≡ true → i ≡ k
     one_type t i k lt li lk hi hk = elim (cases_eq i k) [
       | inl e ↦ e
-      | inr apart ↦ absurd (
+      | inr separate ↦ absurd (
           let some = quad_some (slice_index xs (quad_column Standard t i)) hi in
           let more = quad_some (slice_index xs (quad_column Standard t k)) hk in
-          let none = other_zero Standard n xs admissible (quad_column Standard t i) (quad_column Standard t k) (λ e. apart (omega arith)) (omega arith) (omega arith) (omega arith) (omega arith) (omega arith) some in
+          let none = other_zero Standard n xs admissible (quad_column Standard t i) (quad_column Standard t k) (λ e. separate (omega arith)) (omega arith) (omega arith) (omega arith) (omega arith) (omega arith) some in
           omega arith)
     ]
 

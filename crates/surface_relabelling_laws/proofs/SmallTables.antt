@@ -12,9 +12,9 @@ use Rattle.surface_definitions.specs.QuadEquations.{AreEquations}
 use Rattle.surface_definitions.specs.TableSurfaces.{table_enumeration}
 use Rattle.surface_definitions.proofs.ClashPairs.{clashes_apart}
 use Rattle.surface_equation_laws.specs.Bounds.{number_bound}
-use Rattle.surface_equation_laws.specs.Few.{most_tetrahedra}
+use Rattle.surface_equation_laws.specs.BoundedTables.{most_tetrahedra}
 use Rattle.surface_equation_laws.proofs.Bounds.{not_past}
-use Rattle.surface_equation_laws.proofs.Few.{own}
+use Rattle.surface_equation_laws.proofs.BoundedTables.{own}
 use Rattle.outcome_laws.proofs.Certified.{table_alone}
 use Rattle.outcome_answer_laws.specs.Surfaces.{IsTableList}
 use Rattle.outcome_answer_laws.proofs.Surfaces.{few_tables_listed}
@@ -30,7 +30,7 @@ some_listed : (coords : Coords) (rows : List Row) (equations : List EquationRow)
 some_listed coords rows equations order most table of_rows room =
     elim (enumeration_ends (table_enumeration coords order most rows equations) (clashes_apart coords (length rows))) [
       | inl listed ↦ listed
-      | inr past ↦ absurd (not_past coords rows (table_enumeration coords order most rows equations) (own coords order most rows equations table of_rows) room past.0 past.1 past.2)
+      | inr exceeded ↦ absurd (not_past coords rows (table_enumeration coords order most rows equations) (own coords order most rows equations table of_rows) room exceeded.0 exceeded.1 exceeded.2)
     ]
 
 -- the bound of the other table is the same
@@ -59,9 +59,9 @@ stay_within coords rows new others another greatest table isomorphic of_new spac
     not_past coords new (table_enumeration coords another greatest new others) (own coords another greatest new others (table_there rows new table isomorphic) of_new) (room_there coords rows new greatest isomorphic space) used kind
 
 pub print_as_many : SmallIsomorphicPrintAsMany
-print_as_many words asked bytes more o p coords order another rows new run read other_run other_read isomorphic few =
-    let a : IsTableList coords rows o = few_tables_listed words bytes o coords order rows run read few in
-    let b : IsTableList coords new p = few_tables_listed asked more p coords another new other_run other_read (subst (λ n. n ≤ most_tetrahedra coords) (one_size rows new isomorphic) few) in
+print_as_many words asked bytes more o p coords order another rows new run read other_run other_read isomorphic limited =
+    let a : IsTableList coords rows o = few_tables_listed words bytes o coords order rows run read limited in
+    let b : IsTableList coords new p = few_tables_listed asked more p coords another new other_run other_read (subst (λ n. n ≤ most_tetrahedra coords) (one_size rows new isomorphic) limited) in
     record {
       list = a.list;
       outcome = a.outcome;

@@ -6,7 +6,7 @@ use Rattle.cone_definitions.specs.Rows.{IsSolution}
 use Rattle.table_definitions.specs.Permutation.{IsPermutationOfFour, image, preimage, inverse, compose, others}
 use Rattle.table_definitions.specs.Table.{Gluing, Row, Face, glue, IsTable}
 use Rattle.table_definitions.specs.Relabelling.{Relabelling, IsRelabelling, Carries, relabelled_place, face_under, gluing_under}
-use Rattle.table_definitions.proofs.Carried.{stands_for, StandsFor, carried_image, perm_permutes, carried_is_table}
+use Rattle.table_definitions.proofs.Carried.{stands_for, RepresentsFacet, carried_image, perm_permutes, carried_is_table}
 use Rattle.table_definitions.proofs.Listed.{among_contains}
 use Rattle.table_definitions.proofs.PermutationLaws.{images_apart}
 use Rattle.table_definitions.proofs.Permutations.{image_below, preimage_below, image-preimage}
@@ -34,10 +34,10 @@ module _ (rows : List Row) (new : List Row) (by : Relabelling) (table : IsTable 
   pub is_from : (y : Face) (h : Gluing) → glue new y ≡ Some h → IsFrom y h
   is_from y h e = by_glue s.0 s.1 (glue rows (s.0)) refl
     where
-      s : (x : Face) × StandsFor rows new by y x
+      s : (x : Face) × RepresentsFacet rows new by y x
       s = stands_for rows new by is carries y (let w = carries.same_length in let l = glued_tet new y h e in omega arith) (glued_face new y h carries.four_faces e)
 
-      by_glue : (x : Face) → StandsFor rows new by y x → (o : Option Gluing) → glue rows x ≡ o → IsFrom y h
+      by_glue : (x : Face) → RepresentsFacet rows new by y x → (o : Option Gluing) → glue rows x ≡ o → IsFrom y h
       by_glue x st None z =
           let some : None ≡ Some h = sym (st.glued ∙ ap (option_map (λ g. gluing_under (relabelled_place by x.tet) (relabelled_place by g.tet) g)) z) ∙ e in
           absurd cc

@@ -4,7 +4,7 @@ use Rattle.std.specs.Prelude.{◌≡◌, ℕ, ◌≤◌, List, length, Ok, codes
 use Rattle.text_definitions.specs.Written.{limit}
 use Rattle.cone_definitions.specs.Rows.{Row as EquationRow}
 use Rattle.cone_definitions.specs.Elimination.{Named}
-use Rattle.cone_definitions.specs.Listings.{Enumeration, IsListed, IsPastLimit}
+use Rattle.cone_definitions.specs.Listings.{Enumeration, IsListed, ExceedsLimit}
 use Rattle.cone_definitions.specs.declared.Order.{Order}
 use Rattle.table_definitions.specs.Table.{Row, IsTable}
 use Rattle.table_definitions.specs.Relabelling.{AreIsomorphic}
@@ -12,7 +12,7 @@ use Rattle.surface_definitions.specs.declared.Coords.{Coords}
 use Rattle.surface_definitions.specs.QuadEquations.{AreEquations}
 use Rattle.surface_definitions.specs.TableSurfaces.{table_enumeration}
 use Rattle.surface_equation_laws.specs.Bounds.{number_bound}
-use Rattle.surface_equation_laws.specs.Few.{most_tetrahedra}
+use Rattle.surface_equation_laws.specs.BoundedTables.{most_tetrahedra}
 use Rattle.text_document_definitions.specs.Documents.{table_document}
 use Rattle.command_definitions.specs.declared.Request.TheVariants.{Surfaces}
 use Rattle.outcome_definitions.specs.Outcomes.{Outcome}
@@ -45,7 +45,7 @@ BoundedAreBothListed =
 abbrev pub BoundedStayWithin : Type 0
 BoundedStayWithin =
     (coords : Coords) (rows new : List Row) (others : List EquationRow) (another : Order) (greatest : ℕ) → IsTable rows → AreIsomorphic rows new → AreEquations coords new others
-    → number_bound coords (length rows) ≤ greatest → (used : List ℕ) (kind : Named) → ¬ IsPastLimit (table_enumeration coords another greatest new others) used kind
+    → number_bound coords (length rows) ≤ greatest → (used : List ℕ) (kind : Named) → ¬ ExceedsLimit (table_enumeration coords another greatest new others) used kind
 
 -- both outcomes are lists, of the same length
 pub record PrintAsMany (o p : Outcome) : Type 0 where

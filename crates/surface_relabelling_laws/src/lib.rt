@@ -51,7 +51,7 @@ pub fn lists_are_as_long()
     ensures enumerations { EnumerationsListAsMany }
 {}
 
-/// Theorem: let T and T' be isomorphic. Let b(n) and m be as in `tables_are_bounded` and `few_tetrahedra_are_bounded`
+/// Theorem: let T and T' be isomorphic. Let b(n) and m be as in `tables_are_bounded` and `small_tables_are_bounded`
 /// of `surface_equation_laws`, for standard, quad or octagon coordinates.
 ///
 /// 1. T and T' have the same number n of tetrahedra.

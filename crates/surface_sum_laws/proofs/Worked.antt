@@ -36,11 +36,11 @@ four_faces (suc i) d l = absurd (omega arith)
 
 is_table : IsTable alone
 is_table = record {
-  few = lit≤ tt;
+  limited = lit≤ tt;
   four_faces = four_faces;
   permutes = λ x g e. absurd (no_gluing x.tet x.face g e);
   in_range = λ x g e. absurd (no_gluing x.tet x.face g e);
-  apart = λ x g e. absurd (no_gluing x.tet x.face g e);
+  separate = λ x g e. absurd (no_gluing x.tet x.face g e);
   leads_back = λ x g e. absurd (no_gluing x.tet x.face g e);
 }
 

@@ -21,7 +21,7 @@ use Rattle.surface_vector_definitions.specs.declared.Refusal.TheVariants.{Unfit,
 use Rattle.surface_definitions.specs.declared.VectorFault.{VectorFault}
 use Rattle.surface_vector_definitions.proofs.Determined.{one_answer}
 
-module _ {A : Type 0} (IsTold : List ℕ → Result A Refusal → Type 0) (one : (xs : List ℕ) (a b : Result A Refusal) → IsTold xs a → IsTold xs b → a ≡ b) where
+module _ {A : Type 0} (IsResult : List ℕ → Result A Refusal → Type 0) (one : (xs : List ℕ) (a b : Result A Refusal) → IsResult xs a → IsResult xs b → a ≡ b) where
   ok_same : (a b : A) → (let r : Result A Refusal = Ok a in r ≡ Ok b) → a ≡ b
   ok_same a b e = cc
 
@@ -31,7 +31,7 @@ module _ {A : Type 0} (IsTold : List ℕ → Result A Refusal → Type 0) (one :
   not_both : (a : A) (f : Refusal) → (let r : Result A Refusal = Ok a in r ≡ Err f) → ⊥
   not_both a f e = absurd cc
 
-  told_list : (vectors : List (List ℕ)) (cs ds : List A) → AllZip (λ xs a. IsTold xs (Ok a)) vectors cs → AllZip (λ xs a. IsTold xs (Ok a)) vectors ds → cs ≡ ds
+  told_list : (vectors : List (List ℕ)) (cs ds : List A) → AllZip (λ xs a. IsResult xs (Ok a)) vectors cs → AllZip (λ xs a. IsResult xs (Ok a)) vectors ds → cs ≡ ds
   told_list [] [] [] f g = refl
   told_list [] [] (d ∷ ds) f g = absurd g
   told_list [] (c ∷ cs) ds f g = absurd f
@@ -40,25 +40,25 @@ module _ {A : Type 0} (IsTold : List ℕ → Result A Refusal → Type 0) (one :
   told_list (xs ∷ vectors) (c ∷ cs) (d ∷ ds) f g = ap (λ x. x ∷ cs) (ok_same c d (one xs (Ok c) (Ok d) f.0 g.0)) ∙ ap (λ ys. d ∷ ys) (told_list vectors cs ds f.1 g.1)
 
   -- if a list of vectors has answers, each of its vectors has one
-  told_at : (vectors : List (List ℕ)) (cs : List A) (v : ℕ) → v < length vectors → AllZip (λ xs a. IsTold xs (Ok a)) vectors cs → (a : A) × IsTold (slice_index_or vectors v []) (Ok a)
+  told_at : (vectors : List (List ℕ)) (cs : List A) (v : ℕ) → v < length vectors → AllZip (λ xs a. IsResult xs (Ok a)) vectors cs → (a : A) × IsResult (slice_index_or vectors v []) (Ok a)
   told_at [] cs v l f = absurd (omega arith)
   told_at (xs ∷ vectors) [] v l f = absurd f
   told_at (xs ∷ vectors) (c ∷ cs) zero l f = (c, f.0)
   told_at (xs ∷ vectors) (c ∷ cs) (suc v) l f = told_at vectors cs v (omega arith) f.1
 
-  told_not_refused : (vectors : List (List ℕ)) (v : ℕ) (fault : Refusal) → (a : A) × IsTold (slice_index_or vectors v []) (Ok a) → IsTold (slice_index_or vectors v []) (Err fault) → ⊥
+  told_not_refused : (vectors : List (List ℕ)) (v : ℕ) (fault : Refusal) → (a : A) × IsResult (slice_index_or vectors v []) (Ok a) → IsResult (slice_index_or vectors v []) (Err fault) → ⊥
   told_not_refused vectors v fault f g = not_both f.0 fault (one (slice_index_or vectors v []) (Ok f.0) (Err fault) f.1 g)
 
-  one_refusal : (vectors : List (List ℕ)) (v w : ℕ) (f g : Refusal) → IsFirstRefused IsTold vectors v f → IsFirstRefused IsTold vectors w g → (let p : ℕ × Refusal = (v, f) in p ≡ (w, g))
+  one_refusal : (vectors : List (List ℕ)) (v w : ℕ) (f g : Refusal) → IsFirstRefused IsResult vectors v f → IsFirstRefused IsResult vectors w g → (let p : ℕ × Refusal = (v, f) in p ≡ (w, g))
   one_refusal vectors v w f g h k = elim (cases_order v w) [
-    | inl e ↦ (let there : IsTold (slice_index_or vectors v []) (Err g) = subst (λ u. IsTold (slice_index_or vectors u []) (Err g)) (sym e) k.refused in
+    | inl e ↦ (let there : IsResult (slice_index_or vectors v []) (Err g) = subst (λ u. IsResult (slice_index_or vectors u []) (Err g)) (sym e) k.refused in
         let faults : f ≡ g = err_same f g (one (slice_index_or vectors v []) (Err f) (Err g) h.refused there) in
         λ i. (e i, faults i))
     | inr (inl less) ↦ absurd (told_not_refused vectors v f (k.before v less) h.refused)
     | inr (inr more) ↦ absurd (told_not_refused vectors w g (h.before w more) k.refused)
   ]
 
-  pub told_once : (vectors : List (List ℕ)) (a b : Result (List A) (ℕ × Refusal)) → AreAnswered IsTold vectors a → AreAnswered IsTold vectors b → a ≡ b
+  pub told_once : (vectors : List (List ℕ)) (a b : Result (List A) (ℕ × Refusal)) → AreAnswered IsResult vectors a → AreAnswered IsResult vectors b → a ≡ b
   told_once vectors (Ok cs) (Ok ds) f g = ap Ok (told_list vectors cs ds f g)
   told_once vectors (Ok cs) (Err q) f g = absurd (told_not_refused vectors q.0 q.1 (told_at vectors cs q.0 g.in_range f) g.refused)
   told_once vectors (Err p) (Ok ds) f g = absurd (told_not_refused vectors p.0 p.1 (told_at vectors ds p.0 f.in_range g) f.refused)

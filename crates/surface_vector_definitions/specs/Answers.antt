@@ -69,12 +69,12 @@ IsCrushedAlong rows equations xs (Err LargeLift) = ⊥
 IsCrushedAlong rows equations xs (Err (NoLift c)) = ⊥
 
 -- vector number v is refused for this, and none before it
-pub record IsFirstRefused {A : Type 0} (IsTold : List ℕ → Result A Refusal → Type 0) (vectors : List (List ℕ)) (v : ℕ) (fault : Refusal) : Type 0 where
+pub record IsFirstRefused {A : Type 0} (IsResult : List ℕ → Result A Refusal → Type 0) (vectors : List (List ℕ)) (v : ℕ) (fault : Refusal) : Type 0 where
   pub in_range : v < length vectors
-  pub refused : IsTold (slice_index_or vectors v []) (Err fault)
-  pub before : (u : ℕ) → u < v → (a : A) × IsTold (slice_index_or vectors u []) (Ok a)
+  pub refused : IsResult (slice_index_or vectors v []) (Err fault)
+  pub before : (u : ℕ) → u < v → (a : A) × IsResult (slice_index_or vectors u []) (Ok a)
 
 -- the answer for all vectors: the result of each, or the index of the first that is refused, with the reason
 abbrev pub AreAnswered : {A : Type 0} → (List ℕ → Result A Refusal → Type 0) → List (List ℕ) → Result (List A) (ℕ × Refusal) → Type 0
-AreAnswered IsTold vectors (Ok answers) = AllZip (λ xs a. IsTold xs (Ok a)) vectors answers
-AreAnswered IsTold vectors (Err refusal) = IsFirstRefused IsTold vectors refusal.0 refusal.1
+AreAnswered IsResult vectors (Ok answers) = AllZip (λ xs a. IsResult xs (Ok a)) vectors answers
+AreAnswered IsResult vectors (Err refusal) = IsFirstRefused IsResult vectors refusal.0 refusal.1

@@ -3,7 +3,7 @@ use Rattle.std.proofs.Common.{◌≡◌, ℕ, ◌+◌, ◌<◌, List, [], ◌∷
 use Rattle.std.specs.Prelude.{IsTrue, is_some, codes, ◌↔◌}
 use Rattle.std.specs.List.{slice_index_or}
 use Rattle.skeleton_definitions.specs.declared.Link.{Link}
-use Rattle.outcome_definitions.specs.Information.{told, edge_line, vertex_line, AreValid, Information, IsInformation, information_text, IsInformationAnswer}
+use Rattle.outcome_definitions.specs.Information.{reported, edge_line, vertex_line, AreValid, Information, IsInformation, information_text, IsInformationAnswer}
 use Rattle.outcome_definitions.specs.Lines.{number_line}
 use Rattle.outcome_definitions.specs.Outcomes.{Outcome}
 use Rattle.outcome_definitions.specs.declared.Status.TheVariants.{Done}
@@ -31,19 +31,19 @@ Told s c v = IsTrue v ↔ IsValidClass s c
 
 told_at : (s : Skeleton) (n : ℕ) (before now : List Bool) (b : Bool) → now ≡ before ++ b ∷ [] → Told s n b → (length before ≡ n) × AreValid s n before
     → (c : ℕ) → (c ≡ n) ⊎ (c < n) → Told s c (slice_index_or now c false)
-told_at s n before now b grown same told c (inl e) =
-    let last : slice_index_or now c false ≡ b = ap (λ (xs : List Bool). slice_index_or xs c false) grown ∙ ap (λ (k : ℕ). slice_index_or (before ++ b ∷ []) k false) (e ∙ sym told.0) ∙ get_or-append_seam before b [] false in
+told_at s n before now b grown same reported c (inl e) =
+    let last : slice_index_or now c false ≡ b = ap (λ (xs : List Bool). slice_index_or xs c false) grown ∙ ap (λ (k : ℕ). slice_index_or (before ++ b ∷ []) k false) (e ∙ sym reported.0) ∙ get_or-append_seam before b [] false in
     subst (Told s c) (sym last) (subst (λ (k : ℕ). Told s k b) (sym e) same)
-told_at s n before now b grown same told c (inr less) =
-    let inside : c < length before = subst (λ (k : ℕ). c < k) (sym told.0) less in
+told_at s n before now b grown same reported c (inr less) =
+    let inside : c < length before = subst (λ (k : ℕ). c < k) (sym reported.0) less in
     let kept : slice_index_or now c false ≡ slice_index_or before c false = ap (λ (xs : List Bool). slice_index_or xs c false) grown ∙ get_or-append before (b ∷ []) false c inside in
-    subst (Told s c) (sym kept) (told.1 c less)
+    subst (Told s c) (sym kept) (reported.1 c less)
 
 pub valid_more : (s : Skeleton) (n : ℕ) (before now : List Bool) (b : Bool) → now ≡ before ++ b ∷ [] → Told s n b → (length before ≡ n) × AreValid s n before
     → (length now ≡ n + 1) × AreValid s (n + 1) now
-valid_more s n before now b grown same told =
+valid_more s n before now b grown same reported =
     let size : length (before ++ b ∷ []) ≡ length before + 1 = length-append before (b ∷ []) in
-    (ap length grown ∙ size ∙ ap (λ (k : ℕ). k + 1) told.0, λ c less. told_at s n before now b grown same told c (last_or_earlier c n less))
+    (ap length grown ∙ size ∙ ap (λ (k : ℕ). k + 1) reported.0, λ c less. told_at s n before now b grown same reported c (last_or_earlier c n less))
 
 -- there are signs if and only if the table is orientable
 pub signs_tell : (rows : List Row) (r : Option (Bor (List Bool))) (b : Bool) → b ≡ is_some r → IsOrientation rows (option_copied r) → IsTrue b ↔ IsOrientable rows
@@ -60,8 +60,8 @@ four_pieces t t₁ t₂ t₃ t₄ a b c d e f g h =
     h ∙ ap (λ (u : List ℕ). u ++ d) three ∙ append_assoc t ((a ++ b) ++ c) d
 
 -- the lines of the whole table, one after another
-pub flags_written : (t t₁ t₂ t₃ t₄ : List ℕ) (n m : ℕ) (x y z w : Bool) → t₁ ≡ t ++ number_line (codes "tetrahedra ") n → t₂ ≡ t₁ ++ told (codes "connected ") x
-    → t₃ ≡ t₂ ++ told (codes "orientable ") y → t₄ ≡ t₃ ++ told (codes "closed ") z → n ≡ m → z ≡ w
-    → t₄ ≡ t ++ (number_line (codes "tetrahedra ") m ++ told (codes "connected ") x ++ told (codes "orientable ") y ++ told (codes "closed ") w)
+pub flags_written : (t t₁ t₂ t₃ t₄ : List ℕ) (n m : ℕ) (x y z w : Bool) → t₁ ≡ t ++ number_line (codes "tetrahedra ") n → t₂ ≡ t₁ ++ reported (codes "connected ") x
+    → t₃ ≡ t₂ ++ reported (codes "orientable ") y → t₄ ≡ t₃ ++ reported (codes "closed ") z → n ≡ m → z ≡ w
+    → t₄ ≡ t ++ (number_line (codes "tetrahedra ") m ++ reported (codes "connected ") x ++ reported (codes "orientable ") y ++ reported (codes "closed ") w)
 flags_written t t₁ t₂ t₃ t₄ n m x y z w e f g h size same =
-    four_pieces t t₁ t₂ t₃ t₄ _ _ _ _ (e ∙ ap (λ (k : ℕ). t ++ number_line (codes "tetrahedra ") k) size) f g (h ∙ ap (λ (b : Bool). t₃ ++ told (codes "closed ") b) same)
+    four_pieces t t₁ t₂ t₃ t₄ _ _ _ _ (e ∙ ap (λ (k : ℕ). t ++ number_line (codes "tetrahedra ") k) size) f g (h ∙ ap (λ (b : Bool). t₃ ++ reported (codes "closed ") b) same)

@@ -8,7 +8,7 @@ use Rattle.table_definitions.specs.Table.{Row, IsTable}
 use Rattle.table_definitions.specs.Places.{IsConnected, IsLeastUnreached}
 use Rattle.signature_definitions.specs.Spelling.{IsSignature}
 use Rattle.signature_definitions.specs.Census.{table_in, IsCensus, IsClassed}
-use Rattle.signature_definitions.proofs.CensusLaws.{census_goes_on}
+use Rattle.signature_definitions.proofs.CensusLaws.{census_extends}
 use Rattle.signature_laws.proofs.Uniqueness.{tells_tables}
 use Rattle.table_commands.specs.declared.groups.DisconnectedTable.{DisconnectedTable}
 use Rattle.table_commands.specs.declared.groups.Groups.{Groups}
@@ -56,12 +56,12 @@ module _ (tables : List (List Row)) (a : List Row) where
       → AreGrouped more (record { census = census; classes = classes; found = before.found })
   class_added before class census classes none pushed added connected table g = record {
     are_tables = each_more IsTable g.are_tables table;
-    few_classes = let few = g.few_classes in omega (arith, one_more, ap length pushed, length-append before.classes.items (class ∷ []));
-    few_signatures = let few = g.few_signatures in omega (arith, one_more, few_placed before.census added.0 class census added.2);
+    bounded_classes = let limited = g.bounded_classes in omega (arith, one_more, ap length pushed, length-append before.classes.items (class ∷ []));
+    bounded_signatures = let limited = g.bounded_signatures in omega (arith, one_more, few_placed before.census added.0 class census added.2);
     grouped = where_classed more classes.items census before.found none (record {
       connected = each_more IsConnected so_far.connected connected;
       census = subst (λ (cs : List ℕ). IsCensus more cs census) (sym pushed)
-          (census_goes_on tells_tables tables a before.classes.items before.census added.0 class census
+          (census_extends tells_tables tables a before.classes.items before.census added.0 class census
           (record { are_tables = g.are_tables; table = table; census = so_far.census; signature = added.1; placed = added.2 }));
     });
   }
@@ -75,8 +75,8 @@ module _ (tables : List (List Row)) (a : List Row) where
       → AreGrouped more (record { census = census; classes = before.classes; found = Some (record { table = table; tet = tet }) })
   found_first before census table tet none kept counted least is_table g = record {
     are_tables = each_more IsTable g.are_tables is_table;
-    few_classes = let few = g.few_classes in omega (arith, one_more);
-    few_signatures = let few = g.few_signatures in omega (arith, one_more, ap length kept);
+    bounded_classes = let limited = g.bounded_classes in omega (arith, one_more);
+    bounded_signatures = let limited = g.bounded_signatures in omega (arith, one_more, ap length kept);
     grouped = record {
       in_range = omega (arith, one_more, place);
       before = still_connected table (omega (arith, place)) (λ k h. so_far.connected k (omega (arith, place)));
@@ -94,8 +94,8 @@ module _ (tables : List (List Row)) (a : List Row) where
   pub still_found : (before : Groups) (found : DisconnectedTable) → before.found ≡ Some found → IsTable a → AreGrouped tables before → AreGrouped more before
   still_found before found e table g = record {
     are_tables = each_more IsTable g.are_tables table;
-    few_classes = let few = g.few_classes in omega (arith, one_more);
-    few_signatures = let few = g.few_signatures in omega (arith, one_more);
+    bounded_classes = let limited = g.bounded_classes in omega (arith, one_more);
+    bounded_signatures = let limited = g.bounded_signatures in omega (arith, one_more);
     grouped = subst (AreGroupedBy more before.classes.items before.census) (sym e) (record {
       in_range = let less = first.in_range in omega (arith, one_more);
       before = still_connected found.table (let less = first.in_range in omega arith) first.before;

@@ -31,8 +31,8 @@ AreGroupedBy tables classes signatures (Some found) = IsFirstFound tables found
 -- what is known of the tables
 pub record AreGrouped (tables : List (List Row)) (groups : Groups) : Type 0 where
   pub are_tables : (k : ℕ) → k < length tables → IsTable (table_in tables k)
-  pub few_classes : length groups.classes.items ≤ length tables
-  pub few_signatures : length groups.census ≤ length tables
+  pub bounded_classes : length groups.classes.items ≤ length tables
+  pub bounded_signatures : length groups.census ≤ length tables
   pub grouped : AreGroupedBy tables groups.classes.items groups.census groups.found
 
 -- one more table is read and added

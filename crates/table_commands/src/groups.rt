@@ -42,8 +42,8 @@ fn no_groups(alloc: Global) -> Groups
 
 /// Adds `table` to `groups`, in which all tables so far are connected.
 fn classify(groups: &mut Groups, table: &Table) -> Result<(), NoMemory>
-    requires few_classes { length groups.old.classes.items + 1 < 2 ^ 32 }
-    requires few_signatures { length groups.old.census + 1 < 2 ^ 32 }
+    requires bounded_classes { length groups.old.classes.items + 1 < 2 ^ 32 }
+    requires bounded_signatures { length groups.old.census + 1 < 2 ^ 32 }
     requires none_found { groups.old.found ≡ None }
     ensures { OnOk result (gluings.IsTable table.now → (tables : List (List gluings.Row)) → AreGrouped tables groups.old → AreGrouped (tables ++ table.now ∷ []) groups.new) }
 {
@@ -64,8 +64,8 @@ fn classify(groups: &mut Groups, table: &Table) -> Result<(), NoMemory>
 
 /// Adds `table` to `groups`, unless an earlier one is disconnected.
 fn add(groups: &mut Groups, table: &Table) -> Result<(), NoMemory>
-    requires few_classes { length groups.old.classes.items + 1 < 2 ^ 32 }
-    requires few_signatures { length groups.old.census + 1 < 2 ^ 32 }
+    requires bounded_classes { length groups.old.classes.items + 1 < 2 ^ 32 }
+    requires bounded_signatures { length groups.old.census + 1 < 2 ^ 32 }
     ensures { OnOk result (gluings.IsTable table.now → (tables : List (List gluings.Row)) → AreGrouped tables groups.old → AreGrouped (tables ++ table.now ∷ []) groups.new) }
 {
     match groups.found {
@@ -76,8 +76,8 @@ fn add(groups: &mut Groups, table: &Table) -> Result<(), NoMemory>
 
 /// Reads a table from the current line of `lexer` on, and adds it to `groups`. Fails with the first error of the table.
 fn group_table(alloc: Global, lexer: &mut Lexer<'_>, groups: &mut Groups) -> Result<(), InputFault>
-    requires few_classes { length groups.old.classes.items + 1 < 2 ^ 32 }
-    requires few_signatures { length groups.old.census + 1 < 2 ^ 32 }
+    requires bounded_classes { length groups.old.classes.items + 1 < 2 ^ 32 }
+    requires bounded_signatures { length groups.old.census + 1 < 2 ^ 32 }
     ensures { GivesOneMore result (any_table_at lexer.old) lexer.new groups.old groups.new }
 {
     let table = read_any(alloc, lexer)?;
@@ -89,7 +89,7 @@ fn group_table(alloc: Global, lexer: &mut Lexer<'_>, groups: &mut Groups) -> Res
 
 /// Reads the tables up to the end of the input of `lexer`. Fails with the first error of the first table that has one.
 fn read_groups(alloc: Global, lexer: &mut Lexer<'_>) -> Result<Groups, InputFault>
-    requires few { length lexer.old.later + 1 < 2 ^ 32 }
+    requires limited { length lexer.old.later + 1 < 2 ^ 32 }
     ensures { GivesGroups result lexer.new (tables_from lexer.old.later lexer.old) }
 {
     let mut groups = no_groups(alloc);

@@ -55,14 +55,14 @@ onto (suc n) (x ∷ rest) l small d = by_has (λ ys m s e. onto n ys m s e) (has
         → (ys : List ℕ) → IsPermutation (x ∷ rest) (n ∷ ys) → IsPermutation (x ∷ rest) (below (suc n))
     removed fewer ys p =
         let m : length ys ≡ n = omega (arith, length_permutation (x ∷ rest) (n ∷ ys) p) in
-        let apart : IsDistinct nat_eq (n ∷ ys) = IsDistinct-IsPermutation nat_eq flips (x ∷ rest) (n ∷ ys) p d in
+        let separate : IsDistinct nat_eq (n ∷ ys) = IsDistinct-IsPermutation nat_eq flips (x ∷ rest) (n ∷ ys) p d in
         let all : All (λ v. v < suc n) (n ∷ ys) = All-permutation (λ v. v < suc n) (x ∷ rest) (n ∷ ys) p (All-from_get_or (λ v. v < suc n) (x ∷ rest) 0 (λ k q. small k (omega arith))) in
         let less : (k : ℕ) → k < n → get_or ys k 0 < n = λ k q.
         (let b : get_or ys k 0 < suc n = All-get_or (λ v. v < suc n) (n ∷ ys) (suc k) 0 (omega arith) all in
-        let other : nat_eq n (get_or ys k 0) ≡ false = recursion-at (λ v. nat_eq n v ≡ false) ys k 0 (IsDistinct-head nat_eq n ys apart) (omega arith) in
+        let other : nat_eq n (get_or ys k 0) ≡ false = recursion-at (λ v. nat_eq n v ≡ false) ys k 0 (IsDistinct-head nat_eq n ys separate) (omega arith) in
         let differs : n ≢ get_or ys k 0 = λ e. (let t = eq-eqb n (get_or ys k 0) e in cc) in
         omega arith) in
-        let front : IsPermutation (n ∷ ys) (n ∷ below n) = IsPermutation-cons n ys (below n) (fewer ys m less (IsDistinct-tail nat_eq n ys apart)) in
+        let front : IsPermutation (n ∷ ys) (n ∷ below n) = IsPermutation-cons n ys (below n) (fewer ys m less (IsDistinct-tail nat_eq n ys separate)) in
         let back : IsPermutation (n ∷ below n) (below n ++ n ∷ []) = IsPermutation-sym (below n ++ n ∷ []) (n ∷ below n) (IsPermutation-to_front (below n) n) in
         let whole : IsPermutation (x ∷ rest) (below n ++ n ∷ []) = IsPermutation-trans (x ∷ rest) (n ∷ ys) (below n ++ n ∷ []) p (IsPermutation-trans (n ∷ ys) (n ∷ below n) (below n ++ n ∷ []) front back) in
         subst (λ (zs : List ℕ). IsPermutation (x ∷ rest) zs) (below-push n) whole
@@ -91,5 +91,5 @@ get_or-any (x ∷ xs) zero d e l = refl
 get_or-any (x ∷ xs) (suc i) d e l = get_or-any xs i d e (omega arith)
 
 pub IsDistinct-from_before : (xs : List ℕ) → ((i j : ℕ) → i < j → j < length xs → get_or xs i 0 ≢ get_or xs j 0) → IsDistinct nat_eq xs
-IsDistinct-from_before xs apart =
-    IsDistinct-from_AllPairs Decides-eqb xs (λ i j d l m e. apart i j l m (get_or-any xs i 0 d (omega arith) ∙ e ∙ get_or-any xs j d 0 m))
+IsDistinct-from_before xs separate =
+    IsDistinct-from_AllPairs Decides-eqb xs (λ i j d l m e. separate i j l m (get_or-any xs i 0 d (omega arith) ∙ e ∙ get_or-any xs j d 0 m))

@@ -11,7 +11,7 @@ use Rattle.std.proofs.lemmas.Bool.Decides.{Decides-eqb}
 use Rattle.std.proofs.lemmas.Bool.{cases_eq, cases_lt, eqb-true, eq-eqb}
 use Rattle.table_definitions.specs.Lists.{below}
 use Rattle.table_definitions.specs.Permutation.{IsPermutationOfFour, image, preimage, inverse, compose}
-use Rattle.table_definitions.specs.Table.{Gluing, Row, Face, glue, other_side, way_back, same_face, IsTable}
+use Rattle.table_definitions.specs.Table.{Gluing, Row, Face, glue, other_side, inverse_gluing, same_face, IsTable}
 use Rattle.table_definitions.specs.Relabelling.{Relabelling, IsRelabelling, Carries, relabelled_place, face_under, gluing_under}
 use Rattle.table_definitions.proofs.Permutations.{image_below, preimage_below, image-preimage, preimage-image, image-inverse, inverse_permutes, inverse-inverse, inverse-of-compose, inverse-compose, compose_permutes, compose-compose, compose-identity, identity-compose, image-compose}
 use Rattle.table_definitions.proofs.Bijections.{below_contains, IsDistinct-from_before, get_or-any, flips}
@@ -98,16 +98,16 @@ carried_and_back s r p hs hr hp =
 
 -- a face of the new table, as the image of a face of the old one
 
-pub record StandsFor (rows new : List Row) (by : Relabelling) (y : Face) (x : Face) : Type 0 where
+pub record RepresentsFacet (rows new : List Row) (by : Relabelling) (y : Face) (x : Face) : Type 0 where
   pub tet : x.tet < length rows
   pub face : x.face < 4
   pub is : face_under (relabelled_place by x.tet) x ≡ y
   pub glued : glue new y ≡ option_map (λ g. gluing_under (relabelled_place by x.tet) (relabelled_place by g.tet) g) (glue rows x)
 
-pub stands_for : (rows new : List Row) (by : Relabelling) → IsRelabelling (length rows) by → Carries by rows new → (y : Face) → y.tet < length rows → y.face < 4 → (x : Face) × StandsFor rows new by y x
+pub stands_for : (rows new : List Row) (by : Relabelling) → IsRelabelling (length rows) by → Carries by rows new → (y : Face) → y.tet < length rows → y.face < 4 → (x : Face) × RepresentsFacet rows new by y x
 stands_for rows new by h c y lt lf = from (comes_from (length rows) by h y.tet lt)
   where
-    from : (t : ℕ) × (t < length rows) × (slice_index by.images t ≡ y.tet) → (x : Face) × StandsFor rows new by y x
+    from : (t : ℕ) × (t < length rows) × (slice_index by.images t ≡ y.tet) → (x : Face) × RepresentsFacet rows new by y x
     from (t, m, e) =
         let hs = perm_permutes (length rows) by h t m in
         let f : ℕ = preimage (slice_index_or by.perms t []) y.face in
@@ -130,7 +130,7 @@ pub record GluedFor (rows : List Row) (by : Relabelling) (y : Face) (g' : Gluing
 glued_for : (rows new : List Row) (by : Relabelling) → IsRelabelling (length rows) by → Carries by rows new → (y : Face) (g' : Gluing) → y.tet < length rows → y.face < 4 → glue new y ≡ Some g' → GluedFor rows by y g'
 glued_for rows new by h c y g' lt lf e = from (stands_for rows new by h c y lt lf)
   where
-    from : (x : Face) × StandsFor rows new by y x → GluedFor rows by y g'
+    from : (x : Face) × RepresentsFacet rows new by y x → GluedFor rows by y g'
     from (x, st) = at (glue rows x) refl
       where
         at : (o : Option Gluing) → glue rows x ≡ o → GluedFor rows by y g'
@@ -143,8 +143,8 @@ glued_for rows new by h c y g' lt lf e = from (stands_for rows new by h c y lt l
 pub record IsGood (n : ℕ) (new : List Row) (y : Face) (g' : Gluing) : Type 0 where
   pub permutes : IsPermutationOfFour g'.perm
   pub in_range : g'.tet < n
-  pub apart : IsTrue (not (same_face (other_side y g') y))
-  pub leads_back : glue new (other_side y g') ≡ Some (way_back y g')
+  pub separate : IsTrue (not (same_face (other_side y g') y))
+  pub leads_back : glue new (other_side y g') ≡ Some (inverse_gluing y g')
 
 pub not_from : (b : Bool) → (b ≡ true → ⊥) → not b ≡ true
 not_from true d = absurd (d refl)
@@ -161,7 +161,7 @@ good_carried : (rows new : List Row) (by : Relabelling) → IsTable rows → IsR
 good_carried rows new by table h c x g lt lf e = record {
   permutes = compose_permutes r (compose p (inverse s)) hr (compose_permutes p (inverse s) hp (inverse_permutes s hs));
   in_range = image_in_range (length rows) by h g.tet gt;
-  apart = not_from _ never;
+  separate = not_from _ never;
   leads_back = ap (glue new) over ∙ c.glued x' gt xf ∙ ap (option_map (λ (k : Gluing). gluing_under (relabelled_place by g.tet) (relabelled_place by k.tet) k)) (table.leads_back x g e) ∙ ap (λ q. Some (mkg (slice_index by.images x.tet) q)) (carried_back s r p hs hr hp);
 }
   where
@@ -212,16 +212,16 @@ good_carried rows new by table h c x g lt lf e = record {
         let there : image s (image p x.face) ≡ image s x.face = ap (λ w. image w (image p x.face)) (sym perms) ∙ sym goes ∙ q.1 in
         let faces : image p x.face ≡ x.face = sym (preimage-image s hs (image p x.face) xf) ∙ ap (preimage s) there ∙ preimage-image s hs x.face lf in
         let same : same_face (other_side x g) x ≡ true = same_to g.tet x.tet (image p x.face) x.face tets faces in
-        let apart = table.apart x g e in
+        let separate = table.separate x g e in
         cc
 
 pub carried_is_table : (rows new : List Row) (by : Relabelling) → IsTable rows → IsRelabelling (length rows) by → Carries by rows new → IsTable new
 carried_is_table rows new by table h c = record {
-  few = rw c.same_length table.few;
+  limited = rw c.same_length table.limited;
   four_faces = c.four_faces;
   permutes = λ y g' e. (good y g' e).permutes;
   in_range = λ y g' e. rw c.same_length (good y g' e).in_range;
-  apart = λ y g' e. (good y g' e).apart;
+  separate = λ y g' e. (good y g' e).separate;
   leads_back = λ y g' e. (good y g' e).leads_back;
 }
   where

@@ -8,8 +8,8 @@ use Rattle.std.proofs.lemmas.List.Folds.{list_any-append}
 use Rattle.std.proofs.lemmas.Bool.{cases_order}
 use Rattle.table_definitions.specs.Lists.{has}
 use Rattle.table_definitions.specs.Permutation.{image, inverse, IsPermutationOfFour}
-use Rattle.table_definitions.specs.Table.{Gluing, Row, Face, glue, way_back, IsTable}
-use Rattle.table_definitions.specs.Places.{Place, IsPlace, carried, across, along, IsJoined, turned, whole, SameComponent, IsConnected, IsLeastUnreached}
+use Rattle.table_definitions.specs.Table.{Gluing, Row, Face, glue, inverse_gluing, IsTable}
+use Rattle.table_definitions.specs.Places.{Place, IsPlace, carried, across, along, IsJoined, backwards, whole, SameComponent, IsConnected, IsLeastUnreached}
 use Rattle.table_definitions.proofs.PermutationLaws.{image_below, image-of_inverse, image_same}
 use Rattle.table_definitions.proofs.TableLaws.{glued_face}
 
@@ -83,11 +83,11 @@ step_back rows p f q t a e = (image s.gluing.perm f, image_below s.gluing.perm f
     l : f < 4
     l = glued_face rows x s.gluing t.four_faces s.glued
 
-    home : carried (way_back x s.gluing) (carried s.gluing p) ≡ p
+    home : carried (inverse_gluing x s.gluing) (carried s.gluing p) ≡ p
     home = λ i. record { tet = p.tet; vertices = images_back s.gluing.perm p.vertices h a i }
 
     back : across rows (carried s.gluing p) (image s.gluing.perm f) ≡ Some p
-    back = across_by rows (carried s.gluing p) (image s.gluing.perm f) (way_back x s.gluing) (t.leads_back x s.gluing s.glued) (has-images s.gluing.perm p.vertices f h a l ∙ s.off)
+    back = across_by rows (carried s.gluing p) (image s.gluing.perm f) (inverse_gluing x s.gluing) (t.leads_back x s.gluing s.glued) (has-images s.gluing.perm p.vertices f h a l ∙ s.off)
         ∙ ap (λ (r : Place). Some r) home
 
 pub across_back : (rows : List Row) (p : Place) (f : ℕ) (q : Place) → IsTable rows → IsPlace p → across rows p f ≡ Some q → IsPlace q × IsJoined rows q p
@@ -140,20 +140,20 @@ map-reverse g (v ∷ vs) =
     ap (λ (us : List ℕ). map (image g) us) (reverse-cons v vs) ∙ map-append (image g) (reverse vs) (v ∷ []) ∙ ap (λ (us : List ℕ). us ++ image g v ∷ []) (map-reverse g vs)
     ∙ sym (reverse-cons (image g v) (map (image g) vs))
 
-turned_step : (rows : List Row) (p : Place) (f : ℕ) (q : Place) → across rows p f ≡ Some q → across rows (turned p) f ≡ Some (turned q)
-turned_step rows p f q e =
+negated_step : (rows : List Row) (p : Place) (f : ℕ) (q : Place) → across rows p f ≡ Some q → across rows (backwards p) f ≡ Some (backwards q)
+negated_step rows p f q e =
     let s : Steps rows p f q = steps_across rows p f q e in
-    let over : across rows (turned p) f ≡ Some (carried s.gluing (turned p)) = across_by rows (turned p) f s.gluing s.glued (has-reverse p.vertices f ∙ s.off) in
-    let same : carried s.gluing (turned p) ≡ turned (carried s.gluing p) = λ i. record { tet = s.gluing.tet; vertices = map-reverse s.gluing.perm p.vertices i } in
-    over ∙ ap (λ (r : Place). Some r) same ∙ ap (λ (r : Place). Some (turned r)) (sym s.lands)
+    let over : across rows (backwards p) f ≡ Some (carried s.gluing (backwards p)) = across_by rows (backwards p) f s.gluing s.glued (has-reverse p.vertices f ∙ s.off) in
+    let same : carried s.gluing (backwards p) ≡ backwards (carried s.gluing p) = λ i. record { tet = s.gluing.tet; vertices = map-reverse s.gluing.perm p.vertices i } in
+    over ∙ ap (λ (r : Place). Some r) same ∙ ap (λ (r : Place). Some (backwards r)) (sym s.lands)
 
-turned_along : (rows : List Row) (fs : List ℕ) (p r : Place) → along rows p fs ≡ Some r → along rows (turned p) fs ≡ Some (turned r)
-turned_along rows [] p r e = let same : p ≡ r = cc in ap (λ (x : Place). Some (turned x)) same
+turned_along : (rows : List Row) (fs : List ℕ) (p r : Place) → along rows p fs ≡ Some r → along rows (backwards p) fs ≡ Some (backwards r)
+turned_along rows [] p r e = let same : p ≡ r = cc in ap (λ (x : Place). Some (backwards x)) same
 turned_along rows (f ∷ fs) p r e =
     let s : (q : Place) × (across rows p f ≡ Some q) × (along rows q fs ≡ Some r) = first_step rows fs r (across rows p f) e in
-    ap (λ (o : Option Place). option_and_then (λ x. along rows x fs) o) (turned_step rows p f s.0 s.1) ∙ turned_along rows fs s.0 r s.2
+    ap (λ (o : Option Place). option_and_then (λ x. along rows x fs) o) (negated_step rows p f s.0 s.1) ∙ turned_along rows fs s.0 r s.2
 
-pub joined_turned : (rows : List Row) (p q : Place) → IsJoined rows p q → IsJoined rows (turned p) (turned q)
+pub joined_turned : (rows : List Row) (p q : Place) → IsJoined rows p q → IsJoined rows (backwards p) (backwards q)
 joined_turned rows p q j = (j.0, turned_along rows j.0 p q j.1)
 
 -- a property that each step keeps holds of each place that is joined to a place with the property

@@ -35,8 +35,8 @@ module _ (n : ℕ) (Same : ℕ → ℕ → Type 0) where
       let last : i ≡ bound = omega arith in
       subst (λ j. slice_index one j ≡ slice_index other j) (sym last)
       (⊎_elim (λ (e : slice_index one bound ≡ slice_index other bound). e)
-      (λ (apart : (slice_index one bound < slice_index other bound) ⊎ (slice_index other bound < slice_index one bound)).
-      absurd (⊎_elim (no_lesser one other k m a b bound inside earlier) (no_lesser other one m k b a bound inside (λ j h. sym (earlier j h))) apart))
+      (λ (separate : (slice_index one bound < slice_index other bound) ⊎ (slice_index other bound < slice_index one bound)).
+      absurd (⊎_elim (no_lesser one other k m a b bound inside earlier) (no_lesser other one m k b a bound inside (λ j h. sym (earlier j h))) separate))
       (cases_order (slice_index one bound) (slice_index other bound))))
       (cases_lt i bound)
 

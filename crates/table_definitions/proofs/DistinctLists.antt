@@ -29,10 +29,10 @@ apart_append (x ∷ xs) ys a b off = (
 )
 
 pub map_apart : {A B : Type 0} (h : A → B) (xs : List A) → AreApart xs → ((x y : A) → Among x xs → Among y xs → h x ≡ h y → x ≡ y) → AreApart (map h xs)
-map_apart h [] apart one = tt
-map_apart {A} h (x ∷ xs) apart one = (
-  (λ a. let m = map-among h (h x) xs a in apart.0 (subst (λ (u : A). Among u xs) (sym (one x m.0 (inl refl) (inr m.1) m.2)) m.1)),
-  map_apart h xs apart.1 (λ y z a b e. one y z (inr a) (inr b) e),
+map_apart h [] separate one = tt
+map_apart {A} h (x ∷ xs) separate one = (
+  (λ a. let m = map-among h (h x) xs a in separate.0 (subst (λ (u : A). Among u xs) (sym (one x m.0 (inl refl) (inr m.1) m.2)) m.1)),
+  map_apart h xs separate.1 (λ y z a b e. one y z (inr a) (inr b) e),
 )
 
 apart_if : {A : Type 0} (b : Bool) (x : A) (xs : List A) → (Among x xs → ⊥) → AreApart xs → AreApart (cond b (x ∷ xs) xs)
@@ -79,9 +79,9 @@ taken_out x (y ∷ ys) (inr h) =
 
 -- a list of different items that all occur in another list is not longer than that list
 pub apart_short : {A : Type 0} (xs ys : List A) → AreApart xs → ((x : A) → Among x xs → Among x ys) → length xs ≤ length ys
-apart_short [] ys apart inside = omega arith
-apart_short {A} (x ∷ xs) ys apart inside =
+apart_short [] ys separate inside = omega arith
+apart_short {A} (x ∷ xs) ys separate inside =
     let r = taken_out x ys (inside x (inl refl)) in
     let w : IsWithout x ys r.0 = r.1 in
-    let more : length xs ≤ length r.0 = apart_short xs r.0 apart.1 (λ z a. ⊎_elim (λ q. absurd (apart.0 (subst (λ (u : A). Among u xs) q a))) (λ g. g) (w.others z (inside z (inr a)))) in
+    let more : length xs ≤ length r.0 = apart_short xs r.0 separate.1 (λ z a. ⊎_elim (λ q. absurd (separate.0 (subst (λ (u : A). Among u xs) q a))) (λ g. g) (w.others z (inside z (inr a)))) in
     omega (arith, w.shorter)

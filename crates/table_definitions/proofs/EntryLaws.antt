@@ -60,8 +60,8 @@ at_colon w some =
     inside : (position_or_len is_colon w < length w) ⊎ (length w ≤ position_or_len is_colon w) → position_or_len is_colon w < length w
     inside (inl l) = l
     inside (inr out) =
-        let past : length w ≤ position_or_len is_colon w + 1 = omega arith in
-        let none : after_first is_colon w ≡ [] = drop_of_length-le w past in
+        let exceeded : length w ≤ position_or_len is_colon w + 1 = omega arith in
+        let none : after_first is_colon w ≡ [] = drop_of_length-le w exceeded in
         let no_length : length (after_first is_colon w) ≡ 0 = ap (λ (xs : List ℕ). length xs) none in
         absurd (omega arith)
 

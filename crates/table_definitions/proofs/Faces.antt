@@ -3,7 +3,7 @@ use Rattle.std.proofs.Common.{◌≡◌, ℕ, ◌<◌, true, List, ◌⊎◌, in
 use Rattle.std.specs.Prelude.{◌==◌, ◌&&◌, nat_lt}
 use Rattle.std.proofs.lemmas.Bool.{and_parts, eqb-true, or_cases, ltb-true}
 use Rattle.table_definitions.specs.Permutation.{IsPermutationOfFour}
-use Rattle.table_definitions.specs.Table.{Gluing, Face, other_side, way_back, same_face, is_face_before, face_number}
+use Rattle.table_definitions.specs.Table.{Gluing, Face, other_side, inverse_gluing, same_face, is_face_before, face_number}
 use Rattle.table_definitions.proofs.PermutationLaws.{image-of_inverse}
 use Rattle.table_definitions.proofs.Permutations.{inverse-inverse}
 use Rattle.table_definitions.proofs.Carried.{same_from, same_to}
@@ -31,10 +31,10 @@ pub same_face-itself : (x : Face) → same_face x x ≡ true
 same_face-itself x = same_to x.tet x.tet x.face x.face refl refl
 
 -- the way across a gluing and back
-pub there_and_back : (x : Face) (g : Gluing) → IsPermutationOfFour g.perm → x.face < 4 → other_side (other_side x g) (way_back x g) ≡ x
+pub there_and_back : (x : Face) (g : Gluing) → IsPermutationOfFour g.perm → x.face < 4 → other_side (other_side x g) (inverse_gluing x g) ≡ x
 there_and_back x g h l = ap (face_at x.tet) (image-of_inverse g.perm x.face h l)
 
-pub back_again : (x : Face) (g : Gluing) → IsPermutationOfFour g.perm → way_back (other_side x g) (way_back x g) ≡ g
+pub back_again : (x : Face) (g : Gluing) → IsPermutationOfFour g.perm → inverse_gluing (other_side x g) (inverse_gluing x g) ≡ g
 back_again x g h = ap (gluing_to g.tet) (inverse-inverse g.perm h)
 
 -- a face by its number

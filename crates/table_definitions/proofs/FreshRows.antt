@@ -8,8 +8,8 @@ use Rattle.std.proofs.lemmas.List.Elements.{All-get_or}
 use Rattle.std.proofs.lemmas.Bool.{eqb-true, cases_lt}
 use Rattle.table_definitions.specs.Lists.{has, first_some}
 use Rattle.table_definitions.specs.Permutation.{four}
-use Rattle.table_definitions.specs.Table.{Gluing, Row, Face, other_side, way_back, same_face}
-use Rattle.table_definitions.specs.Replacing.{Replacement, leads_to, fresh_faces, fresh_row, back_to_fresh}
+use Rattle.table_definitions.specs.Table.{Gluing, Row, Face, other_side, inverse_gluing, same_face}
+use Rattle.table_definitions.specs.Replacing.{Replacement, inverse_if_reached, fresh_faces, fresh_row, back_to_fresh}
 use Rattle.table_definitions.proofs.TableLaws.{Among, Among-left, Among-right, Among-map, Among-four}
 use Rattle.table_definitions.specs.Replaceable.{fresh_numbers, fresh_glue, CanReplace}
 use Rattle.table_definitions.proofs.Faces.{same_face-true, same_face-itself}
@@ -75,8 +75,8 @@ fresh_face rows r can x g e = by_size (cases_lt x.face 4)
     by_size (inl l) = l
     by_size (inr m) =
         let four_long : length (fresh_row r x.tet) ≡ 4 = length-fresh_row rows r can x.tet (fresh_tet r x g e) in
-        let past : length (fresh_row r x.tet) ≤ x.face = omega arith in
-        let n : fresh_glue r x ≡ None = get_or_past (fresh_row r x.tet) x.face None past in
+        let exceeded : length (fresh_row r x.tet) ≤ x.face = omega arith in
+        let n : fresh_glue r x ≡ None = get_or_past (fresh_row r x.tet) x.face None exceeded in
         absurd cc
 
 -- the first result among the items
@@ -119,43 +119,43 @@ Among-fresh (x ∷ xs) u f h l = by_test (x.0 == u) refl (λ t. Among-fresh xs u
 -- the gluing from y back to a face of a new row
 
 abbrev pub gives_back : Replacement → Face → Face → Option Gluing
-gives_back r y x = option_and_then (leads_to y x) (fresh_glue r x)
+gives_back r y x = option_and_then (inverse_if_reached y x) (fresh_glue r x)
 
 pub record ComesBack (r : Replacement) (y : Face) (v : Gluing) : Type 0 where
   pub from : Face
   pub gluing : Gluing
   pub glued : fresh_glue r from ≡ Some gluing
   pub leads : other_side from gluing ≡ y
-  pub back : way_back from gluing ≡ v
+  pub back : inverse_gluing from gluing ≡ v
 
 comes_back : (r : Replacement) (y x : Face) (v : Gluing) → gives_back r y x ≡ Some v → ComesBack r y v
 comes_back r y x v e = by_glue (fresh_glue r x) refl
   where
-    by_test : (g : Gluing) → fresh_glue r x ≡ Some g → (b : Bool) → same_face (other_side x g) y ≡ b → (if b then Some (way_back x g) else None) ≡ Some v → ComesBack r y v
+    by_test : (g : Gluing) → fresh_glue r x ≡ Some g → (b : Bool) → same_face (other_side x g) y ≡ b → (if b then Some (inverse_gluing x g) else None) ≡ Some v → ComesBack r y v
     by_test g h true t s = record { from = x; gluing = g; glued = h; leads = same_face-true (other_side x g) y t; back = cc }
     by_test g h false t s = absurd cc
 
     by_glue : (o : Option Gluing) → fresh_glue r x ≡ o → ComesBack r y v
-    by_glue None h = let z : None ≡ Some v = ap (option_and_then (leads_to y x)) (sym h) ∙ e in absurd cc
-    by_glue (Some g) h = by_test g h (same_face (other_side x g) y) refl (ap (option_and_then (leads_to y x)) (sym h) ∙ e)
+    by_glue None h = let z : None ≡ Some v = ap (option_and_then (inverse_if_reached y x)) (sym h) ∙ e in absurd cc
+    by_glue (Some g) h = by_test g h (same_face (other_side x g) y) refl (ap (option_and_then (inverse_if_reached y x)) (sym h) ∙ e)
 
 pub back_comes : (r : Replacement) (y : Face) (v : Gluing) → back_to_fresh r y ≡ Some v → ComesBack r y v
 back_comes r y v e = let f = first_some-finds (gives_back r y) (fresh_faces r) v e in comes_back r y f.0 v f.1
 
 pub back_is : (rows : List Row) (r : Replacement) → CanReplace rows r → (x : Face) (g : Gluing) → fresh_glue r x ≡ Some g → has (fresh_numbers r) g.tet ≡ false
-    → back_to_fresh r (other_side x g) ≡ Some (way_back x g)
+    → back_to_fresh r (other_side x g) ≡ Some (inverse_gluing x g)
 back_is rows r can x g e kept =
-    first_some-only (gives_back r (other_side x g)) (fresh_faces r) x (way_back x g) (Among-fresh r.fresh x.tet x.face (fresh_tet r x g e) (fresh_face rows r can x g e))
+    first_some-only (gives_back r (other_side x g)) (fresh_faces r) x (inverse_gluing x g) (Among-fresh r.fresh x.tet x.face (fresh_tet r x g e) (fresh_face rows r can x g e))
     here (λ z w h. only z w (comes_back r (other_side x g) z w h))
   where
-    here : gives_back r (other_side x g) x ≡ Some (way_back x g)
+    here : gives_back r (other_side x g) x ≡ Some (inverse_gluing x g)
     here =
-        ap (option_and_then (leads_to (other_side x g) x)) e
-        ∙ ap (λ b. if◌then◌else◌ {A = Option Gluing} b (Some (way_back x g)) None) (same_face-itself (other_side x g))
+        ap (option_and_then (inverse_if_reached (other_side x g) x)) e
+        ∙ ap (λ b. if◌then◌else◌ {A = Option Gluing} b (Some (inverse_gluing x g)) None) (same_face-itself (other_side x g))
 
-    only : (z : Face) (w : Gluing) → ComesBack r (other_side x g) w → w ≡ way_back x g
+    only : (z : Face) (w : Gluing) → ComesBack r (other_side x g) w → w ≡ inverse_gluing x g
     only z w c =
         let same : x ≡ c.from = can.one_each x c.from g c.gluing e c.glued kept (sym c.leads) in
         let both : Some c.gluing ≡ Some g = sym c.glued ∙ ap (fresh_glue r) (sym same) ∙ e in
         let gluings : c.gluing ≡ g = cc in
-        sym c.back ∙ ap (λ (y : Face). way_back y c.gluing) (sym same) ∙ ap (way_back x) gluings
+        sym c.back ∙ ap (λ (y : Face). inverse_gluing y c.gluing) (sym same) ∙ ap (inverse_gluing x) gluings

@@ -128,12 +128,12 @@ first_some-is_none f (x ∷ xs) h (suc i) d l = first_some-is_none f xs (both_no
 
 -- lists are equal if a test finds their elements equal
 pub pointwise-true : {A : Type 0} (E : A → A → Bool) → ((x y : A) → E x y ≡ true → x ≡ y) → (xs ys : List A) → pointwise E xs ys ≡ true → xs ≡ ys
-pointwise-true E tells [] [] h = refl
-pointwise-true E tells [] (y ∷ ys) h = cc
-pointwise-true E tells (x ∷ xs) [] h = cc
-pointwise-true E tells (x ∷ xs) (y ∷ ys) h =
+pointwise-true E determines [] [] h = refl
+pointwise-true E determines [] (y ∷ ys) h = cc
+pointwise-true E determines (x ∷ xs) [] h = cc
+pointwise-true E determines (x ∷ xs) (y ∷ ys) h =
     let b = both_true (E x y) (pointwise E xs ys) h in
-    ap (λ z. z ∷ xs) (tells x y b.0) ∙ ap (λ zs. y ∷ zs) (pointwise-true E tells xs ys b.1)
+    ap (λ z. z ∷ xs) (determines x y b.0) ∙ ap (λ zs. y ∷ zs) (pointwise-true E determines xs ys b.1)
 
 pub pointwise-refl : {A : Type 0} (E : A → A → Bool) → ((x : A) → E x x ≡ true) → (xs : List A) → pointwise E xs xs ≡ true
 pointwise-refl E same [] = refl

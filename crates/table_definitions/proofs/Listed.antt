@@ -112,7 +112,7 @@ Among-flat_map F x y (z ∷ zs) (inr a) b = Among-right y (F z) (flat_map F zs) 
 
 -- the vertices other than f
 pub Among-others : (f v : ℕ) → v < 4 → (v ≡ f → ⊥) → Among v (others f)
-Among-others f v l apart = Among-filter (λ w. not (w == f)) v four (Among-four v l) (ap not (ne_eqb v f apart))
+Among-others f v l separate = Among-filter (λ w. not (w == f)) v four (Among-four v l) (ap not (ne_eqb v f separate))
 
 -- each item of a mapped list is the image of an item
 pub map-among : {A B : Type 0} (f : A → B) (y : B) (xs : List A) → Among y (map f xs) → (x : A) × Among x xs × (y ≡ f x)

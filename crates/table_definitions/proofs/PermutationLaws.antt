@@ -33,7 +33,7 @@ unfolding all_below
 all_below_at f zero a e h = absurd (omega arith)
 all_below_at f (suc n) a e h =
     ⊎_elim (λ s. let P : ℕ → Type 0 = λ k. f k ≡ true in subst P (sym s) (and_parts (f n) (all_below f n) e).0)
-    (λ apart. let less : a < n = omega arith in all_below_at f n a (and_parts (f n) (all_below f n) e).1 less)
+    (λ separate. let less : a < n = omega arith in all_below_at f n a (and_parts (f n) (all_below f n) e).1 less)
     (cases_eq a n)
 
 -- a composition is odd if and only if exactly one of the two permutations is
@@ -53,4 +53,4 @@ image_same p v w h lv lw =
     tests = unfold all_below in refl
 
 pub images_apart : (p : List ℕ) (v w : ℕ) → IsPermutationOfFour p → v < 4 → w < 4 → v ≢ w → image p v ≢ image p w
-images_apart p v w h lv lw apart same = apart (eqb-true v w (sym (image_same p v w h lv lw) ∙ eq-eqb (image p v) (image p w) same))
+images_apart p v w h lv lw separate same = separate (eqb-true v w (sym (image_same p v w h lv lw) ∙ eq-eqb (image p v) (image p w) same))

@@ -217,16 +217,16 @@ unfolding is_odd inversions inverse preimage
 is_odd-inverse p h = bool_equal _ _ (by_words (λ p. beq (is_odd (inverse p)) (is_odd p)) refl p h)
 
 -- whether the images of a pair are in descending order
-abbrev turned : List ℕ → ℕ → ℕ → Bool
-turned p i j = nat_lt (image p j) (image p i)
+abbrev backwards : List ℕ → ℕ → ℕ → Bool
+backwards p i j = nat_lt (image p j) (image p i)
 
 abbrev unlike : Bool → Bool → Bool
 unlike a b = not (beq a b)
 
 pub is_odd_pairs : (p : List ℕ) → IsPermutationOfFour p
-    → unlike (unlike (unlike (unlike (unlike (turned p 0 1) (turned p 0 2)) (turned p 0 3)) (turned p 1 2)) (turned p 1 3)) (turned p 2 3) ≡ is_odd p
+    → unlike (unlike (unlike (unlike (unlike (backwards p 0 1) (backwards p 0 2)) (backwards p 0 3)) (backwards p 1 2)) (backwards p 1 3)) (backwards p 2 3) ≡ is_odd p
 unfolding is_odd inversions
-is_odd_pairs p h = bool_equal _ _ (by_words (λ p. beq (unlike (unlike (unlike (unlike (unlike (turned p 0 1) (turned p 0 2)) (turned p 0 3)) (turned p 1 2)) (turned p 1 3)) (turned p 2 3)) (is_odd p)) refl p h)
+is_odd_pairs p h = bool_equal _ _ (by_words (λ p. beq (unlike (unlike (unlike (unlike (unlike (backwards p 0 1) (backwards p 0 2)) (backwards p 0 3)) (backwards p 1 2)) (backwards p 1 3)) (backwards p 2 3)) (is_odd p)) refl p h)
 
 -- if v is the image of none of 0 to 2, it is the image of 3
 pub preimage_last : (p : List ℕ) → IsPermutationOfFour p → (v : ℕ) → v < 4 → image p 0 ≢ v → image p 1 ≢ v → image p 2 ≢ v → preimage p v ≡ 3

@@ -109,8 +109,8 @@ position_is_rank p n u l h =
     other k m m' =
         let o = of_rank p n k m' in
         let t : ℕ = o.0 in
-        let stands : get_or (picked p n) (rank p t) 0 ≡ t = (at_rank p n t o.1 o.2).is in
-        let at : get_or (picked p n) k 0 ≡ t = ap (λ i. get_or (picked p n) i 0) (sym o.3) ∙ stands in
+        let occurs : get_or (picked p n) (rank p t) 0 ≡ t = (at_rank p n t o.1 o.2).is in
+        let at : get_or (picked p n) k 0 ≡ t = ap (λ i. get_or (picked p n) i 0) (sym o.3) ∙ occurs in
         let differs : t ≢ u = λ e. (let r : rank p t ≡ rank p u = ap (rank p) e in let q = o.3 in absurd (omega arith)) in
         ap (λ v. v == u) at ∙ ne_eqb t u differs
 

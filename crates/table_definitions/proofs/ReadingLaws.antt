@@ -129,19 +129,19 @@ numbers_read max (t ∷ ts) c xs d e =
     subst (λ (ys : List ℕ). TakesNumbers max (t ∷ ts) c ys d) parts.0 (subst (λ (r : Reading). TakesNumbers max (t ∷ ts) c ((first.0).0 ∷ (others.0).0) r) parts.1 made)
 
 -- an expected word that was read
-exactly_taken : (w wanted : List ℕ) (c d : Reading) → (if same_word w wanted then Ok c else Err (word_fault c BadWord)) ≡ Ok d → (w ≡ wanted) × (c ≡ d)
-exactly_taken w wanted c d e = by_test (same_word w wanted) refl e
+exactly_taken : (w expected : List ℕ) (c d : Reading) → (if same_word w expected then Ok c else Err (word_fault c BadWord)) ≡ Ok d → (w ≡ expected) × (c ≡ d)
+exactly_taken w expected c d e = by_test (same_word w expected) refl e
   where
-    by_test : (b : Bool) → same_word w wanted ≡ b → if◌then◌else◌ {A = Result Reading LexFault} b (Ok c) (Err (word_fault c BadWord)) ≡ Ok d → (w ≡ wanted) × (c ≡ d)
-    by_test true t e = (same_word-true w wanted t, cc)
+    by_test : (b : Bool) → same_word w expected ≡ b → if◌then◌else◌ {A = Result Reading LexFault} b (Ok c) (Err (word_fault c BadWord)) ≡ Ok d → (w ≡ expected) × (c ≡ d)
+    by_test true t e = (same_word-true w expected t, cc)
     by_test false t e = absurd cc
 
-pub exactly_read : (wanted : List ℕ) (ts : List Token) (c d : Reading) → exactly_at wanted (with_tokens ts c) ≡ Ok d → TakesWord ts c wanted d
+pub exactly_read : (expected : List ℕ) (ts : List Token) (c d : Reading) → exactly_at expected (with_tokens ts c) ≡ Ok d → TakesWord ts c expected d
 unfolding exactly_at word_at
-exactly_read wanted ts c d e =
-    let first : (x : List ℕ × Reading) × (word_at (with_tokens ts c) ≡ Ok x) × ((if same_word x.0 wanted then Ok x.1 else Err (word_fault x.1 BadWord)) ≡ Ok d) =
-    bind_ok (word_at (with_tokens ts c)) (λ (x : List ℕ × Reading). if same_word x.0 wanted then Ok x.1 else Err (word_fault x.1 BadWord)) d e in
-    let taken : ((first.0).0 ≡ wanted) × ((first.0).1 ≡ d) = exactly_taken (first.0).0 wanted (first.0).1 d first.2 in
+exactly_read expected ts c d e =
+    let first : (x : List ℕ × Reading) × (word_at (with_tokens ts c) ≡ Ok x) × ((if same_word x.0 expected then Ok x.1 else Err (word_fault x.1 BadWord)) ≡ Ok d) =
+    bind_ok (word_at (with_tokens ts c)) (λ (x : List ℕ × Reading). if same_word x.0 expected then Ok x.1 else Err (word_fault x.1 BadWord)) d e in
+    let taken : ((first.0).0 ≡ expected) × ((first.0).1 ≡ d) = exactly_taken (first.0).0 expected (first.0).1 d first.2 in
     let w : TakesWord ts c (first.0).0 (first.0).1 = word_taken ts c (first.0).0 (first.0).1 first.1 in
     record { column = w.column; rest = w.rest; tokens = w.tokens ∙ ap (λ (u : List ℕ). word w.column u ∷ w.rest) taken.0; left = sym taken.1 ∙ w.left }
 
@@ -187,7 +187,7 @@ numbers_found max (word column v ∷ ts) (w ∷ ws) (x ∷ xs) c a z =
     numbers_more max column v x ts xs c (subst (λ (u : List ℕ). IsDecimalUpTo max u x) (sym a.0) z.0) (numbers_found max ts ws xs (behind column c) a.1 z.1)
 numbers_found max (stray column ∷ ts) (w ∷ ws) xs c a z = absurd a.0
 
-pub exactly_found : (column : ℕ) (v wanted : List ℕ) (ts : List Token) (c : Reading) → v ≡ wanted → exactly_at wanted (with_tokens (word column v ∷ ts) c) ≡ Ok (with_tokens ts (behind column c))
+pub exactly_found : (column : ℕ) (v expected : List ℕ) (ts : List Token) (c : Reading) → v ≡ expected → exactly_at expected (with_tokens (word column v ∷ ts) c) ≡ Ok (with_tokens ts (behind column c))
 unfolding exactly_at word_at
-exactly_found column v wanted ts c e =
-    ap (λ (b : Bool). if◌then◌else◌ {A = Result Reading LexFault} b (Ok (with_tokens ts (behind column c))) (Err (word_fault (with_tokens ts (behind column c)) BadWord))) (same_word_from v wanted e)
+exactly_found column v expected ts c e =
+    ap (λ (b : Bool). if◌then◌else◌ {A = Result Reading LexFault} b (Ok (with_tokens ts (behind column c))) (Err (word_fault (with_tokens ts (behind column c)) BadWord))) (same_word_from v expected e)

@@ -14,16 +14,16 @@ never : (removed : List ℕ) (x : Face) (g : Gluing) → fresh_glue (taking remo
 never removed x g e = let n : fresh_glue (taking removed) x ≡ None = nothing_in x.face in cc
 
 pub can_remove : (rows : List Row) (removed : List ℕ) → length rows ≤ 1000 → IsStrictlyIncreasing removed → All (λ t. t < length rows) removed → CanReplace rows (record { removed = removed; fresh = [] })
-can_remove rows removed few up within = record {
+can_remove rows removed limited up within = record {
   removed_ascend = up;
   removed_in_range = within;
   fresh_ascend = λ k l. absurd (omega arith);
   fresh_in_range = λ k d l. absurd (omega arith);
-  few = omega arith;
+  limited = omega arith;
   four_faces = λ k d l. absurd (omega arith);
   permutes = λ x g e. absurd (never removed x g e);
   in_range = λ x g e. absurd (never removed x g e);
-  apart = λ x g e. absurd (never removed x g e);
+  separate = λ x g e. absurd (never removed x g e);
   leads_back = λ x g e h. absurd (never removed x g e);
   freed = λ x g e h. absurd (never removed x g e);
   one_each = λ x z g h e f k s. absurd (never removed x g e);

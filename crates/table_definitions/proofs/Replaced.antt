@@ -4,7 +4,7 @@ use Rattle.std.specs.Prelude.{◌⊎◌, All}
 use Rattle.std.proofs.lemmas.List.Elements.{All-from_get_or, All-get_or}
 use Rattle.table_definitions.specs.Lists.{has}
 use Rattle.table_definitions.specs.Permutation.{IsPermutationOfFour, image, inverse}
-use Rattle.table_definitions.specs.Table.{Gluing, Row, Face, glue, other_side, way_back, same_face, IsTable}
+use Rattle.table_definitions.specs.Table.{Gluing, Row, Face, glue, other_side, inverse_gluing, same_face, IsTable}
 use Rattle.table_definitions.specs.Replacing.{Replacement, replaced_length, number_of_kept, back_to_fresh, kept_gluing, replaced}
 use Rattle.table_definitions.proofs.Permutations.{image_below, preimage-image, image-inverse, inverse_permutes, inverse-inverse}
 use Rattle.table_definitions.specs.Replaceable.{fresh_numbers, fresh_glue, CanReplace}
@@ -44,11 +44,11 @@ good_fresh : (rows : List Row) (r : Replacement) → IsTable rows → CanReplace
 good_fresh rows r table can y g e = record {
   permutes = can.permutes y g e;
   in_range = can.in_range y g e;
-  apart = can.apart y g e;
+  separate = can.separate y g e;
   leads_back = by_test (has (fresh_numbers r) g.tet) refl;
 }
   where
-    by_test : (b : Bool) → has (fresh_numbers r) g.tet ≡ b → glue (replaced rows r) (other_side y g) ≡ Some (way_back y g)
+    by_test : (b : Bool) → has (fresh_numbers r) g.tet ≡ b → glue (replaced rows r) (other_side y g) ≡ Some (inverse_gluing y g)
     by_test true h = glue-fresh rows r (other_side y g) (can.in_range y g e) h ∙ can.leads_back y g e h
     by_test false h =
         let freed = can.freed y g e h in
@@ -63,7 +63,7 @@ good_fresh rows r table can y g e = record {
 good_back : (rows : List Row) (r : Replacement) → IsTable rows → CanReplace rows r → (y : Face) (v : Gluing) → y.face < 4 → has (fresh_numbers r) y.tet ≡ false → ComesBack r y v
     → IsGood (replaced_length rows r) (replaced rows r) y v
 good_back rows r table can y v lf kept c = subst (λ (w : Gluing). IsGood (replaced_length rows r) (replaced rows r) y w) c.back
-    (subst (λ (z : Face). IsGood (replaced_length rows r) (replaced rows r) z (way_back x g)) c.leads good)
+    (subst (λ (z : Face). IsGood (replaced_length rows r) (replaced rows r) z (inverse_gluing x g)) c.leads good)
   where
     x : Face
     x = c.from
@@ -86,21 +86,21 @@ good_back rows r table can y v lf kept c = subst (λ (w : Gluing). IsGood (repla
     goes : image (inverse g.perm) (image g.perm x.face) ≡ x.face
     goes = image-inverse g.perm (image g.perm x.face) (image_below g.perm hp x.face xf) ∙ preimage-image g.perm hp x.face xf
 
-    over : other_side (other_side x g) (way_back x g) ≡ x
+    over : other_side (other_side x g) (inverse_gluing x g) ≡ x
     over = ap (face_at x.tet) goes
 
-    apart : same_face (other_side (other_side x g) (way_back x g)) (other_side x g) ≡ true → ⊥
-    apart t =
+    separate : same_face (other_side (other_side x g) (inverse_gluing x g)) (other_side x g) ≡ true → ⊥
+    separate t =
         let p = same_from x.tet g.tet (image (inverse g.perm) (image g.perm x.face)) (image g.perm x.face) t in
         let there : g.tet ≡ y.tet = ap (λ (z : Face). z.tet) c.leads in
         let clash : true ≡ false = sym xt ∙ ap (has (fresh_numbers r)) (p.0 ∙ there) ∙ kept in
         cc
 
-    good : IsGood (replaced_length rows r) (replaced rows r) (other_side x g) (way_back x g)
+    good : IsGood (replaced_length rows r) (replaced rows r) (other_side x g) (inverse_gluing x g)
     good = record {
       permutes = inverse_permutes g.perm hp;
       in_range = in_range;
-      apart = not_from _ apart;
+      separate = not_from _ separate;
       leads_back = ap (glue (replaced rows r)) over ∙ glue-fresh rows r x in_range xt ∙ c.glued ∙ ap (λ q. Some (record { tet = g.tet; perm = q })) (sym (inverse-inverse g.perm hp));
     }
 
@@ -110,10 +110,10 @@ good_kept : (rows : List Row) (r : Replacement) → IsTable rows → CanReplace 
 good_kept rows r table can t u f g k lf e h = record {
   permutes = hp;
   in_range = to.in_range;
-  apart = not_from _ apart;
+  separate = not_from _ separate;
   leads_back = glue-kept rows r g.tet to_number (image g.perm f) to (image_below g.perm hp f lf)
       ∙ ap (kept_gluing rows r (face_at to_number (image g.perm f))) (table.leads_back x g e)
-      ∙ kept_stays rows r (face_at to_number (image g.perm f)) (way_back x g) k.stays
+      ∙ kept_stays rows r (face_at to_number (image g.perm f)) (inverse_gluing x g) k.stays
       ∙ ap (λ n. Some (record { tet = n; perm = inverse g.perm })) k.number;
 }
   where
@@ -129,21 +129,21 @@ good_kept rows r table can t u f g k lf e h = record {
     to : IsKeptAs rows r g.tet to_number
     to = kept_as rows r can g.tet (table.in_range x g e) h
 
-    apart : same_face (other_side (face_at u f) (record { tet = number_of_kept rows r g.tet; perm = g.perm })) (face_at u f) ≡ true → ⊥
-    apart s =
+    separate : same_face (other_side (face_at u f) (record { tet = number_of_kept rows r g.tet; perm = g.perm })) (face_at u f) ≡ true → ⊥
+    separate s =
         let p = same_from to_number u (image g.perm f) f s in
         let tets : g.tet ≡ t = sym to.back ∙ ap (kept_at rows r) p.0 ∙ k.back in
         let same : same_face (other_side x g) x ≡ true = same_to g.tet t (image g.perm f) f tets p.1 in
-        let never = table.apart x g e in
+        let never = table.separate x g e in
         cc
 
 pub replaced_is_table : (rows : List Row) (r : Replacement) → IsTable rows → CanReplace rows r → IsTable (replaced rows r)
 replaced_is_table rows r table can = record {
-  few = rw (length-replaced rows r) can.few;
+  limited = rw (length-replaced rows r) can.limited;
   four_faces = fours;
   permutes = λ y g e. (good y g e).permutes;
   in_range = λ y g e. rw (length-replaced rows r) (good y g e).in_range;
-  apart = λ y g e. (good y g e).apart;
+  separate = λ y g e. (good y g e).separate;
   leads_back = λ y g e. (good y g e).leads_back;
 }
   where

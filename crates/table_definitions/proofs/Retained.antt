@@ -63,7 +63,7 @@ kept_by rows r can t u lt st lu fu e = record {
 -- each row that is retained has a free number
 pub kept_as : (rows : List Row) (r : Replacement) → CanReplace rows r → (t : ℕ) → t < length rows → has r.removed t ≡ false → IsKeptAs rows r t (number_of_kept rows r t)
 kept_as rows r can t lt st =
-    let few = (at_rank (stays r.removed) (length rows) t lt (ap not st)).fewer in
+    let limited = (at_rank (stays r.removed) (length rows) t lt (ap not st)).fewer in
     let u = of_rank (stays (fresh_numbers r)) (replaced_length rows r) (rank (stays r.removed) t) (omega (arith, as_many rows r can)) in
     let k : IsKeptAs rows r t u.0 = kept_by rows r can t u.0 lt st u.1 (not_true (has (fresh_numbers r) u.0) u.2) (sym u.3) in
     subst (λ v. IsKeptAs rows r t v) (sym k.number) k
@@ -71,7 +71,7 @@ kept_as rows r can t lt st =
 -- each free number is that of a retained row
 pub keeps : (rows : List Row) (r : Replacement) → CanReplace rows r → (u : ℕ) → u < replaced_length rows r → has (fresh_numbers r) u ≡ false → IsKeptAs rows r (kept_at rows r u) u
 keeps rows r can u lu fu =
-    let few = (at_rank (stays (fresh_numbers r)) (replaced_length rows r) u lu (ap not fu)).fewer in
+    let limited = (at_rank (stays (fresh_numbers r)) (replaced_length rows r) u lu (ap not fu)).fewer in
     let t = of_rank (stays r.removed) (length rows) (rank (stays (fresh_numbers r)) u) (omega (arith, as_many rows r can)) in
     let k : IsKeptAs rows r t.0 u = kept_by rows r can t.0 u t.1 (not_true (has r.removed t.0) t.2) lu fu t.3 in
     subst (λ v. IsKeptAs rows r v u) (sym k.back) k

@@ -208,7 +208,7 @@ table_found : (column : ℕ) (w : List ℕ) (lines rest : List Line) (rows : Lis
     → (d : Reading) × (table_at (with_tokens (word column w ∷ []) c) ≡ Ok (rows, d)) × (d.later ≡ rest) × (d.current.tokens ≡ [])
 unfolding table_at
 table_found column w lines rest rows c value z table split =
-    let few : length rows ≤ max_tets = table.few in
+    let limited : length rows ≤ max_tets = table.limited in
     let small : length rows ≤ limit = omega arith in
     let number : number_at limit (with_tokens (word column w ∷ []) c) ≡ Ok (length rows, with_tokens [] (behind column c)) = one_number limit column w (length rows) [] c (record { value = value; up_to = small }) in
     let begin : Reading = with_tokens [] (behind column c) in
@@ -216,7 +216,7 @@ table_found column w lines rest rows c value z table split =
     let counted : (d : Reading) × (counted_rows_at (length rows) begin ≡ Ok (rows, d)) × (d.later ≡ rest) × (d.current.tokens ≡ []) = counted_found begin (length rows) rows rest refl table found in (
       counted.0,
       ap (λ (q : Result (ℕ × Reading) TextFault). q >>= λ (x : ℕ × Reading). if nat_lt max_tets x.0 then Err (Table TooMany) else counted_rows_at x.0 x.1) (lexed_with (number_at limit (with_tokens (word column w ∷ []) c)) (length rows, begin) number)
-          ∙ ap (λ (b : Bool). if◌then◌else◌ {A = Result (List Row × Reading) TextFault} b (Err (Table TooMany)) (counted_rows_at (length rows) begin)) (le-ltb max_tets (length rows) few)
+          ∙ ap (λ (b : Bool). if◌then◌else◌ {A = Result (List Row × Reading) TextFault} b (Err (Table TooMany)) (counted_rows_at (length rows) begin)) (le-ltb max_tets (length rows) limited)
           ∙ counted.1,
       counted.2,
       counted.3,

@@ -9,7 +9,7 @@ use Rattle.basic_lemmas.proofs.Options.{both_none}
 use Rattle.table_definitions.specs.Lists.{below, same_list, first_some, pairs_of}
 use Rattle.table_definitions.specs.Permutation.{four, IsPermutationOfFour}
 use Rattle.table_definitions.specs.declared.TableFault.TheVariants.{TooMany, NoSuchTet, SelfGlued, NotMutual}
-use Rattle.table_definitions.specs.Table.{max_tets, Gluing, Row, Face, glue, other_side, way_back, faces, same_face, IsTable, is_glued_by, gluing_fault, table_fault}
+use Rattle.table_definitions.specs.Table.{max_tets, Gluing, Row, Face, glue, other_side, inverse_gluing, faces, same_face, IsTable, is_glued_by, gluing_fault, table_fault}
 use Rattle.table_definitions.proofs.ListLaws.{same_list_from}
 use Rattle.table_definitions.proofs.ListFacts.{same_list-true}
 
@@ -36,7 +36,7 @@ pub Among-range : (t a n : ℕ) → a ≤ t → t < a + n → Among t (range_wit
 Among-range t a zero low high = absurd (omega arith)
 Among-range t a (suc n) low high =
     ⊎_elim (λ (e : t ≡ a). inl e)
-    (λ (apart : t ≡ a → ⊥). let above : a + 1 ≤ t = omega arith in let under : t < a + 1 + n = omega arith in inr (Among-range t (a + 1) n above under))
+    (λ (separate : t ≡ a → ⊥). let above : a + 1 ≤ t = omega arith in let under : t < a + 1 + n = omega arith in inr (Among-range t (a + 1) n above under))
     (cases_eq t a)
 
 pub Among-below : (t n : ℕ) → t < n → Among t (below n)
@@ -88,8 +88,8 @@ glued_face rows x g fours e =
     ⊎_elim (λ (l : x.face < 4). l)
     (λ (out : 4 ≤ x.face).
     let four_long : length (slice_index_or rows x.tet []) ≡ 4 = fours x.tet [] (glued_tet rows x g e) in
-    let past : length (slice_index_or rows x.tet []) ≤ x.face = omega arith in
-    let n : glue rows x ≡ None = get_or_past (slice_index_or rows x.tet []) x.face None past in absurd cc)
+    let exceeded : length (slice_index_or rows x.tet []) ≤ x.face = omega arith in
+    let n : glue rows x ≡ None = get_or_past (slice_index_or rows x.tet []) x.face None exceeded in absurd cc)
     (cases_lt x.face 4)
 
 -- a gluing that passes the test is this one
@@ -118,20 +118,20 @@ allowed false f e = absurd cc
 -- a gluing without an error
 record IsFine (rows : List Row) (x : Face) (g : Gluing) : Type 0 where
   in_range : g.tet < length rows
-  apart : same_face (other_side x g) x ≡ false
-  leads_back : glue rows (other_side x g) ≡ Some (way_back x g)
+  separate : same_face (other_side x g) x ≡ false
+  leads_back : glue rows (other_side x g) ≡ Some (inverse_gluing x g)
 
 fine_at : (rows : List Row) (x : Face) (g : Gluing) → gluing_fault rows x (Some g) ≡ None → IsFine rows x g
 fine_at rows x g e =
     let inside : Bool = nat_lt g.tet (length rows) in
     let itself : Bool = same_face (other_side x g) x in
-    let back : Bool = is_glued_by (glue rows (other_side x g)) (way_back x g) in
+    let back : Bool = is_glued_by (glue rows (other_side x g)) (inverse_gluing x g) in
     let p : (not inside ≡ false) × ((if itself then Some (SelfGlued x.tet x.face) else (if back then None else Some (NotMutual x.tet x.face))) ≡ None) = guarded (not inside) (NoSuchTet x.tet x.face) (if itself then Some (SelfGlued x.tet x.face) else (if back then None else Some (NotMutual x.tet x.face))) e in
     let q : (itself ≡ false) × ((if back then None else Some (NotMutual x.tet x.face)) ≡ None) = guarded itself (SelfGlued x.tet x.face) (if back then None else Some (NotMutual x.tet x.face)) p.1 in
     record {
       in_range = ltb-true g.tet (length rows) (not-false inside p.0);
-      apart = q.0;
-      leads_back = is_glued_by-true (glue rows (other_side x g)) (way_back x g) (allowed back (NotMutual x.tet x.face) q.1);
+      separate = q.0;
+      leads_back = is_glued_by-true (glue rows (other_side x g)) (inverse_gluing x g) (allowed back (NotMutual x.tet x.face) q.1);
     }
 
 -- rows of four permutations without an error are a table
@@ -139,11 +139,11 @@ pub IsTable-no_fault : (rows : List Row) → All (λ (row : Row). length row ≡
     → table_fault rows ≡ None → IsTable rows
 unfolding table_fault
 IsTable-no_fault rows fours permutes e = record {
-  few = ltb-false max_tets (length rows) parts.0;
+  limited = ltb-false max_tets (length rows) parts.0;
   four_faces = fours;
   permutes = permutes;
   in_range = λ x g h. (fine x g h).in_range;
-  apart = λ x g h. not_from_false (same_face (other_side x g) x) (fine x g h).apart;
+  separate = λ x g h. not_from_false (same_face (other_side x g) x) (fine x g h).separate;
   leads_back = λ x g h. (fine x g h).leads_back;
 }
   where
@@ -157,16 +157,16 @@ IsTable-no_fault rows fours permutes e = record {
         fine_at rows x g (subst (λ (o : Option Gluing). gluing_fault rows x o ≡ None) h none)
 
 -- no error is found in a table
-fine_fault : (rows : List Row) (x : Face) (g : Gluing) → g.tet < length rows → same_face (other_side x g) x ≡ false → glue rows (other_side x g) ≡ Some (way_back x g)
+fine_fault : (rows : List Row) (x : Face) (g : Gluing) → g.tet < length rows → same_face (other_side x g) x ≡ false → glue rows (other_side x g) ≡ Some (inverse_gluing x g)
     → gluing_fault rows x (Some g) ≡ None
-fine_fault rows x g inside apart back =
-    rw (lt-ltb g.tet (length rows) inside, apart, is_glued_by-from (glue rows (other_side x g)) (way_back x g) back) refl
+fine_fault rows x g inside separate back =
+    rw (lt-ltb g.tet (length rows) inside, separate, is_glued_by-from (glue rows (other_side x g)) (inverse_gluing x g) back) refl
 
 never_wrong : (rows : List Row) → IsTable rows → (x : Face) (o : Option Gluing) → glue rows x ≡ o → gluing_fault rows x o ≡ None
 never_wrong rows t x None h = refl
-never_wrong rows t x (Some g) h = fine_fault rows x g (t.in_range x g h) (not-true (same_face (other_side x g) x) (t.apart x g h)) (t.leads_back x g h)
+never_wrong rows t x (Some g) h = fine_fault rows x g (t.in_range x g h) (not-true (same_face (other_side x g) x) (t.separate x g h)) (t.leads_back x g h)
 
 pub table_fault-IsTable : (rows : List Row) → IsTable rows → table_fault rows ≡ None
 unfolding table_fault
 table_fault-IsTable rows t =
-    rw (le-ltb max_tets (length rows) t.few) (first_some_never (λ (x : Face). gluing_fault rows x (glue rows x)) (faces (length rows)) (λ x. never_wrong rows t x (glue rows x) refl))
+    rw (le-ltb max_tets (length rows) t.limited) (first_some_never (λ (x : Face). gluing_fault rows x (glue rows x)) (faces (length rows)) (λ x. never_wrong rows t x (glue rows x) refl))

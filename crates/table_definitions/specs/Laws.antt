@@ -6,7 +6,7 @@ use Rattle.text_definitions.specs.Reading.{Reading}
 use Rattle.table_definitions.specs.TableText.{tri_table_at}
 use Rattle.text_definitions.specs.Text.{Line}
 use Rattle.table_definitions.specs.Grammar.{AreTriLines}
-use Rattle.table_definitions.specs.Places.{Place, IsPlace, IsJoined, turned}
+use Rattle.table_definitions.specs.Places.{Place, IsPlace, IsJoined, backwards}
 use Rattle.table_definitions.specs.Replacing.{Replacement, replaced}
 use Rattle.table_definitions.specs.Replaceable.{CanReplace}
 
@@ -51,4 +51,4 @@ pub record ChainsMakeClasses : Type 0 where
   pub itself : (rows : List Row) (p : Place) → IsJoined rows p p
   pub further : (rows : List Row) (p q r : Place) → IsJoined rows p q → IsJoined rows q r → IsJoined rows p r
   pub back : (rows : List Row) (p q : Place) → IsTable rows → IsPlace p → IsJoined rows p q → IsPlace q × IsJoined rows q p
-  pub turned_too : (rows : List Row) (p q : Place) → IsJoined rows p q → IsJoined rows (turned p) (turned q)
+  pub backwards_too : (rows : List Row) (p q : Place) → IsJoined rows p q → IsJoined rows (backwards p) (backwards q)

@@ -33,8 +33,8 @@ abbrev pub IsJoined : List Row → Place → Place → Type 0
 IsJoined rows p q = (crossed : List ℕ) × (along rows p crossed ≡ Some q)
 
 -- the same place in the other direction
-abbrev pub turned : Place → Place
-turned p = record p { vertices = reverse p.vertices }
+abbrev pub backwards : Place → Place
+backwards p = record p { vertices = reverse p.vertices }
 
 -- the ends of the edges 0 to 5
 abbrev pub edge_ends : List (List ℕ)
@@ -69,14 +69,14 @@ abbrev pub SameVertex : List Row → ℕ → ℕ → Type 0
 SameVertex rows i j = IsJoined rows (vertex i) (vertex j)
 
 abbrev pub SameEdge : List Row → ℕ → ℕ → Type 0
-SameEdge rows i j = IsJoined rows (edge i) (edge j) ⊎ IsJoined rows (edge i) (turned (edge j))
+SameEdge rows i j = IsJoined rows (edge i) (edge j) ⊎ IsJoined rows (edge i) (backwards (edge j))
 
 abbrev pub SameFace : List Row → ℕ → ℕ → Type 0
 SameFace rows i j = (i ≡ j) ⊎ ((g : Gluing) × (glue rows (face_of i) ≡ Some g) × (other_side (face_of i) g ≡ face_of j))
 
 -- a chain joins the edge to its own reverse
 abbrev pub IsInvalidEdge : List Row → ℕ → Type 0
-IsInvalidEdge rows i = IsJoined rows (edge i) (turned (edge i))
+IsInvalidEdge rows i = IsJoined rows (edge i) (backwards (edge i))
 
 -- no edge is so
 abbrev pub HasValidEdges : List Row → Type 0
@@ -84,7 +84,7 @@ HasValidEdges rows = (i : ℕ) → i < 6 * length rows → IsInvalidEdge rows i 
 
 -- edge i runs against the edge j of its class
 abbrev pub RunsAgainst : List Row → ℕ → ℕ → Type 0
-RunsAgainst rows j i = IsJoined rows (edge j) (turned (edge i))
+RunsAgainst rows j i = IsJoined rows (edge j) (backwards (edge i))
 
 -- whether a face is a boundary face
 abbrev pub is_boundary : List Row → Face → Bool

@@ -4,8 +4,8 @@ use Rattle.std.specs.List.{slice_index_or}
 use Rattle.std.specs.List.Sorted.{IsStrictlyIncreasing}
 use Rattle.table_definitions.specs.Lists.{has, first_some}
 use Rattle.table_definitions.specs.Permutation.{four, IsPermutationOfFour}
-use Rattle.table_definitions.specs.Table.{max_tets, Gluing, Row, Face, glue, other_side, way_back, same_face}
-use Rattle.table_definitions.specs.Replacing.{Replacement, replaced_length, number_of_kept, fresh_row, leads_to}
+use Rattle.table_definitions.specs.Table.{max_tets, Gluing, Row, Face, glue, other_side, inverse_gluing, same_face}
+use Rattle.table_definitions.specs.Replacing.{Replacement, replaced_length, number_of_kept, fresh_row, inverse_if_reached}
 
 -- the numbers of rows that have numbers
 abbrev pub numbers_of : List (ℕ × Row) → List ℕ
@@ -17,7 +17,7 @@ gone_before gone t = count_by (λ u. nat_lt u t) gone
 
 -- the inverse, at face y, of the first gluing of a numbered row that reaches y
 abbrev pub row_back : Face → ℕ × Row → Option Gluing
-row_back y x = first_some (λ f. option_and_then (leads_to y (record { tet = x.0; face = f })) (slice_index_or x.1 f None)) four
+row_back y x = first_some (λ f. option_and_then (inverse_if_reached y (record { tet = x.0; face = f })) (slice_index_or x.1 f None)) four
 
 -- the numbers of the new rows
 abbrev pub fresh_numbers : Replacement → List ℕ
@@ -43,14 +43,14 @@ pub record CanReplace (rows : List Row) (r : Replacement) : Type 0 where
   pub removed_in_range : All (λ t. t < length rows) r.removed
   pub fresh_ascend : IsStrictlyIncreasing (fresh_numbers r)
   pub fresh_in_range : All (λ u. u < replaced_length rows r) (fresh_numbers r)
-  pub few : replaced_length rows r ≤ max_tets
+  pub limited : replaced_length rows r ≤ max_tets
   -- a new gluing is by a permutation, in range, and reaches another face
   pub four_faces : All (λ (x : ℕ × Row). length x.1 ≡ 4) r.fresh
   pub permutes : (x : Face) (g : Gluing) → fresh_glue r x ≡ Some g → IsPermutationOfFour g.perm
   pub in_range : (x : Face) (g : Gluing) → fresh_glue r x ≡ Some g → g.tet < replaced_length rows r
-  pub apart : (x : Face) (g : Gluing) → fresh_glue r x ≡ Some g → IsTrue (not (same_face (other_side x g) x))
+  pub separate : (x : Face) (g : Gluing) → fresh_glue r x ≡ Some g → IsTrue (not (same_face (other_side x g) x))
   -- between new rows it has an inverse, and in a retained row it reaches a face that was glued to a removed row
-  pub leads_back : (x : Face) (g : Gluing) → fresh_glue r x ≡ Some g → has (fresh_numbers r) g.tet ≡ true → fresh_glue r (other_side x g) ≡ Some (way_back x g)
+  pub leads_back : (x : Face) (g : Gluing) → fresh_glue r x ≡ Some g → has (fresh_numbers r) g.tet ≡ true → fresh_glue r (other_side x g) ≡ Some (inverse_gluing x g)
   pub freed : (x : Face) (g : Gluing) → fresh_glue r x ≡ Some g → has (fresh_numbers r) g.tet ≡ false → IsFreed rows r (other_side x g)
   -- and no two reach one face of a retained row
   pub one_each : (x z : Face) (g h : Gluing) → fresh_glue r x ≡ Some g → fresh_glue r z ≡ Some h → has (fresh_numbers r) g.tet ≡ false → other_side x g ≡ other_side z h → x ≡ z

@@ -3,7 +3,7 @@ use Rattle.std.specs.Prelude.{ℕ, ◌+◌, ◌-◌, not, List, [], length, map,
 use Rattle.std.specs.List.{flat_map, position_or_len, slice_index_or}
 use Rattle.table_definitions.specs.Lists.{below, has, first_some, rank_without}
 use Rattle.table_definitions.specs.Permutation.{four}
-use Rattle.table_definitions.specs.Table.{Gluing, Row, Face, glue, other_side, way_back, same_face}
+use Rattle.table_definitions.specs.Table.{Gluing, Row, Face, glue, other_side, inverse_gluing, same_face}
 
 -- the numbers of the removed rows, and the new rows with their numbers in the new table; both ascend
 pub record Replacement : Type 0 where
@@ -25,8 +25,8 @@ abbrev pub number_of_kept : List Row → Replacement → ℕ → ℕ
 number_of_kept rows r t = slice_index (free_numbers rows r) (rank_without r.removed t)
 
 -- the inverse at face y of the new gluing g of face x, if that reaches y
-abbrev pub leads_to : Face → Face → Gluing → Option Gluing
-leads_to y x g = if same_face (other_side x g) y then Some (way_back x g) else None
+abbrev pub inverse_if_reached : Face → Face → Gluing → Option Gluing
+inverse_if_reached y x g = if same_face (other_side x g) y then Some (inverse_gluing x g) else None
 
 abbrev pub fresh_faces : Replacement → List Face
 fresh_faces r = flat_map (λ (x : ℕ × Row). map (λ f. record { tet = x.0; face = f }) four) r.fresh
@@ -36,7 +36,7 @@ fresh_row r u = slice_index_or (map (λ (x : ℕ × Row). x.1) r.fresh) (positio
 
 -- the gluing of face y of a retained row to a new row, if a new gluing reaches it
 abbrev pub back_to_fresh : Replacement → Face → Option Gluing
-back_to_fresh r y = first_some (λ x. option_and_then (leads_to y x) (slice_index_or (fresh_row r x.tet) x.face None)) (fresh_faces r)
+back_to_fresh r y = first_some (λ x. option_and_then (inverse_if_reached y x) (slice_index_or (fresh_row r x.tet) x.face None)) (fresh_faces r)
 
 -- a retained face, now y, is glued as before to a retained row, and otherwise by the inverse of the new gluing that
 -- reaches it

@@ -38,8 +38,8 @@ abbrev pub other_side : Face → Gluing → Face
 other_side x g = record { tet = g.tet; face = image g.perm x.face }
 
 -- the inverse gluing, to x
-abbrev pub way_back : Face → Gluing → Gluing
-way_back x g = record { tet = x.tet; perm = inverse g.perm }
+abbrev pub inverse_gluing : Face → Gluing → Gluing
+inverse_gluing x g = record { tet = x.tet; perm = inverse g.perm }
 
 -- all faces of n tetrahedra, ascending
 abbrev pub faces : ℕ → List Face
@@ -53,12 +53,12 @@ is_face_before x y = nat_lt x.tet y.tet || ((x.tet == y.tet) && nat_lt x.face y.
 
 -- each glued face reaches a face in range other than itself, which is glued back by the inverse
 pub record IsTable (rows : List Row) : Type 0 where
-  pub few : length rows ≤ max_tets
+  pub limited : length rows ≤ max_tets
   pub four_faces : All (λ (row : Row). length row ≡ 4) rows
   pub permutes : (x : Face) (g : Gluing) → glue rows x ≡ Some g → IsPermutationOfFour g.perm
   pub in_range : (x : Face) (g : Gluing) → glue rows x ≡ Some g → g.tet < length rows
-  pub apart : (x : Face) (g : Gluing) → glue rows x ≡ Some g → IsTrue (not (same_face (other_side x g) x))
-  pub leads_back : (x : Face) (g : Gluing) → glue rows x ≡ Some g → glue rows (other_side x g) ≡ Some (way_back x g)
+  pub separate : (x : Face) (g : Gluing) → glue rows x ≡ Some g → IsTrue (not (same_face (other_side x g) x))
+  pub leads_back : (x : Face) (g : Gluing) → glue rows x ≡ Some g → glue rows (other_side x g) ≡ Some (inverse_gluing x g)
 
 -- whether a face is glued so
 abbrev pub is_glued_by : Option Gluing → Gluing → Bool
@@ -71,7 +71,7 @@ gluing_fault rows x None = None
 gluing_fault rows x (Some g) =
     if not (nat_lt g.tet (length rows)) then Some (NoSuchTet x.tet x.face)
     else (if same_face (other_side x g) x then Some (SelfGlued x.tet x.face)
-    else (if is_glued_by (glue rows (other_side x g)) (way_back x g) then None else Some (NotMutual x.tet x.face)))
+    else (if is_glued_by (glue rows (other_side x g)) (inverse_gluing x g) then None else Some (NotMutual x.tet x.face)))
 
 -- too many rows, or else the first face at which something is wrong
 unfoldable pub table_fault : List Row → Option TableFault

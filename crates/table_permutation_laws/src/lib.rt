@@ -6,7 +6,7 @@
 #![tactic(auto)]
 
 ghost use Rattle.table_definitions.specs.Laws.{InversesLeadBack};
-ghost use Rattle.table_permutation_laws.specs.Laws.{IsAssociative, HasIdentity, ComposesImages, Undoes, AddsParities, AreAllWords, IndexTellsApart};
+ghost use Rattle.table_permutation_laws.specs.Laws.{IsAssociative, HasIdentity, ComposesImages, Undoes, AddsParities, AreAllWords, IndexIsInjective};
 
 /// Theorem: let p, q and r be permutations of four, as lists of images; pq applies q first.
 ///
@@ -35,5 +35,5 @@ pub fn permutations_compose()
 ///    they are equal.
 pub fn words_are_permutations()
     ensures all { AreAllWords }
-    ensures apart { IndexTellsApart }
+    ensures separate { IndexIsInjective }
 {}

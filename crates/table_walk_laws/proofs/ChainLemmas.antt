@@ -1,7 +1,7 @@
 -- Walks that end, and walks that return to their start.
 use Rattle.std.proofs.Common.{◌≡◌, ◌≢◌, ℕ, suc, ◌+◌, ◌-◌, ◌<◌, ◌≤◌, inl, inr, List, length, slice_index, Option, Some, None, sym, ap, ◌∙◌, arith}
 use Rattle.std.proofs.lemmas.Bool.{cases_order, cases_lt}
-use Rattle.table_walk_laws.specs.Walks.{after, Reaches, IsInjectiveBelow, IsSource, GoesOn, IsOrbit, last_of}
+use Rattle.table_walk_laws.specs.Walks.{after, Reaches, IsInjectiveBelow, IsSource, AlwaysSteps, IsOrbit, last_of}
 use Rattle.table_walk_laws.specs.Laws.{HasOrbit, HasReturn, HasEnd}
 use Rattle.basic_lemmas.proofs.Lists.{one_place}
 use Rattle.table_walk_laws.proofs.Places.{place_of}
@@ -13,7 +13,7 @@ last_there : (step : ℕ → Option ℕ) (start : ℕ) (places : List ℕ) → I
 last_there step start places o = let one : 1 ≤ length places = o.walk.some in after_walk step start places o.walk (length places - 1) (omega arith)
 
 -- if each number that the start reaches has a next one, the orbit returns to its start
-pub going_on_has_cycle : (step : ℕ → Option ℕ) (start : ℕ) → GoesOn step start → (places : List ℕ) → IsOrbit step start places → step (last_of places) ≡ Some start
+pub going_on_has_cycle : (step : ℕ → Option ℕ) (start : ℕ) → AlwaysSteps step start → (places : List ℕ) → IsOrbit step start places → step (last_of places) ≡ Some start
 going_on_has_cycle step start on places o = elim o.last [
   | inl back ↦ back
   | inr none ↦ absurd (on (last_of places) (length places - 1, last_there step start places o) none)
@@ -29,10 +29,10 @@ module _ (n : ℕ) (step : ℕ → Option ℕ) (start : ℕ) (h : IsInjectiveBel
 
   pub chain_ends : IsSource n step start → HasEnd n step start
   chain_ends source = let f = orbit_exists step start n h source.below in
-      let one : 1 ≤ length f.places = f.orbit.walk.some in let few : length f.places ≤ n = f.size in record {
+      let one : 1 ≤ length f.places = f.orbit.walk.some in let limited : length f.places ≤ n = f.size in record {
         end = last_of f.places;
         count = length f.places - 1;
-        few = omega arith;
+        limited = omega arith;
         there = last_there step start f.places f.orbit;
         nowhere = source_has_chain source f.places f.orbit;
       }
@@ -41,18 +41,18 @@ module _ (n : ℕ) (step : ℕ → Option ℕ) (start : ℕ) (h : IsInjectiveBel
   never_twice source i j x e f = (meet step n h start start i j x source source e f).1
 
   module _ (below : start < n) where
-    returns_after : GoesOn step start → (places : List ℕ) → IsOrbit step start places → after step start (length places) ≡ Some start
+    returns_after : AlwaysSteps step start → (places : List ℕ) → IsOrbit step start places → after step start (length places) ≡ Some start
     returns_after on places o = at_length step start places o.walk ∙ going_on_has_cycle step start on places o
 
-    pub comes_back : GoesOn step start → HasReturn n step start
+    pub comes_back : AlwaysSteps step start → HasReturn n step start
     comes_back on = let f = orbit_exists step start n h below in record {
       count = length f.places;
       some = f.orbit.walk.some;
-      few = f.size;
+      limited = f.size;
       there = returns_after on f.places f.orbit;
     }
 
-    pub reaches_back : GoesOn step start → (x : ℕ) → Reaches step start x → Reaches step x start
+    pub reaches_back : AlwaysSteps step start → (x : ℕ) → Reaches step start x → Reaches step x start
     reaches_back on x r = go (orbit_exists step start n h below)
       where
         go : HasOrbit n step start → Reaches step x start

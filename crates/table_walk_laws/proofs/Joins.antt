@@ -41,9 +41,9 @@ module _ (neighbours : ℕ → List ℕ) where
     back = λ turn x y p. leads_back (λ a b. Contains (neighbours a) b) turn x y p.0 p.1;
   }
 
-  turned : (x y : ℕ) → IsLink neighbours x y → IsLink neighbours y x
-  turned x y (inl h) = inr h
-  turned x y (inr h) = inl h
+  backwards : (x y : ℕ) → IsLink neighbours x y → IsLink neighbours y x
+  backwards x y (inl h) = inr h
+  backwards x y (inr h) = inl h
 
   straight : IsSymmetric neighbours → (x y : ℕ) → IsLink neighbours x y → Contains (neighbours x) y
   straight turn x y (inl h) = h
@@ -53,7 +53,7 @@ module _ (neighbours : ℕ → List ℕ) where
   links_like_equals = record {
     itself = λ x. ([], refl);
     onward = onward_by (IsLink neighbours);
-    back = λ x y p. leads_back (IsLink neighbours) turned x y p.0 p.1;
+    back = λ x y p. leads_back (IsLink neighbours) backwards x y p.0 p.1;
     from_joined = λ x y p. (p.0, leads_too (λ a b. Contains (neighbours a) b) (IsLink neighbours) (λ a b h. inl h) x y p.0 p.1);
     joined = λ turn x y p. (p.0, leads_too (IsLink neighbours) (λ a b. Contains (neighbours a) b) (straight turn) x y p.0 p.1);
   }

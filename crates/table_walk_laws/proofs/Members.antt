@@ -9,7 +9,7 @@ use Rattle.basic_lemmas.proofs.Members.{contains_at, contains_one}
 use Rattle.table_walk_laws.specs.Joined.{IsJoined, IsSymmetric, neighbours_of}
 use Rattle.table_walk_laws.specs.Search.{IsMarked, IsClosed, IsSearch, IsSearchStep, AreMembers, IsComponent}
 use Rattle.table_walk_laws.specs.Laws.{MarksJoined}
-use Rattle.table_walk_laws.proofs.SearchLemmas.{marked_is, marked_cases, still_marked, search_ends, new_start_is_apart, closed_holds_joined, turn_starts_in_front, turn_below}
+use Rattle.table_walk_laws.proofs.SearchLemmas.{marked_is, marked_cases, still_marked, search_ends, new_start_is_apart, closed_holds_joined, turn_starts_before, turn_below}
 
 pub members_start : (marked : List Bool) (start : ℕ) → start < length marked → slice_index_or marked start false ≡ false → AreMembers marked (set marked start true) (start ∷ [])
 members_start marked start l new = record {
@@ -75,7 +75,7 @@ next_member members i x l e = drop_more members i x l ∙ ap (λ a. a ∷ drop (
 
 pub member_turn : (neighbours : ℕ → List ℕ) (first marked : List Bool) (members : List ℕ) (i x : ℕ) → IsSearch neighbours first marked (drop i members) →
     i < length members → x ≡ slice_index_or members i x → IsSearchStep neighbours first x [] marked (drop (i + 1) members)
-member_turn neighbours first marked members i x s l e = turn_starts_in_front neighbours first x marked (drop i members) (drop (i + 1) members) s (next_member members i x l e)
+member_turn neighbours first marked members i x s l e = turn_starts_before neighbours first x marked (drop i members) (drop (i + 1) members) s (next_member members i x l e)
 
 pub member_below : (table : List (List (Option ℕ))) (first marked : List Bool) (members : List ℕ) (i x : ℕ) → IsSearch (neighbours_of table) first marked (drop i members) →
     i < length members → x ≡ slice_index_or members i x → length marked ≡ length table → x < length table

@@ -9,7 +9,7 @@ use Rattle.std.proofs.lemmas.List.FromFn.{length-range_with_len, get_or-range_wi
 use Rattle.table_walk_laws.specs.Joined.{IsJoined, IsSymmetric, HasNeighboursBelow}
 use Rattle.table_walk_laws.specs.Search.{IsClosed, IsSearch, IsSearchStep, AreMembers, IsComponent, work_left}
 use Rattle.table_walk_laws.specs.Classes.{AreNumbered, AreClassesUpTo}
-use Rattle.table_walk_laws.proofs.SearchLemmas.{search_begins, turn_starts_in_front, turn_marks, turn_passes, turn_ends, turn_below, has_few_turns}
+use Rattle.table_walk_laws.proofs.SearchLemmas.{search_begins, turn_starts_before, turn_marks, turn_passes, turn_ends, turn_below, has_few_turns}
 use Rattle.table_walk_laws.proofs.Members.{members_start, members_grow, members_are_component}
 use Rattle.table_walk_laws.proofs.ClassLemmas.{classes_start, classes_pass, classes_grow, classes_end, members_below}
 use Rattle.table_definitions.proofs.ClassLaws.{numbering_same}
@@ -72,7 +72,7 @@ module _ (n : ℕ) (neighbours : ℕ → List ℕ) (symmetric : IsSymmetric neig
   search_done before first fuel marked [] members l s m size = record { marked = marked; members = members; search = s; are = m; size = size }
   search_done before first zero marked (x ∷ pending) members l s m size = absurd (omega arith)
   search_done before first (suc fuel) marked (x ∷ pending) members l s m size =
-      let t : IsSearchStep neighbours first x [] marked pending = turn_starts_in_front neighbours first x marked (x ∷ pending) pending s refl in
+      let t : IsSearchStep neighbours first x [] marked pending = turn_starts_before neighbours first x marked (x ∷ pending) pending s refl in
       let lx : x < n = let b : x < length marked = turn_below neighbours first x [] marked pending t in omega arith in
       let d : IsTurned before first x (work_left marked pending) = turn_done before first x (neighbours x) [] marked pending members lx refl t m size in
       let less : work_left d.marked d.pending ≤ fuel = let w = d.same_work in omega arith in
@@ -117,7 +117,7 @@ module _ (n : ℕ) (neighbours : ℕ → List ℕ) (symmetric : IsSymmetric neig
         renumbered_entry members class classes x (All-contains (λ x. x < n) members x inside c) ∙ ap (λ b. if b then class else slice_index classes x) (contains_has members x c);
     others = λ x out. elim (cases_lt x n) [
       | inl l ↦ renumbered_entry members class classes x l ∙ ap (λ b. if b then class else slice_index classes x) (false_from_ne_true (has members x) (λ h. out (from_has members x h)))
-      | inr past ↦ get_or_past (renumbered members class classes) x 0 (omega (arith, length-renumbered members class classes)) ∙ sym (get_or_past classes x 0 (omega arith))
+      | inr exceeded ↦ get_or_past (renumbered members class classes) x 0 (omega (arith, length-renumbered members class classes)) ∙ sym (get_or_past classes x 0 (omega arith))
     ];
   }
 

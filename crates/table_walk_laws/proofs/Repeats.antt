@@ -34,18 +34,18 @@ repeats_or_not (x ∷ xs) = elim (found_or_not x xs) [
   | inl f ↦ inl (record { i = 0; j = suc f.0; before = omega arith; within = omega (arith, f.1); same = f.2 })
   | inr none ↦ elim (repeats_or_not xs) [
     | inl r ↦ inl (record { i = suc r.i; j = suc r.j; before = omega (arith, r.before); within = omega (arith, r.within); same = r.same })
-    | inr apart ↦ inr (all_apart none apart)
+    | inr separate ↦ inr (all_apart none separate)
   ]
 ]
   where
     all_apart : ((k d : ℕ) → k < length xs → x ≢ slice_index_or xs k d) → AllPairs (λ a b. a ≢ b) xs → AllPairs (λ a b. a ≢ b) (x ∷ xs)
-    all_apart none apart zero zero d l h = absurd (omega arith)
-    all_apart none apart zero (suc j) d l h = none j d (omega arith)
-    all_apart none apart (suc i) zero d l h = absurd (omega arith)
-    all_apart none apart (suc i) (suc j) d l h = apart i j d (omega arith) (omega arith)
+    all_apart none separate zero zero d l h = absurd (omega arith)
+    all_apart none separate zero (suc j) d l h = none j d (omega arith)
+    all_apart none separate (suc i) zero d l h = absurd (omega arith)
+    all_apart none separate (suc i) (suc j) d l h = separate i j d (omega arith) (omega arith)
 
 pub pigeonhole_lem : (n : ℕ) (xs : List ℕ) → All (λ x. x < n) xs → n < length xs → HasRepeat xs
 pigeonhole_lem n xs below more = elim (repeats_or_not xs) [
   | inl r ↦ r
-  | inr apart ↦ absurd (let l : length xs ≤ n = distinct_below n xs below apart in omega arith)
+  | inr separate ↦ absurd (let l : length xs ≤ n = distinct_below n xs below separate in omega arith)
 ]

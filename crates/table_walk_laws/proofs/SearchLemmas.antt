@@ -10,7 +10,7 @@ use Rattle.std.proofs.lemmas.List.Quantifiers.{all_pairs_push}
 use Rattle.basic_lemmas.proofs.Members.{contains_at, contains_one}
 use Rattle.table_walk_laws.specs.Joined.{LeadsBy, IsJoined, IsSymmetric}
 use Rattle.table_walk_laws.specs.Search.{IsMarked, IsClosed, IsSearch, IsSearchStep}
-use Rattle.table_walk_laws.specs.Laws.{HasFewTurns, MarksJoined}
+use Rattle.table_walk_laws.specs.Laws.{HasBoundedSteps, MarksJoined}
 use Rattle.table_walk_laws.proofs.Places.{place_of}
 use Rattle.table_walk_laws.proofs.Joins.{joined_more, joins_like_equals}
 
@@ -21,14 +21,14 @@ marked_is marked y l = get_or-set_same marked y true false l
 pub marked_below : (marked : List Bool) (x : ℕ) → IsMarked marked x → x < length marked
 marked_below marked x m = elim (cases_lt x (length marked)) [
   | inl l ↦ l
-  | inr past ↦ absurd (false≢true (sym (get_or_past marked x false past) ∙ m))
+  | inr exceeded ↦ absurd (false≢true (sym (get_or_past marked x false exceeded) ∙ m))
 ]
 
 pub still_marked : (marked : List Bool) (y x : ℕ) → IsMarked marked x → IsMarked (set marked y true) x
 still_marked marked y x m = elim (cases_eq x y) [
   | inl e ↦ elim (cases_lt y (length marked)) [
     | inl l ↦ subst (IsMarked (set marked y true)) (sym e) (marked_is marked y l)
-    | inr past ↦ absurd (false≢true (let q : slice_index_or marked x false ≡ false = get_or_past marked x false (omega arith) in sym q ∙ m))
+    | inr exceeded ↦ absurd (false≢true (let q : slice_index_or marked x false ≡ false = get_or_past marked x false (omega arith) in sym q ∙ m))
   ]
   | inr ne ↦ get_or-set_other marked y x true false ne ∙ m
 ]
@@ -42,7 +42,7 @@ marked_cases marked y x m = elim (cases_eq x y) [
 pub none_marked : (n x : ℕ) → slice_index_or (replicate n false) x false ≡ false
 none_marked n x = elim (cases_lt x n) [
   | inl l ↦ get_or-replicate n x false false l
-  | inr past ↦ get_or_past (replicate n false) x false (omega (arith, length-replicate n false))
+  | inr exceeded ↦ get_or_past (replicate n false) x false (omega (arith, length-replicate n false))
 ]
 
 in_front : (a : ℕ) (xs : List ℕ) (x : ℕ) → Contains xs x → Contains (a ∷ xs) x
@@ -95,15 +95,15 @@ module _ (neighbours : ℕ → List ℕ) where
           | inr e ↦ inl (contains_at (x ∷ pending) 0 a (omega arith) e)
         ]
       ];
-      distinct = apart;
+      distinct = separate;
     }
       where
-        apart : AllPairs (λ a b. a ≢ b) (x ∷ pending)
-        apart i zero d less k = absurd (omega arith)
-        apart zero (suc j) d less k = λ e. let l : j < length pending = omega arith in
+        separate : AllPairs (λ a b. a ≢ b) (x ∷ pending)
+        separate i zero d less k = absurd (omega arith)
+        separate zero (suc j) d less k = λ e. let l : j < length pending = omega arith in
             s.distinct j (length pending) d l (omega (arith, length_push pending x))
             (get_or_append_left pending (x ∷ []) d j l ∙ sym e ∙ sym (get_or_push pending x d (length pending) refl))
-        apart (suc i) (suc j) d less k = λ e. let l : i < length pending = omega arith in let m : j < length pending = omega arith in
+        separate (suc i) (suc j) d less k = λ e. let l : i < length pending = omega arith in let m : j < length pending = omega arith in
             s.distinct i j d (omega arith) (omega (arith, length_push pending x))
             (get_or_append_left pending (x ∷ []) d i l ∙ e ∙ sym (get_or_append_left pending (x ∷ []) d j m))
 
@@ -152,9 +152,9 @@ module _ (neighbours : ℕ → List ℕ) where
     done_marked = All-nil (IsMarked marked);
   }
 
-  pub turn_starts_in_front : (first : List Bool) (x : ℕ) (marked : List Bool) (before pending : List ℕ) →
+  pub turn_starts_before : (first : List Bool) (x : ℕ) (marked : List Bool) (before pending : List ℕ) →
       IsSearch neighbours first marked before → before ≡ x ∷ pending → IsSearchStep neighbours first x [] marked pending
-  turn_starts_in_front first x marked before pending s e = record { search = subst (IsSearch neighbours first marked) e s; done_marked = All-nil (IsMarked marked) }
+  turn_starts_before first x marked before pending s e = record { search = subst (IsSearch neighbours first marked) e s; done_marked = All-nil (IsMarked marked) }
 
   pub turn_marks : (first : List Bool) (x : ℕ) (done : List ℕ) (marked : List Bool) (pending : List ℕ) (y : ℕ) →
       IsSearchStep neighbours first x done marked pending → Contains (neighbours x) y → y < length marked → slice_index_or marked y false ≡ false →
@@ -212,7 +212,7 @@ unmarked_set marked y l new = let f : Bool → ℕ = λ b. cond (not b) 1 0 in
     let a : count_by not (set marked y true) + f (slice_index_or marked y false) ≡ count_by not marked + 0 = sum_by-set f marked y true false l in
     let b : f (slice_index_or marked y false) ≡ 1 = ap f new in omega arith
 
-pub has_few_turns : HasFewTurns
+pub has_few_turns : HasBoundedSteps
 has_few_turns = record {
   first = λ n. let e : count_by not (replicate n false) ≡ n * 1 = sum_by-replicate (λ b. cond (not b) 1 0) n false in omega arith;
   mark = λ marked pending y l new. omega (arith, unmarked_set marked y l new, length_push pending y);

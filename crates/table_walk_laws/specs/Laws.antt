@@ -1,7 +1,7 @@
 -- The laws of finite walks and searches.
 use Rattle.std.specs.Prelude.{◌≡◌, ◌≢◌, ℕ, suc, ◌<◌, ◌≤◌, ◌↔◌, List, [], ◌∷◌, ◌++◌, length, Option, Some, None, Bool, true, false, All, Contains, slice_index, slice_set, replicate, option_to_list}
 use Rattle.std.specs.List.{slice_index_or}
-use Rattle.table_walk_laws.specs.Walks.{after, Reaches, IsInjectiveBelow, IsUndoneBy, IsSource, GoesOn, IsOrbit, last_of}
+use Rattle.table_walk_laws.specs.Walks.{after, Reaches, IsInjectiveBelow, IsUndoneBy, IsSource, AlwaysSteps, IsOrbit, last_of}
 use Rattle.table_walk_laws.specs.Joined.{IsJoined, IsLinked, IsSymmetric}
 use Rattle.table_walk_laws.specs.Search.{IsMarked, IsClosed, IsJoinedToSome, IsSearch, IsSearchStep, AreMembers, IsComponent, work_left}
 use Rattle.table_walk_laws.specs.Classes.{AreNumbered, AreClassesUpTo}
@@ -40,7 +40,7 @@ OrbitHoldsReached = (step : ℕ → Option ℕ) (start : ℕ) (places : List ℕ
 pub record HasEnd (n : ℕ) (step : ℕ → Option ℕ) (start : ℕ) : Type 0 where
   pub end : ℕ
   pub count : ℕ
-  pub few : count < n
+  pub limited : count < n
   pub there : after step start count ≡ Some end
   pub nowhere : step end ≡ None
 
@@ -62,8 +62,8 @@ abbrev pub OneEnd : Type 0
 OneEnd = (step : ℕ → Option ℕ) (start x y : ℕ) → Reaches step start x → Reaches step start y → step x ≡ None → step y ≡ None → x ≡ y
 
 -- two sources that reach the same number are the same
-abbrev pub SourcesApart : Type 0
-SourcesApart = (n : ℕ) (step : ℕ → Option ℕ) (a b : ℕ) → IsInjectiveBelow n step → IsSource n step a → IsSource n step b →
+abbrev pub SourcesAreUnique : Type 0
+SourcesAreUnique = (n : ℕ) (step : ℕ → Option ℕ) (a b : ℕ) → IsInjectiveBelow n step → IsSource n step a → IsSource n step b →
     (x : ℕ) → Reaches step a x → Reaches step b x → a ≡ b
 
 -- the walk back
@@ -79,15 +79,15 @@ UndoneIsInjective = (n : ℕ) (step back : ℕ → Option ℕ) → IsUndoneBy st
 pub record HasReturn (n : ℕ) (step : ℕ → Option ℕ) (start : ℕ) : Type 0 where
   pub count : ℕ
   pub some : 1 ≤ count
-  pub few : count ≤ n
+  pub limited : count ≤ n
   pub there : after step start count ≡ Some start
 
 abbrev pub ComesBack : Type 0
-ComesBack = (n : ℕ) (step : ℕ → Option ℕ) (start : ℕ) → IsInjectiveBelow n step → start < n → GoesOn step start → HasReturn n step start
+ComesBack = (n : ℕ) (step : ℕ → Option ℕ) (start : ℕ) → IsInjectiveBelow n step → start < n → AlwaysSteps step start → HasReturn n step start
 
 -- so the orbit is a cycle, from whose last number the step leads back
 abbrev pub GoingOnHasCycle : Type 0
-GoingOnHasCycle = (step : ℕ → Option ℕ) (start : ℕ) → GoesOn step start → (places : List ℕ) → IsOrbit step start places → step (last_of places) ≡ Some start
+GoingOnHasCycle = (step : ℕ → Option ℕ) (start : ℕ) → AlwaysSteps step start → (places : List ℕ) → IsOrbit step start places → step (last_of places) ≡ Some start
 
 -- the first return: an orbit of as many numbers
 abbrev pub FirstReturnIsOrbit : Type 0
@@ -97,7 +97,7 @@ FirstReturnIsOrbit = (n : ℕ) (step : ℕ → Option ℕ) (start : ℕ) → IsI
 
 -- and what is reached reaches the start
 abbrev pub ReachesBack : Type 0
-ReachesBack = (n : ℕ) (step : ℕ → Option ℕ) (start : ℕ) → IsInjectiveBelow n step → start < n → GoesOn step start →
+ReachesBack = (n : ℕ) (step : ℕ → Option ℕ) (start : ℕ) → IsInjectiveBelow n step → start < n → AlwaysSteps step start →
     (x : ℕ) → Reaches step start x → Reaches step x start
 
 -- to be reached by a step is to be joined, where the step's number is the only neighbour
@@ -143,8 +143,8 @@ TurnStarts = (neighbours : ℕ → List ℕ) (first : List Bool) (x : ℕ) (mark
     IsSearch neighbours first marked before → before ≡ pending ++ x ∷ [] → IsSearchStep neighbours first x [] marked pending
 
 -- or the first
-abbrev pub TurnStartsInFront : Type 0
-TurnStartsInFront = (neighbours : ℕ → List ℕ) (first : List Bool) (x : ℕ) (marked : List Bool) (before pending : List ℕ) →
+abbrev pub TurnStartsBefore : Type 0
+TurnStartsBefore = (neighbours : ℕ → List ℕ) (first : List Bool) (x : ℕ) (marked : List Bool) (before pending : List ℕ) →
     IsSearch neighbours first marked before → before ≡ x ∷ pending → IsSearchStep neighbours first x [] marked pending
 
 -- it marks a neighbour, which becomes pending
@@ -172,8 +172,8 @@ abbrev pub SearchEnds : Type 0
 SearchEnds = (neighbours : ℕ → List ℕ) (first marked : List Bool) → IsSearch neighbours first marked [] → MarksJoined neighbours first marked
 
 -- with symmetric neighbours a start that was not marked is joined to nothing that was
-abbrev pub NewStartIsApart : Type 0
-NewStartIsApart = (neighbours : ℕ → List ℕ) (marked : List Bool) → IsSymmetric neighbours → IsClosed neighbours marked →
+abbrev pub NewStartIsDisconnected : Type 0
+NewStartIsDisconnected = (neighbours : ℕ → List ℕ) (marked : List Bool) → IsSymmetric neighbours → IsClosed neighbours marked →
     (start x : ℕ) → slice_index_or marked start false ≡ false → IsJoined neighbours start x → slice_index_or marked x false ≡ false
 
 -- the members of a search are kept in a list: at first the start, and then each number that is marked
@@ -210,7 +210,7 @@ ClassesEnd = (neighbours : ℕ → List ℕ) (n count : ℕ) (marked : List Bool
 
 -- all turns together are n at most: the work is n at first, a mark leaves it as it is, with its number pending, and to
 -- take a pending number lowers it
-pub record HasFewTurns : Type 0 where
+pub record HasBoundedSteps : Type 0 where
   pub first : (n : ℕ) → work_left (replicate n false) [] ≡ n
   pub mark : (marked : List Bool) (pending : List ℕ) (y : ℕ) → y < length marked → slice_index_or marked y false ≡ false →
       work_left (slice_set marked y true) (pending ++ y ∷ []) ≡ work_left marked pending

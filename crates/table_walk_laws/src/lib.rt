@@ -7,8 +7,8 @@
 //! begins with it, each the step from the one before; f maps its last number to the start or to nothing.
 #![tactic(auto)]
 
-ghost use Rattle.table_walk_laws.specs.Laws.{Pigeonhole, OrbitExists, OneOrbit, OrbitHoldsReached, ChainEnds, SourceHasChain, NeverTwice, OneEnd, SourcesApart, WalkBack, UndoneIsInjective, ComesBack, GoingOnHasCycle, FirstReturnIsOrbit, ReachesBack};
-ghost use Rattle.table_walk_laws.specs.Laws.{ReachedIsJoined, JoinedIsEquivalence, LinkedIsEquivalence, ClosedHoldsJoined, SearchBegins, NoneIsClosed, TurnStarts, TurnStartsInFront, TurnMarks, TurnPasses, TurnEnds, SearchEnds, NewStartIsApart, MembersStart, MembersGrow, MembersAreComponent, ClassesStart, ClassesPass, ClassesGrow, ClassesEnd, HasFewTurns};
+ghost use Rattle.table_walk_laws.specs.Laws.{Pigeonhole, OrbitExists, OneOrbit, OrbitHoldsReached, ChainEnds, SourceHasChain, NeverTwice, OneEnd, SourcesAreUnique, WalkBack, UndoneIsInjective, ComesBack, GoingOnHasCycle, FirstReturnIsOrbit, ReachesBack};
+ghost use Rattle.table_walk_laws.specs.Laws.{ReachedIsJoined, JoinedIsEquivalence, LinkedIsEquivalence, ClosedHoldsJoined, SearchBegins, NoneIsClosed, TurnStarts, TurnStartsBefore, TurnMarks, TurnPasses, TurnEnds, SearchEnds, NewStartIsDisconnected, MembersStart, MembersGrow, MembersAreComponent, ClassesStart, ClassesPass, ClassesGrow, ClassesEnd, HasBoundedSteps};
 
 /// Theorem: let a list have more than n members, all below n. Then it has a member twice.
 pub fn pigeonhole()
@@ -43,7 +43,7 @@ pub fn chains()
     ensures chain { SourceHasChain }
     ensures never_twice { NeverTwice }
     ensures one_end { OneEnd }
-    ensures apart { SourcesApart }
+    ensures separate { SourcesAreUnique }
 {}
 
 /// Lemma: let f and g be steps such that f(x) = y implies g(y) = x.
@@ -93,12 +93,12 @@ pub fn searches()
     ensures begins { SearchBegins }
     ensures none_is_closed { NoneIsClosed }
     ensures turn_starts { TurnStarts }
-    ensures turn_starts_in_front { TurnStartsInFront }
+    ensures turn_starts_before { TurnStartsBefore }
     ensures turn_marks { TurnMarks }
     ensures turn_passes { TurnPasses }
     ensures turn_ends { TurnEnds }
     ensures ends { SearchEnds }
-    ensures few_turns { HasFewTurns }
+    ensures bounded_steps { HasBoundedSteps }
 {}
 
 /// Lemma: let each number have a list of neighbours, symmetric in 1 and 4, and let marks be closed in 1 and 4.
@@ -110,7 +110,7 @@ pub fn searches()
 /// 4. At the end of a search from an unmarked start, a list that has exactly the new marks, each once, has exactly the
 ///    numbers to which the start is joined, and the marks are closed.
 pub fn components()
-    ensures new_start { NewStartIsApart }
+    ensures new_start { NewStartIsDisconnected }
     ensures members_start { MembersStart }
     ensures members_grow { MembersGrow }
     ensures members { MembersAreComponent }

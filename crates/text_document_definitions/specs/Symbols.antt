@@ -39,7 +39,7 @@ pub record LeavesAt (InGrammar : List Line → Type 0) (end : Place) (lines : Li
   pub before : List Placed
   pub symbol : Symbol
   pub after : List Placed
-  pub stands : symbols_of end lines ≡ before ++ (p, symbol) ∷ after
+  pub occurs : symbols_of end lines ≡ before ++ (p, symbol) ∷ after
   pub no_way_on : (others : List Line) (more : List Symbol) → plain (symbols_of end others) ≡ plain before ++ symbol ∷ more → InGrammar others → ⊥
 
 -- As the one before, and no symbol before p is such: what is before p has a continuation in the grammar.

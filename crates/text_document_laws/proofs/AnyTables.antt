@@ -57,8 +57,8 @@ none_read c tables d none e = let parts : ([] ≡ tables) × (c ≡ d) = ok_part
 
 tables_from_read : (most : List Line) (c : Reading) (tables : List (List Row)) (d : Reading) → length c.later ≤ length most → tables_from most c ≡ Ok (tables, d) → AreTo c tables
 unfolding tables_from
-tables_from_read [] c tables d few e = none_read c tables d (no_items c.later few) e
-tables_from_read (m ∷ most) c tables d few e = by_lines c.later refl (λ next ts last less f. tables_from_read most next ts last (omega arith) f) e
+tables_from_read [] c tables d limited e = none_read c tables d (no_items c.later limited) e
+tables_from_read (m ∷ most) c tables d limited e = by_lines c.later refl (λ next ts last less f. tables_from_read most next ts last (omega arith) f) e
   where
     by_lines : (ls : List Line) → c.later ≡ ls → ((next : Reading) (ts : List (List Row)) (last : Reading) → length next.later + 1 ≤ length c.later → tables_from most next ≡ Ok (ts, last) → AreTo next ts)
         → tables_on ls c (λ x. tables_from most x) ≡ Ok (tables, d) → AreTo c tables
@@ -89,17 +89,17 @@ found_next m most [] back c next rows ts (inr h) split e more = absurd h
 found_next m most (l ∷ front) back c next rows ts h split e more = found_on m most (front ++ back) l c next rows ts split e more
 
 tables_from_found : (most : List Line) (c : Reading) (tables : List (List Row)) → length c.later ≤ length most → AreTo c tables → AreTablesRead most c tables
-tables_from_found most c [] few h = found_none most c h
-tables_from_found [] c (rows ∷ ts) few h =
+tables_from_found most c [] limited h = found_none most c h
+tables_from_found [] c (rows ∷ ts) limited h =
     let some : length h.1 + 1 ≤ length (h.0 ++ h.1) = not_none h.0 h.1 rows h.3 in
     let same : length c.later ≡ length (h.0 ++ h.1) = ap (λ (ls : List Line). length ls) h.2 in
     absurd (omega (arith, some, same))
-tables_from_found (m ∷ most) c (rows ∷ ts) few h =
+tables_from_found (m ∷ most) c (rows ∷ ts) limited h =
     let block : (d : Reading) × (next_table_at c ≡ Ok (rows, d)) × (d.later ≡ h.1) = table_blocks.complete c rows h.0 h.1 h.2 h.3 in
     let some : length h.1 + 1 ≤ length (h.0 ++ h.1) = not_none h.0 h.1 rows h.3 in
     let same : length c.later ≡ length (h.0 ++ h.1) = ap (λ (ls : List Line). length ls) h.2 in
     let left : length (block.0).later ≡ length h.1 = ap (λ (ls : List Line). length ls) block.2 in
-    let fits : length (block.0).later ≤ length most = omega (arith, some, same, left, few) in
+    let fits : length (block.0).later ≤ length most = omega (arith, some, same, left, limited) in
     found_next m most h.0 h.1 c block.0 rows ts h.3 h.2 block.1 (tables_from_found most block.0 ts fits (subst (λ (ls : List Line). AreTables ls ts) (sym block.2) h.4))
 
 pub tables_read : (bytes : List ℕ) (tables : List (List Row)) → (tables_document bytes ≡ Ok tables) ↔ AreTables (lines_of bytes) tables

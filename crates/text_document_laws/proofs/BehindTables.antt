@@ -13,7 +13,7 @@ use Rattle.text_document_definitions.specs.Documents.{next_table_at}
 use Rattle.text_document_definitions.specs.Symbols.{Symbol, Placed, symbols_of, plain, FirstLeavesAt}
 use Rattle.text_document_laws.proofs.AnyTables.{next_of_begun}
 use Rattle.text_document_laws.proofs.Tables.{TableLines, table_read, TableFound, table_found}
-use Rattle.text_document_laws.proofs.Local.{left_symbols, shows, plain-append, regrouped, GoesOn}
+use Rattle.text_document_laws.proofs.Local.{left_symbols, shows, plain-append, regrouped, AlwaysSteps}
 use Rattle.text_document_laws.proofs.LocalLines.{rest_of_line, rest_here, line_split, behind_line}
 use Rattle.text_document_laws.proofs.LocalTables.{goes_any_table}
 use Rattle.text_document_laws.proofs.WordWays.{opens_rest}
@@ -71,7 +71,7 @@ first_line c rows d e =
     (b.0, b.1, t.split ∙ b.2)
 
 -- a table is read from c, and leaves d
-module _ (c : Reading) (rows : List Row) (d : Reading) (l : Line) (ls : List Line) (g : GoesOn any_table_at (begun l ls c) rows d) where
+module _ (c : Reading) (rows : List Row) (d : Reading) (l : Line) (ls : List Line) (g : AlwaysSteps any_table_at (begun l ls c) rows d) where
   -- the symbols of the table's lines
   abbrev table_front : List Placed
   table_front = g.front ++ rest_here d
@@ -92,7 +92,7 @@ module _ (InRest Whole : List Line → Type 0) (put : (table rest : List Line) (
   split_plain : (xs ys : List Placed) (ss : List Symbol) → plain (xs ++ ys) ++ ss ≡ plain xs ++ (plain ys ++ ss)
   split_plain xs ys ss = ap (λ (ts : List Symbol). ts ++ ss) (plain-append xs ys) ∙ append_assoc (plain xs) (plain ys) ss
 
-  first_at : (c : Reading) (rows : List Row) (d : Reading) (p : Place) (l : Line) (ls : List Line) → c.later ≡ l ∷ ls → TableLines c rows d → GoesOn any_table_at (begun l ls c) rows d → FirstLeavesAt InRest d.input_end d.later p
+  first_at : (c : Reading) (rows : List Row) (d : Reading) (p : Place) (l : Line) (ls : List Line) → c.later ≡ l ∷ ls → TableLines c rows d → AlwaysSteps any_table_at (begun l ls c) rows d → FirstLeavesAt InRest d.input_end d.later p
       → FirstLeavesAt Whole c.input_end c.later p
   first_at c rows d p l ls split t g h =
       let front : List Placed = g.front ++ rest_here d in
@@ -105,8 +105,8 @@ module _ (InRest Whole : List Line → Type 0) (put : (table rest : List Line) (
           before = front ++ before;
           symbol = h.leaves.symbol;
           after = h.leaves.after;
-          stands =
-              whole ∙ ap (λ (ss : List Placed). g.front ++ ss) (left_split d ∙ ap (λ (ss : List Placed). rest_here d ++ ss) h.leaves.stands)
+          occurs =
+              whole ∙ ap (λ (ss : List Placed). g.front ++ ss) (left_split d ∙ ap (λ (ss : List Placed). rest_here d ++ ss) h.leaves.occurs)
               ∙ sym (append_assoc g.front (rest_here d) (before ++ (p, h.leaves.symbol) ∷ h.leaves.after)) ∙ sym (append_assoc front before ((p, h.leaves.symbol) ∷ h.leaves.after));
           no_way_on =
               λ others more e w. (let u = taken others w in

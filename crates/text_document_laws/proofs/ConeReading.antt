@@ -16,30 +16,30 @@ use Rattle.text_document_laws.proofs.Links.{OnLine, Below, ReadsOn, ReadsBelow, 
 
 -- n coefficients, and what is read after them
 module _ {B : Type 0} where
-  abbrev Behind : ℕ → (List ℤ → OnLine B) → OnLine B
-  Behind n R x ws ls rest = (row : List ℤ) × (front : List (List ℕ)) × (others : List (List ℕ)) × (ws ≡ front ++ others) × AllZip (IsSigned 1000000) front row × (length row ≡ n) × R row x others ls rest
+  abbrev Across : ℕ → (List ℤ → OnLine B) → OnLine B
+  Across n R x ws ls rest = (row : List ℤ) × (front : List (List ℕ)) × (others : List (List ℕ)) × (ws ≡ front ++ others) × AllZip (IsSigned 1000000) front row × (length row ≡ n) × R row x others ls rest
 
-  from_none : (R : List ℤ → OnLine B) (x : B) (ws : List (List ℕ)) (ls rest : List Line) → Behind 0 R x ws ls rest → R [] x ws ls rest
+  from_none : (R : List ℤ → OnLine B) (x : B) (ws : List (List ℕ)) (ls rest : List Line) → Across 0 R x ws ls rest → R [] x ws ls rest
   from_none R x ws ls rest ([], [], others, s, z, many, h) = subst (λ (vs : List (List ℕ)). R [] x vs ls rest) (sym s) h
   from_none R x ws ls rest ([], v ∷ front, others, s, z, many, h) = absurd z
   from_none R x ws ls rest (y ∷ row, front, others, s, z, many, h) = absurd cc
 
   abbrev First : ℕ → (List ℤ → OnLine B) → OnLine B
-  First n R x ws ls rest = (z : ℤ) × (v : List ℕ) × (others : List (List ℕ)) × (ws ≡ v ∷ others) × IsSigned 1000000 v z × Behind n (λ r. R (z ∷ r)) x others ls rest
+  First n R x ws ls rest = (z : ℤ) × (v : List ℕ) × (others : List (List ℕ)) × (ws ≡ v ∷ others) × IsSigned 1000000 v z × Across n (λ r. R (z ∷ r)) x others ls rest
 
-  from_more : (n : ℕ) (R : List ℤ → OnLine B) (x : B) (ws : List (List ℕ)) (ls rest : List Line) → Behind (suc n) R x ws ls rest → First n R x ws ls rest
+  from_more : (n : ℕ) (R : List ℤ → OnLine B) (x : B) (ws : List (List ℕ)) (ls rest : List Line) → Across (suc n) R x ws ls rest → First n R x ws ls rest
   from_more n R x ws ls rest ([], front, others, s, z, many, h) = absurd cc
   from_more n R x ws ls rest (y ∷ row, [], others, s, z, many, h) = absurd z
   from_more n R x ws ls rest (y ∷ row, v ∷ front, others, s, z, many, h) = (y, v, front ++ others, s, z.0, (row, front, others, refl, z.1, cc, h))
 
-  on_coefficients : (n : ℕ) (more : List ℤ → Reader B) (R : List ℤ → OnLine B) → ((r : List ℤ) → ReadsOn (more r) (R r)) → ReadsOn (behind n more) (Behind n R)
+  on_coefficients : (n : ℕ) (more : List ℤ → Reader B) (R : List ℤ → OnLine B) → ((r : List ℤ) → ReadsOn (more r) (R r)) → ReadsOn (behind n more) (Across n R)
   unfolding coefficients_at
-  on_coefficients zero more R one = on_as (more []) (R []) (Behind 0 R) (λ x ws ls rest h. ([], [], ws, refl, tt, refl, h)) (from_none R) (one [])
+  on_coefficients zero more R one = on_as (more []) (R []) (Across 0 R) (λ x ws ls rest h. ([], [], ws, refl, tt, refl, h)) (from_none R) (one [])
   on_coefficients (suc n) more R one =
-      subst (λ (r : Reader B). ReadsOn r (Behind (suc n) R)) (λ i c. one_first n more c i)
-      (on_as _ (First n R) (Behind (suc n) R)
+      subst (λ (r : Reader B). ReadsOn r (Across (suc n) R)) (λ i c. one_first n more c i)
+      (on_as _ (First n R) (Across (suc n) R)
       (λ x ws ls rest (z, v, others, s, h, (row, front, last, t, zs, many, k)). (z ∷ row, v ∷ front, last, s ∙ ap (λ (vs : List (List ℕ)). v ∷ vs) t, (h, zs), ap suc many, k)) (from_more n R)
-      (on_word (signed_at 1000000) (IsSigned 1000000) (reads_signed 1000000) (behind_first n more) (λ z. Behind n (λ r. R (z ∷ r))) (λ z. on_coefficients n (λ r. more (z ∷ r)) (λ r. R (z ∷ r)) (λ r. one (z ∷ r)))))
+      (on_word (signed_at 1000000) (IsSigned 1000000) (reads_signed 1000000) (behind_first n more) (λ z. Across n (λ r. R (z ∷ r))) (λ z. on_coefficients n (λ r. more (z ∷ r)) (λ r. R (z ∷ r)) (λ r. one (z ∷ r)))))
 
 -- rows
 abbrev Closed : List ℤ → OnLine (List ℤ)
@@ -56,7 +56,7 @@ below_row columns =
           (record { ws = front; are_words = subst (AreWords l.tokens) (s ∙ ap (λ (vs : List (List ℕ)). front ++ vs) none ∙ append-nil front) a; coefficients = zs; many = many }),
     ))
     (λ row ls rest (l, split, h). (l, rest, h.ws, split, h.are_words, (row, h.ws, [], sym (append-nil h.ws), h.coefficients, h.many, (refl, (refl, refl)))))
-    (below_line (row_on columns) (Behind columns Closed) (on_coefficients columns closed_row Closed (λ r. on_end (λ end. Ok (r, end)) (λ x ls rest. (r ≡ x) × (ls ≡ rest)) (below_pure r))))
+    (below_line (row_on columns) (Across columns Closed) (on_coefficients columns closed_row Closed (λ r. on_end (λ end. Ok (r, end)) (λ x ls rest. (r ≡ x) × (ls ≡ rest)) (below_pure r))))
 
 below_rows : (n columns : ℕ) → ReadsBelow (cone_rows_at n columns) (AreLines (IsCoefficientLine columns) n)
 unfolding cone_rows_at

@@ -12,7 +12,7 @@ use Rattle.text_document_definitions.specs.Documents.{worded, next_table_at}
 use Rattle.text_document_definitions.specs.Symbols.{FirstLeavesAt}
 use Rattle.text_document_definitions.specs.TextForms.{AreTableText}
 use Rattle.text_document_definitions.specs.Blocks.{Block, block_at, blocks_on, blocks_from, blocks_document, AreBlockLines, AreBlocks, AreTableAndBlocks, AreTableAndBlocksText}
-use Rattle.text_document_laws.specs.FormLaws.{FaultsStandFirst}
+use Rattle.text_document_laws.specs.FormLaws.{FaultsComeFirst}
 use Rattle.text_document_laws.specs.FaultLaws.{SomeTableAndBlocks, BlocksFaultsLeaveFirst}
 use Rattle.text_document_laws.proofs.Tables.{table_read}
 use Rattle.text_document_laws.proofs.BlockReading.{BlockRead, block_read, BlockFound, block_found}
@@ -27,7 +27,7 @@ use Rattle.text_document_laws.proofs.TextReaders.{Read, next_text, left_only, Co
 use Rattle.text_document_laws.proofs.TextWays.{opens_next_text}
 use Rattle.text_document_laws.proofs.TextGrammar.{text_blocks}
 use Rattle.text_document_laws.proofs.TextEnds.{AtEnd, nothing, each_from, alike_each_from, from_nothing, well_each, each_sound, each_complete}
-use Rattle.text_document_laws.proofs.FirstFaults.{left_first, stands_first}
+use Rattle.text_document_laws.proofs.FirstFaults.{left_first, comes_first}
 use Rattle.text_document_laws.proofs.BehindTables.{first_behind}
 use Rattle.text_document_laws.proofs.FirstLines.{faults_ok, left_of}
 use Rattle.text_document_laws.proofs.Given.{Blocks, Whole}
@@ -106,9 +106,9 @@ document_faults bytes =
     (λ (u : ⊤ × Reading). each_from block_at (lines_of bytes) u.1) (copy_next_table (start_of bytes))
     (λ t p. behind_faults bytes t.0 t.1 p)
 
-pub blocks_faults_stand_first : FaultsStandFirst blocks_document AreTableAndBlocksText
+pub blocks_faults_stand_first : FaultsComeFirst blocks_document AreTableAndBlocksText
 blocks_faults_stand_first bytes f e =
-    stands_first (read (lines_of bytes)) AtEnd AreTableAndBlocksText (complete (lines_of bytes)) (sound (lines_of bytes)) bytes f.place
+    comes_first (read (lines_of bytes)) AtEnd AreTableAndBlocksText (complete (lines_of bytes)) (sound (lines_of bytes)) bytes f.place
     (well_read (lines_of bytes) (start_of bytes) f (document_faults bytes f e))
 
 -- after a table that was read

@@ -62,7 +62,7 @@ module _ (read : Reading → Read) (Aim : ⊤ → List Symbol → Type 0) (InGra
             before = front;
             symbol = symbol;
             after = after;
-            stands = parts.1;
+            occurs = parts.1;
             no_way_on =
                 λ others more e g. (let y : (y : ⊤ × Reading) × (read (with_lines c others) ≡ Ok y) = complete (with_lines c others) g in
                 same (with_lines c others) more
@@ -83,6 +83,6 @@ module _ (read : Reading → Read) (Aim : ⊤ → List Symbol → Type 0) (InGra
     left_first p u = by_front p u.0.front u.0.symbol u.0.after u.0.split u.0.same u.1 u.2
 
   -- as `left_first`, for a whole document
-  pub stands_first : (bytes : List ℕ) (p : Place) → (h : StopsAt read (start_of bytes) p) × (w : Way read h.front Aim) × (opening (shows w.other) ≡ opening (shows (start_of bytes)))
+  pub comes_first : (bytes : List ℕ) (p : Place) → (h : StopsAt read (start_of bytes) p) × (w : Way read h.front Aim) × (opening (shows w.other) ≡ opening (shows (start_of bytes)))
       → FirstLeavesAt InGrammar (end_of bytes) (lines_of bytes) p
-  stands_first bytes p u = left_first (start_of bytes) refl p u
+  comes_first bytes p u = left_first (start_of bytes) refl p u

@@ -14,7 +14,7 @@ use Rattle.text_document_definitions.specs.Grammar.{AreTableAndLines}
 use Rattle.text_document_definitions.specs.Documents.{worded, each_line_from, next_table_at, table_and_lines}
 use Rattle.text_document_definitions.specs.Symbols.{Symbol, FirstLeavesAt}
 use Rattle.text_document_definitions.specs.TextForms.{AreTableText, AreTextAndLines}
-use Rattle.text_document_laws.specs.FaultLaws.{SomeTableAndLines, FaultsBehindLeaveFirst}
+use Rattle.text_document_laws.specs.FaultLaws.{SomeTableAndLines, LaterFaultsLeaveFirst}
 use Rattle.text_document_laws.proofs.Blocks.{ReadsLine}
 use Rattle.text_document_laws.proofs.Tables.{table_blocks, table_read}
 use Rattle.text_document_laws.proofs.Local.{shows, Goes}
@@ -25,7 +25,7 @@ use Rattle.text_document_laws.proofs.TextReaders.{Read, next_text, left_only, Co
 use Rattle.text_document_laws.proofs.TextWays.{opens_next_text}
 use Rattle.text_document_laws.proofs.TextGrammar.{text_blocks}
 use Rattle.text_document_laws.proofs.TextEnds.{AtEnd, nothing, each_from, each_none, each_more, alike_each_from, from_nothing, well_each, each_sound, each_complete}
-use Rattle.text_document_laws.proofs.FirstFaults.{left_first, stands_first}
+use Rattle.text_document_laws.proofs.FirstFaults.{left_first, comes_first}
 use Rattle.text_document_laws.proofs.BehindTables.{first_behind}
 use Rattle.text_document_laws.proofs.HaveText.{forget}
 
@@ -60,9 +60,9 @@ module _ {A : Type 0} (form : Reading → Result (A × Reading) LexFault) (Form 
 
   copy_each : (most ls : List Line) (c : Reading) → c.later ≡ ls → length ls ≤ length most → Copies as_is left_only (each_line_from form ls c) (each_from form most c)
   unfolding each_line_from
-  copy_each most [] c split few = each_none form most c split
-  copy_each [] (l ∷ ls) c split few = absurd (omega arith)
-  copy_each (m ∷ most) (l ∷ ls) c split few = copy_line m most ls c l split (λ d later. copy_each most ls d later (omega arith))
+  copy_each most [] c split limited = each_none form most c split
+  copy_each [] (l ∷ ls) c split limited = absurd (omega arith)
+  copy_each (m ∷ most) (l ∷ ls) c split limited = copy_line m most ls c l split (λ d later. copy_each most ls d later (omega arith))
 
   abbrev read : List Line → Reading → Read
   read most c = next_text c >>= λ (u : ⊤ × Reading). each_from form most u.1
@@ -124,7 +124,7 @@ module _ {A : Type 0} (form : Reading → Result (A × Reading) LexFault) (Form 
 
     pub lines_faults_stand_first : (bytes : List ℕ) (f : LexFault) → table_and_lines form bytes ≡ Err (in_text f) → FirstLeavesAt (λ (lines : List Line). AreTextAndLines Value lines) (end_of bytes) (lines_of bytes) f.place
     lines_faults_stand_first bytes f e =
-        stands_first (read (lines_of bytes)) AtEnd (λ (lines : List Line). AreTextAndLines Value lines) (complete (lines_of bytes)) (sound (lines_of bytes)) bytes f.place
+        comes_first (read (lines_of bytes)) AtEnd (λ (lines : List Line). AreTextAndLines Value lines) (complete (lines_of bytes)) (sound (lines_of bytes)) bytes f.place
         (well_read (lines_of bytes) (start_of bytes) f (lines_faults bytes f e))
 
     -- after a table that was read
@@ -133,7 +133,7 @@ module _ {A : Type 0} (form : Reading → Result (A × Reading) LexFault) (Form 
         left_first (each_from form most) AtEnd Many (λ c h. each_complete form Many next_line most c h) (λ o u next r a. each_sound form Many tt one_line most o u next r (a next refl)) d none f.place
         (well_each form goes well most d f e)
 
-    pub lines_faults_leave_first : FaultsBehindLeaveFirst (table_and_lines form) (SomeTableAndLines Form)
+    pub lines_faults_leave_first : LaterFaultsLeaveFirst (table_and_lines form) (SomeTableAndLines Form)
     unfolding table_and_lines
     lines_faults_leave_first bytes rows d f table e =
         first_behind Many (SomeTableAndLines Form) put taken (start_of bytes) rows d f.place table

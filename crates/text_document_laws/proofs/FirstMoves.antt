@@ -7,7 +7,7 @@ use Rattle.move_definitions.proofs.MoveReadingLaws.{MoveRead, move_read, StepRea
 use Rattle.move_definitions.proofs.MoveFoundLaws.{move_found, step_found}
 use Rattle.text_document_definitions.specs.Documents.{steps_document, moves_document}
 use Rattle.text_document_definitions.specs.TextForms.{AreTableAndStepsText, AreTableAndMovesText}
-use Rattle.text_document_laws.specs.FormLaws.{FaultsStandFirst}
+use Rattle.text_document_laws.specs.FormLaws.{FaultsComeFirst}
 use Rattle.text_document_laws.specs.FaultLaws.{StepsFaultsLeaveFirst, MovesFaultsLeaveFirst}
 use Rattle.text_document_laws.proofs.Blocks.{ReadsLine}
 use Rattle.text_document_laws.proofs.MoveWays.{ends_move, ends_step}
@@ -25,10 +25,10 @@ reads_steps = record {
   complete = λ c s h. (let r : ReadsStep c s = step_found c s h in (r.left, r.read, r.later));
 }
 
-pub steps_faults_stand_first : FaultsStandFirst steps_document AreTableAndStepsText
+pub steps_faults_stand_first : FaultsComeFirst steps_document AreTableAndStepsText
 steps_faults_stand_first bytes f e = lines_faults_stand_first step_at IsStepLine reads_steps ends_step.goes ends_step.well bytes f e
 
-pub moves_faults_stand_first : FaultsStandFirst moves_document AreTableAndMovesText
+pub moves_faults_stand_first : FaultsComeFirst moves_document AreTableAndMovesText
 moves_faults_stand_first bytes f e = lines_faults_stand_first move_at IsMoveLine reads_moves ends_move.goes ends_move.well bytes f e
 
 pub steps_faults_leave_first : StepsFaultsLeaveFirst

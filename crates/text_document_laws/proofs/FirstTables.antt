@@ -13,7 +13,7 @@ use Rattle.signature_definitions.specs.SignatureText.{any_table_at}
 use Rattle.text_document_definitions.specs.Documents.{worded, no_line_from, next_table_at, tables_on, tables_from, table_document, two_tables_document, tables_document}
 use Rattle.text_document_definitions.specs.Symbols.{Symbol}
 use Rattle.text_document_definitions.specs.TextForms.{AreTableText, AreTwoTablesText, AreManyTablesText, AreTablesText}
-use Rattle.text_document_laws.specs.FormLaws.{FaultsStandFirst}
+use Rattle.text_document_laws.specs.FormLaws.{FaultsComeFirst}
 use Rattle.text_document_laws.proofs.Documents.{end_at}
 use Rattle.text_document_laws.proofs.Local.{shows}
 use Rattle.text_document_laws.proofs.LocalWords.{as_is}
@@ -25,7 +25,7 @@ use Rattle.text_document_laws.proofs.TextReaders.{Read, text_at, next_text, left
 use Rattle.text_document_laws.proofs.TextWays.{ends_text, opens_next_text}
 use Rattle.text_document_laws.proofs.TextGrammar.{text_taken, text_given, text_blocks}
 use Rattle.text_document_laws.proofs.TextEnds.{first_fault, refused_line, closing, Any, closing_none, none_closing, alike_closing, well_closing, alike_chained, AtEnd, nothing, each_from, well_each, each_sound, each_complete}
-use Rattle.text_document_laws.proofs.FirstFaults.{stands_first}
+use Rattle.text_document_laws.proofs.FirstFaults.{comes_first}
 use Rattle.text_document_laws.proofs.Given.{Tables}
 
 -- no line may follow
@@ -75,10 +75,10 @@ one_faults {X} x c =
     faults_bind in_text left_only (next_table_at c) (next_text c) (λ (s : List Row × Reading). end_at s.1 >>= λ (last : Reading). Ok (x, s.0)) (λ (u : ⊤ × Reading). closing u.1) (copy_next_table c)
     (λ s q. closing_faults (x, s.0) s.1)
 
-pub table_faults_stand_first : FaultsStandFirst table_document AreTableText
+pub table_faults_stand_first : FaultsComeFirst table_document AreTableText
 unfolding table_document
 table_faults_stand_first bytes f e =
-    stands_first one_text Any AreTableText one_complete one_sound bytes f.place
+    comes_first one_text Any AreTableText one_complete one_sound bytes f.place
     (well_one (start_of bytes) f
     (faults_bind in_text left_only (next_table_at (start_of bytes)) (next_text (start_of bytes)) (λ (t : List Row × Reading). end_at t.1 >>= λ (last : Reading). Ok t.0) (λ (u : ⊤ × Reading). closing u.1)
     (copy_next_table (start_of bytes)) (λ t p. closing_faults t.0 t.1) f e))
@@ -106,10 +106,10 @@ well_two : (c : Reading) → WellOpen as_is two_texts Any c
 well_two c =
     well_open as_is next_text (λ u. one_text) Any (λ u. alike_one) c (opens_next_text.goes c) (opens_next_text.well (Then (λ u. one_text) Any) sat_one.0.start sat_one.1 (λ u. from_sat one_text Any sat_one.0) c) (λ u d e. well_one d)
 
-pub two_tables_faults_stand_first : FaultsStandFirst two_tables_document AreTwoTablesText
+pub two_tables_faults_stand_first : FaultsComeFirst two_tables_document AreTwoTablesText
 unfolding two_tables_document
 two_tables_faults_stand_first bytes f e =
-    stands_first two_texts Any AreTwoTablesText two_complete two_sound bytes f.place
+    comes_first two_texts Any AreTwoTablesText two_complete two_sound bytes f.place
     (well_two (start_of bytes) f
     (faults_bind in_text left_only (next_table_at (start_of bytes)) (next_text (start_of bytes))
     (λ (t : List Row × Reading). next_table_at t.1 >>= λ (s : List Row × Reading). end_at s.1 >>= λ (last : Reading). Ok (t.0, s.0)) (λ (u : ⊤ × Reading). one_text u.1) (copy_next_table (start_of bytes))
@@ -155,11 +155,11 @@ well_line_text Aim k none a c = ends_text.well Aim k none a c
 pub many_sound : (most : List Line) (o : Reading) (u : ⊤) (next : Reading) → each_from text_at most o ≡ Ok (u, next) → AtEnd u (shows next) → AreTablesText o.later
 many_sound most o u next e a = each_sound text_at AreTablesText (0, refl) one_table most o u next e (a next refl)
 
-pub tables_faults_stand_first : FaultsStandFirst tables_document AreTablesText
+pub tables_faults_stand_first : FaultsComeFirst tables_document AreTablesText
 unfolding tables_document
 tables_faults_stand_first bytes f e =
     let most : List Line = lines_of bytes in
-    stands_first (each_from text_at most) AtEnd AreTablesText (each_complete text_at AreTablesText next_table most) (many_sound most) bytes f.place
+    comes_first (each_from text_at most) AtEnd AreTablesText (each_complete text_at AreTablesText next_table most) (many_sound most) bytes f.place
     (well_each text_at ends_text.goes well_line_text most (start_of bytes) f
     (copied (tables_from most (start_of bytes)) (each_from text_at most (start_of bytes)) (copy_tables most (start_of bytes)) e))
   where

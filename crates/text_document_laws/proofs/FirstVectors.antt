@@ -15,7 +15,7 @@ use Rattle.signature_definitions.specs.Grammar.{AreTableLines}
 use Rattle.text_document_definitions.specs.Grammar.{AreTableAndLines}
 use Rattle.text_document_definitions.specs.Documents.{worded, next_table_at, vectors_document, vector_document}
 use Rattle.text_document_definitions.specs.TextForms.{AreTableText, IsVectorText, AreTableAndVectorsText, AreTableAndVectorText}
-use Rattle.text_document_laws.specs.FormLaws.{FaultsStandFirst}
+use Rattle.text_document_laws.specs.FormLaws.{FaultsComeFirst}
 use Rattle.text_document_laws.specs.FaultLaws.{SomeTableAndVector, VectorsFaultsLeaveFirst, VectorFaultsLeaveFirst}
 use Rattle.text_document_laws.proofs.Tables.{table_read}
 use Rattle.text_document_laws.proofs.Documents.{reads_vectors, end_at}
@@ -31,14 +31,14 @@ use Rattle.text_document_laws.proofs.TextReaders.{Read, next_text, left_only, sh
 use Rattle.text_document_laws.proofs.TextWays.{opens_next_text}
 use Rattle.text_document_laws.proofs.TextGrammar.{text_blocks, begins, next_found}
 use Rattle.text_document_laws.proofs.TextEnds.{closing, Any, closing_none, none_closing, alike_closing, well_closing, alike_chained, nothing}
-use Rattle.text_document_laws.proofs.FirstFaults.{left_first, stands_first}
+use Rattle.text_document_laws.proofs.FirstFaults.{left_first, comes_first}
 use Rattle.text_document_laws.proofs.BehindTables.{first_behind}
 use Rattle.text_document_laws.proofs.HaveText.{one_line}
 use Rattle.text_document_laws.proofs.FirstTables.{closing_faults, from_closing}
 use Rattle.text_document_laws.proofs.FirstLines.{lines_faults_stand_first, lines_faults_leave_first}
 use Rattle.text_document_laws.proofs.Given.{Numbers}
 
-pub vectors_faults_stand_first : FaultsStandFirst vectors_document AreTableAndVectorsText
+pub vectors_faults_stand_first : FaultsComeFirst vectors_document AreTableAndVectorsText
 vectors_faults_stand_first bytes f e = lines_faults_stand_first vector_at IsVectorLine reads_vectors ends_vector.goes ends_vector.well bytes f e
 
 pub vectors_faults_leave_first : VectorsFaultsLeaveFirst
@@ -159,11 +159,11 @@ behind_faults rows d =
     (λ line q. faults_bind in_text (λ (v : Numbers). v) (worded (vector_at line)) (vector_at line) (λ (v : Numbers). end_at v.1 >>= λ (last : Reading). Ok (rows, v.0)) (λ (v : Numbers). closing v.1)
     (copy_worded (λ (v : Numbers). v) (vector_at line) (vector_at line) (copy_same (vector_at line))) (λ v s. closing_faults (rows, v.0) v.1))
 
-pub vector_faults_stand_first : FaultsStandFirst vector_document AreTableAndVectorText
+pub vector_faults_stand_first : FaultsComeFirst vector_document AreTableAndVectorText
 unfolding vector_document
 vector_faults_stand_first bytes f e =
     let c : Reading = start_of bytes in
-    stands_first read Any AreTableAndVectorText complete sound bytes f.place
+    comes_first read Any AreTableAndVectorText complete sound bytes f.place
     (well_read c f
     (faults_bind in_text left_only (next_table_at c) (next_text c) (λ (t : List Row × Reading). vector_on t.0 t.1) (λ (u : ⊤ × Reading). vector_line u.1) (copy_next_table c) (λ t p. behind_faults t.0 t.1) f e))
 

@@ -15,7 +15,7 @@ use Rattle.text_document_definitions.specs.Blocks.{blocks_document, AreTableAndB
 use Rattle.text_document_definitions.specs.Documents.{table_document, table_and_lines, vector_document, two_tables_document, tables_document}
 use Rattle.text_document_definitions.specs.Symbols.{LeavesAt}
 use Rattle.text_document_definitions.specs.TextForms.{AreTableText, AreTextAndLines, AreTableAndVectorText, AreTwoTablesText, AreTablesText}
-use Rattle.text_document_laws.specs.FormLaws.{AreRead, HaveForm, FaultsLeave, FaultsStandFirst, AreLaws, TableLaws, TwoTablesLaws, TablesLaws, VectorsLaws, VectorLaws, StepsLaws, MovesLaws, BlocksLaws}
+use Rattle.text_document_laws.specs.FormLaws.{AreRead, HaveForm, FaultsLeave, FaultsComeFirst, AreLaws, TableLaws, TwoTablesLaws, TablesLaws, VectorsLaws, VectorLaws, StepsLaws, MovesLaws, BlocksLaws}
 use Rattle.text_document_laws.proofs.Blocks.{ReadsLine}
 use Rattle.text_document_laws.proofs.Documents.{reads_vectors, table_document_read, two_tables_read, vector_document_read, lines_document_read, lines_document_found}
 use Rattle.text_document_laws.proofs.AnyTables.{tables_read}
@@ -28,13 +28,13 @@ use Rattle.text_document_laws.proofs.FirstMoves.{reads_steps, reads_moves, steps
 use Rattle.text_document_laws.proofs.FirstBlocks.{blocks_faults_stand_first}
 
 module _ {A : Type 0} (read : List ℕ → Result A InputFault) (grammar : List Line → A → Type 0) (form : List Line → Type 0) where
-  leave_with_form : HaveForm grammar form → FaultsStandFirst read form → FaultsLeave read grammar
+  leave_with_form : HaveForm grammar form → FaultsComeFirst read form → FaultsLeave read grammar
   leave_with_form has first bytes f e =
       let h : LeavesAt form (end_of bytes) (lines_of bytes) f.place = (first bytes f e).leaves in
-      record { before = h.before; symbol = h.symbol; after = h.after; stands = h.stands; no_way_on = λ others more shown g. h.no_way_on others more shown (has others g.0 g.1) }
+      record { before = h.before; symbol = h.symbol; after = h.after; occurs = h.occurs; no_way_on = λ others more shown g. h.no_way_on others more shown (has others g.0 g.1) }
 
-  lawful : AreRead read grammar → HaveForm grammar form → FaultsStandFirst read form → AreLaws A read grammar form
-  lawful reads has first = record { reads = reads; has_form = has; leaves = leave_with_form has first; stands_first = first }
+  lawful : AreRead read grammar → HaveForm grammar form → FaultsComeFirst read form → AreLaws A read grammar form
+  lawful reads has first = record { reads = reads; has_form = has; leaves = leave_with_form has first; comes_first = first }
 
 pub table_laws : TableLaws
 table_laws = lawful table_document AreTableLines AreTableText table_document_read tables_have_text table_faults_stand_first
@@ -52,7 +52,7 @@ module _ {A : Type 0} (line_at : Reading → Result (A × Reading) LexFault) (Is
   abbrev input : List Line → List Row × List A → Type 0
   input lines value = AreTableAndLines IsLine lines value.0 value.1
 
-  lines_laws : FaultsStandFirst (table_and_lines line_at) (AreTextAndLines (Value IsLine)) → AreLaws (List Row × List A) (table_and_lines line_at) input (AreTextAndLines (Value IsLine))
+  lines_laws : FaultsComeFirst (table_and_lines line_at) (AreTextAndLines (Value IsLine)) → AreLaws (List Row × List A) (table_and_lines line_at) input (AreTextAndLines (Value IsLine))
   lines_laws first =
       lawful (table_and_lines line_at) input (AreTextAndLines (Value IsLine))
       (λ bytes value. (lines_document_read line_at IsLine reads bytes value.0 value.1, lines_document_found line_at IsLine reads bytes value.0 value.1))

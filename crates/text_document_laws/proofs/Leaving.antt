@@ -67,7 +67,7 @@ leaves read InGrammar bytes p h found = record {
   before = h.front;
   symbol = h.symbol;
   after = h.after;
-  stands = h.split;
+  occurs = h.split;
   no_way_on = λ others more e g. (let r = found others g in h.same (start_with bytes others) more e r.0 r.1);
 }
 

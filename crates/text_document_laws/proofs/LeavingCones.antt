@@ -13,7 +13,7 @@ use Rattle.text_document_definitions.specs.Symbols.{Symbol, line_end, input_end,
 use Rattle.text_document_laws.specs.FaultLaws.{ConeFaultsLeave, SomeCone}
 use Rattle.text_document_laws.proofs.ConeReading.{ConeRead, cone_read}
 use Rattle.text_document_laws.proofs.Cones.{closed_cone, cone_on, cone_document_found}
-use Rattle.text_document_laws.proofs.Local.{shows, opening, plain-append, GoesOn, StopsAt, bind_err, stops_early, stops_late, alone, alone_bind, moved}
+use Rattle.text_document_laws.proofs.Local.{shows, opening, plain-append, AlwaysSteps, StopsAt, bind_err, stops_early, stops_late, alone, alone_bind, moved}
 use Rattle.text_document_laws.proofs.LocalWords.{StopsHere, stops_end_here}
 use Rattle.text_document_laws.proofs.LocalLines.{by_lines, in_line, rest_here, line_split, behind_line as behind_rest, no_input_end, none_stop}
 use Rattle.text_document_laws.proofs.Leaving.{StopsBehind, behind_end, behind_line, start_with, leaves, no_line_alone}
@@ -120,7 +120,7 @@ pub cut_shows : (d : Reading) → shows (cut d) ≡ plain (rest_here d) ++ input
 unfolding symbols_of
 cut_shows d = ap plain (line_split d.current.number d.current.tokens d.current.end ((d.input_end, input_end) ∷ [])) ∙ plain-append (rest_here d) ((d.input_end, input_end) ∷ [])
 
-first_past_cone : (bytes : List ℕ) (l : Line) (ls : List Line) (p : Place) (cone : Cone) (d : Reading) → lines_of bytes ≡ l ∷ ls → GoesOn cone_at (begun l ls (start_of bytes)) cone d → StopsPast (closed_cone cone) d p → First bytes p
+first_past_cone : (bytes : List ℕ) (l : Line) (ls : List Line) (p : Place) (cone : Cone) (d : Reading) → lines_of bytes ≡ l ∷ ls → AlwaysSteps cone_at (begun l ls (start_of bytes)) cone d → StopsPast (closed_cone cone) d p → First bytes p
 first_past_cone bytes l ls p cone d split g h =
     let c : Reading = start_of bytes in
     let gr : (o : Reading) × (shows o ≡ plain g.front ++ shows (cut d)) = graft (begun l ls c) g.front d g.split (cut d) in

@@ -27,7 +27,7 @@ pub plain-append : (xs ys : List Placed) → plain (xs ++ ys) ≡ plain xs ++ pl
 plain-append xs ys = map-append (λ (s : Placed). s.1) xs ys
 
 -- the symbols that are read, and the same result from a reading with the same symbols up to and including the next one
-pub record GoesOn {A E : Type 0} (read : Reading → Result (A × Reading) E) (c : Reading) (x : A) (d : Reading) : Type 0 where
+pub record AlwaysSteps {A E : Type 0} (read : Reading → Result (A × Reading) E) (c : Reading) (x : A) (d : Reading) : Type 0 where
   pub front : List Placed
   pub split : left_symbols c ≡ front ++ left_symbols d
   pub same : (other : Reading) (more : List Symbol) → shows other ≡ plain front ++ more → opening more ≡ opening (shows d) → (next : Reading) × (read other ≡ Ok (x, next)) × (shows next ≡ more)
@@ -45,7 +45,7 @@ abbrev pub WhereRead : {A E : Type 0} → (Reading → Result (A × Reading) E) 
 WhereRead {A} read c P = (x : A) (d : Reading) → read c ≡ Ok (x, d) → P x d
 
 abbrev pub Goes : {A E : Type 0} → (Reading → Result (A × Reading) E) → Reading → Type 0
-Goes read c = WhereRead read c (GoesOn read c)
+Goes read c = WhereRead read c (AlwaysSteps read c)
 
 pub bind_err : {A B E : Type 0} (r : Result A E) (g : A → Result B E) (e : E) → (r >>= g) ≡ Err e → (r ≡ Err e) ⊎ ((x : A) × (r ≡ Ok x) × (g x ≡ Err e))
 bind_err (Ok x) g e p = inr (x, refl, p)
@@ -62,7 +62,7 @@ module _ {A B E : Type 0} (first : Reading → Result (A × Reading) E) (second 
   abbrev pub chained : Reading → Result (B × Reading) E
   chained c = first c >>= λ (y : A × Reading). second y.0 y.1
 
-  abbrev pub goes_joined : (c : Reading) (x : A) (d : Reading) (z : B) (last : Reading) → GoesOn first c x d → GoesOn (second x) d z last → GoesOn chained c z last
+  abbrev pub goes_joined : (c : Reading) (x : A) (d : Reading) (z : B) (last : Reading) → AlwaysSteps first c x d → AlwaysSteps (second x) d z last → AlwaysSteps chained c z last
   goes_joined c x d z last g h = record {
     front = g.front ++ h.front;
     split = g.split ∙ ap (λ (ss : List Placed). g.front ++ ss) h.split ∙ sym (append_assoc g.front h.front (left_symbols last));
@@ -82,7 +82,7 @@ module _ {A X E : Type 0} (first : Reading → Result (A × Reading) E) (second 
   abbrev pub ended : Reading → Result X E
   ended c = first c >>= λ (y : A × Reading). second y.0 y.1
 
-  abbrev pub stops_late : (c : Reading) (x : A) (d : Reading) (p : Place) → GoesOn first c x d → StopsAt (second x) d p → StopsAt ended c p
+  abbrev pub stops_late : (c : Reading) (x : A) (d : Reading) (p : Place) → AlwaysSteps first c x d → StopsAt (second x) d p → StopsAt ended c p
   stops_late c x d p g h = record {
     front = g.front ++ h.front;
     symbol = h.symbol;
@@ -111,7 +111,7 @@ module _ {A X E : Type 0} (first : Reading → Result (A × Reading) E) (second 
 pub goes_pure : {A E : Type 0} (x : A) (c : Reading) → Goes {A = A} {E = E} (λ d. Ok (x, d)) c
 goes_pure {A} {E} x c y d e =
     let parts : (x ≡ y) × (c ≡ d) = ok_parts (x, c) (y, d) e in
-    subst (λ (z : A). GoesOn {A = A} {E = E} (λ d. Ok (x, d)) c z d) parts.0 (subst (λ (r : Reading). GoesOn {A = A} {E = E} (λ d. Ok (x, d)) c x r) parts.1 (record { front = []; split = refl; same = λ other more s o. (other, refl, s) }))
+    subst (λ (z : A). AlwaysSteps {A = A} {E = E} (λ d. Ok (x, d)) c z d) parts.0 (subst (λ (r : Reading). AlwaysSteps {A = A} {E = E} (λ d. Ok (x, d)) c x r) parts.1 (record { front = []; split = refl; same = λ other more s o. (other, refl, s) }))
 
 -- readers with the same results
 pub of_same : {X : Type 0} (P : (Reading → X) → Type 0) (r s : Reading → X) → ((c : Reading) → r c ≡ s c) → P r → P s
@@ -152,5 +152,5 @@ lift_of {X} {E} {F} lift ok err = record { lowered = lowered; lifted = λ r x e.
 
 pub goes_lifted : {A E F : Type 0} (lift : Result (A × Reading) E → Result (A × Reading) F) → Lift lift → (r : Reading → Result (A × Reading) E) (c : Reading) → Goes r c → Goes (λ d. lift (r d)) c
 goes_lifted lift l r c g x d e =
-    let h : GoesOn r c x d = g x d (l.lowered (r c) (x, d) e) in
+    let h : AlwaysSteps r c x d = g x d (l.lowered (r c) (x, d) e) in
     record { front = h.front; split = h.split; same = λ other more s o. (let n : (next : Reading) × (r other ≡ Ok (x, next)) × (shows next ≡ more) = h.same other more s o in (n.0, l.lifted (r other) (x, n.0) n.1, n.2)) }

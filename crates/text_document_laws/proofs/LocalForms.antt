@@ -60,22 +60,22 @@ signed_word max c =
 
 -- an expected word
 unfoldable pub exact_test : List ℕ → List ℕ → Result ⊤ LexKind
-exact_test wanted w = if same_word w wanted then Ok tt else Err BadWord
+exact_test expected w = if same_word w expected then Ok tt else Err BadWord
 
 abbrev pub exactly : List ℕ → Reading → Result (⊤ × Reading) LexFault
-exactly wanted c = moved (exactly_at wanted) c
+exactly expected c = moved (exactly_at expected) c
 
-pub exact_word : (wanted : List ℕ) (c : Reading) → word_with (exact_test wanted) c ≡ exactly wanted c
+pub exact_word : (expected : List ℕ) (c : Reading) → word_with (exact_test expected) c ≡ exactly expected c
 unfolding exactly_at exact_test
-exact_word wanted c = by_word (word_at c)
+exact_word expected c = by_word (word_at c)
   where
     by_test : (w : List ℕ × Reading) (b : Bool) → tested (if◌then◌else◌ {A = Result ⊤ LexKind} b (Ok tt) (Err BadWord)) w.1 ≡ alone (if◌then◌else◌ {A = Result Reading LexFault} b (Ok w.1) (Err (word_fault w.1 BadWord)))
     by_test w true = refl
     by_test w false = refl
 
-    by_word : (r : Result (List ℕ × Reading) LexFault) → (r >>= λ (w : List ℕ × Reading). tested (exact_test wanted w.0) w.1)
-        ≡ alone (r >>= λ (w : List ℕ × Reading). if same_word w.0 wanted then Ok w.1 else Err (word_fault w.1 BadWord))
-    by_word (Ok w) = by_test w (same_word w.0 wanted)
+    by_word : (r : Result (List ℕ × Reading) LexFault) → (r >>= λ (w : List ℕ × Reading). tested (exact_test expected w.0) w.1)
+        ≡ alone (r >>= λ (w : List ℕ × Reading). if same_word w.0 expected then Ok w.1 else Err (word_fault w.1 BadWord))
+    by_word (Ok w) = by_test w (same_word w.0 expected)
     by_word (Err f) = refl
 
 -- numbers to the end of a line

@@ -10,7 +10,7 @@ use Rattle.text_definitions.specs.Reading.{Reading, begun, need_line_at, line_fr
 use Rattle.text_document_definitions.specs.Symbols.{Symbol, line_end, input_end, Placed, token_symbol, line_symbols, symbols_of, plain}
 use Rattle.table_definitions.proofs.ReadingLaws.{ok_parts, with_tokens}
 use Rattle.table_definitions.proofs.LineLaws.{line_found}
-use Rattle.text_document_laws.proofs.Local.{left_symbols, shows, opening, opening_more, plain-append, regrouped, GoesOn, StopsAt, Goes, alone, moved}
+use Rattle.text_document_laws.proofs.Local.{left_symbols, shows, opening, opening_more, plain-append, regrouped, AlwaysSteps, StopsAt, Goes, alone, moved}
 use Rattle.text_document_laws.proofs.LocalWords.{end_there}
 
 -- the remaining tokens of a line, and its end
@@ -71,11 +71,11 @@ split_line c l ls e =
     ∙ line_split c.current.number c.current.tokens c.current.end (left_symbols (begun l ls c))
 
 -- the next line
-goes_line_in : (ls : List Line) (c : Reading) → c.later ≡ ls → (x : ⊤) (d : Reading) → alone (line_from ls c) ≡ Ok (x, d) → GoesOn (moved need_line_at) c x d
+goes_line_in : (ls : List Line) (c : Reading) → c.later ≡ ls → (x : ⊤) (d : Reading) → alone (line_from ls c) ≡ Ok (x, d) → AlwaysSteps (moved need_line_at) c x d
 goes_line_in [] c split x d e = absurd cc
 goes_line_in (l ∷ ls) c split x d e =
     let parts : (tt ≡ x) × (begun l ls c ≡ d) = ok_parts (tt, begun l ls c) (x, d) e in
-    let made : GoesOn (moved need_line_at) c tt (begun l ls c) = record {
+    let made : AlwaysSteps (moved need_line_at) c tt (begun l ls c) = record {
       front = rest_here c;
       split = split_line c l ls split;
       same =
@@ -83,7 +83,7 @@ goes_line_in (l ∷ ls) c split x d e =
           let f : Further other more = further c other more s none in
           (begun f.line f.rest other, ap alone (line_found other f.line f.rest f.lines), f.there));
     } in
-    subst (λ (y : ⊤). GoesOn (moved need_line_at) c y d) parts.0 (subst (λ (r : Reading). GoesOn (moved need_line_at) c tt r) parts.1 made)
+    subst (λ (y : ⊤). AlwaysSteps (moved need_line_at) c y d) parts.0 (subst (λ (r : Reading). AlwaysSteps (moved need_line_at) c tt r) parts.1 made)
 
 pub goes_line : (c : Reading) → Goes (moved need_line_at) c
 unfolding need_line_at
@@ -169,19 +169,19 @@ module _ {A E : Type 0} (x : A) (go : Reading → Result (A × Reading) E) where
   more_in [] other n = absurd (n (ends_shown [] other refl))
   more_in (t ∷ ts) other n = refl
 
-  goes_end_in : (ts : List Token) (c : Reading) → c.current.tokens ≡ ts → ((t : Token) (us : List Token) → c.current.tokens ≡ t ∷ us → Goes go c) → (y : A) (d : Reading) → by_ends x go ts c ≡ Ok (y, d) → GoesOn by_end c y d
+  goes_end_in : (ts : List Token) (c : Reading) → c.current.tokens ≡ ts → ((t : Token) (us : List Token) → c.current.tokens ≡ t ∷ us → Goes go c) → (y : A) (d : Reading) → by_ends x go ts c ≡ Ok (y, d) → AlwaysSteps by_end c y d
   goes_end_in [] c split g y d e =
       let parts : (x ≡ y) × (c ≡ d) = ok_parts (x, c) (y, d) e in
-      let made : GoesOn by_end c x c = record {
+      let made : AlwaysSteps by_end c x c = record {
         front = [];
         split = refl;
         same =
             λ other more s o. (let none : other.current.tokens ≡ [] = end_there other.current.tokens other (ap opening s ∙ o ∙ ends_shown c.current.tokens c split) in
             (other, ap (λ (ts : List Token). by_ends x go ts other) none, s));
       } in
-      subst (λ (z : A). GoesOn by_end c z d) parts.0 (subst (λ (r : Reading). GoesOn by_end c x r) parts.1 made)
+      subst (λ (z : A). AlwaysSteps by_end c z d) parts.0 (subst (λ (r : Reading). AlwaysSteps by_end c x r) parts.1 made)
   goes_end_in (t ∷ ts) c split g y d e =
-      let h : GoesOn go c y d = g t ts split y d e in
+      let h : AlwaysSteps go c y d = g t ts split y d e in
       record {
         front = h.front;
         split = h.split;

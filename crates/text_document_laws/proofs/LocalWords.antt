@@ -9,7 +9,7 @@ use Rattle.text_definitions.specs.Text.{Token, word, stray}
 use Rattle.text_definitions.specs.Reading.{Reading, ◌>>=◌, column_at, fault_at, word_fault, word_at, end_line_at, end_from}
 use Rattle.text_document_definitions.specs.Symbols.{Symbol, shown, strange, line_end, line_symbols, symbols_of}
 use Rattle.table_definitions.proofs.ReadingLaws.{ok_parts, with_tokens, behind}
-use Rattle.text_document_laws.proofs.Local.{left_symbols, shows, opening, GoesOn, StopsAt, Goes, alone, moved}
+use Rattle.text_document_laws.proofs.Local.{left_symbols, shows, opening, AlwaysSteps, StopsAt, Goes, alone, moved}
 
 abbrev pub as_is : LexFault → LexFault
 as_is f = f
@@ -63,7 +63,7 @@ module _ {A : Type 0} (test : List ℕ → Result A LexKind) where
       let next : Reading = with_tokens v.1 (behind v.0 other) in
       (next, ap (λ (ts : List Token). read (with_tokens ts other)) v.2 ∙ at_word v.0 w v.1 other ∙ ap (λ (q : Result A LexKind). tested q next) t, v.3)
 
-  taken : (column : ℕ) (w : List ℕ) (ts : List Token) (c : Reading) (x : A) → test w ≡ Ok x → GoesOn read (with_tokens (word column w ∷ ts) c) x (with_tokens ts (behind column c))
+  taken : (column : ℕ) (w : List ℕ) (ts : List Token) (c : Reading) (x : A) → test w ≡ Ok x → AlwaysSteps read (with_tokens (word column w ∷ ts) c) x (with_tokens ts (behind column c))
   unfolding line_symbols
   taken column w ts c x t = record {
     front = (column_at c column, shown w) ∷ [];
@@ -77,11 +77,11 @@ module _ {A : Type 0} (test : List ℕ → Result A LexKind) where
   goes_here (stray column ∷ ts) c x d e = absurd cc
   goes_here (word column w ∷ ts) c x d e = by_test (test w) refl e
     where
-      by_test : (r : Result A LexKind) → test w ≡ r → tested r (with_tokens ts (behind column c)) ≡ Ok (x, d) → GoesOn read (with_tokens (word column w ∷ ts) c) x d
+      by_test : (r : Result A LexKind) → test w ≡ r → tested r (with_tokens ts (behind column c)) ≡ Ok (x, d) → AlwaysSteps read (with_tokens (word column w ∷ ts) c) x d
       by_test (Err k) t e = absurd cc
       by_test (Ok y) t e =
           let parts : (y ≡ x) × (with_tokens ts (behind column c) ≡ d) = ok_parts (y, with_tokens ts (behind column c)) (x, d) e in
-          subst (λ (r : Reading). GoesOn read (with_tokens (word column w ∷ ts) c) x r) parts.1 (taken column w ts c x (t ∙ ap (λ (z : A). Ok z) parts.0))
+          subst (λ (r : Reading). AlwaysSteps read (with_tokens (word column w ∷ ts) c) x r) parts.1 (taken column w ts c x (t ∙ ap (λ (z : A). Ok z) parts.0))
 
   pub goes_word : (c : Reading) → Goes read c
   goes_word c = goes_here c.current.tokens c
@@ -142,8 +142,8 @@ goes_end_here : (ts : List Token) (c : Reading) → Goes (moved end_line_at) (wi
 unfolding end_line_at line_symbols
 goes_end_here [] c x d e =
     let parts : (tt ≡ x) × (with_tokens [] c ≡ d) = ok_parts (tt, with_tokens [] c) (x, d) e in
-    subst (λ (y : ⊤). GoesOn (moved end_line_at) (with_tokens [] c) y d) parts.0
-    (subst (λ (r : Reading). GoesOn (moved end_line_at) (with_tokens [] c) tt r) parts.1 (record { front = []; split = refl; same = λ other more s o. (other, ends_again other (ap opening s ∙ o), s) }))
+    subst (λ (y : ⊤). AlwaysSteps (moved end_line_at) (with_tokens [] c) y d) parts.0
+    (subst (λ (r : Reading). AlwaysSteps (moved end_line_at) (with_tokens [] c) tt r) parts.1 (record { front = []; split = refl; same = λ other more s o. (other, ends_again other (ap opening s ∙ o), s) }))
 goes_end_here (stray column ∷ ts) c x d e = absurd cc
 goes_end_here (word column w ∷ ts) c x d e = absurd cc
 

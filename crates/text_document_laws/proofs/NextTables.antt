@@ -9,7 +9,7 @@ use Rattle.table_definitions.specs.Table.{Row}
 use Rattle.signature_definitions.specs.declared.InputFault.{InputFault}
 use Rattle.text_document_definitions.specs.Documents.{next_table_at}
 use Rattle.text_document_definitions.specs.TextForms.{AreTableText}
-use Rattle.text_document_laws.specs.TableLaws.{ReadsTable, AnyTablesAreRead, BeginWithTableText, AnyTableFaultsStandFirst}
+use Rattle.text_document_laws.specs.TableLaws.{ReadsTable, AnyTablesAreRead, BeginWithTableText, AnyTableFaultsComeFirst}
 use Rattle.text_document_laws.proofs.Local.{shows}
 use Rattle.text_document_laws.proofs.LocalTables.{in_text}
 use Rattle.text_document_laws.proofs.Tables.{TableLines, table_read, TableFound, table_found}
@@ -38,6 +38,6 @@ refused_too : (r : Result (List Row × Reading) InputFault) (s : Read) (f : LexF
 refused_too (Ok x) s f c e = absurd cc
 refused_too (Err g) s f c e = (let same : g ≡ in_text f = cc in c f same)
 
-pub any_table_faults_stand_first : AnyTableFaultsStandFirst
+pub any_table_faults_stand_first : AnyTableFaultsComeFirst
 any_table_faults_stand_first c f none e =
     left_first next_text Any BeginWithTableText complete sound c none f.place (opens_next_text.well Any nothing refl (λ u. tt) c f (refused_too (next_table_at c) (next_text c) f (copy_next_table c) e))

@@ -49,8 +49,8 @@ none_read c blocks d none e = let parts : ([] ≡ blocks) × (c ≡ d) = ok_part
 
 blocks_from_read : (most : List Line) (c : Reading) (blocks : List Block) (d : Reading) → length c.later ≤ length most → blocks_from most c ≡ Ok (blocks, d) → AreTo c blocks
 unfolding blocks_from
-blocks_from_read [] c blocks d few e = none_read c blocks d (no_items c.later few) e
-blocks_from_read (m ∷ most) c blocks d few e = by_lines c.later refl (λ next bs last less f. blocks_from_read most next bs last (omega arith) f) e
+blocks_from_read [] c blocks d limited e = none_read c blocks d (no_items c.later limited) e
+blocks_from_read (m ∷ most) c blocks d limited e = by_lines c.later refl (λ next bs last less f. blocks_from_read most next bs last (omega arith) f) e
   where
     by_lines : (ls : List Line) → c.later ≡ ls → ((next : Reading) (bs : List Block) (last : Reading) → length next.later + 1 ≤ length c.later → blocks_from most next ≡ Ok (bs, last) → AreTo next bs)
         → blocks_on ls c (λ x. blocks_from most x) ≡ Ok (blocks, d) → AreTo c blocks
@@ -81,20 +81,20 @@ begins [] block h = absurd h
 begins (l ∷ ls) block h = (l, ls, refl)
 
 blocks_from_found : (most : List Line) (c : Reading) (blocks : List Block) → length c.later ≤ length most → AreTo c blocks → AreBlocksRead most c blocks
-blocks_from_found most c [] few h = found_none most c h
-blocks_from_found [] c (block ∷ bs) few h =
+blocks_from_found most c [] limited h = found_none most c h
+blocks_from_found [] c (block ∷ bs) limited h =
     let b : (l : Line) × (ls : List Line) × (h.0 ≡ l ∷ ls) = begins h.0 block h.3 in
     let same : c.later ≡ b.0 ∷ (b.1 ++ h.1) = h.2 ∙ ap (λ (ls : List Line). ls ++ h.1) b.2 in
     let count : length c.later ≡ length (b.0 ∷ (b.1 ++ h.1)) = ap (λ (ls : List Line). length ls) same in
     absurd (omega (arith, count))
-blocks_from_found (m ∷ most) c (block ∷ bs) few h =
+blocks_from_found (m ∷ most) c (block ∷ bs) limited h =
     let b : (l : Line) × (ls : List Line) × (h.0 ≡ l ∷ ls) = begins h.0 block h.3 in
     let same : c.later ≡ b.0 ∷ (b.1 ++ h.1) = h.2 ∙ ap (λ (ls : List Line). ls ++ h.1) b.2 in
     let f : BlockFound (begun b.0 (b.1 ++ h.1) c) block h.1 = block_found (begun b.0 (b.1 ++ h.1) c) b.1 h.1 block refl (subst (λ (ls : List Line). AreBlockLines ls block) b.2 h.3) in
     let count : length c.later ≡ length (b.0 ∷ (b.1 ++ h.1)) = ap (λ (ls : List Line). length ls) same in
     let sum : length (b.1 ++ h.1) ≡ length b.1 + length h.1 = length-append b.1 h.1 in
     let left : length f.left.later ≡ length h.1 = ap (λ (ls : List Line). length ls) f.later in
-    found_on m most (b.1 ++ h.1) b.0 c f.left block bs same f.read (blocks_from_found most f.left bs (omega (arith, count, sum, left, few)) (subst (λ (ls : List Line). AreBlocks ls bs) (sym f.later) h.4))
+    found_on m most (b.1 ++ h.1) b.0 c f.left block bs same f.read (blocks_from_found most f.left bs (omega (arith, count, sum, left, limited)) (subst (λ (ls : List Line). AreBlocks ls bs) (sym f.later) h.4))
 
 -- a table and blocks
 abbrev pub after_table : Table → Result (List Row × List Block) InputFault

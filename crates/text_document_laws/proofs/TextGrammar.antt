@@ -265,7 +265,7 @@ tri_has_text : (lines : List Line) (rows : List Row) → AreTriLines lines rows 
 tri_has_text [] rows h = h
 tri_has_text (l ∷ lines) rows (n, a, value, z, table) =
     let m : AllByRecursion IsRowText lines × (length rows ≡ length lines) = rows_have_text lines rows z in
-    (n, a, subst (λ (k : ℕ). IsDecimalUpTo max_tets n k) m.1 (record { value = value; up_to = table.few }), m.0)
+    (n, a, subst (λ (k : ℕ). IsDecimalUpTo max_tets n k) m.1 (record { value = value; up_to = table.limited }), m.0)
 
 pub tables_have_text : HaveForm AreTableLines AreTableText
 tables_have_text lines rows (inl h) = inl (tri_has_text lines rows h)

@@ -193,8 +193,8 @@ copy_upto n c true true p q = λ f e. (let same : word_fault c NumberTooWide ≡
 copy_upto n c false false p q = copy_counted n c
 copy_upto n c true false p q =
     let above : limit < n = ltb-true limit n p in
-    let few : n ≤ max_tets = ltb-false max_tets n q in
-    absurd (omega (arith, above, few))
+    let limited : n ≤ max_tets = ltb-false max_tets n q in
+    absurd (omega (arith, above, limited))
 
 copy_value : (o : Option ℕ) (c : Reading) → Copies Lex left_only (lexed (number_up_to limit o c) >>= few_on) (number_up_to max_tets o c >>= counted_on)
 copy_value None c = λ f e. (let same : word_fault c BadWord ≡ f = cc in ap (λ (g : LexFault). Err g) same)

@@ -8,7 +8,7 @@ use Rattle.text_definitions.specs.Text.{Token, word, stray, Line}
 use Rattle.text_definitions.specs.Reading.{Reading, ◌>>=◌}
 use Rattle.text_document_definitions.specs.Symbols.{Symbol, line_end, input_end, Placed, token_symbol, line_symbols, symbols_of, plain}
 use Rattle.table_definitions.proofs.ReadingLaws.{with_tokens}
-use Rattle.text_document_laws.proofs.Local.{left_symbols, shows, opening, opening_more, plain-append, shows_split, GoesOn, StopsAt, Goes, bind_err, stops_late, stops_early, WhereRead}
+use Rattle.text_document_laws.proofs.Local.{left_symbols, shows, opening, opening_more, plain-append, shows_split, AlwaysSteps, StopsAt, Goes, bind_err, stops_late, stops_early, WhereRead}
 use Rattle.text_document_laws.proofs.LocalWords.{as_is}
 
 -- readings that `read` reads so that Aim holds: any, one with the symbols ss, and one whose symbols begin with `front`
@@ -46,7 +46,7 @@ WellOpen lexical read Aim c = (f : LexFault) → read c ≡ Err (lexical f) → 
 
 -- a reader whose result does not depend on the next symbol
 pub record FreeOn {A E : Type 0} (read : Reading → Result (A × Reading) E) (c : Reading) (x : A) (d : Reading) : Type 0 where
-  pub goes : GoesOn read c x d
+  pub goes : AlwaysSteps read c x d
   pub same : (o : Reading) (k : Reading) → shows o ≡ plain goes.front ++ shows k → (next : Reading) × (read o ≡ Ok (x, next)) × (shows next ≡ shows k)
 
 -- a reading with the first symbols of one reading, and then the symbols of another
@@ -118,7 +118,7 @@ Alike {A} read = (c o : Reading) (x : A) (d : Reading) → read c ≡ Ok (x, d) 
 
 pub alike_goes : {A E : Type 0} (read : Reading → Result (A × Reading) E) → ((k : Reading) → Goes read k) → Alike read
 alike_goes read g c o x d e same =
-    let h : GoesOn read c x d = g c x d e in
+    let h : AlwaysSteps read c x d = g c x d e in
     h.same o (shows d) (same ∙ shows_split c d h.front h.split) refl
 
 pub alike_each : {A B E : Type 0} (second : A → Reading → Result (B × Reading) E) → ((x : A) (k : Reading) → Goes (second x) k) → (x : A) → Alike (second x)
@@ -193,7 +193,7 @@ module _ {A B E : Type 0} (lexical : LexFault → E) (first : Reading → Result
       by_case (inr (y, p, q)) = late y.0 y.1 (g y.0 y.1 p) (w2 y.0 y.1 p f q)
 
   -- the first reader may depend on the next symbol, which stays the same
-  late_open : (c : Reading) (x : A) (d : Reading) (p : Place) → GoesOn first c x d → (h : StopsAt (second x) d p) × (w : Way (second x) h.front Aim) × (opening (shows w.other) ≡ opening (shows d))
+  late_open : (c : Reading) (x : A) (d : Reading) (p : Place) → AlwaysSteps first c x d → (h : StopsAt (second x) d p) × (w : Way (second x) h.front Aim) × (opening (shows w.other) ≡ opening (shows d))
       → (h : StopsAt both c p) × (w : Way both h.front Aim) × (opening (shows w.other) ≡ opening (shows c))
   late_open c x d p g u =
       let gr : (o : Reading) × (shows o ≡ plain g.front ++ shows (u.1.other)) = graft c g.front d g.split u.1.other in

@@ -54,32 +54,32 @@ ConeFaultsLeave = (bytes : List ℕ) (f : LexFault) → cone_document bytes ≡ 
 
 -- Theorem: if a table was read and what follows is refused, the error is at the first symbol after which there is no
 -- continuation
-abbrev pub FaultsBehindLeaveFirst : {A : Type 0} → (List ℕ → Result A InputFault) → (List Line → Type 0) → Type 0
-FaultsBehindLeaveFirst read InGrammar =
+abbrev pub LaterFaultsLeaveFirst : {A : Type 0} → (List ℕ → Result A InputFault) → (List Line → Type 0) → Type 0
+LaterFaultsLeaveFirst read InGrammar =
     (bytes : List ℕ) (rows : List Row) (left : Reading) (f : LexFault) → next_table_at (start_of bytes) ≡ Ok (rows, left) → read bytes ≡ Err (Text (Lex f))
     → FirstLeavesAt InGrammar (end_of bytes) (lines_of bytes) f.place
 
 abbrev pub TableFaultsLeaveFirst : Type 0
-TableFaultsLeaveFirst = FaultsBehindLeaveFirst table_document SomeTable
+TableFaultsLeaveFirst = LaterFaultsLeaveFirst table_document SomeTable
 
 abbrev pub VectorsFaultsLeaveFirst : Type 0
-VectorsFaultsLeaveFirst = FaultsBehindLeaveFirst vectors_document (SomeTableAndLines IsVectorLine)
+VectorsFaultsLeaveFirst = LaterFaultsLeaveFirst vectors_document (SomeTableAndLines IsVectorLine)
 
 abbrev pub VectorFaultsLeaveFirst : Type 0
-VectorFaultsLeaveFirst = FaultsBehindLeaveFirst vector_document SomeTableAndVector
+VectorFaultsLeaveFirst = LaterFaultsLeaveFirst vector_document SomeTableAndVector
 
 abbrev pub StepsFaultsLeaveFirst : Type 0
-StepsFaultsLeaveFirst = FaultsBehindLeaveFirst steps_document (SomeTableAndLines IsStepLine)
+StepsFaultsLeaveFirst = LaterFaultsLeaveFirst steps_document (SomeTableAndLines IsStepLine)
 
 abbrev pub MovesFaultsLeaveFirst : Type 0
-MovesFaultsLeaveFirst = FaultsBehindLeaveFirst moves_document (SomeTableAndLines IsMoveLine)
+MovesFaultsLeaveFirst = LaterFaultsLeaveFirst moves_document (SomeTableAndLines IsMoveLine)
 
 abbrev pub BlocksFaultsLeaveFirst : Type 0
-BlocksFaultsLeaveFirst = FaultsBehindLeaveFirst blocks_document SomeTableAndBlocks
+BlocksFaultsLeaveFirst = LaterFaultsLeaveFirst blocks_document SomeTableAndBlocks
 
 -- of two tables, where the first was read, and where both were
 abbrev pub SecondTableFaultsLeaveFirst : Type 0
-SecondTableFaultsLeaveFirst = FaultsBehindLeaveFirst two_tables_document SomeTableAndText
+SecondTableFaultsLeaveFirst = LaterFaultsLeaveFirst two_tables_document SomeTableAndText
 
 abbrev pub TwoTablesFaultsLeaveFirst : Type 0
 TwoTablesFaultsLeaveFirst =

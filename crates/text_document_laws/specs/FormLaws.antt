@@ -35,14 +35,14 @@ abbrev pub FaultsLeave : {A : Type 0} → (List ℕ → Result A InputFault) →
 FaultsLeave read grammar = (bytes : List ℕ) (f : LexFault) → read bytes ≡ Err (Text (Lex f)) → LeavesAt (Some grammar) (end_of bytes) (lines_of bytes) f.place
 
 -- and at the first symbol after which no continuation has the form of such a text
-abbrev pub FaultsStandFirst : {A : Type 0} → (List ℕ → Result A InputFault) → (List Line → Type 0) → Type 0
-FaultsStandFirst read form = (bytes : List ℕ) (f : LexFault) → read bytes ≡ Err (Text (Lex f)) → FirstLeavesAt form (end_of bytes) (lines_of bytes) f.place
+abbrev pub FaultsComeFirst : {A : Type 0} → (List ℕ → Result A InputFault) → (List Line → Type 0) → Type 0
+FaultsComeFirst read form = (bytes : List ℕ) (f : LexFault) → read bytes ≡ Err (Text (Lex f)) → FirstLeavesAt form (end_of bytes) (lines_of bytes) f.place
 
 pub record AreLaws (A : Type 0) (read : List ℕ → Result A InputFault) (grammar : List Line → A → Type 0) (form : List Line → Type 0) : Type 0 where
   pub reads : AreRead read grammar
   pub has_form : HaveForm grammar form
   pub leaves : FaultsLeave read grammar
-  pub stands_first : FaultsStandFirst read form
+  pub comes_first : FaultsComeFirst read form
 
 -- a table, two, and any number
 abbrev pub TableLaws : Type 0

@@ -28,6 +28,6 @@ BeginWithTableText lines = (front : List Line) × (rest : List Line) × (lines �
 
 -- Theorem: if the text of a table is refused, the error is at the first symbol after which no continuation is such a
 -- text
-abbrev pub AnyTableFaultsStandFirst : Type 0
-AnyTableFaultsStandFirst =
+abbrev pub AnyTableFaultsComeFirst : Type 0
+AnyTableFaultsComeFirst =
     (c : Reading) (f : LexFault) → c.current.tokens ≡ [] → next_table_at c ≡ Err (Text (Lex f)) → FirstLeavesAt BeginWithTableText c.input_end c.later f.place

@@ -11,7 +11,7 @@ ghost use Rattle.text_document_laws.specs.ConeLaws.{ConesAreRead, ConeDocumentsA
 ghost use Rattle.text_document_laws.specs.FaultLaws.{ConeFaultsLeave, TableFaultsLeaveFirst, SecondTableFaultsLeaveFirst, TwoTablesFaultsLeaveFirst, TablesFaultsLeaveFirst};
 ghost use Rattle.text_document_laws.specs.FaultLaws.{VectorsFaultsLeaveFirst, VectorFaultsLeaveFirst, StepsFaultsLeaveFirst, MovesFaultsLeaveFirst, BlocksFaultsLeaveFirst};
 ghost use Rattle.text_document_laws.specs.FormLaws.{TableLaws, TwoTablesLaws, TablesLaws, VectorsLaws, VectorLaws, StepsLaws, MovesLaws, BlocksLaws};
-ghost use Rattle.text_document_laws.specs.TableLaws.{AnyTablesAreRead, AnyTableFaultsStandFirst};
+ghost use Rattle.text_document_laws.specs.TableLaws.{AnyTablesAreRead, AnyTableFaultsComeFirst};
 
 /// Theorem:
 ///
@@ -32,7 +32,7 @@ pub fn cones_are_read()
 ///    symbol after which no continuation begins with a text of the form of a table.
 pub fn next_tables_are_read()
     ensures lines { AnyTablesAreRead }
-    ensures faults { AnyTableFaultsStandFirst }
+    ensures faults { AnyTableFaultsComeFirst }
 {}
 
 /// Theorem: let the kind of an input be one, two, or any number of tables.

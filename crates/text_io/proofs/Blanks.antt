@@ -70,18 +70,18 @@ word_byte_first : (b : ℕ) (more : List ℕ) → 0 < prefix_len is_word_byte (b
 word_byte_first b more h = elim (is_word_byte b) as (λ v. 0 < cond v (1 + prefix_len is_word_byte more) 0 → v ≡ true) [ true ↦ λ f. refl | false ↦ λ f. absurd (omega arith) ] h
 
 -- a word and what follows it
-pub front_word : (c : ℕ) (bs rest : List ℕ) (w behind : Bor (List ℕ)) (n : ℕ) → rest ≡ drop_blanks bs → n ≡ prefix_len is_word_byte rest →
-    w.now ≡ take n rest → behind.now ≡ drop n rest → 0 < length w.now → IsFront c bs (c + (length bs - length rest)) (Word w behind)
-front_word c bs [] w behind n e count front back some = absurd (omega (arith, length-take {A = ℕ} n [], ap length front))
-front_word c bs (b ∷ more) w behind n e count front back some =
+pub front_word : (c : ℕ) (bs rest : List ℕ) (w after : Bor (List ℕ)) (n : ℕ) → rest ≡ drop_blanks bs → n ≡ prefix_len is_word_byte rest →
+    w.now ≡ take n rest → after.now ≡ drop n rest → 0 < length w.now → IsFront c bs (c + (length bs - length rest)) (Word w after)
+front_word c bs [] w after n e count front back some = absurd (omega (arith, length-take {A = ℕ} n [], ap length front))
+front_word c bs (b ∷ more) w after n e count front back some =
     let within : n ≤ length (b ∷ more) = rw count (prefix_len-le-length is_word_byte (b ∷ more)) in
     let long : length w.now ≡ n = ap length front ∙ length-take-le n (b ∷ more) within in
-    let rest_long : length behind.now ≡ length (b ∷ more) - n = ap length back ∙ length-drop n (b ∷ more) in
+    let rest_long : length after.now ≡ length (b ∷ more) - n = ap length back ∙ length-drop n (b ∷ more) in
     let first : is_word_byte b ≡ true = word_byte_first b more (omega arith) in (
       tokens_from-drop_blanks c bs (b ∷ more) e ∙ tokens_from-word _ b more n count first
           ∙ ap (λ xs. word (c + (length bs - length (b ∷ more))) xs ∷ tokens_from (c + (length bs - length (b ∷ more)) + n) (drop n (b ∷ more))) (sym front)
           ∙ ap (λ xs. word (c + (length bs - length (b ∷ more))) w.now ∷ tokens_from (c + (length bs - length (b ∷ more)) + n) xs) (sym back)
-          ∙ ap (λ k. word (c + (length bs - length (b ∷ more))) w.now ∷ tokens_from (c + (length bs - length (b ∷ more)) + k) behind.now) (sym long),
+          ∙ ap (λ k. word (c + (length bs - length (b ∷ more))) w.now ∷ tokens_from (c + (length bs - length (b ∷ more)) + k) after.now) (sym long),
       omega (arith, length-drop_blanks bs (b ∷ more) e),
     )
 

@@ -18,9 +18,9 @@ module _ (a : Inside) (at : ℕ) where
   unfolding end_line_at
   end_line-stray h = ap (λ ts. end_from ts (left_to_read a)) h.0.1
 
-  pub end_line-word : (w behind : Bor (List ℕ)) → IsFront a.column a.line.now at (Word w behind) → end_line_at (left_to_read a) ≡ Err (fault_at (left_to_read a) at ExtraWord)
+  pub end_line-word : (w after : Bor (List ℕ)) → IsFront a.column a.line.now at (Word w after) → end_line_at (left_to_read a) ≡ Err (fault_at (left_to_read a) at ExtraWord)
   unfolding end_line_at
-  end_line-word w behind h = ap (λ ts. end_from ts (left_to_read a)) h.0
+  end_line-word w after h = ap (λ ts. end_from ts (left_to_read a)) h.0
 
   pub word-end : IsFront a.column a.line.now at End → word_at (left_to_read a) ≡ Err (fault_at (left_to_read a) at MissingWord)
   unfolding word_at
@@ -30,15 +30,15 @@ module _ (a : Inside) (at : ℕ) where
   unfolding word_at
   word-stray h = ap (λ ts. word_from ts (left_to_read a)) h.0.1
 
-  pub word-word : (w behind : Bor (List ℕ)) → IsFront a.column a.line.now at (Word w behind) →
-      word_at (left_to_read a) ≡ Ok (w.now, left_to_read (record a { line = behind; column = at + length w.now; taken = record { line = a.number; column = at } }))
+  pub word-word : (w after : Bor (List ℕ)) → IsFront a.column a.line.now at (Word w after) →
+      word_at (left_to_read a) ≡ Ok (w.now, left_to_read (record a { line = after; column = at + length w.now; taken = record { line = a.number; column = at } }))
   unfolding word_at
-  word-word w behind h =
+  word-word w after h =
       ap (λ ts. word_from ts (left_to_read a)) h.0
       ∙ ap (λ k. Ok (
         w.now,
         record {
-          current = record { number = a.number; tokens = tokens_from (at + length w.now) behind.now; end = k };
+          current = record { number = a.number; tokens = tokens_from (at + length w.now) after.now; end = k };
           later = lines_from (a.number + 1) (pieces a.later.now);
           input_end = a.end;
           taken = record { line = a.number; column = at };

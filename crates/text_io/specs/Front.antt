@@ -13,5 +13,5 @@ drop_blanks (b ∷ bs) = if is_blank b then drop_blanks bs else b ∷ bs
 abbrev pub IsFront : ℕ → List ℕ → ℕ → Front → Type 0
 IsFront c bytes at End = (tokens_from c bytes ≡ []) × (at ≡ c + length bytes)
 IsFront c bytes at Stray = ((ts : List Token) × (tokens_from c bytes ≡ stray at ∷ ts)) × (at < c + length bytes)
-IsFront c bytes at (Word w behind) =
-    (tokens_from c bytes ≡ word at w.now ∷ tokens_from (at + length w.now) behind.now) × (at + length w.now + length behind.now ≡ c + length bytes)
+IsFront c bytes at (Word w after) =
+    (tokens_from c bytes ≡ word at w.now ∷ tokens_from (at + length w.now) after.now) × (at + length w.now + length after.now ≡ c + length bytes)

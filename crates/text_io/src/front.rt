@@ -24,11 +24,11 @@ pub fn front_of(rest: &[u8], column: u32) -> (u32, Front<'_>)
     if unspaced.is_empty() {
         return (column, Front::End);
     }
-    let (word, behind) = unspaced.split_at(word_len(unspaced));
+    let (word, after) = unspaced.split_at(word_len(unspaced));
     if word.is_empty() {
         (column, Front::Stray)
     } else {
-        (column, Front::Word(word, behind))
+        (column, Front::Word(word, after))
     }
 }
 
@@ -38,8 +38,8 @@ pub fn without_blanks(bytes: &[u8]) -> &[u8]
     ensures shorter { length result.now ≤ length bytes.now }
 {
     let mut rest = bytes;
-    while let [b' ' | b'\t', behind @ ..] = rest {
-        rest = behind;
+    while let [b' ' | b'\t', after @ ..] = rest {
+        rest = after;
     }
     rest
 }

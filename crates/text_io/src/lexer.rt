@@ -103,8 +103,8 @@ impl<'a> Lexer<'a> {
         match front {
             Front::End => Err(self.fault(column, LexKind::MissingWord)),
             Front::Stray => Err(self.fault(column, LexKind::BadByte)),
-            Front::Word(word, behind) => {
-                self.line = behind;
+            Front::Word(word, after) => {
+                self.line = after;
                 self.column = column + word.len() as u32;
                 self.taken = Place {
                     line: self.number,

@@ -25,10 +25,10 @@ pub fn first_line(bytes: &[u8], number: u32) -> Option<FoundLine<'_>>
     let mut later = bytes;
     let mut number = number;
     while !later.is_empty() {
-        let (piece, behind) = split_line(later);
+        let (piece, after) = split_line(later);
         let line = line_content(piece);
         number += 1;
-        later = behind;
+        later = after;
         if !skips(line) {
             return Some(FoundLine {
                 number,
@@ -43,13 +43,13 @@ pub fn first_line(bytes: &[u8], number: u32) -> Option<FoundLine<'_>>
 /// The bytes of `bytes` before the first LF, and the bytes after it.
 fn split_line(bytes: &[u8]) -> (&[u8], &[u8])
     ensures line { result.0.now ≡ before_first is_line_feed bytes.now }
-    ensures behind { result.1.now ≡ after_first is_line_feed bytes.now }
+    ensures after { result.1.now ≡ after_first is_line_feed bytes.now }
     ensures shorter { 0 < length bytes.now → length result.1.now < length bytes.now }
     ensures within { length result.0.now ≤ length bytes.now }
 {
     let (line, ended) = bytes.split_at(line_len(bytes));
     match ended {
-        [_, behind @ ..] => (line, behind),
+        [_, after @ ..] => (line, after),
         [] => (line, ended),
     }
 }

@@ -9,8 +9,8 @@ use Rattle.std.proofs.lemmas.List.Elements.{All-from_get_or}
 use Rattle.std.proofs.lemmas.List.FromFn.{get_or-map-range_with_len, length-map-range_with_len}
 use Rattle.table_definitions.specs.Lists.{below, first_some}
 use Rattle.table_definitions.specs.Permutation.{four, IsPermutationOfFour}
-use Rattle.table_definitions.specs.Replacing.{leads_to}
-use Rattle.table_definitions.specs.Table.{Gluing, Row, Face, glue, other_side, way_back, faces, same_face, IsTable}
+use Rattle.table_definitions.specs.Replacing.{inverse_if_reached}
+use Rattle.table_definitions.specs.Table.{Gluing, Row, Face, glue, other_side, inverse_gluing, faces, same_face, IsTable}
 use Rattle.table_definitions.proofs.Permutations.{image_below, inverse_permutes}
 use Rattle.table_definitions.proofs.Faces.{same_face-true, same_face-itself, there_and_back, back_again, face_at}
 use Rattle.table_definitions.proofs.TableLaws.{Among-faces, glued_tet, glued_face}
@@ -48,20 +48,20 @@ module _ (n : ℕ) (rows table : List Row) (c : Completes n rows table) where
   only_one : (x z : Face) (g h : Gluing) → glue rows x ≡ Some g → glue rows z ≡ Some h → other_side x g ≡ other_side z h → x ≡ z
   only_one x z g h e f same =
       let t : IsTable table = c.is_table in
-      let back : (y : Face) (k : Gluing) → glue rows y ≡ Some k → other_side (other_side y k) (way_back y k) ≡ y =
+      let back : (y : Face) (k : Gluing) → glue rows y ≡ Some k → other_side (other_side y k) (inverse_gluing y k) ≡ y =
       λ y k q. there_and_back y k (t.permutes y k (glued_too y k q)) (glued_face table y k t.four_faces (glued_too y k q)) in
-      let there : Some (way_back x g) ≡ Some (way_back z h) = sym (t.leads_back x g (glued_too x g e)) ∙ ap (glue table) same ∙ t.leads_back z h (glued_too z h f) in
-      let ways : way_back x g ≡ way_back z h = cc in
-      sym (back x g e) ∙ ap (λ (y : Face). other_side y (way_back x g)) same ∙ ap (other_side (other_side z h)) ways ∙ back z h f
+      let there : Some (inverse_gluing x g) ≡ Some (inverse_gluing z h) = sym (t.leads_back x g (glued_too x g e)) ∙ ap (glue table) same ∙ t.leads_back z h (glued_too z h f) in
+      let ways : inverse_gluing x g ≡ inverse_gluing z h = cc in
+      sym (back x g e) ∙ ap (λ (y : Face). other_side y (inverse_gluing x g)) same ∙ ap (other_side (other_side z h)) ways ∙ back z h f
 
   pub partial_of_table : IsPartialTable n rows
   partial_of_table = (let t : IsTable table = c.is_table in record {
-    few = rw (← c.count) t.few;
+    limited = rw (← c.count) t.limited;
     many = c.many;
     four_faces = c.four_faces;
     permutes = λ x g e. t.permutes x g (glued_too x g e);
     in_range = λ x g e. rw (← c.count) (t.in_range x g (glued_too x g e));
-    apart = λ x g e. t.apart x g (glued_too x g e);
+    separate = λ x g e. t.separate x g (glued_too x g e);
     leads_back = λ x g e h. sym (c.agrees (other_side x g) h) ∙ t.leads_back x g (glued_too x g e);
     one_each = only_one;
   })
@@ -69,7 +69,7 @@ module _ (n : ℕ) (rows table : List Row) (c : Completes n rows table) where
 -- the table that completes the first entries
 module _ (rows : List Row) where
   abbrev pub gives_back : Face → Face → Option Gluing
-  gives_back y x = option_and_then (leads_to y x) (glue rows x)
+  gives_back y x = option_and_then (inverse_if_reached y x) (glue rows x)
 
   abbrev pub back_at : Face → Option Gluing
   back_at y = first_some (gives_back y) (faces (length rows))
@@ -104,18 +104,18 @@ module _ (rows : List Row) where
     gluing : Gluing
     glued : glue rows from ≡ Some gluing
     leads : other_side from gluing ≡ y
-    back : way_back from gluing ≡ v
+    back : inverse_gluing from gluing ≡ v
 
   comes_back : (y x : Face) (v : Gluing) → gives_back y x ≡ Some v → LeadsTo y v
   comes_back y x v e = by_glue (glue rows x) refl
     where
-      by_test : (g : Gluing) → glue rows x ≡ Some g → (b : Bool) → same_face (other_side x g) y ≡ b → (if b then Some (way_back x g) else None) ≡ Some v → LeadsTo y v
+      by_test : (g : Gluing) → glue rows x ≡ Some g → (b : Bool) → same_face (other_side x g) y ≡ b → (if b then Some (inverse_gluing x g) else None) ≡ Some v → LeadsTo y v
       by_test g h true t s = record { from = x; gluing = g; glued = h; leads = same_face-true (other_side x g) y t; back = cc }
       by_test g h false t s = absurd cc
 
       by_glue : (o : Option Gluing) → glue rows x ≡ o → LeadsTo y v
-      by_glue None h = let z : None ≡ Some v = ap (option_and_then (leads_to y x)) (sym h) ∙ e in absurd cc
-      by_glue (Some g) h = by_test g h (same_face (other_side x g) y) refl (ap (option_and_then (leads_to y x)) (sym h) ∙ e)
+      by_glue None h = let z : None ≡ Some v = ap (option_and_then (inverse_if_reached y x)) (sym h) ∙ e in absurd cc
+      by_glue (Some g) h = by_test g h (same_face (other_side x g) y) refl (ap (option_and_then (inverse_if_reached y x)) (sym h) ∙ e)
 
   leads_back_at : (y : Face) (v : Gluing) → back_at y ≡ Some v → LeadsTo y v
   leads_back_at y v e = let f = first_some-finds (gives_back y) (faces (length rows)) v e in comes_back y f.0 v f.1
@@ -130,31 +130,31 @@ module _ (rows : List Row) where
     glued_in : (x : Face) (g : Gluing) → glue rows x ≡ Some g → x.tet < n
     glued_in x g e = (let l : x.tet < length rows = glued_tet rows x g e in let many : length rows ≤ n = p.many in omega (arith, l, many))
 
-    back_is : (x : Face) (g : Gluing) → glue rows x ≡ Some g → back_at (other_side x g) ≡ Some (way_back x g)
+    back_is : (x : Face) (g : Gluing) → glue rows x ≡ Some g → back_at (other_side x g) ≡ Some (inverse_gluing x g)
     back_is x g e =
-        first_some-only (gives_back (other_side x g)) (faces (length rows)) x (way_back x g) (Among-faces x (length rows) (glued_tet rows x g e) (glued_below x g e)) here
+        first_some-only (gives_back (other_side x g)) (faces (length rows)) x (inverse_gluing x g) (Among-faces x (length rows) (glued_tet rows x g e) (glued_below x g e)) here
         (λ z w h. only w (comes_back (other_side x g) z w h))
       where
-        here : gives_back (other_side x g) x ≡ Some (way_back x g)
+        here : gives_back (other_side x g) x ≡ Some (inverse_gluing x g)
         here =
-            ap (option_and_then (leads_to (other_side x g) x)) e
-            ∙ ap (λ b. if◌then◌else◌ {A = Option Gluing} b (Some (way_back x g)) None) (same_face-itself (other_side x g))
+            ap (option_and_then (inverse_if_reached (other_side x g) x)) e
+            ∙ ap (λ b. if◌then◌else◌ {A = Option Gluing} b (Some (inverse_gluing x g)) None) (same_face-itself (other_side x g))
 
-        only : (w : Gluing) → LeadsTo (other_side x g) w → w ≡ way_back x g
+        only : (w : Gluing) → LeadsTo (other_side x g) w → w ≡ inverse_gluing x g
         only w c =
             let same : x ≡ c.from = p.one_each x c.from g c.gluing e c.glued (sym c.leads) in
             let both : Some c.gluing ≡ Some g = sym c.glued ∙ ap (glue rows) (sym same) ∙ e in
             let gluings : c.gluing ≡ g = cc in
-            sym c.back ∙ ap (λ (y : Face). way_back y c.gluing) (sym same) ∙ ap (way_back x) gluings
+            sym c.back ∙ ap (λ (y : Face). inverse_gluing y c.gluing) (sym same) ∙ ap (inverse_gluing x) gluings
 
     abbrev Good : Face → Gluing → Type 0
     Good y v = IsGood n (completed n) y v
 
     -- in the completed table, the other side of a given gluing is glued by its inverse
-    answered : (x : Face) (g : Gluing) → glue rows x ≡ Some g → entry (other_side x g) ≡ Some (way_back x g)
+    answered : (x : Face) (g : Gluing) → glue rows x ≡ Some g → entry (other_side x g) ≡ Some (inverse_gluing x g)
     answered x g e = by_test (is_given rows (other_side x g)) refl
       where
-        by_test : (b : Bool) → is_given rows (other_side x g) ≡ b → entry (other_side x g) ≡ Some (way_back x g)
+        by_test : (b : Bool) → is_given rows (other_side x g) ≡ b → entry (other_side x g) ≡ Some (inverse_gluing x g)
         by_test true h = entry_given (other_side x g) h ∙ p.leads_back x g e h
         by_test false h = entry_back (other_side x g) h ∙ back_is x g e
 
@@ -162,23 +162,23 @@ module _ (rows : List Row) where
     good_given x g e = record {
       permutes = p.permutes x g e;
       in_range = p.in_range x g e;
-      apart = p.apart x g e;
+      separate = p.separate x g e;
       leads_back = glue-completed n (other_side x g) (p.in_range x g e) (image_below g.perm (p.permutes x g e) x.face (glued_below x g e)) ∙ answered x g e;
     }
 
-    good_back : (x : Face) (g : Gluing) → glue rows x ≡ Some g → Good (other_side x g) (way_back x g)
+    good_back : (x : Face) (g : Gluing) → glue rows x ≡ Some g → Good (other_side x g) (inverse_gluing x g)
     good_back x g e =
         let permutes : IsPermutationOfFour g.perm = p.permutes x g e in
-        let back : other_side (other_side x g) (way_back x g) ≡ x = there_and_back x g permutes (glued_below x g e) in
-        let again : way_back (other_side x g) (way_back x g) ≡ g = back_again x g permutes in
+        let back : other_side (other_side x g) (inverse_gluing x g) ≡ x = there_and_back x g permutes (glued_below x g e) in
+        let again : inverse_gluing (other_side x g) (inverse_gluing x g) ≡ g = back_again x g permutes in
         record {
           permutes = inverse_permutes g.perm permutes;
           in_range = glued_in x g e;
-          apart =
-              not_from (same_face (other_side (other_side x g) (way_back x g)) (other_side x g))
-              (λ s. (let same : x ≡ other_side x g = sym back ∙ same_face-true (other_side (other_side x g) (way_back x g)) (other_side x g) s in
+          separate =
+              not_from (same_face (other_side (other_side x g) (inverse_gluing x g)) (other_side x g))
+              (λ s. (let same : x ≡ other_side x g = sym back ∙ same_face-true (other_side (other_side x g) (inverse_gluing x g)) (other_side x g) s in
               let one : same_face (other_side x g) x ≡ true = ap (same_face (other_side x g)) same ∙ same_face-itself (other_side x g) in
-              let never : IsTrue (not (same_face (other_side x g) x)) = p.apart x g e in
+              let never : IsTrue (not (same_face (other_side x g) x)) = p.separate x g e in
               cc));
           leads_back =
               ap (glue (completed n)) back ∙ glue-completed n x (glued_in x g e) (glued_below x g e) ∙ entry_given x (glued_given rows x g e) ∙ e
@@ -190,8 +190,8 @@ module _ (rows : List Row) where
       where
         by_back : LeadsTo y v → Good y v
         by_back c =
-            let there : Good (other_side c.from c.gluing) (way_back c.from c.gluing) = good_back c.from c.gluing c.glued in
-            let here : Good y (way_back c.from c.gluing) = subst (λ (z : Face). Good z (way_back c.from c.gluing)) c.leads there in
+            let there : Good (other_side c.from c.gluing) (inverse_gluing c.from c.gluing) = good_back c.from c.gluing c.glued in
+            let here : Good y (inverse_gluing c.from c.gluing) = subst (λ (z : Face). Good z (inverse_gluing c.from c.gluing)) c.leads there in
             subst (λ (k : Gluing). Good y k) c.back here
 
         by_test : (b : Bool) → is_given rows y ≡ b → Good y v
@@ -208,11 +208,11 @@ module _ (rows : List Row) where
 
     pub completed_is_table : IsTable (completed n)
     completed_is_table = record {
-      few = rw (length-completed n) p.few;
+      limited = rw (length-completed n) p.limited;
       four_faces = fours;
       permutes = λ y v e. (glued_good y v e).permutes;
       in_range = λ y v e. rw (length-completed n) (glued_good y v e).in_range;
-      apart = λ y v e. (glued_good y v e).apart;
+      separate = λ y v e. (glued_good y v e).separate;
       leads_back = λ y v e. (glued_good y v e).leads_back;
     }
 

@@ -151,13 +151,13 @@ module _ (n : ℕ) (rows : List Row) (p : IsPartialTable n rows) where
       (cases_lt t (length rows))
 
   begin_from : (rest : List Row) (k m : ℕ) → ((i : ℕ) → i < length rest → get_or rest i [] ≡ get_or rows (k + i) []) → length rest ≤ m → Begin rest (map (row_of rows) (range_with_len k m))
-  begin_from [] k m same few = tt
-  begin_from (row ∷ rest) k zero same few = absurd (omega (arith, few))
-  begin_from (row ∷ rest) k (suc m) same few =
+  begin_from [] k m same limited = tt
+  begin_from (row ∷ rest) k zero same limited = absurd (omega (arith, limited))
+  begin_from (row ∷ rest) k (suc m) same limited =
       let at : row ≡ get_or rows k [] = same 0 (omega arith) ∙ ap (λ (i : ℕ). get_or rows i []) (let e : k + 0 ≡ k = omega arith in e) in
       let q : (more : Row) × (row_of rows k ≡ get_or rows k [] ++ more) = prefix_of (get_or rows k []) (λ f. back_at rows (record { tet = k; face = f })) (four_long k) in (
         (q.0, q.1 ∙ ap (λ (r : Row). r ++ q.0) (sym at)),
-        begin_from rest (k + 1) m (λ i l. same (suc i) (omega (arith, l)) ∙ ap (λ (j : ℕ). get_or rows j []) (let e : k + suc i ≡ k + 1 + i = omega arith in e)) (omega (arith, few)),
+        begin_from rest (k + 1) m (λ i l. same (suc i) (omega (arith, l)) ∙ ap (λ (j : ℕ). get_or rows j []) (let e : k + suc i ≡ k + 1 + i = omega arith in e)) (omega (arith, limited)),
       )
 
   pub begins : Begin rows (completed rows n)
@@ -169,8 +169,8 @@ module _ (n : ℕ) (rows : List Row) (p : IsPartialTable n rows) where
         (λ f a. entry_is (entry rows (record { tet = t; face = f }))
         (λ g e. (let q = good rows n p (record { tet = t; face = f }) g e in
         let in_range : g.tet < n = q.in_range in
-        let few : n ≤ max_tets = p.few in
-        (q.permutes, omega (arith, in_range, few))))),
+        let limited : n ≤ max_tets = p.limited in
+        (q.permutes, omega (arith, in_range, limited))))),
     refl,
   )
 

@@ -15,21 +15,21 @@ use Rattle.text_document_laws.specs.FaultLaws.{SomeTable, SomeTableAndLines, Som
 use Rattle.text_document_laws.proofs.Local.{plain-append}
 use Rattle.text_document_laws.proofs.Lawful.{table_laws, two_tables_laws, tables_laws, vectors_laws, vector_laws, steps_laws, moves_laws, blocks_laws}
 use Rattle.text_document_laws.proofs.BehindTables.{cancelled, lines_front, lines_split}
-use Rattle.text_partial_laws.specs.Sound.{IsSound, nothing, IsSoundBehind, IsSoundOfTwo}
+use Rattle.text_partial_laws.specs.Sound.{IsSound, nothing, IsSoundAfter, IsSoundOfTwo}
 use Rattle.text_partial_laws.specs.Laws.{SomeTables, SoundFaultsLeaveFirst}
 use Rattle.text_partial_laws.proofs.Shown.{line_with, are_words}
-use Rattle.text_partial_laws.proofs.SoundSymbols.{GoesOn, sound_goes_on, front_shown}
+use Rattle.text_partial_laws.proofs.SoundSymbols.{AlwaysSteps, sound_goes_on, front_shown}
 
 -- lines that leave a grammar leave each smaller one
 leaves_too : (Larger InGrammar : List Line → Type 0) → ((lines : List Line) → InGrammar lines → Larger lines) → (end : Place) (lines : List Line) (p : Place) → LeavesAt Larger end lines p → LeavesAt InGrammar end lines p
 leaves_too Larger InGrammar within end lines p h =
-    record { before = h.before; symbol = h.symbol; after = h.after; stands = h.stands; no_way_on = λ others more e g. h.no_way_on others more e (within others g) }
+    record { before = h.before; symbol = h.symbol; after = h.after; occurs = h.occurs; no_way_on = λ others more e g. h.no_way_on others more e (within others g) }
 
 -- a grammar that contains each table with certain lines before or after it
 module _ (InGrammar : List Line → Type 0) (end : Place) (lines : List Line) (p : Place) (h : LeavesAt InGrammar end lines p) where
   pub sound_first : (rest : List Line) → ((table : List Line) → SomeTable table → InGrammar (table ++ rest)) → IsSound (plain h.before) → FirstLeavesAt InGrammar end lines p
   sound_first rest put sound =
-      let g : GoesOn (plain h.before) = sound_goes_on (plain h.before) sound in
+      let g : AlwaysSteps (plain h.before) = sound_goes_on (plain h.before) sound in
       record { leaves = h; others = g.0 ++ rest; more = g.1 ++ plain (symbols_of end rest); shown_before = front_shown end (plain h.before) g.0 rest g.1 g.2; way_on = put g.0 g.3 }
 
   shown_front : (last : Place) (front : List Line) (xs : List Symbol) → plain (symbols_of last front) ≡ xs ++ input_end ∷ [] → plain (lines_front front) ≡ xs
@@ -38,9 +38,9 @@ module _ (InGrammar : List Line → Type 0) (end : Place) (lines : List Line) (p
       cancelled (plain (lines_front front)) xs (input_end ∷ [])
       (sym (plain-append (lines_front front) (symbols_of last [])) ∙ ap plain (sym (lines_split last front []) ∙ ap (λ (ls : List Line). symbols_of last ls) (append-nil front)) ∙ e)
 
-  pub behind_first : (tables : List (List Row)) → ((front table : List Line) → AreTables front tables → SomeTable table → InGrammar (front ++ table)) → IsSoundBehind tables (plain h.before) → FirstLeavesAt InGrammar end lines p
+  pub behind_first : (tables : List (List Row)) → ((front table : List Line) → AreTables front tables → SomeTable table → InGrammar (front ++ table)) → IsSoundAfter tables (plain h.before) → FirstLeavesAt InGrammar end lines p
   behind_first tables put s =
-      let g : GoesOn s.rest = sound_goes_on s.rest s.sound in
+      let g : AlwaysSteps s.rest = sound_goes_on s.rest s.sound in
       let ends : List Symbol = plain (symbols_of end []) in
       let table : plain (symbols_of end g.0) ≡ s.rest ++ (g.1 ++ ends) = ap (λ (ls : List Line). plain (symbols_of end ls)) (sym (append-nil g.0)) ∙ front_shown end s.rest g.0 [] g.1 g.2 in
       record {
@@ -76,7 +76,7 @@ one_vector : (lines : List Line) → SomeTable lines → SomeTableAndVector (lin
 one_vector lines h = (h.0, [], (lines, vector_line ∷ [], refl, h.1, (is_vector, tt)))
 
 -- a table with another table
-some_table : GoesOn []
+some_table : AlwaysSteps []
 some_table = sound_goes_on [] nothing
 
 then_some : (lines : List Line) → SomeTable lines → SomeTwoTables (lines ++ some_table.0)

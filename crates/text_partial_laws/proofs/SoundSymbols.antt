@@ -21,11 +21,11 @@ use Rattle.text_partial_laws.proofs.SymbolsGiven.{shown_is_sound}
 use Rattle.text_partial_laws.proofs.Shown.{line_with, are_words, line_shown, ShowsFirst, rows_first, begins, written_table}
 
 -- lines of a table whose symbols begin with ss
-abbrev pub GoesOn : List Symbol → Type 0
-GoesOn ss = (lines : List Line) × (more : List Symbol) × (plain (lines_front lines) ≡ ss ++ more) × SomeTable lines
+abbrev pub AlwaysSteps : List Symbol → Type 0
+AlwaysSteps ss = (lines : List Line) × (more : List Symbol) × (plain (lines_front lines) ≡ ss ++ more) × SomeTable lines
 
 -- rows after a line `tri N`
-with_rows : (w : List ℕ) (n : ℕ) (rows : List Row) (ss : List Symbol) → IsDecimalUpTo max_tets w n → IsPartialTable n rows → ShowRows rows ss → GoesOn (shown (codes "tri") ∷ shown w ∷ line_end ∷ ss)
+with_rows : (w : List ℕ) (n : ℕ) (rows : List Row) (ss : List Symbol) → IsDecimalUpTo max_tets w n → IsPartialTable n rows → ShowRows rows ss → AlwaysSteps (shown (codes "tri") ∷ shown w ∷ line_end ∷ ss)
 with_rows w n rows ss number p shows =
     let c = completes rows n p in
     let s : ShowsFirst (completed rows n) ss = rows_first rows (completed rows n) ss (begins n rows p) (written_table n rows p) shows in
@@ -38,13 +38,13 @@ with_rows w n rows ss number p shows =
 
 -- no entry is given yet
 none_given : (n : ℕ) → n ≤ max_tets → IsPartialTable n []
-none_given n few = record {
-  few = few;
+none_given n limited = record {
+  limited = limited;
   many = omega arith;
   four_faces = λ k d l. absurd (omega (arith, l));
   permutes = λ x g e. absurd cc;
   in_range = λ x g e. absurd cc;
-  apart = λ x g e. absurd cc;
+  separate = λ x g e. absurd cc;
   leads_back = λ x g e h. absurd cc;
   one_each = λ x z g h e f same. absurd cc;
 }
@@ -53,7 +53,7 @@ naught : IsDecimalUpTo max_tets (codes "0") 0
 naught = record { value = refl; up_to = omega arith }
 
 -- a line `sig TEXT`
-with_text : (text : List ℕ) (rows : List Row) → Spells text rows → GoesOn (shown (codes "sig") ∷ shown text ∷ line_end ∷ [])
+with_text : (text : List ℕ) (rows : List Row) → Spells text rows → AlwaysSteps (shown (codes "sig") ∷ shown text ∷ line_end ∷ [])
 with_text text rows h = (
   line_with (codes "sig" ∷ text ∷ []) ∷ [],
   plain (lines_front []),
@@ -62,10 +62,10 @@ with_text text rows h = (
 )
 
 -- a beginning of the symbols
-shorter : (xs ys : List Symbol) → GoesOn (xs ++ ys) → GoesOn xs
+shorter : (xs ys : List Symbol) → AlwaysSteps (xs ++ ys) → AlwaysSteps xs
 shorter xs ys (lines, more, there, table) = (lines, ys ++ more, there ∙ append_assoc xs ys more, table)
 
-pub sound_goes_on : (ss : List Symbol) → IsSound ss → GoesOn ss
+pub sound_goes_on : (ss : List Symbol) → IsSound ss → AlwaysSteps ss
 sound_goes_on ss nothing = shorter [] (shown (codes "tri") ∷ shown (codes "0") ∷ line_end ∷ []) (with_rows (codes "0") 0 [] [] naught (none_given 0 (omega arith)) refl)
 sound_goes_on ss tri_word = shorter (shown (codes "tri") ∷ []) (shown (codes "0") ∷ line_end ∷ []) (with_rows (codes "0") 0 [] [] naught (none_given 0 (omega arith)) refl)
 sound_goes_on ss (tri_number w n number) = shorter (shown (codes "tri") ∷ shown w ∷ []) (line_end ∷ []) (with_rows w n [] [] number (none_given n number.up_to) refl)
@@ -88,7 +88,7 @@ some_symbol (x ∷ xs) last = (x, xs ++ last ∷ [], refl)
 pub sound_symbols_go_on : SoundSymbolsGoOn
 unfolding symbols_of
 sound_symbols_go_on end ss = (
-  λ sound. (let g : GoesOn ss = sound_goes_on ss sound in
+  λ sound. (let g : AlwaysSteps ss = sound_goes_on ss sound in
       let behind : (symbol : Symbol) × (more : List Symbol) × (g.1 ++ input_end ∷ [] ≡ symbol ∷ more) = some_symbol g.1 input_end in
       let there : plain (symbols_of end g.0) ≡ ss ++ (g.1 ++ input_end ∷ []) = ap (λ (ls : List Line). plain (symbols_of end ls)) (sym (append-nil g.0)) ∙ front_shown end ss g.0 [] g.1 g.2 in
       (g.0, behind.0, behind.1, there ∙ ap (λ (xs : List Symbol). ss ++ xs) behind.2, g.3)),

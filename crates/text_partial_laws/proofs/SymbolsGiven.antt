@@ -106,7 +106,7 @@ at_front (x ∷ xs) ys (suc f) l = at_front xs ys f (omega arith)
 few_given : (given rows : List Row) → Begin given rows → length given ≤ length rows
 few_given [] rows b = omega arith
 few_given (row ∷ given) [] b = absurd b
-few_given (row ∷ given) (whole ∷ rows) b = (let few : length given ≤ length rows = few_given given rows b.1 in omega (arith, few))
+few_given (row ∷ given) (whole ∷ rows) b = (let limited : length given ≤ length rows = few_given given rows b.1 in omega (arith, limited))
 
 row_given : (given rows : List Row) → Begin given rows → (t : ℕ) → t < length given → (more : Row) × (get_or rows t [] ≡ get_or given t [] ++ more)
 row_given [] rows b t l = absurd (omega arith)
@@ -119,9 +119,9 @@ completed_by given rows b table = record { is_table = table; count = refl; many 
   where
     at_most : (t : ℕ) → t < length given → length (get_or given t []) ≤ 4
     at_most t l =
-        let few : length given ≤ length rows = few_given given rows b in
+        let limited : length given ≤ length rows = few_given given rows b in
         let r : (more : Row) × (get_or rows t [] ≡ get_or given t [] ++ more) = row_given given rows b t l in
-        let four_long : length (get_or rows t []) ≡ 4 = table.four_faces t [] (omega (arith, l, few)) in
+        let four_long : length (get_or rows t []) ≡ 4 = table.four_faces t [] (omega (arith, l, limited)) in
         let whole : length (get_or rows t []) ≡ length (get_or given t [] ++ r.0) = ap length r.1 in
         let parts : length (get_or given t [] ++ r.0) ≡ length (get_or given t []) + length r.0 = length-append (get_or given t []) r.0 in
         omega (arith, four_long, whole, parts)
@@ -156,7 +156,7 @@ pub shown_is_sound : (end : Place) (ss : List Symbol) (lines : List Line) (symbo
 shown_is_sound end ss [] symbol more e (rows, inl h) = absurd h
 shown_is_sound end ss [] symbol more e (rows, inr h) = absurd h
 shown_is_sound end ss (l ∷ lines) symbol more e (rows, inl (w, a, value, z, table)) =
-    let number : IsDecimalUpTo max_tets w (length rows) = record { value = value; up_to = table.few } in
+    let number : IsDecimalUpTo max_tets w (length rows) = record { value = value; up_to = table.limited } in
     by_symbols (shown (codes "tri")) (shown w) (plain (symbols_of end lines)) tri_word (tri_number w (length rows) number) symbol more
     (λ next split. (let g : Given rows next = rows_given end lines rows z next symbol more split in
     tri_rows w (length rows) g.given next number (partial_of_table (length rows) g.given rows (completed_by g.given rows g.begin table)) g.shows))

@@ -27,7 +27,7 @@ pub data IsSound : List Symbol → Type 0 where
   sig_line : (text : List ℕ) (rows : List Row) → Spells text rows → IsSound (shown (codes "sig") ∷ shown text ∷ line_end ∷ [])
 
 -- the lines of tables, and then what is sound so far
-pub record IsSoundBehind (tables : List (List Row)) (ss : List Symbol) : Type 0 where
+pub record IsSoundAfter (tables : List (List Row)) (ss : List Symbol) : Type 0 where
   pub lines : List Line
   pub are_tables : AreTables lines tables
   pub end : Place
@@ -39,7 +39,7 @@ pub record IsSoundBehind (tables : List (List Row)) (ss : List Symbol) : Type 0 
 
 -- the same of at most one table before, and of any number
 abbrev pub IsSoundOfTwo : List Symbol → Type 0
-IsSoundOfTwo ss = IsSound ss ⊎ ((rows : List Row) × IsSoundBehind (rows ∷ []) ss)
+IsSoundOfTwo ss = IsSound ss ⊎ ((rows : List Row) × IsSoundAfter (rows ∷ []) ss)
 
 abbrev pub IsSoundOfMany : List Symbol → Type 0
-IsSoundOfMany ss = (tables : List (List Row)) × IsSoundBehind tables ss
+IsSoundOfMany ss = (tables : List (List Row)) × IsSoundAfter tables ss

@@ -25,8 +25,8 @@ cover_answer rows base o e fits t =
     subst (λ (f : Option LargeCover). MatchOption f (IsCoverAnswered rows o) (λ _. o ≡ large_cover_outcome)) (sym fits) (subst (λ (b : List Row). IsCoverAnswered b o) e t)
 
 pub large_answer : (rows : List Row) (failure : Failure LargeCover) (fault : LargeCover) (o : Outcome) → failure ≡ Fault fault → IfFault failure (λ f. cover_fault rows ≡ Some f) → o ≡ large_cover_outcome → IsCoverAnswer rows o
-large_answer rows failure fault o same is told =
-    subst (λ (f : Option LargeCover). MatchOption f (IsCoverAnswered rows o) (λ _. o ≡ large_cover_outcome)) (sym (subst (λ (e : Failure LargeCover). IfFault e (λ f. cover_fault rows ≡ Some f)) same is)) told
+large_answer rows failure fault o same is reported =
+    subst (λ (f : Option LargeCover). MatchOption f (IsCoverAnswered rows o) (λ _. o ≡ large_cover_outcome)) (sym (subst (λ (e : Failure LargeCover). IfFault e (λ f. cover_fault rows ≡ Some f)) same is)) reported
 
 -- ---- presentations
 
@@ -35,14 +35,14 @@ fault_of s failure fault same is = subst (λ (e : Failure GroupFault). IfFault e
 
 pub not_connected_answer : (rows : List Row) (s : Skeleton) (fault : GroupFault) (tet : ℕ) (o : Outcome) → s.rows ≡ rows → IsSkeleton s → fault ≡ NotConnected tet → IsGroupFault s fault
     → o ≡ not_connected_outcome 0 tet → IsPresentationAnswer rows o
-not_connected_answer rows s fault tet o of_rows h same is told = record { skeleton = s; of_rows = of_rows; is_skeleton = h; told = inl (tet, least, told) }
+not_connected_answer rows s fault tet o of_rows h same is reported = record { skeleton = s; of_rows = of_rows; is_skeleton = h; reported = inl (tet, least, reported) }
   where
     least : IsLeastUnreached s.rows tet
     least = subst (IsGroupFault s) same is
 
 pub invalid_answer : (rows : List Row) (s : Skeleton) (fault : GroupFault) (class : ℕ) (o : Outcome) → s.rows ≡ rows → IsSkeleton s → fault ≡ InvalidEdge class → IsGroupFault s fault
     → o ≡ record { status = Refused; text = invalid_edge_line class } → IsPresentationAnswer rows o
-invalid_answer rows s fault class o of_rows h same is told = record { skeleton = s; of_rows = of_rows; is_skeleton = h; told = inr (inl (found.0, (class, found.1, told))) }
+invalid_answer rows s fault class o of_rows h same is reported = record { skeleton = s; of_rows = of_rows; is_skeleton = h; reported = inr (inl (found.0, (class, found.1, reported))) }
   where
     found : IsGroupFault s (InvalidEdge class)
     found = subst (IsGroupFault s) same is

@@ -19,7 +19,7 @@ use Rattle.tri_build.specs.Standing.{inverse_label, label_back}
 
 pub back_corresponds : (old : List Row) (m : Move) (new now : List Row) (on : Relabelling) → IsSteppedOn old m new now on → Correspond old m now (move_back old m on) on (back_labels old m on)
 back_corresponds old m new now on h = record {
-  each_once = each_once (length m.core) (naming (perm_at on (inverse_of old m).tet) (inverse_of old m).core) h.played.few (naming_fine on new now (inverse_of old m) (carried_inverse old m new now on h));
+  each_once = each_once (length m.core) (naming (perm_at on (inverse_of old m).tet) (inverse_of old m).core) h.played.limited (naming_fine on new now (inverse_of old m) (carried_inverse old m new now on h));
   held = λ j l. held old m new now on h j l;
 }
 
@@ -46,4 +46,4 @@ labels_are old step new now on h tets = five_same (label_back step on) (λ l. na
     at l small =
         ap (λ n. label_under on (inverse_move n step.played) (inverse_label size l)) tets
         ∙ ap (label_under on inverse) (inverse_label-renamed size l)
-        ∙ label_under-named on inverse (own_fine on new now inverse k) k.core (renamed size l) (renamed_below size l h.played.few small)
+        ∙ label_under-named on inverse (own_fine on new now inverse k) k.core (renamed size l) (renamed_below size l h.played.limited small)

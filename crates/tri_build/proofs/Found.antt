@@ -6,7 +6,7 @@ use Rattle.table_definitions.specs.Lists.{has}
 use Rattle.table_definitions.specs.Relabelling.{Relabelling}
 use Rattle.move_definitions.specs.Moves.{Facet}
 use Rattle.tri_build.specs.Steps.{PlayedMove}
-use Rattle.tri_build.specs.Standing.{Back, CanStandBy, CanStandAt}
+use Rattle.tri_build.specs.Standing.{Back, HasImageBy, HasImageAt}
 
 abbrev pub find_at : ℕ → List Facet → Option Facet
 find_at t fs = find (λ (f : Facet). f.tet == t) fs
@@ -30,5 +30,5 @@ found_tet (g ∷ fs) t f e = by_test (g.tet == t) refl e (λ q. found_tet fs t f
     by_test false h q later = later q
 
 -- the condition on the image of a tetrahedron, by the facet that was found for it
-pub as_found : (step : PlayedMove) (back : Back) (on : Relabelling) (t : ℕ) (facets : List Facet) (found : Option Facet) → facets ≡ step.facets → found ≡ find_at t facets → CanStandAt step back on t → CanStandBy step back on t found
-as_found step back on t facets found same e h = subst (CanStandBy step back on t) (sym (e ∙ ap (find_at t) same)) h
+pub as_found : (step : PlayedMove) (back : Back) (on : Relabelling) (t : ℕ) (facets : List Facet) (found : Option Facet) → facets ≡ step.facets → found ≡ find_at t facets → HasImageAt step back on t → HasImageBy step back on t found
+as_found step back on t facets found same e h = subst (HasImageBy step back on t) (sym (e ∙ ap (find_at t) same)) h

@@ -25,7 +25,7 @@ use Rattle.certificate_laws.proofs.StepBack.{IsLedBack, led_back_by}
 use Rattle.certificate_laws.proofs.CarriedWays.{stepped}
 use Rattle.certificate_laws.proofs.OneWay.{correspond_once}
 use Rattle.tri_build.specs.Steps.{PlayedMove, CarriesToNow, GoesBack}
-use Rattle.tri_build.specs.Standing.{Back, IsBack, number_without, put_in, stands_by, stands_at, CanStandBy, IsImageRelabelling}
+use Rattle.tri_build.specs.Standing.{Back, IsBack, number_without, put_in, image_by, image_at, HasImageBy, IsImageRelabelling}
 use Rattle.tri_build.proofs.Bijective.{are_of}
 use Rattle.tri_build.proofs.Found.{find_at, none_has, found_tet}
 use Rattle.tri_build.proofs.Correspondence.{back_corresponds, labels_are}
@@ -57,7 +57,7 @@ pub record IsLed (old : List Row) (step : PlayedMove) (now : List Row) (on : Rel
   pub plays : Plays now (move_back old step.played on) end
   pub carried : IsCarriedBack old step.played now (move_back old step.played on) on by
   pub carries : Carries by old end
-  pub stands : IsImageRelabelling step back on by
+  pub image : IsImageRelabelling step back on by
 
 pub led : (old : List Row) (step : PlayedMove) (now : List Row) (on : Relabelling) (back : Back) → CarriesToNow old step now on → IsBack step now on back → IsLed old step now on back
 led old step now on back b k = record {
@@ -66,10 +66,10 @@ led old step now on back b k = record {
   plays = l.leads;
   carried = l.carried;
   carries = l.carries;
-  stands = record {
+  image = record {
     relabels = subst (λ n. IsRelabelling n l.by) (sym tets) l.carried.relabels;
     can = λ t lt. can t (omega (arith, tets)) (find_at t step.facets) refl;
-    stands = λ t lt. stands t (omega (arith, tets)) (find_at t step.facets) refl;
+    image = λ t lt. image t (omega (arith, tets)) (find_at t step.facets) refl;
   };
 }
   where
@@ -111,12 +111,12 @@ led old step now on back b k = record {
     stays : (t : ℕ) → find_at t step.facets ≡ None → is_removed_by old m t ≡ false
     stays t e = none_has (old_facets old m) t (ap (find_at t) (sym facets) ∙ e)
 
-    stands : (t : ℕ) → t < length old → (o : Option Facet) → find_at t step.facets ≡ o → relabelled_place l.by t ≡ stands_by step back on t o
-    stands t lt None e = l.carried.kept t lt (stays t e) ∙ (λ i. record {
+    image : (t : ℕ) → t < length old → (o : Option Facet) → find_at t step.facets ≡ o → relabelled_place l.by t ≡ image_by step back on t o
+    image t lt None e = l.carried.kept t lt (stays t e) ∙ (λ i. record {
       tet = number_without (sym taken_is i) (relabelled_place on (number_without (sym facets i) t)).tet;
       perm = (relabelled_place on (number_without (sym facets i) t)).perm;
     })
-    stands t lt (Some f) e =
+    image t lt (Some f) e =
         let o = old_found old m step.facets t f are (sym e) in
         let is : IsOldFacet old m o.0 f = o.1 in
         let small : o.0 < 5 = (let below = is.labelled.missing_below in omega (arith, is.missing_is)) in
@@ -129,7 +129,7 @@ led old step now on back b k = record {
         ∙ ap (λ i. by_labels (slice_index back.labels) f (new_facet now (move_back old m on) (slice_index back.labels i))) (sym is.missing_is)
         ∙ ap (λ n. by_labels (slice_index back.labels) f (put_in n (slice_index back.labels f.missing))) (sym kept_is)
 
-    can : (t : ℕ) → t < length old → (o : Option Facet) → find_at t step.facets ≡ o → CanStandBy step back on t o
+    can : (t : ℕ) → t < length old → (o : Option Facet) → find_at t step.facets ≡ o → HasImageBy step back on t o
     can t lt None e =
         let low : number_without (old_facets old m) t < kept old m = closed_up_small old m t p.table (no_fault old m p.moved.legal) p.moved.core lt (stays t e) in
         let same : number_without step.facets t ≡ number_without (old_facets old m) t = ap (λ (fs : List Facet). number_without fs t) facets in
@@ -140,16 +140,16 @@ led old step now on back b k = record {
         record {
           missing = is.labelled.missing_below;
           labels = All-from_get_or (λ l. l < 5) f.labels 0 (λ v lv. is.labelled.label_below v (let four = is.labelled.four_labels in omega arith));
-          permutes = subst (λ (g : Gluing). IsPermutationOfFour g.perm) (stands t lt (Some f) e) (perm_permutes (length old) l.by l.carried.relabels t lt);
+          permutes = subst (λ (g : Gluing). IsPermutationOfFour g.perm) (image t lt (Some f) e) (perm_permutes (length old) l.by l.carried.relabels t lt);
         }
 
 -- the relabelling that is made of the images is this one
 
 pub filled_in : (step : PlayedMove) (back : Back) (on by : Relabelling) (t : ℕ) (images : List ℕ) (perms : List (List ℕ)) → IsImageRelabelling step back on by → t ≡ step.tets
-    → images ≡ map (λ u. (stands_at step back on u).tet) (below t) → perms ≡ map (λ u. (stands_at step back on u).perm) (below t) → record { images = images; perms = perms } ≡ by
+    → images ≡ map (λ u. (image_at step back on u).tet) (below t) → perms ≡ map (λ u. (image_at step back on u).perm) (below t) → record { images = images; perms = perms } ≡ by
 filled_in step back on by t images perms s e i p =
-    are_of step.tets (stands_at step back on) by images perms s.relabels s.stands
-    (i ∙ ap (λ n. map (λ u. (stands_at step back on u).tet) (below n)) e) (p ∙ ap (λ n. map (λ u. (stands_at step back on u).perm) (below n)) e)
+    are_of step.tets (image_at step back on) by images perms s.relabels s.image
+    (i ∙ ap (λ n. map (λ u. (image_at step back on u).tet) (below n)) e) (p ∙ ap (λ n. map (λ u. (image_at step back on u).perm) (below n)) e)
 
 -- the step has its inverse move
 
@@ -173,7 +173,7 @@ pub gone_back : (old : List Row) (step : PlayedMove) (now : List Row) (on : Rela
 gone_back old step now on back m before after end by b k e moves plays one =
     let l : IsLed old step now on back = led old step now on back b k in
     let is : m ≡ move_back old step.played on = played_is old step now on back m b k e in
-    let same : by ≡ l.by = one l.by l.stands in
+    let same : by ≡ l.by = one l.by l.image in
     let leads : Plays now (move_back old step.played on) end = subst (λ (q : Move). Plays now q end) is plays in
     let ends : end ≡ l.end = played_same now (move_back old step.played on) end l.end leads l.plays in
     record {

@@ -23,7 +23,7 @@ IsMadeSoFar seed first most steps state table = MakesSoFar (stage seed first) (m
 
 pub step_made : (seed : ℕ) (first : List Row) (most : ℕ) (steps more : List PlayedMove) (state next : ℕ) (table new : List Row) (step : PlayedMove) → IsMadeSoFar seed first most steps state table → next ≡ next_state state
     → drawn next (candidates table) ≡ Some step.played → IsPlayedStep table step new → more ≡ steps ++ step ∷ [] → length steps < most → IsMadeSoFar seed first most more next new
-step_made seed first most steps more state next table new step (so_far, steps_are, few) n d is e less =
+step_made seed first most steps more state next table new step (so_far, steps_are, limited) n d is e less =
     let made : Makes (stage state table) step.played (stage next new) = record { state = n; draws = subst (λ x. drawn x (candidates table) ≡ Some step.played) n d; plays = is.plays } in
     let moves : moves_of steps ++ step.played ∷ [] ≡ moves_of more = sym (map-append (λ (s : PlayedMove). s.played) steps (step ∷ [])) ∙ ap moves_of (sym e) in
     let long : length more ≡ length steps + 1 = ap (λ (ss : List PlayedMove). length ss) e ∙ length-append steps (step ∷ []) in (
@@ -35,12 +35,12 @@ step_made seed first most steps more state next table new step (so_far, steps_ar
 -- a making ends if no move can be drawn, or if as many as requested are made
 pub none_left : (seed : ℕ) (first : List Row) (most : ℕ) (steps : List PlayedMove) (state : ℕ) (table last : List Row) → IsMadeSoFar seed first most steps state table → candidates table ≡ [] → last ≡ table
     → IsMaking most seed first (moves_of steps) last
-none_left seed first most steps state table last (so_far, steps_are, few) none e =
+none_left seed first most steps state table last (so_far, steps_are, limited) none e =
     subst (λ (t : List Row). IsMaking most seed first (moves_of steps) t) (sym e)
     (makings_are_done_lem most (stage seed first) (moves_of steps) (stage state table) so_far (let long = length-map steps (λ (s : PlayedMove). s.played) in omega arith) (inr none))
 
 pub all_made : (seed : ℕ) (first : List Row) (most : ℕ) (steps : List PlayedMove) (state : ℕ) (table : List Row) → IsMadeSoFar seed first most steps state table → most ≤ length steps → IsMaking most seed first (moves_of steps) table
-all_made seed first most steps state table (so_far, steps_are, few) enough =
+all_made seed first most steps state table (so_far, steps_are, limited) enough =
     let long : length (moves_of steps) ≡ length steps = length-map steps (λ (s : PlayedMove). s.played) in
     makings_are_done_lem most (stage seed first) (moves_of steps) (stage state table) so_far (omega arith) (inl (omega arith))
 
@@ -62,7 +62,7 @@ pub certified : (seed most : ℕ) (start table : List Row) (steps : List PlayedM
 certified seed most start table steps certificate e making are way = made_are_certified_lem seed most table certificate (is_made seed most start table steps certificate e making are way)
 
 pub few_back : (start table : List Row) (steps : List PlayedMove) (certificate : List Move) (most : ℕ) → AreSteps start steps table → IsWay steps table certificate → length steps ≤ most → length certificate ≤ most
-few_back start table steps certificate most are way few =
+few_back start table steps certificate most are way limited =
     let there = way start are in
     let long : length certificate ≡ length (moves_of steps) = carried_long start (moves_of steps) table certificate there.0 there.1 there.2 in
     let same : length (moves_of steps) ≡ length steps = length-map steps (λ (s : PlayedMove). s.played) in

@@ -10,14 +10,14 @@ use Rattle.table_definitions.proofs.ListFacts.{list_all-below}
 abbrev vertex : ℕ → ℕ → ℕ
 vertex missing label = preimage (filter (λ l. not (l == missing)) (below 5)) label
 
-told : ℕ → ℕ → Bool
-told missing label = vertex missing label == (if label == missing then 4 else (if nat_lt label missing then label else label - 1))
+reported : ℕ → ℕ → Bool
+reported missing label = vertex missing label == (if label == missing then 4 else (if nat_lt label missing then label else label - 1))
 
 vertex_told : (missing label : ℕ) → missing < 5 → label < 5 → vertex missing label ≡ (if label == missing then 4 else (if nat_lt label missing then label else label - 1))
-vertex_told missing label m l = unfold told in eqb-true (vertex missing label) _ (list_all-below (told missing) 5 (list_all-below (λ k. list_all (told k) (below 5)) 5 all missing m) label l)
+vertex_told missing label m l = unfold reported in eqb-true (vertex missing label) _ (list_all-below (reported missing) 5 (list_all-below (λ k. list_all (reported k) (below 5)) 5 all missing m) label l)
   where
-    all : list_all (λ k. list_all (told k) (below 5)) (below 5) ≡ true
-    all = unfold told preimage in refl
+    all : list_all (λ k. list_all (reported k) (below 5)) (below 5) ≡ true
+    all = unfold reported preimage in refl
 
 pub none_there : (missing label : ℕ) → missing < 5 → label < 5 → label ≡ missing → 4 ≡ vertex missing label
 none_there missing label m l e = let t : (label == missing) ≡ true = eq-eqb label missing e in sym (vertex_told missing label m l ∙ ap (λ (b : Bool). if b then 4 else (if nat_lt label missing then label else label - 1)) t)

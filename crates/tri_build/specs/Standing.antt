@@ -40,35 +40,35 @@ abbrev pub put_in : ℕ → ℕ → Facet
 put_in kept j = record { tet = kept + j; missing = j; labels = filter (λ l. not (l == j)) (below 5) }
 
 -- the image of a tetrahedron that the step retained, and of one that it removed
-abbrev pub retained_stands : PlayedMove → Back → Relabelling → ℕ → Gluing
-retained_stands step back on t =
+abbrev pub retained_image : PlayedMove → Back → Relabelling → ℕ → Gluing
+retained_image step back on t =
     record { tet = number_without back.facets (relabelled_place on (number_without step.facets t)).tet; perm = (relabelled_place on (number_without step.facets t)).perm }
 
-abbrev pub facet_stands : Back → Facet → Gluing
-facet_stands back f = by_labels (slice_index back.labels) f (put_in back.kept (slice_index back.labels f.missing))
+abbrev pub facet_image : Back → Facet → Gluing
+facet_image back f = by_labels (slice_index back.labels) f (put_in back.kept (slice_index back.labels f.missing))
 
-abbrev pub stands_by : PlayedMove → Back → Relabelling → ℕ → Option Facet → Gluing
-stands_by step back on t None = retained_stands step back on t
-stands_by step back on t (Some f) = facet_stands back f
+abbrev pub image_by : PlayedMove → Back → Relabelling → ℕ → Option Facet → Gluing
+image_by step back on t None = retained_image step back on t
+image_by step back on t (Some f) = facet_image back f
 
-abbrev pub stands_at : PlayedMove → Back → Relabelling → ℕ → Gluing
-stands_at step back on t = stands_by step back on t (find (λ (f : Facet). f.tet == t) step.facets)
+abbrev pub image_at : PlayedMove → Back → Relabelling → ℕ → Gluing
+image_at step back on t = image_by step back on t (find (λ (f : Facet). f.tet == t) step.facets)
 
 -- the facet has labels, and its image is a permutation
-pub record CanStand (back : Back) (f : Facet) : Type 0 where
+pub record HasFacetImage (back : Back) (f : Facet) : Type 0 where
   pub missing : f.missing < 5
   pub labels : All (λ l. l < 5) f.labels
-  pub permutes : IsPermutationOfFour (facet_stands back f).perm
+  pub permutes : IsPermutationOfFour (facet_image back f).perm
 
-abbrev pub CanStandBy : PlayedMove → Back → Relabelling → ℕ → Option Facet → Type 0
-CanStandBy step back on t None = number_without step.facets t < length on.images
-CanStandBy step back on t (Some f) = CanStand back f
+abbrev pub HasImageBy : PlayedMove → Back → Relabelling → ℕ → Option Facet → Type 0
+HasImageBy step back on t None = number_without step.facets t < length on.images
+HasImageBy step back on t (Some f) = HasFacetImage back f
 
-abbrev pub CanStandAt : PlayedMove → Back → Relabelling → ℕ → Type 0
-CanStandAt step back on t = CanStandBy step back on t (find (λ (f : Facet). f.tet == t) step.facets)
+abbrev pub HasImageAt : PlayedMove → Back → Relabelling → ℕ → Type 0
+HasImageAt step back on t = HasImageBy step back on t (find (λ (f : Facet). f.tet == t) step.facets)
 
 -- the relabelling that maps each tetrahedron to its image
 pub record IsImageRelabelling (step : PlayedMove) (back : Back) (on : Relabelling) (by : Relabelling) : Type 0 where
   pub relabels : IsRelabelling step.tets by
-  pub can : (t : ℕ) → t < step.tets → CanStandAt step back on t
-  pub stands : (t : ℕ) → t < step.tets → relabelled_place by t ≡ stands_at step back on t
+  pub can : (t : ℕ) → t < step.tets → HasImageAt step back on t
+  pub image : (t : ℕ) → t < step.tets → relabelled_place by t ≡ image_at step back on t

@@ -13,7 +13,7 @@ use perm_four::Perm4;
 fn bit_under(perm: Perm4, core: Core, v: u8) -> u8
     requires { v < 4 }
     ensures value { result ≡ (if has core v then 2 ^ image perm v else 0) }
-    ensures few { result ≤ 8 }
+    ensures limited { result ≤ 8 }
     ensures permutes { IsPermutationOfFour perm }
 {
     let bit = 1 << perm.image(v);

@@ -8,10 +8,10 @@
 mod candidates;
 mod carrying;
 mod generator;
+mod inverse_moves;
 mod labels;
 mod making;
 mod standing;
 mod steps;
-mod way_back;
 
 pub use making::{Made, make};

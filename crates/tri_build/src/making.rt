@@ -6,8 +6,8 @@ ghost use Rattle.certificate_definitions.specs.Makings.{IsMade};
 ghost use Rattle.tri_build.specs.Steps.{AreSteps, moves_of};
 
 use crate::generator::next_state;
+use crate::inverse_moves::inverse_moves;
 use crate::steps::{PlayedMove, draw_step};
-use crate::way_back::way_back;
 use gluing_table::Table;
 use out_of_memory::NoMemory;
 use pachner_moves::Move;
@@ -25,7 +25,7 @@ pub struct Made {
 fn play(alloc: Global, table: &mut Table, seed: u64, most: u32) -> Result<Vec<PlayedMove>, NoMemory>
     ensures making { IfOk result (λ steps. IsMaking most seed table.old (moves_of steps.items) table.new) }
     ensures steps { IfOk result (λ steps. AreSteps table.old steps.items table.new) }
-    ensures few { IfOk result (λ steps. length steps.items ≤ most) }
+    ensures limited { IfOk result (λ steps. length steps.items ≤ most) }
 {
     let mut state = seed;
     let mut steps = Vec::new(alloc);
@@ -45,10 +45,10 @@ fn play(alloc: Global, table: &mut Table, seed: u64, most: u32) -> Result<Vec<Pl
 pub fn make(alloc: Global, seed: u64, moves: u32) -> Result<Made, NoMemory>
     ensures made { IfOk result (λ made. IsMade seed moves made.table made.certificate.items) }
     ensures certified { IfOk result (λ made. IsCertificate made.table made.certificate.items) }
-    ensures few { IfOk result (λ made. length made.certificate.items ≤ moves) }
+    ensures limited { IfOk result (λ made. length made.certificate.items ≤ moves) }
 {
     let mut table = standard(alloc)?;
     let steps = play(alloc, &mut table, seed, moves)?;
-    let certificate = way_back(alloc, &table, steps)?;
+    let certificate = inverse_moves(alloc, &table, steps)?;
     Ok(Made { table, certificate })
 }

@@ -3,7 +3,7 @@
 ghost use Rattle.std.specs.Prelude.{◌≡◌, ◌<◌, ◌==◌, length, not, filter, slice_index};
 ghost use Rattle.table_definitions.specs.Lists.{below};
 ghost use Rattle.table_definitions.specs.Permutation.{preimage};
-ghost use Rattle.tri_build.specs.Standing.{CanStand, CanStandAt, number_without, put_in, retained_stands, facet_stands, stands_at};
+ghost use Rattle.tri_build.specs.Standing.{HasFacetImage, HasImageAt, number_without, put_in, retained_image, facet_image, image_at};
 
 use crate::steps::PlayedMove;
 use gluing_table::{Glue, Relabelling};
@@ -56,9 +56,9 @@ fn vertex_without(missing: Label, label: Label) -> u8
 }
 
 /// The image of tetrahedron `tet`, which the step retained.
-fn retained_stands(step: &PlayedMove, back: &InverseMove, on: &Relabelling, tet: u32) -> Glue
+fn retained_image(step: &PlayedMove, back: &InverseMove, on: &Relabelling, tet: u32) -> Glue
     requires { number_without step.now.facets tet < length on.now.images }
-    ensures { result ≡ retained_stands step.now back.now on.now tet }
+    ensures { result ≡ retained_image step.now back.now on.now tet }
 {
     let tet = closed_number(&step.facets, tet);
     Glue {
@@ -75,9 +75,9 @@ fn vertex_back(back: &InverseMove, missing: Label, label: Label) -> u8
 }
 
 /// The image of the facet `f`, which the step removed.
-fn facet_stands(back: &InverseMove, f: Facet) -> Glue
-    requires { CanStand back.now f }
-    ensures { result ≡ facet_stands back.now f }
+fn facet_image(back: &InverseMove, f: Facet) -> Glue
+    requires { HasFacetImage back.now f }
+    ensures { result ≡ facet_image back.now f }
 {
     let missing = Label { number: f.missing };
     let [a, b, c, d] = f.labels;
@@ -97,12 +97,12 @@ fn facet_stands(back: &InverseMove, f: Facet) -> Glue
 
 /// The image of tetrahedron `tet`, from before `step`, in the table after the inverse move `back`. `on` carries the
 /// table after the step to the one on which `back` is played.
-pub fn stands_at(step: &PlayedMove, back: &InverseMove, on: &Relabelling, tet: u32) -> Glue
-    requires { CanStandAt step.now back.now on.now tet }
-    ensures { result ≡ stands_at step.now back.now on.now tet }
+pub fn image_at(step: &PlayedMove, back: &InverseMove, on: &Relabelling, tet: u32) -> Glue
+    requires { HasImageAt step.now back.now on.now tet }
+    ensures { result ≡ image_at step.now back.now on.now tet }
 {
     match facet_of(&step.facets, tet) {
-        Some(facet) => facet_stands(back, facet),
-        None => retained_stands(step, back, on, tet),
+        Some(facet) => facet_image(back, facet),
+        None => retained_image(step, back, on, tet),
     }
 }

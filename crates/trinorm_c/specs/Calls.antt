@@ -14,7 +14,7 @@ pub record IsCallAnswer (words : List (List ℕ)) (input : List ℕ) (status : �
   pub outcome : Outcome
   pub is_outcome : IsOutcome words input outcome
   pub code : status ≡ code_of outcome.status
-  pub told : text ≡ outcome.text
+  pub reported : text ≡ outcome.text
   pub long : needed ≡ length outcome.text
 
 -- the text of the outcome of the words and the input has needed bytes, more than room
@@ -22,7 +22,7 @@ pub record IsLonger (words : List (List ℕ)) (input : List ℕ) (room needed : 
   pub outcome : Outcome
   pub is_outcome : IsOutcome words input outcome
   pub long : needed ≡ length outcome.text
-  pub past : room < needed
+  pub exceeded : room < needed
 
 -- the statuses: those of outcomes, too little room, out of memory, and words that are not UTF-8
 abbrev pub IsCallStatus : ℕ → Type 0

@@ -23,7 +23,7 @@ const NO_MEMORY: u8 = 8;
 const NO_WORDS: u8 = 9;
 
 /// Copies an outcome's text into `answer` if it fits, writes its length to `needed`, and returns the status.
-fn hand_out(outcome: &Outcome, answer: &mut [u8], needed: &mut usize) -> u8
+fn copy_out(outcome: &Outcome, answer: &mut [u8], needed: &mut usize) -> u8
     ensures { IsHandedOut outcome.now result answer.old answer.new needed.new }
 {
     let text = outcome.text();
@@ -68,7 +68,7 @@ pub extern "C" fn trinorm_answer(
         return NO_WORDS;
     };
     match outcome_between(alloc, text, input) {
-        Ok(outcome) => hand_out(&outcome, answer, needed),
+        Ok(outcome) => copy_out(&outcome, answer, needed),
         Err(NoMemory) => NO_MEMORY,
     }
 }

@@ -14,19 +14,19 @@ use Rattle.vector_commands.specs.Crushed.{IsCrushOutcome}
 
 module _ (rows : List Row) (equations : List EquationRow) (xs : List ℕ) (o : Outcome) (of_table : AreEquations Standard rows equations) where
   pub crushed_told : verdict_in Standard rows equations xs ≡ solution → IsCrushOutcome rows xs o → IsCrushAnswer (rows, xs) o
-  crushed_told fit told = record {
+  crushed_told fit reported = record {
     equations = equations;
     of_table = of_table;
-    told = Ok told.0;
-    crushed = (fit, told.1);
-    outcome = told.2;
+    reported = Ok reported.0;
+    crushed = (fit, reported.1);
+    outcome = reported.2;
   }
 
   pub unfit_told : (fault : VectorFault) → verdict_in Standard rows equations xs ≡ Err fault → o ≡ refusal_outcome 0 (Unfit fault) → IsCrushAnswer (rows, xs) o
-  unfit_told fault unfit told = record {
+  unfit_told fault unfit reported = record {
     equations = equations;
     of_table = of_table;
-    told = Err (Unfit fault);
+    reported = Err (Unfit fault);
     crushed = unfit;
-    outcome = told;
+    outcome = reported;
   }

@@ -15,21 +15,21 @@ use Rattle.vector_commands.specs.Telling.{AreAnsweredIn}
 
 module _ (s : Skeleton) (coords : Coords) (equations : List EquationRow) (vectors : List (List ℕ)) (o : Outcome) (of_table : AreEquations coords s.rows equations) where
   pub described_told : (text : List ℕ) → AreAnsweredIn (IsDescription s coords equations) (description_text s coords) vectors text → o ≡ record { status = Done; text = text } → AreDescribed s coords vectors o
-  described_told text told e = record {
+  described_told text reported e = record {
     equations = equations;
     of_table = of_table;
-    told = Ok told.answers;
-    described = told.told;
-    outcome = e ∙ ap (λ (t : List ℕ). record { status = Done; text = t }) told.lines;
+    reported = Ok reported.answers;
+    described = reported.reported;
+    outcome = e ∙ ap (λ (t : List ℕ). record { status = Done; text = t }) reported.lines;
   }
 
   pub describe_refused : (v : ℕ) (refusal : Refusal) → IsFirstRefused (IsDescription s coords equations) vectors v refusal → o ≡ refusal_outcome v refusal → AreDescribed s coords vectors o
-  describe_refused v refusal first e = record { equations = equations; of_table = of_table; told = Err (v, refusal); described = first; outcome = e }
+  describe_refused v refusal first e = record { equations = equations; of_table = of_table; reported = Err (v, refusal); described = first; outcome = e }
 
 -- the rows of the table are those of its skeleton
 module _ (s : Skeleton) (coords : Coords) (rows : List Row) (vectors : List (List ℕ)) (o : Outcome) (same : s.rows ≡ rows) (is_skeleton : IsSkeleton s) where
   pub valid_told : IsFirstInvalid s None → AreDescribed s coords vectors o → IsDescribeAnswer coords (rows, vectors) o
-  valid_told valid described = record { skeleton = s; of_rows = same; is_skeleton = is_skeleton; told = inr (valid, described) }
+  valid_told valid described = record { skeleton = s; of_rows = same; is_skeleton = is_skeleton; reported = inr (valid, described) }
 
   pub invalid_told : (class : ℕ) → IsFirstInvalid s (Some class) → o ≡ record { status = Refused; text = invalid_edge_line class } → IsDescribeAnswer coords (rows, vectors) o
-  invalid_told class first e = record { skeleton = s; of_rows = same; is_skeleton = is_skeleton; told = inl (class, first, e) }
+  invalid_told class first e = record { skeleton = s; of_rows = same; is_skeleton = is_skeleton; reported = inl (class, first, e) }

@@ -11,18 +11,18 @@ use Rattle.vector_commands.specs.Telling.{AreAnsweredIn, AppendsAnswer}
 use Rattle.vector_commands.proofs.TellingLaws.{one_more_told, first_refused}
 use Rattle.vector_commands.proofs.VectorLists.{entries_more, entries_at, entries_front, as_many}
 
-module _ {A : Type 0} (IsTold : List ℕ → Result A Refusal → Type 0) (line : A → List ℕ) (vs : List (Vec ℕ Global)) (v : ℕ) (x : Vec ℕ Global) (xs before now : List ℕ)
-    (l : v < length vs) (e : x ≡ get_or vs v x) (same : xs ≡ x.items) (told : AreAnsweredIn IsTold line (all_entries (take v vs)) before) where
+module _ {A : Type 0} (IsResult : List ℕ → Result A Refusal → Type 0) (line : A → List ℕ) (vs : List (Vec ℕ Global)) (v : ℕ) (x : Vec ℕ Global) (xs before now : List ℕ)
+    (l : v < length vs) (e : x ≡ get_or vs v x) (same : xs ≡ x.items) (reported : AreAnsweredIn IsResult line (all_entries (take v vs)) before) where
   -- the vector has an answer, and so has each vector before it
-  pub next_told : (u : Unit {0}) → AppendsAnswer IsTold line xs before now (Ok u) → AreAnsweredIn IsTold line (all_entries (take (v + 1) vs)) now
+  pub next_told : (u : Unit {0}) → AppendsAnswer IsResult line xs before now (Ok u) → AreAnsweredIn IsResult line (all_entries (take (v + 1) vs)) now
   next_told u h =
-      subst (λ (ys : List (List ℕ)). AreAnsweredIn IsTold line ys now) (sym (entries_more vs v x l e))
-      (one_more_told IsTold line (all_entries (take v vs)) x.items before now told (subst (λ (ys : List ℕ). AppendsAnswer IsTold line ys before now (Ok u)) same h))
+      subst (λ (ys : List (List ℕ)). AreAnsweredIn IsResult line ys now) (sym (entries_more vs v x l e))
+      (one_more_told IsResult line (all_entries (take v vs)) x.items before now reported (subst (λ (ys : List ℕ). AppendsAnswer IsResult line ys before now (Ok u)) same h))
 
   -- the vector is refused, and no vector before it is
-  pub next_refused : (failure : Failure Refusal) (refusal : Refusal) → failure ≡ Fault refusal → AppendsAnswer IsTold line xs before now (Err failure) → IsFirstRefused IsTold (all_entries vs) v refusal
+  pub next_refused : (failure : Failure Refusal) (refusal : Refusal) → failure ≡ Fault refusal → AppendsAnswer IsResult line xs before now (Err failure) → IsFirstRefused IsResult (all_entries vs) v refusal
   next_refused failure refusal is h =
       let count = as_many vs in
-      first_refused IsTold line (all_entries vs) v before refusal (omega arith)
-      (subst (λ (ys : List (List ℕ)). AreAnsweredIn IsTold line ys before) (entries_front vs v) told)
-      (subst (λ (ys : List ℕ). IsTold ys (Err refusal)) (same ∙ sym (entries_at vs v x l e)) (subst (λ (f : Failure Refusal). IfFault f (λ r. IsTold xs (Err r))) is h))
+      first_refused IsResult line (all_entries vs) v before refusal (omega arith)
+      (subst (λ (ys : List (List ℕ)). AreAnsweredIn IsResult line ys before) (entries_front vs v) reported)
+      (subst (λ (ys : List ℕ). IsResult ys (Err refusal)) (same ∙ sym (entries_at vs v x l e)) (subst (λ (f : Failure Refusal). IfFault f (λ r. IsResult xs (Err r))) is h))

@@ -19,15 +19,15 @@ module _ (s : Skeleton) (rows : List Row) (equations : List EquationRow) (vector
     (same : s.rows ≡ rows) (is_skeleton : IsSkeleton s) (of_table : AreEquations Quad s.rows equations) where
   pub lifts_told : (text : List ℕ) → AreAnsweredIn (IsLifted s equations) vector_text vectors text → o ≡ record { status = Done; text = text } → IsLiftsAnswer (rows, vectors) o
   unfolding lifts_text
-  lifts_told text told e = record {
+  lifts_told text reported e = record {
     skeleton = s;
     of_rows = same;
     is_skeleton = is_skeleton;
     equations = equations;
     of_table = subst (λ (r : List Row). AreEquations Quad r equations) same of_table;
-    told = Ok told.answers;
-    lifted = told.told;
-    outcome = e ∙ ap (λ (t : List ℕ). record { status = Done; text = t }) told.lines;
+    reported = Ok reported.answers;
+    lifted = reported.reported;
+    outcome = e ∙ ap (λ (t : List ℕ). record { status = Done; text = t }) reported.lines;
   }
 
   pub lift_refused : (v : ℕ) (refusal : Refusal) → IsFirstRefused (IsLifted s equations) vectors v refusal → o ≡ refusal_outcome v refusal → IsLiftsAnswer (rows, vectors) o
@@ -37,7 +37,7 @@ module _ (s : Skeleton) (rows : List Row) (equations : List EquationRow) (vector
     is_skeleton = is_skeleton;
     equations = equations;
     of_table = subst (λ (r : List Row). AreEquations Quad r equations) same of_table;
-    told = Err (v, refusal);
+    reported = Err (v, refusal);
     lifted = first;
     outcome = e;
   }

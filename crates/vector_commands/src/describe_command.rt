@@ -175,7 +175,7 @@ fn run_describe(
 /// a vector is refused.
 pub fn describe(alloc: Global, coords: Coords, bytes: &[u8]) -> Result<Outcome, NoMemory>
     requires coords { coords ≢ Coords.Quad }
-    requires few { length bytes.now ≤ max_text }
+    requires limited { length bytes.now ≤ max_text }
     ensures { IfOk result (IsReadOutcome (vectors_document bytes.now) (IsDescribeAnswer coords)) }
 {
     let coords = DiscCoords { system: coords };

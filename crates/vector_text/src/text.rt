@@ -144,7 +144,7 @@ fn least_bytes(list: &[PackedRay]) -> usize {
 }
 
 /// A copy of `front`, followed by the lines of `list`.
-fn lines_behind(alloc: Global, front: &[u8], list: &[PackedRay]) -> Result<Vec<u8>, NoMemory>
+fn lines_after(alloc: Global, front: &[u8], list: &[PackedRay]) -> Result<Vec<u8>, NoMemory>
     ensures { IfOk result (λ text. text.items ≡ front.now ++ list_text list.now) }
 {
     let mut text = Vec::with_capacity(alloc, least_bytes(list).saturating_add(front.len()))?;
@@ -166,6 +166,6 @@ pub fn write_packed_list(
     ensures err { OnErr result (out.new.items ≡ out.old.items) }
 {
     // the lines are far longer than the text before them, so that text is copied
-    *out = lines_behind(alloc, out, list)?;
+    *out = lines_after(alloc, out, list)?;
     Ok(())
 }

@@ -6,7 +6,7 @@ use Rattle.out_of_memory.specs.declared.Failure.{Failure}
 use Rattle.out_of_memory.specs.Failures.{IfFault}
 use Rattle.cone_definitions.specs.Surfaces.{Clash, IsSurfaceList}
 use Rattle.cone_definitions.specs.Systems.{System}
-use Rattle.cone_definitions.specs.Listings.{Enumeration, IsListed, IsPastLimit, AreWithin}
+use Rattle.cone_definitions.specs.Listings.{Enumeration, IsListed, ExceedsLimit, AreWithin}
 use Rattle.cone_definitions.specs.declared.Order.{Order}
 use Rattle.double_description.specs.declared.engine.LargeStep.{LargeStep}
 
@@ -26,4 +26,4 @@ pub record IsOnlyListing (e : Enumeration) (list : List (List ℕ)) : Type 0 whe
 
 -- a number exceeds the limit, or memory runs out
 abbrev pub AreRefused : Enumeration → Failure LargeStep → Type 0
-AreRefused e failure = IfFault failure (λ step. IsPastLimit e step.order.items step.kind)
+AreRefused e failure = IfFault failure (λ step. ExceedsLimit e step.order.items step.kind)

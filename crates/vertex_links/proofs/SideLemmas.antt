@@ -108,7 +108,7 @@ pub tally_sides : (p : Face → Bool) (classes : List ℕ) (passes : List Bool) 
     → ((j : ℕ) → j < length owners → slice_index_or passes j false ≡ p (side_at j)) → ((j : ℕ) → j < length owners → slice_index owners j ≡ slice_index classes (j / 3))
     → (c : ℕ) → c < count → slice_index tallies c ≡ count_by p (sides classes c)
 tally_sides p classes passes owners tallies count t size passed owned c l =
-    t.told c l ∙ count_same (is_counted passes owners c) (λ j. p (side_at j) && (slice_index classes (j / 3) == c)) (length owners) (λ j m. λ i. passed j m i && (owned j m i == c))
+    t.reported c l ∙ count_same (is_counted passes owners c) (λ j. p (side_at j) && (slice_index classes (j / 3) == c)) (length owners) (λ j m. λ i. passed j m i && (owned j m i == c))
     ∙ ap (λ n. count_by (λ j. p (side_at j) && (slice_index classes (j / 3) == c)) (below n)) size
     ∙ sym (sides_count p (λ i. slice_index classes i == c) (length classes))
 
@@ -128,7 +128,7 @@ pub tally_corners : (classes directions firsts : List ℕ) (passes : List Bool) 
     → AreFirsts directions firsts → ((j : ℕ) → j < length directions → slice_index_or passes j false ≡ (slice_index firsts (slice_index directions j) == j))
     → ((j : ℕ) → j < length owners → slice_index owners j ≡ slice_index classes (j / 3)) → (c : ℕ) → c < count → slice_index tallies c ≡ link_vertices classes directions c
 tally_corners classes directions firsts passes owners tallies count t size f passed owned c l =
-    t.told c l
+    t.reported c l
     ∙ count_same (is_counted passes owners c) (λ i. is_least directions i && (slice_index classes (vertex_number (i / 12) ((i % 12) / 3)) == c)) (length owners)
     (λ j m. let lj : j < length directions = omega arith in
     let place : j / 3 ≡ vertex_number (j / 12) ((j % 12) / 3) = omega arith in

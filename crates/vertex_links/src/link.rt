@@ -6,7 +6,7 @@ ghost use Rattle.skeleton_definitions.specs.Skeleton.{AreLinks};
 ghost use Rattle.skeleton_class_laws.specs.Numberings.{AreClassesOf};
 ghost use Rattle.skeleton_class_laws.specs.Tallies.{CountsCorners};
 
-use crate::sides::{boundary_sides, first_sides, least_corners, owners, turned_vertices};
+use crate::sides::{boundary_sides, first_sides, least_corners, owners, reversed_vertices};
 use crate::tally::tally;
 use out_of_memory::NoMemory;
 use skeleton::{Kind, Numbering, Skeleton, classes_of};
@@ -50,14 +50,14 @@ fn link_of(triangles: u32, edges: u32, vertices: u32, closed: bool, orientable: 
 
 /// For each vertex class of `skeleton` the number of members that are identified with themselves with the other sign: 0
 /// if and only if the link is orientable.
-fn turned_tally(alloc: Global, skeleton: &Skeleton) -> Result<Vec<u32>, NoMemory>
+fn reversed_tally(alloc: Global, skeleton: &Skeleton) -> Result<Vec<u32>, NoMemory>
     ensures size { IfOk result (λ t. length t.items ≡ skeleton.now.vertices.count) }
     ensures orientable { IfOk result (λ t. (c : ℕ) → c < skeleton.now.vertices.count → IsTrue (slice_index t.items c == 0) ↔ definition.IsOrientableLink skeleton.now.rows skeleton.now.vertices.classes c) }
 {
     let table = skeleton.table();
     let members = owners(alloc, skeleton, 1)?;
     let signs = classes_of(alloc, table, Kind::VertexSigns)?;
-    let passes = turned_vertices(alloc, &signs.classes, 4 * table.len())?;
+    let passes = reversed_vertices(alloc, &signs.classes, 4 * table.len())?;
     let tallies = tally(alloc, &passes, &members, skeleton.vertices() as usize)?;
     Ok(tallies)
 }
@@ -72,7 +72,7 @@ struct Tallies {
     /// the sides in boundary faces
     unglued: Vec<u32>,
     /// the members that are identified with themselves with the other sign
-    turned: Vec<u32>,
+    backwards: Vec<u32>,
     directions: Numbering,
 }
 
@@ -128,12 +128,12 @@ fn tallies_of(alloc: Global, skeleton: &Skeleton) -> Result<Tallies, NoMemory>
     ensures sides { IfOk result (λ t. length t.sides.items ≡ skeleton.now.vertices.count) }
     ensures corners { IfOk result (λ t. length t.corners.items ≡ skeleton.now.vertices.count) }
     ensures unglued { IfOk result (λ t. length t.unglued.items ≡ skeleton.now.vertices.count) }
-    ensures turned { IfOk result (λ t. length t.turned.items ≡ skeleton.now.vertices.count) }
+    ensures backwards { IfOk result (λ t. length t.backwards.items ≡ skeleton.now.vertices.count) }
     ensures edges { IfOk result (λ t. (c : ℕ) → c < skeleton.now.vertices.count → slice_index t.sides.items c ≡ definition.link_edges skeleton.now.rows skeleton.now.vertices.classes c) }
     ensures closed { IfOk result (λ t. (c : ℕ) → c < skeleton.now.vertices.count → (slice_index t.unglued.items c == 0) ≡ definition.is_closed_link skeleton.now.rows skeleton.now.vertices.classes c) }
     ensures directions { IfOk result (λ t. AreClassesOf Kind.Directions skeleton.now.rows t.directions.classes.items t.directions.firsts.items) }
     ensures vertices { IfOk result (λ t. CountsCorners skeleton.now t.directions.classes.items t.corners.items) }
-    ensures orientable { IfOk result (λ t. (c : ℕ) → c < skeleton.now.vertices.count → IsTrue (slice_index t.turned.items c == 0) ↔ definition.IsOrientableLink skeleton.now.rows skeleton.now.vertices.classes c) }
+    ensures orientable { IfOk result (λ t. (c : ℕ) → c < skeleton.now.vertices.count → IsTrue (slice_index t.backwards.items c == 0) ↔ definition.IsOrientableLink skeleton.now.rows skeleton.now.vertices.classes c) }
 {
     let table = skeleton.table();
     let owners = owners(alloc, skeleton, 3)?;
@@ -145,12 +145,12 @@ fn tallies_of(alloc: Global, skeleton: &Skeleton) -> Result<Tallies, NoMemory>
     let unglued = open_tally(alloc, all)?;
     let directions = classes_of(alloc, table, Kind::Directions)?;
     let corners = corner_tally(alloc, all, &directions)?;
-    let turned = turned_tally(alloc, skeleton)?;
+    let backwards = reversed_tally(alloc, skeleton)?;
     Ok(Tallies {
         sides,
         corners,
         unglued,
-        turned,
+        backwards,
         directions,
     })
 }
@@ -170,7 +170,7 @@ pub fn links(alloc: Global, skeleton: &Skeleton) -> Result<Vec<Link>, NoMemory>
             tallies.sides[place],
             tallies.corners[place],
             tallies.unglued[place] == 0,
-            tallies.turned[place] == 0,
+            tallies.backwards[place] == 0,
         ))?;
     }
     Ok(links)

@@ -18,7 +18,7 @@ use std::alloc::Global;
 /// / `each`.
 pub fn owners(alloc: Global, skeleton: &Skeleton, each: u32) -> Result<Vec<u32>, NoMemory>
     requires some { 0 < each }
-    requires few { each ≤ 3 }
+    requires limited { each ≤ 3 }
     ensures size { IfOk result (λ owners. length owners.items ≡ 4 * each * length skeleton.now.rows) }
     ensures owners { IfOk result (λ owners. (j : ℕ) → j < 4 * each * length skeleton.now.rows → slice_index owners.items j ≡ slice_index skeleton.now.vertices.classes (j / each)) }
 {
@@ -108,7 +108,7 @@ pub fn least_corners(alloc: Global, directions: &Numbering) -> Result<Vec<bool>,
 }
 
 /// For each of `count` vertices, whether its two signs have one class. `classes` has the class of each signed vertex.
-pub fn turned_vertices(alloc: Global, classes: &[u32], count: u32) -> Result<Vec<bool>, NoMemory>
+pub fn reversed_vertices(alloc: Global, classes: &[u32], count: u32) -> Result<Vec<bool>, NoMemory>
     requires { 2 * count ≤ length classes.now }
     ensures size { IfOk result (λ passes. length passes.items ≡ count) }
     ensures passes { IfOk result (λ passes. (j : ℕ) → j < count → slice_index_or passes.items j false ≡ (slice_index classes.now (2 * j) == slice_index classes.now (2 * j + 1))) }

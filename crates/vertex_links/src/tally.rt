@@ -14,7 +14,7 @@ pub fn tally(
     count: usize,
 ) -> Result<Vec<u32>, NoMemory>
     requires one_each { length passes.now ≡ length owners.now }
-    requires few { length owners.now < 2 ^ 32 }
+    requires limited { length owners.now < 2 ^ 32 }
     requires in_range { (i : ℕ) → i < length owners.now → slice_index owners.now i < count }
     ensures { IfOk result (λ tallies. AreTallies passes.now owners.now count tallies.items) }
 {

@@ -20,12 +20,12 @@ use Rattle.workbench.specs.Runs.{IsAnswered}
 use Rattle.workbench.specs.Prints.{AnswersSurfaces, AnswersRays, IsCutShort}
 use Rattle.workbench.proofs.Headlines.{Tells}
 
-module _ (words : List (List ℕ)) (bytes : List ℕ) (few : length bytes ≤ most_bytes) (status : Status) (held grown : Option (List ℕ)) (t : Tells words status held grown bytes) where
+module _ (words : List (List ℕ)) (bytes : List ℕ) (limited : length bytes ≤ most_bytes) (status : Status) (held grown : Option (List ℕ)) (t : Tells words status held grown bytes) where
   abbrev o : Outcome
   o = t.0
 
   answered : (r : Request) → accepted_request words ≡ Some r → IsAnswerTo r bytes o
-  answered r e = within (is_too_long r bytes) (IsAnswerTo r bytes o) o (not_long r bytes few) (subst (λ (asked : Option Request). IsOutcomeOf asked bytes o) e t.1)
+  answered r e = within (is_too_long r bytes) (IsAnswerTo r bytes o) o (not_long r bytes limited) (subst (λ (asked : Option Request). IsOutcomeOf asked bytes o) e t.1)
 
   has_status : (p : Outcome) → o ≡ p → status ≡ p.status
   has_status p same = t.2 ∙ ap (λ (q : Outcome). q.status) same
@@ -36,7 +36,7 @@ module _ (words : List (List ℕ)) (bytes : List ℕ) (few : length bytes ≤ mo
   surfaces_answered : (coords : Coords) (order : Order) (most : ℕ) (rows : List Row) → IsSurfacesAnswer coords order most rows o → AnswersSurfaces coords order most rows status held grown
   surfaces_answered coords order most rows h = elim h.2 [
     | inl g ↦ inl (record { done = has_status (list_outcome (codes "surfaces") g.1) g.3; equations = h.0; of_table = h.1; list = g.1; surfaces = (g.2).surfaces; printed = printed (list_outcome (codes "surfaces") g.1) g.3 })
-    | inr g ↦ inr (inl (h.0, h.1, record { large = has_status (large_outcome g.0 g.1) g.3; taken = g.0; kind = g.1; past = g.2; named = printed (large_outcome g.0 g.1) g.3 }))
+    | inr g ↦ inr (inl (h.0, h.1, record { large = has_status (large_outcome g.0 g.1) g.3; taken = g.0; kind = g.1; exceeded = g.2; named = printed (large_outcome g.0 g.1) g.3 }))
   ]
 
   answers_surfaces : (coords : Coords) (order : Order) (most : ℕ) (rows : List Row) → accepted_request words ≡ Some (Surfaces coords order most) → table_document bytes ≡ Ok rows
@@ -46,7 +46,7 @@ module _ (words : List (List ℕ)) (bytes : List ℕ) (few : length bytes ≤ mo
 
   rays_answered : (order : Order) (most : ℕ) (cone : ConeText) → IsEnumerationAnswer (codes "rays") (ray_enumeration order most cone) o → AnswersRays order most cone status held grown
   rays_answered order most cone (inl g) = inl (record { done = has_status (list_outcome (codes "rays") g.1) g.3; list = g.1; rays = (g.2).surfaces; printed = printed (list_outcome (codes "rays") g.1) g.3 })
-  rays_answered order most cone (inr g) = inr (inl (record { large = has_status (large_outcome g.0 g.1) g.3; taken = g.0; kind = g.1; past = g.2; named = printed (large_outcome g.0 g.1) g.3 }))
+  rays_answered order most cone (inr g) = inr (inl (record { large = has_status (large_outcome g.0 g.1) g.3; taken = g.0; kind = g.1; exceeded = g.2; named = printed (large_outcome g.0 g.1) g.3 }))
 
   answers_rays : (order : Order) (most : ℕ) (cone : ConeText) → accepted_request words ≡ Some (Rays order most) → worded (cone_document bytes) ≡ Ok cone → AnswersRays order most cone status held grown
   answers_rays order most cone e spelled =
@@ -73,32 +73,32 @@ module _ (words : List (List ℕ)) (status : Status) (held grown : Option (List 
 
   cut_surfaces : (left : Option (List ℕ)) → IsCutShort status → (coords : Coords) (order : Order) (most : ℕ) → IfSome left (SurfacesOn coords order most)
   cut_surfaces None cut coords order most = tt
-  cut_surfaces (Some bytes) cut coords order most = λ rows few spelled. inr (inr cut)
+  cut_surfaces (Some bytes) cut coords order most = λ rows limited spelled. inr (inr cut)
 
   cut_rays : (left : Option (List ℕ)) → IsCutShort status → (order : Order) (most : ℕ) → IfSome left (RaysOn order most)
   cut_rays None cut order most = tt
-  cut_rays (Some bytes) cut order most = λ cone few spelled. inr (inr cut)
+  cut_rays (Some bytes) cut order most = λ cone limited spelled. inr (inr cut)
 
   told_surfaces_on : (left : Option (List ℕ)) → IfSome left (Tells words status held grown) → (coords : Coords) (order : Order) (most : ℕ)
       → accepted_request words ≡ Some (Surfaces coords order most) → IfSome left (SurfacesOn coords order most)
   told_surfaces_on None h coords order most e = tt
-  told_surfaces_on (Some bytes) h coords order most e = λ rows few spelled. answers_surfaces words bytes few status held grown h coords order most rows e spelled
+  told_surfaces_on (Some bytes) h coords order most e = λ rows limited spelled. answers_surfaces words bytes limited status held grown h coords order most rows e spelled
 
   told_rays_on : (left : Option (List ℕ)) → IfSome left (Tells words status held grown) → (order : Order) (most : ℕ)
       → accepted_request words ≡ Some (Rays order most) → IfSome left (RaysOn order most)
   told_rays_on None h order most e = tt
-  told_rays_on (Some bytes) h order most e = λ cone few spelled. answers_rays words bytes few status held grown h order most cone e spelled
+  told_rays_on (Some bytes) h order most e = λ cone limited spelled. answers_rays words bytes limited status held grown h order most cone e spelled
 
   pub all_surfaces : (left : Option (List ℕ)) → (IsAnswered status → IfSome left (Tells words status held grown)) → (coords : Coords) (order : Order) (most : ℕ)
       → accepted_request words ≡ Some (Surfaces coords order most) → IfSome left (SurfacesOn coords order most)
   all_surfaces left h coords order most e = elim (answered_or_cut status) [
-    | inl told ↦ told_surfaces_on left (h told) coords order most e
+    | inl reported ↦ told_surfaces_on left (h reported) coords order most e
     | inr cut ↦ cut_surfaces left cut coords order most
   ]
 
   pub all_rays : (left : Option (List ℕ)) → (IsAnswered status → IfSome left (Tells words status held grown)) → (order : Order) (most : ℕ)
       → accepted_request words ≡ Some (Rays order most) → IfSome left (RaysOn order most)
   all_rays left h order most e = elim (answered_or_cut status) [
-    | inl told ↦ told_rays_on left (h told) order most e
+    | inl reported ↦ told_rays_on left (h reported) order most e
     | inr cut ↦ cut_rays left cut order most
   ]

@@ -59,10 +59,10 @@ module _ {X Y : Type 0} (words : List (List ℕ)) (source read : X) (left rest :
   cut_run refused idle o due cut rose = record {
     usage = λ e. (inr (inl refl), refused e);
     usage_alone = λ e. absurd cc;
-    usage_told = λ e. absurd cc;
+    usage_reported = λ e. absurd cc;
     read_fault = λ small less. inr refl;
     read_fault_alone = λ e. absurd cc;
-    read_fault_told = λ e. absurd cc;
+    read_fault_reported = λ e. absurd cc;
     write_fault = λ small. (λ e. rose small, λ less. refl);
     prefix = λ e. (o, due, cut);
     no_memory = λ e. absurd cc;
@@ -80,10 +80,10 @@ module _ {X Y : Type 0} (words : List (List ℕ)) (source read : X) (left rest :
   spent_run refused idle calm within same still = record {
     usage = λ e. (inr (inr refl), refused e);
     usage_alone = λ e. absurd cc;
-    usage_told = λ e. absurd cc;
+    usage_reported = λ e. absurd cc;
     read_fault = λ small less. absurd (let stood = calm small in omega (arith, stood, less));
     read_fault_alone = λ e. absurd cc;
-    read_fault_told = λ e. absurd cc;
+    read_fault_reported = λ e. absurd cc;
     write_fault = λ small. (λ e. absurd cc, λ less. absurd (omega (arith, still, less)));
     prefix = λ e. absurd cc;
     no_memory = λ e. same;
@@ -112,10 +112,10 @@ module _ {X Y : Type 0} (words : List (List ℕ)) (source read : X) (left rest :
     usage_run grows still = record {
       usage = λ e. (inl refl, same);
       usage_alone = λ e. refused;
-      usage_told = λ e. grows;
+      usage_reported = λ e. grows;
       read_fault = λ small less. absurd (let stood = calm small in omega (arith, stood, less));
       read_fault_alone = λ e. absurd cc;
-      read_fault_told = λ e. absurd cc;
+      read_fault_reported = λ e. absurd cc;
       write_fault = λ small. (λ e. absurd cc, λ less. absurd (let stood = still small in omega (arith, stood, less)));
       prefix = λ e. absurd cc;
       no_memory = λ e. absurd cc;
@@ -148,10 +148,10 @@ module _ {X Y : Type 0} (words : List (List ℕ)) (source read : X) (left rest :
     fault_run rose grows still = record {
       usage = λ e. absurd cc;
       usage_alone = λ e. absurd cc;
-      usage_told = λ e. absurd cc;
+      usage_reported = λ e. absurd cc;
       read_fault = λ small less. inl refl;
       read_fault_alone = λ e. rose;
-      read_fault_told = λ e. grows;
+      read_fault_reported = λ e. grows;
       write_fault = λ small. (λ e. absurd cc, λ less. absurd (let stood = still small in omega (arith, stood, less)));
       prefix = λ e. absurd cc;
       no_memory = λ e. absurd cc;
@@ -169,10 +169,10 @@ module _ {X Y : Type 0} (words : List (List ℕ)) (source read : X) (left rest :
     own_run o well grows still = record {
       usage = λ e. absurd cc;
       usage_alone = λ e. absurd (no_own o.status Usage well.own_status e);
-      usage_told = λ e. absurd (no_own o.status Usage well.own_status e);
+      usage_reported = λ e. absurd (no_own o.status Usage well.own_status e);
       read_fault = λ small less. absurd (let stood = well.calm small in omega (arith, stood, less));
       read_fault_alone = λ e. absurd (no_own o.status ReadFault well.own_status e);
-      read_fault_told = λ e. absurd (no_own o.status ReadFault well.own_status e);
+      read_fault_reported = λ e. absurd (no_own o.status ReadFault well.own_status e);
       write_fault = λ small. (λ e. absurd (no_own o.status WriteFault well.own_status e), λ less. absurd (let stood = still small in omega (arith, stood, less)));
       prefix = λ e. absurd (no_own o.status WriteFault well.own_status e);
       no_memory = λ e. absurd (no_own o.status NoMemory well.own_status e);

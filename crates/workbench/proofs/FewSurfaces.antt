@@ -10,7 +10,7 @@ use Rattle.command_definitions.specs.declared.Request.TheVariants.{Surfaces}
 use Rattle.command_definitions.specs.Words.{accepted_request}
 use Rattle.outcome_definitions.specs.declared.Status.{Status}
 use Rattle.outcome_definitions.specs.Answers.{most_bytes}
-use Rattle.surface_equation_laws.specs.Few.{most_tetrahedra}
+use Rattle.surface_equation_laws.specs.BoundedTables.{most_tetrahedra}
 use Rattle.outcome_answer_laws.proofs.Surfaces.{none_past, few_are_within}
 use Rattle.workbench.specs.Runs.{IsAnswered}
 use Rattle.workbench.specs.Prints.{ListsSurfaces, AnswersSurfaces, IsCutShort}
@@ -25,14 +25,14 @@ module _ (words : List (List ℕ)) (status : Status) (held grown : Option (List 
 
   never_large : (coords : Coords) (order : Order) (bytes : List ℕ) (rows : List Row) → table_document bytes ≡ Ok rows → length rows ≤ most_tetrahedra coords
       → AnswersSurfaces coords order limit rows status held grown → ListsSurfaces coords rows status held grown ⊎ IsCutShort status
-  never_large coords order bytes rows spelled few (inl lists) = inl lists
-  never_large coords order bytes rows spelled few (inr (inl g)) =
-      absurd (none_past bytes coords order rows spelled limit (few_are_within bytes coords order rows spelled few) g.0 g.1 (g.2).taken (g.2).kind (g.2).past)
-  never_large coords order bytes rows spelled few (inr (inr cut)) = inr cut
+  never_large coords order bytes rows spelled limited (inl lists) = inl lists
+  never_large coords order bytes rows spelled limited (inr (inl g)) =
+      absurd (none_past bytes coords order rows spelled limit (few_are_within bytes coords order rows spelled limited) g.0 g.1 (g.2).taken (g.2).kind (g.2).exceeded)
+  never_large coords order bytes rows spelled limited (inr (inr cut)) = inr cut
 
   few_on : (left : Option (List ℕ)) (coords : Coords) (order : Order) → IfSome left (SurfacesOn words status held grown coords order limit) → IfSome left (FewOn coords)
   few_on None coords order h = tt
-  few_on (Some bytes) coords order h = λ rows within spelled few. never_large coords order bytes rows spelled few (h rows within spelled)
+  few_on (Some bytes) coords order h = λ rows within spelled limited. never_large coords order bytes rows spelled limited (h rows within spelled)
 
   pub few_surfaces : (left : Option (List ℕ)) → (IsAnswered status → IfSome left (Tells words status held grown)) → (coords : Coords) (order : Order)
       → accepted_request words ≡ Some (Surfaces coords order limit) → IfSome left (FewOn coords)

@@ -20,8 +20,8 @@ use Rattle.workbench.specs.Runs.{IsAnswered}
 use Rattle.workbench.specs.Prints.{PrintsSurfaces, PrintsRays, PrintsVerdicts}
 
 -- an outcome with status Done equals only one with this status
-apart : {P : Type 0} (o p : Outcome) → o.status ≡ Done → o ≡ p → (p.status ≡ Done → P) → P
-apart o p done same f = f (sym (ap (λ (q : Outcome). q.status) same) ∙ done)
+separate : {P : Type 0} (o p : Outcome) → o.status ≡ Done → o ≡ p → (p.status ≡ Done → P) → P
+separate o p done same f = f (sym (ap (λ (q : Outcome). q.status) same) ∙ done)
 
 not_input : {P : Type 0} → Input ≡ Done → P
 not_input e = absurd cc
@@ -30,15 +30,15 @@ not_large : {P : Type 0} → Large ≡ Done → P
 not_large e = absurd cc
 
 not_too_long : (b : Bool) (A : Type 0) (o : Outcome) → o.status ≡ Done → MatchBool b (o ≡ too_long_outcome) A → A
-not_too_long true A o done h = apart o too_long_outcome done h not_input
+not_too_long true A o done h = separate o too_long_outcome done h not_input
 not_too_long false A o done h = h
 
 was_read : {A : Type 0} (read : Result A InputFault) (P : A → Outcome → Type 0) (o : Outcome) → o.status ≡ Done → IsReadOutcome read P o → (a : A) × (read ≡ Ok a) × P a o
 was_read (Ok a) P o done h = (a, refl, h)
-was_read (Err fault) P o done h = apart o (fault_outcome fault) done h not_input
+was_read (Err fault) P o done h = separate o (fault_outcome fault) done h not_input
 
-told : {A Q : Type 0} (read : Result A InputFault) (P : A → Outcome → Type 0) (o : Outcome) → (a : A) × (read ≡ Ok a) × P a o → ((a : A) → read ≡ Ok a → P a o → Q) → Q
-told read P o d f = f d.0 d.1 d.2
+reported : {A Q : Type 0} (read : Result A InputFault) (P : A → Outcome → Type 0) (o : Outcome) → (a : A) × (read ≡ Ok a) × P a o → ((a : A) → read ≡ Ok a → P a o → Q) → Q
+reported read P o d f = f d.0 d.1 d.2
 
 module _ (words : List (List ℕ)) (bytes : List ℕ) (o : Outcome) (held grown : Option (List ℕ)) (outcome : IsOutcome words bytes o) (done : o.status ≡ Done) (grows : Grows held grown o.text) where
   answered : (r : Request) → accepted_request words ≡ Some r → IsAnswerTo r bytes o
@@ -50,12 +50,12 @@ module _ (words : List (List ℕ)) (bytes : List ℕ) (o : Outcome) (held grown 
   surfaces_from : (coords : Coords) (order : Order) (most : ℕ) (rows : List Row) → table_document bytes ≡ Ok rows → IsSurfacesAnswer coords order most rows o → PrintsSurfaces coords bytes held grown
   surfaces_from coords order most rows spelled h = elim h.2 [
     | inl g ↦ record { rows = rows; spelled = spelled; equations = h.0; of_table = h.1; list = g.1; surfaces = (g.2).surfaces; printed = printed (list_outcome (codes "surfaces") g.1) g.3 }
-    | inr g ↦ apart o (large_outcome g.0 g.1) done g.3 not_large
+    | inr g ↦ separate o (large_outcome g.0 g.1) done g.3 not_large
   ]
 
   pub prints_surfaces : (coords : Coords) (order : Order) (most : ℕ) → accepted_request words ≡ Some (Surfaces coords order most) → PrintsSurfaces coords bytes held grown
   prints_surfaces coords order most e =
-      told (table_document bytes) (IsSurfacesAnswer coords order most) o
+      reported (table_document bytes) (IsSurfacesAnswer coords order most) o
       (was_read (table_document bytes) (IsSurfacesAnswer coords order most) o done (answered (Surfaces coords order most) e))
       (surfaces_from coords order most)
 
@@ -64,7 +64,7 @@ module _ (words : List (List ℕ)) (bytes : List ℕ) (o : Outcome) (held grown 
       let d = was_read (worded (cone_document bytes)) (λ cone. IsEnumerationAnswer (codes "rays") (ray_enumeration order most cone)) o done (answered (Rays order most) e) in
       elim d.2 [
         | inl h ↦ record { cone = d.0; spelled = d.1; list = h.1; rays = (h.2).surfaces; printed = printed (list_outcome (codes "rays") h.1) h.3 }
-        | inr h ↦ apart o (large_outcome h.0 h.1) done h.3 not_large
+        | inr h ↦ separate o (large_outcome h.0 h.1) done h.3 not_large
       ]
 
   verdicts_from : (coords : Coords) (d : List Row × List (List ℕ)) → vectors_document bytes ≡ Ok d → IsVerdictsAnswer coords d o → PrintsVerdicts coords bytes held grown
@@ -73,7 +73,7 @@ module _ (words : List (List ℕ)) (bytes : List ℕ) (o : Outcome) (held grown 
 
   pub prints_verdicts : (coords : Coords) → accepted_request words ≡ Some (Verify coords) → PrintsVerdicts coords bytes held grown
   prints_verdicts coords e =
-      told (vectors_document bytes) (IsVerdictsAnswer coords) o (was_read (vectors_document bytes) (IsVerdictsAnswer coords) o done (answered (Verify coords) e)) (verdicts_from coords)
+      reported (vectors_document bytes) (IsVerdictsAnswer coords) o (was_read (vectors_document bytes) (IsVerdictsAnswer coords) o done (answered (Verify coords) e)) (verdicts_from coords)
 
 -- the outcome of these bytes was written, and its status is that of the run
 abbrev pub Tells : List (List ℕ) → Status → Option (List ℕ) → Option (List ℕ) → List ℕ → Type 0

@@ -35,8 +35,8 @@ module _ (words : List (List ℕ)) (status : Status) (held grown : Option (List 
       → AreEquations Quad rows equations → All (IsSmallSolution rows equations) vectors → Writes (AreLifted rows vectors) status held grown
 
   lifts_told : (bytes : List ℕ) → accepted_request words ≡ Some Lift → Tells words status held grown bytes → LiftsOn bytes
-  lifts_told bytes e t = λ rows vectors equations few read links of_table small.
-      let asked : IsOutcomeTo Lift words bytes t.0 = record { accepted = e; within = few; outcome = t.1 } in
+  lifts_told bytes e t = λ rows vectors equations limited read links of_table small.
+      let asked : IsOutcomeTo Lift words bytes t.0 = record { accepted = e; within = limited; outcome = t.1 } in
       inl (t.0, solutions_lifted words bytes t.0 rows vectors equations asked read links of_table small, t.2, t.3)
 
   lifts_by : (left : Option (List ℕ)) → accepted_request words ≡ Some Lift → IsAnswered status → IfSome left (Tells words status held grown) → IfSome left LiftsOn
@@ -45,11 +45,11 @@ module _ (words : List (List ℕ)) (status : Status) (held grown : Option (List 
 
   lifts_cut : (left : Option (List ℕ)) → IsCutShort status → IfSome left LiftsOn
   lifts_cut None cut = tt
-  lifts_cut (Some bytes) cut = λ rows vectors equations few read links of_table small. inr cut
+  lifts_cut (Some bytes) cut = λ rows vectors equations limited read links of_table small. inr cut
 
   pub all_lifts : (left : Option (List ℕ)) → (IsAnswered status → IfSome left (Tells words status held grown)) → accepted_request words ≡ Some Lift → IfSome left LiftsOn
   all_lifts left h e = elim (answered_or_cut status) [
-    | inl told ↦ lifts_by left e told (h told)
+    | inl reported ↦ lifts_by left e reported (h reported)
     | inr cut ↦ lifts_cut left cut
   ]
 
@@ -59,8 +59,8 @@ module _ (words : List (List ℕ)) (status : Status) (held grown : Option (List 
 
   pub checks_told : (left : Option (List ℕ)) → IfSome left (Tells words status held grown) → accepted_request words ≡ Some Check → IfSome left ChecksOn
   checks_told None t e = tt
-  checks_told (Some bytes) t e = λ rows moves few read.
-      let asked : IsOutcomeTo Check words bytes t.0 = record { accepted = e; within = few; outcome = t.1 } in
+  checks_told (Some bytes) t e = λ rows moves limited read.
+      let asked : IsOutcomeTo Check words bytes t.0 = record { accepted = e; within = limited; outcome = t.1 } in
       let d = done_where_certified words bytes t.0 rows moves asked read in
       ((λ done. d.0 (sym t.2 ∙ done)), (λ certificate. t.2 ∙ d.1 certificate))
 
@@ -68,15 +68,15 @@ module _ (words : List (List ℕ)) (status : Status) (held grown : Option (List 
   module _ {A : Type 0} (asked : Request) (document : List ℕ → Result A InputFault) (IsMeant : A → Outcome → Type 0) (means : Means asked document IsMeant) (e : accepted_request words ≡ Some asked) where
     told_of : (left : Option (List ℕ)) → IfSome left (Tells words status held grown) → WritesOf document IsMeant left status held grown
     told_of None t = tt
-    told_of (Some bytes) t = λ d few read. inl (t.0, means words bytes t.0 d (record { accepted = e; within = few; outcome = t.1 }) read, t.2, t.3)
+    told_of (Some bytes) t = λ d limited read. inl (t.0, means words bytes t.0 d (record { accepted = e; within = limited; outcome = t.1 }) read, t.2, t.3)
 
     cut_of : (left : Option (List ℕ)) → IsCutShort status → WritesOf document IsMeant left status held grown
     cut_of None cut = tt
-    cut_of (Some bytes) cut = λ d few read. inr cut
+    cut_of (Some bytes) cut = λ d limited read. inr cut
 
     pub writes_of : (left : Option (List ℕ)) → (IsAnswered status → IfSome left (Tells words status held grown)) → WritesOf document IsMeant left status held grown
     writes_of left h = elim (answered_or_cut status) [
-      | inl told ↦ told_of left (h told)
+      | inl reported ↦ told_of left (h reported)
       | inr cut ↦ cut_of left cut
     ]
 
@@ -85,6 +85,6 @@ pub alone_told : (IsMeant : Outcome → Type 0) (asked : Request) → reads_inpu
     → (status : Status) (held grown : Option (List ℕ)) → (IsAnswered status → (p : Outcome) × IsAnswerTo asked [] p × (status ≡ p.status) × Grows held grown p.text)
     → Writes IsMeant status held grown
 alone_told IsMeant asked nothing means status held grown h = elim (answered_or_cut status) [
-  | inl told ↦ (let t = h told in inl (t.0, means t.0 t.1, t.2, t.3))
+  | inl reported ↦ (let t = h reported in inl (t.0, means t.0 t.1, t.2, t.3))
   | inr cut ↦ inr cut
 ]

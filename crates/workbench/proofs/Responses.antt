@@ -17,7 +17,7 @@ module _ (request : Request) (o : Outcome) where
   by_length bytes b e h = subst (λ (c : Bool). MatchBool c (o ≡ too_long_outcome) (IsAnswerTo request bytes o)) (sym e) h
 
   pub answers_input : (bytes : List ℕ) → length bytes ≤ most_bytes → IsAnswerTo request bytes o → IsRequestOutcome request bytes o
-  answers_input bytes few h = by_length bytes false (not_long request bytes few) h
+  answers_input bytes limited h = by_length bytes false (not_long request bytes limited) h
 
 -- a value is no error
 pub no_error : {T E : Type 0} (x : T) (e : E) → (let r : Result T E = Ok x in r ≡ Err e) → ⊥
@@ -32,11 +32,11 @@ calm_of before now never later small = elim (cases_order before now) [
 ]
 
 -- the outcome of a request that reads an input, if the whole source was read
-module _ (request : Request) (o : Outcome) (bytes : List ℕ) (reads : reads_input request ≡ true) (answer : IsAnswerTo request bytes o) (few : length bytes ≤ most_bytes) where
+module _ (request : Request) (o : Outcome) (bytes : List ℕ) (reads : reads_input request ≡ true) (answer : IsAnswerTo request bytes o) (limited : length bytes ≤ most_bytes) where
   taken : (left rest : Option (List ℕ)) → TakesBytes left rest bytes → IsEnded rest → IfSome left (λ xs. IsRequestOutcome request xs o)
   taken None rest t e = tt
   taken (Some xs) None t e = absurd t
-  taken (Some xs) (Some ys) t e = subst (λ (zs : List ℕ). IsRequestOutcome request zs o) (sym (t ∙ ap (λ (zs : List ℕ). bytes ++ zs) e ∙ append-nil bytes)) (answers_input request o bytes few answer)
+  taken (Some xs) (Some ys) t e = subst (λ (zs : List ℕ). IsRequestOutcome request zs o) (sym (t ∙ ap (λ (zs : List ℕ). bytes ++ zs) e ∙ append-nil bytes)) (answers_input request o bytes limited answer)
 
   pub read_well : (left rest : Option (List ℕ)) (before now : ℕ) → TakesBytes left rest bytes → IsEnded rest → IsCalm before now → IsReadWell request left rest before now o
   read_well left rest before now t e calm = record {

@@ -5,7 +5,7 @@ use Rattle.signature_definitions.specs.declared.InputFault.{InputFault}
 use Rattle.table_definitions.specs.Table.{Row}
 use Rattle.cone_definitions.specs.Rows.{Row as EquationRow}
 use Rattle.cone_definitions.specs.Surfaces.{IsSurfaceList}
-use Rattle.cone_definitions.specs.Listings.{Enumeration, IsPastLimit}
+use Rattle.cone_definitions.specs.Listings.{Enumeration, ExceedsLimit}
 use Rattle.cone_definitions.specs.declared.Order.{Order}
 use Rattle.cone_definitions.specs.Elimination.{Named as LargeKind}
 use Rattle.cone_text_definitions.specs.ConeText.{Cone as ConeText, system_of}
@@ -64,7 +64,7 @@ pub record NamesLarge (e : Enumeration) (status : Status) (before now : Option (
   pub large : status ≡ Large
   pub taken : List ℕ
   pub kind : LargeKind
-  pub past : IsPastLimit e taken kind
+  pub exceeded : ExceedsLimit e taken kind
   pub named : Grows before now (large_outcome taken kind).text
 
 -- the source failed, the sink failed, or memory ran out; each has a clause of its own

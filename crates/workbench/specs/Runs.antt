@@ -51,7 +51,7 @@ abbrev pub IsResponse : Request → Option (List ℕ) → Option (List ℕ) → 
 IsResponse request left rest before now o = IsReadFault before now o ⊎ IsReadWell request left rest before now o
 
 -- memory ran out before the source failed or returned too many bytes
-pub record IsWithoutMemory (left rest : Option (List ℕ)) (before now : ℕ) : Type 0 where
+pub record RunsOutOfMemory (left rest : Option (List ℕ)) (before now : ℕ) : Type 0 where
   pub calm : IsCalm before now
   pub within : IsWithinInputLimit left rest
 
@@ -81,10 +81,10 @@ pub record IsRun {X Y : Type 0} (words : List (List ℕ)) (result : Status) (sou
     (sink written : Y) (held grown : Option (List ℕ)) (sink_faults write_faults : ℕ) : Type 0 where
   pub usage : accepted_request words ≡ None → Answers result Usage × (read ≡ source)
   pub usage_alone : result ≡ Usage → accepted_request words ≡ None
-  pub usage_told : result ≡ Usage → Grows held grown usage_line
+  pub usage_reported : result ≡ Usage → Grows held grown usage_line
   pub read_fault : faults < 2 ^ 64 - 1 → faults < read_faults → (result ≡ ReadFault) ⊎ (result ≡ WriteFault)
   pub read_fault_alone : result ≡ ReadFault → Rose faults read_faults
-  pub read_fault_told : result ≡ ReadFault → Grows held grown read_line
+  pub read_fault_reported : result ≡ ReadFault → Grows held grown read_line
   pub write_fault : sink_faults < 2 ^ 64 - 1 → ((result ≡ WriteFault) ↔ (sink_faults < write_faults))
   pub prefix : result ≡ WriteFault → (o : Outcome) × IsToBeWritten words left faults read_faults o × IsCutOff held grown o.text
   pub no_memory : result ≡ NoMemory → written ≡ sink

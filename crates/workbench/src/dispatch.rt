@@ -17,7 +17,7 @@ ghost use Rattle.command_definitions.specs.Words.{accepted_request};
 ghost use Rattle.command_definitions.specs.Requests.{HoldsRange, reads_input};
 ghost use Rattle.cone_definitions.specs.declared.Order.{Order};
 ghost use Rattle.surface_definitions.specs.declared.Coords.{Coords};
-ghost use Rattle.surface_equation_laws.specs.Few.{most_tetrahedra};
+ghost use Rattle.surface_equation_laws.specs.BoundedTables.{most_tetrahedra};
 ghost use Rattle.outcome_answer_laws.specs.Lifts.{HasSphereAndDiscVertices, IsSmallSolution, AreLifted};
 ghost use Rattle.outcome_answer_laws.specs.Makings.{IsTableWithMoves, IsSummaryWithMoves};
 ghost use Rattle.outcome_answer_laws.specs.Comparisons.{IsComparison, IsComponentComparison, IsGrouping};
@@ -25,7 +25,7 @@ ghost use Rattle.outcome_answer_laws.specs.Sums.{IsDecomposition, IsAddition};
 ghost use Rattle.outcome_answer_laws.specs.Covers.{IsCovering};
 ghost use Rattle.outcome_answer_laws.specs.Scripts.{IsPlayed};
 ghost use Rattle.workbench.specs.Prints.{PrintsSurfaces, PrintsRays, PrintsVerdicts, ListsSurfaces, IsCutShort, Writes, WritesOf, AnswersSurfaces, AnswersRays};
-ghost use Rattle.workbench.specs.Runs.{Answers, IsAnswered, IsCalm, IsWithinInputLimit, IsResponse, IsWithoutMemory, IsCutOff, IsToBeWritten, IsDelivered, IsRun};
+ghost use Rattle.workbench.specs.Runs.{Answers, IsAnswered, IsCalm, IsWithinInputLimit, IsResponse, RunsOutOfMemory, IsCutOff, IsToBeWritten, IsDelivered, IsRun};
 
 use certificate_commands::{bulk, check, descend, make};
 use command_answers::Outcome;
@@ -99,7 +99,7 @@ fn outcome_of_bytes<S: Source>(
     requires in_range { HoldsRange request }
     requires reads { reads_input request ≡ true }
     ensures response { IfOk result (IsResponse request (S.left source.old) (S.left source.new) (S.faults source.old) (S.faults source.new)) }
-    ensures no_memory { OnErr result (IsWithoutMemory (S.left source.old) (S.left source.new) (S.faults source.old) (S.faults source.new)) }
+    ensures no_memory { OnErr result (RunsOutOfMemory (S.left source.old) (S.left source.new) (S.faults source.old) (S.faults source.new)) }
 {
     match read_all(alloc, source, MOST_BYTES) {
         Ok(bytes) => outcome_of_request(alloc, request, &bytes),
@@ -117,7 +117,7 @@ fn outcome_of_source<S: Source>(
 ) -> Result<Outcome, NoMemory>
     requires { HoldsRange request }
     ensures response { IfOk result (IsResponse request (S.left source.old) (S.left source.new) (S.faults source.old) (S.faults source.new)) }
-    ensures no_memory { OnErr result (IsWithoutMemory (S.left source.old) (S.left source.new) (S.faults source.old) (S.faults source.new)) }
+    ensures no_memory { OnErr result (RunsOutOfMemory (S.left source.old) (S.left source.new) (S.faults source.old) (S.faults source.new)) }
     ensures untouched { reads_input request ≡ false → source.new ≡ source.old }
 {
     if reads_input(request) {

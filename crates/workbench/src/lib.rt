@@ -7,15 +7,15 @@
 //! Not proved: time, memory, and that standard input and output are a source and a sink as their traits state.
 #![tactic(auto)]
 
-mod at_hand;
 mod dispatch;
+mod in_memory;
 mod steady;
 
 ghost use Rattle.std.specs.Prelude.{◌≡◌};
 ghost use Rattle.workbench.specs.Codes.{code_of};
 
-pub use at_hand::outcome_of;
 pub use dispatch::run;
+pub use in_memory::outcome_of;
 pub use outcome_definitions::Status;
 pub use steady::run_steadily;
 

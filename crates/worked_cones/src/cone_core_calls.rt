@@ -96,16 +96,16 @@ fn takes_common_divisors_out(rt: HostRuntime) -> Result<(), Fail> {
 }
 
 #[test]
-fn combines_rays_past_64_bits(rt: HostRuntime) -> Result<(), Fail> {
+fn combines_rays_exceeding_64_bits(rt: HostRuntime) -> Result<(), Fail> {
     let alloc = rt.alloc();
     let one = Ray::unit(alloc, 2, 0)?;
     let other = Ray::unit(alloc, 2, 1)?;
-    let (below, past) = (18446744073709551615, 18446744073709551616);
-    let large = combine(alloc, &one, &other, below, past, MAX_ENTRY)
+    let (below, exceeded) = (18446744073709551615, 18446744073709551616);
+    let large = combine(alloc, &one, &other, below, exceeded, MAX_ENTRY)
         .ok()
         .ok_or("too large")?;
-    is_ray(&rt, &large, &[past, below]);
-    let passed = combine(alloc, &one, &other, past, below, below);
+    is_ray(&rt, &large, &[exceeded, below]);
+    let passed = combine(alloc, &one, &other, exceeded, below, below);
     assert!(rt; matches!(passed, Err(CombineFault::Passed { column: 1 })));
     let (first, second) = (1180591620717411303423, 5902958103587056517120);
     let steep = combine(alloc, &one, &other, second, first, MAX_ENTRY)
@@ -167,8 +167,8 @@ fn reads_cones(rt: HostRuntime) -> Result<(), Fail> {
     assert!(rt; lexer.next_line());
     match read_cone(alloc, &mut lexer) {
         Err(ConeFault::Lex(fault)) => {
-            let told = (fault.place.line, fault.place.column, fault.kind);
-            assert!(rt; told == (2, 1, LexKind::NumberTooWide));
+            let reported = (fault.place.line, fault.place.column, fault.kind);
+            assert!(rt; reported == (2, 1, LexKind::NumberTooWide));
         }
         _ => panic!(rt; "a fault was expected"),
     }

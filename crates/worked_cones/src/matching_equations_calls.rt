@@ -23,7 +23,7 @@ fn a_sphere_has_six_rows(rt: HostRuntime) -> Result<(), Fail> {
 }
 
 #[test]
-fn octagons_stand_in_the_same_rows(rt: HostRuntime) -> Result<(), Fail> {
+fn octagons_are_in_the_same_rows(rt: HostRuntime) -> Result<(), Fail> {
     let table = read_table(rt.alloc(), SPHERE)?;
     let octagon = equations_of_table(rt.alloc(), &table, Coords::Octagon)?;
     assert_eq!(rt; octagon.len(), 6);

@@ -50,7 +50,7 @@ fn octagons_of_two_tetrahedra_clash(rt: HostRuntime) -> Result<(), NoMemory> {
 }
 
 #[test]
-fn clashing_supports_are_told(rt: HostRuntime) -> Result<(), NoMemory> {
+fn clashing_supports_are_reported(rt: HostRuntime) -> Result<(), NoMemory> {
     let alloc = rt.alloc();
     let quads = Masks::new(alloc, Coords::Quad, 1)?;
     let first = Support::of(alloc, &[1, 0, 0])?;

@@ -26,7 +26,7 @@ fn keeps_columns_as_words(rt: HostRuntime) -> Result<(), NoMemory> {
 }
 
 #[test]
-fn tells_supports_apart(rt: HostRuntime) -> Result<(), NoMemory> {
+fn distinguishes_supports(rt: HostRuntime) -> Result<(), NoMemory> {
     let a = Support::of(rt.alloc(), &[1, 2, 0])?;
     let b = Support::of(rt.alloc(), &[0, 0, 5])?;
     let c = Support::of(rt.alloc(), &[3, 0, 4])?;

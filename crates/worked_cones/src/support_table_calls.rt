@@ -54,7 +54,7 @@ fn counts_each_column_once(rt: HostRuntime) -> Result<(), NoMemory> {
 /// Besides the columns of the first ray, the second and third have one more each, the fourth has both, and the last
 /// clashes. If the second is not wanted, it is left out.
 #[test]
-fn smallest_beside_the_first(rt: HostRuntime) -> Result<(), NoMemory> {
+fn smallest_with_the_first(rt: HostRuntime) -> Result<(), NoMemory> {
     let alloc = rt.alloc();
     let outer = Support::of(alloc, &[1, 1, 0, 0, 0])?;
     let joined = Support::of(alloc, &[0, 0, 0, 0, 1])?;
@@ -68,8 +68,8 @@ fn smallest_beside_the_first(rt: HostRuntime) -> Result<(), NoMemory> {
     assert_eq!(rt; rays.meeting(alloc, &joined)?.words(), &[16u64][..]);
     let places = minimal_places(alloc, &rays, &[true; 5], &outer, &joined, 0, 5)?;
     assert_eq!(rt; places.as_slice(), &[1usize, 2][..]);
-    let wanted = [true, false, true, true, true];
-    let some = minimal_places(alloc, &rays, &wanted, &outer, &joined, 0, 5)?;
+    let expected = [true, false, true, true, true];
+    let some = minimal_places(alloc, &rays, &expected, &outer, &joined, 0, 5)?;
     assert_eq!(rt; some.as_slice(), &[2usize][..]);
     Ok(())
 }

@@ -34,7 +34,7 @@ fn a_run_without_disturbance_ends(rt: HostRuntime) -> Result<(), NoMemory> {
 }
 
 #[test]
-fn an_input_at_hand_is_answered(rt: HostRuntime) -> Result<(), NoMemory> {
+fn an_input_in_memory_is_answered(rt: HostRuntime) -> Result<(), NoMemory> {
     let alloc = rt.alloc();
     let mut words = Words::new(alloc);
     words.push("sig")?;

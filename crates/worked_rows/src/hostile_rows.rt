@@ -7,7 +7,7 @@ use workbench::Status;
 const INPUT: &[u8] = b"tri 1\n0:1023 0:1023 0:1230 0:3012\nvec 1 1 0 0 1 0 0\nvec 1 0 0 0 0 0 0\n";
 
 #[test]
-fn the_sink_stands_before_the_source(rt: HostRuntime) -> Result<(), Fail> {
+fn the_sink_precedes_the_source(rt: HostRuntime) -> Result<(), Fail> {
     let answer = answered(rt.alloc(), &["verify"], INPUT, 1, 1, 7)?;
     assert!(rt; answer.status == Status::WriteFault);
     assert!(rt; answer.text.is_empty());

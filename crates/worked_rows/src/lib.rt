@@ -16,8 +16,6 @@ mod decompose_rows;
 #[cfg(test)]
 mod describe_rows;
 #[cfg(test)]
-mod fault_rows;
-#[cfg(test)]
 mod group_rows;
 #[cfg(test)]
 mod hostile_rows;

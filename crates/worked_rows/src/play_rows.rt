@@ -152,38 +152,38 @@ fn play_rows_are_answered(rt: HostRuntime) -> Result<(), Fail> {
 }
 
 /// Appends the rows of `count` tetrahedra without glued faces.
-fn push_loose(text: &mut Vec<u8>, count: u32) -> Result<(), Fail> {
+fn push_disconnected(text: &mut Vec<u8>, count: u32) -> Result<(), Fail> {
     for _tet in 0..count {
         text.extend_from_slice(b"- - - -\n")?;
     }
     Ok(())
 }
 
-/// Asserts that the move `14 0` on `count` tetrahedra without glued faces gives `wanted`.
-fn is_played_on_loose(
+/// Asserts that the move `14 0` on `count` tetrahedra without glued faces gives `expected`.
+fn is_played_on_disconnected(
     rt: &impl Abort,
     alloc: Global,
     count: u32,
     first: &[u8],
-    wanted: &[u8],
+    expected: &[u8],
 ) -> Result<(), Fail> {
     let mut input = first.to_vec(alloc)?;
-    push_loose(&mut input, count)?;
+    push_disconnected(&mut input, count)?;
     input.extend_from_slice(b"14 0\n")?;
     let answer = answered(alloc, &["play"], &input, STEADY, STEADY, 1 << 16)?;
     assert!(rt; answer.status == Status::Done);
-    assert_eq!(rt; answer.text.as_slice(), wanted);
+    assert_eq!(rt; answer.text.as_slice(), expected);
     Ok(())
 }
 
 #[test]
 fn moves_keep_within_the_limit(rt: HostRuntime) -> Result<(), Fail> {
     let mut refused = b"illegal too-many\ntri 998\n".to_vec(rt.alloc())?;
-    push_loose(&mut refused, 998)?;
-    is_played_on_loose(&rt, rt.alloc(), 998, b"tri 998\n", &refused)?;
+    push_disconnected(&mut refused, 998)?;
+    is_played_on_disconnected(&rt, rt.alloc(), 998, b"tri 998\n", &refused)?;
     let mut played = b"done\ntri 1000\n".to_vec(rt.alloc())?;
-    push_loose(&mut played, 996)?;
+    push_disconnected(&mut played, 996)?;
     played.extend_from_slice(b"997:0123 998:1023 999:1203 -\n996:0123 998:0123 999:0213 -\n")?;
     played.extend_from_slice(b"996:1023 997:0123 999:0123 -\n996:2013 997:0213 998:0123 -\n")?;
-    is_played_on_loose(&rt, rt.alloc(), 997, b"tri 997\n", &played)
+    is_played_on_disconnected(&rt, rt.alloc(), 997, b"tri 997\n", &played)
 }

@@ -3,7 +3,13 @@ use crate::running::{RunRow, are_answered};
 use std::test::Fail;
 use workbench::Status;
 
-const ROWS: [RunRow; 54] = [
+const ROWS: [RunRow; 55] = [
+    RunRow {
+        words: &["verify"],
+        input: b"tri 1\n0:1023 0:1023 0:1230 0:3012\nvec 1 1 0 0 1 0 0\nvec 1 0 0 0 0 0 0\n",
+        status: Status::Done,
+        text: b"solution\nfails 0\n",
+    },
     RunRow {
         words: &["verify"],
         input: b"tri 1\n0:1023 0:1023 0:1230 0:3012\nvec 1 1 0 0 1 0 0\nvec 1 0 0 0 0 0 0\nvec 0 0 1 1 0 1 1\nvec 1 1 0 0 1 0\nvec 0 0 0 0 0 0 0\n",

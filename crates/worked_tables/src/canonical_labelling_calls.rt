@@ -32,7 +32,7 @@ fn relabelling_of(
 }
 
 #[test]
-fn the_first_relabelling_is_told(rt: HostRuntime) -> Result<(), Fail> {
+fn the_first_relabelling_is_reported(rt: HostRuntime) -> Result<(), Fail> {
     let first = read_table(rt.alloc(), b"bkaagn")?;
     let second = read_table(rt.alloc(), b"bkaagj")?;
     let other = read_table(rt.alloc(), b"bkaagb")?;
@@ -50,24 +50,24 @@ fn the_first_relabelling_is_told(rt: HostRuntime) -> Result<(), Fail> {
 }
 
 #[test]
-fn loose_tables_are_refused(rt: HostRuntime) -> Result<(), Fail> {
-    let loose = table_of(&rt, rt.alloc(), &[BALL, BALL]);
+fn disconnected_tables_are_refused(rt: HostRuntime) -> Result<(), Fail> {
+    let disconnected = table_of(&rt, rt.alloc(), &[BALL, BALL]);
     let one = read_table(rt.alloc(), b"bkaagj")?;
     assert!(rt;
         matches!(
-            signature(rt.alloc(), &loose),
+            signature(rt.alloc(), &disconnected),
             Err(Failure::Fault(NotConnected { tet: 1 }))
         )
     );
     assert!(rt;
         matches!(
-            same(rt.alloc(), &loose, &one),
+            same(rt.alloc(), &disconnected, &one),
             Err(SameFault::First { tet: 1 })
         )
     );
     assert!(rt;
         matches!(
-            same(rt.alloc(), &one, &loose),
+            same(rt.alloc(), &one, &disconnected),
             Err(SameFault::Second { tet: 1 })
         )
     );

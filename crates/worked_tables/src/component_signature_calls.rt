@@ -5,10 +5,10 @@ use perm_four::Perm4;
 use std::alloc::Global;
 use std::process::Abort;
 
-fn signed(rt: &impl Abort, alloc: Global, rows: &[Row], wanted: &[u8]) {
+fn signed(rt: &impl Abort, alloc: Global, rows: &[Row], asked: &[u8]) {
     let table = table_of(rt, alloc, rows);
     let text = component_signature(alloc, &table).expect(rt, "memory");
-    assert_eq!(rt; text.as_slice(), wanted);
+    assert_eq!(rt; text.as_slice(), asked);
 }
 
 #[test]
@@ -62,6 +62,6 @@ fn parts_that_differ(rt: HostRuntime) {
     let no_rows: Vec<Row> = Vec::new(alloc);
     let first = table_of(&rt, alloc, &no_rows);
     let second = table_of(&rt, alloc, &[BALL]);
-    let told = same_parts(alloc, &first, &second).expect(&rt, "memory");
-    assert!(rt; told.is_none());
+    let reported = same_parts(alloc, &first, &second).expect(&rt, "memory");
+    assert!(rt; reported.is_none());
 }

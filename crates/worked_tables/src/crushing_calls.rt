@@ -22,6 +22,6 @@ fn a_face_is_followed_through(rt: HostRuntime) {
     let x = [1, 1, 0, 0, 0, 0, 0, 0, 0, 0, 0, 1, 0, 0];
     let crushed = crush_table(rt.alloc(), &table, &x).expect(&rt, "memory");
     let glued = [by(0, b"1023"), by(0, b"1023"), None, None];
-    let wanted = table_of(&rt, rt.alloc(), &[glued]);
-    assert!(rt; crushed.equals(&wanted));
+    let asked = table_of(&rt, rt.alloc(), &[glued]);
+    assert!(rt; crushed.equals(&asked));
 }

@@ -1,4 +1,4 @@
-use crate::sample_tables::{BALL, skeleton_of, sphere_row, table_of, turned_row};
+use crate::sample_tables::{BALL, gieseking_row, skeleton_of, sphere_row, table_of};
 use double_cover::{Cover, Failure, TooMany};
 use gluing_table::Row;
 use perm_four::Perm4;
@@ -14,10 +14,10 @@ fn of(rt: &impl Abort, alloc: Global, rows: &[Row]) -> Cover {
 
 #[test]
 fn over_a_table_that_is_not_orientable(rt: HostRuntime) {
-    let cover = of(&rt, rt.alloc(), &[turned_row(0)]);
-    let rows = [turned_row(1), turned_row(0)];
-    let wanted = table_of(&rt, rt.alloc(), &rows);
-    assert!(rt; cover.table().equals(&wanted));
+    let cover = of(&rt, rt.alloc(), &[gieseking_row(0)]);
+    let rows = [gieseking_row(1), gieseking_row(0)];
+    let asked = table_of(&rt, rt.alloc(), &rows);
+    assert!(rt; cover.table().equals(&asked));
     let unreached = cover.table().unreached(rt.alloc()).expect(&rt, "memory");
     assert_eq!(rt; unreached, None);
     let split = cover.split(rt.alloc()).expect(&rt, "memory");
@@ -28,8 +28,8 @@ fn over_a_table_that_is_not_orientable(rt: HostRuntime) {
 fn over_the_sphere(rt: HostRuntime) {
     let cover = of(&rt, rt.alloc(), &[sphere_row(0)]);
     let rows = [sphere_row(0), sphere_row(1)];
-    let wanted = table_of(&rt, rt.alloc(), &rows);
-    assert!(rt; cover.table().equals(&wanted));
+    let asked = table_of(&rt, rt.alloc(), &rows);
+    assert!(rt; cover.table().equals(&asked));
     let unreached = cover.table().unreached(rt.alloc()).expect(&rt, "memory");
     assert_eq!(rt; unreached, Some(1));
     let split = cover
@@ -40,12 +40,12 @@ fn over_the_sphere(rt: HostRuntime) {
         .table()
         .relabel(rt.alloc(), &split)
         .expect(&rt, "memory");
-    assert!(rt; parted.equals(&wanted));
+    assert!(rt; parted.equals(&asked));
 }
 
 #[test]
 fn sheets_are_exchanged(rt: HostRuntime) {
-    let cover = of(&rt, rt.alloc(), &[turned_row(0)]);
+    let cover = of(&rt, rt.alloc(), &[gieseking_row(0)]);
     assert_eq!(rt; cover.table().len(), 2);
     assert_eq!(rt; (cover.over(0), cover.sheet(0)), (0, 0));
     assert_eq!(rt; (cover.over(1), cover.sheet(1)), (0, 1));

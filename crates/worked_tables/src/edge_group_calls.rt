@@ -1,4 +1,4 @@
-use crate::sample_tables::{BALL, figure_eight, reversed_row, skeleton_of, turned_row};
+use crate::sample_tables::{BALL, figure_eight, gieseking_row, reversed_row, skeleton_of};
 use edge_group::{Failure, Group, GroupFault, Letter};
 use gluing_table::{Face, Row};
 
@@ -9,7 +9,7 @@ fn plain(generator: u32) -> Letter {
     }
 }
 
-fn turned(generator: u32) -> Letter {
+fn backwards(generator: u32) -> Letter {
     Letter {
         generator,
         inverse: true,
@@ -35,9 +35,9 @@ fn the_figure_eight_complement(rt: HostRuntime) {
     assert_eq!(rt; group.relators(), 2);
     assert_eq!(rt; (group.edge_of(0), group.edge_of(1)), (0, 1));
     assert!(rt;
-        group.relator(0) == [plain(2), turned(1), plain(3), plain(1), turned(3)].as_slice()
+        group.relator(0) == [plain(2), backwards(1), plain(3), plain(1), backwards(3)].as_slice()
     );
-    assert!(rt; group.relator(1) == [plain(1), plain(2), turned(3), turned(2)].as_slice());
+    assert!(rt; group.relator(1) == [plain(1), plain(2), backwards(3), backwards(2)].as_slice());
     assert_eq!(rt; skeleton.table().len(), 2);
     assert!(rt; group.tree_face(0).is_none());
     assert!(rt; group.tree_face(1) == Some(Face { tet: 0, face: 0 }));
@@ -45,7 +45,7 @@ fn the_figure_eight_complement(rt: HostRuntime) {
 
 #[test]
 fn generators_that_turn(rt: HostRuntime) {
-    let rows = [turned_row(0)];
+    let rows = [gieseking_row(0)];
     let skeleton = skeleton_of(&rt, rt.alloc(), &rows);
     let group = Group::of(rt.alloc(), &skeleton).ok().expect(&rt, "a group");
     assert_eq!(rt; group.generators(), 2);
@@ -53,7 +53,15 @@ fn generators_that_turn(rt: HostRuntime) {
     assert_eq!(rt; group.relators(), 1);
     assert!(rt;
         group.relator(0)
-            == [plain(2), turned(1), turned(2), plain(1), plain(1), plain(2)].as_slice()
+            == [
+                plain(2),
+                backwards(1),
+                backwards(2),
+                plain(1),
+                plain(1),
+                plain(2)
+            ]
+            .as_slice()
     );
 }
 

@@ -2,7 +2,7 @@ use finite_walks::{classes, component, mark_joined, orbit};
 use std::test::Fail;
 
 #[test]
-fn walks_go_round_or_end(rt: HostRuntime) -> Result<(), Fail> {
+fn walks_return_or_end(rt: HostRuntime) -> Result<(), Fail> {
     let next = [Some(2), None, Some(4), Some(1), Some(0), Some(3)];
     assert_eq!(rt;
         orbit(rt.alloc(), &next, 2)?.as_slice(),

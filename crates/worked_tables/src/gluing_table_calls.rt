@@ -66,7 +66,7 @@ fn a_row_is_taken_out(rt: HostRuntime) {
 }
 
 #[test]
-fn two_free_tetrahedra_are_apart(rt: HostRuntime) {
+fn two_free_tetrahedra_are_disconnected(rt: HostRuntime) {
     let rows = [BALL, BALL];
     let table = table_of(&rt, rt.alloc(), &rows);
     let reached = table.unreached(rt.alloc()).expect(&rt, "memory");

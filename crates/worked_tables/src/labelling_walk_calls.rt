@@ -24,7 +24,7 @@ fn walked(alloc: Global, text: &[u8], tet: u32, word: &[u8]) -> Result<Vec<u8>, 
 }
 
 #[test]
-fn a_walk_leads_to_the_one_table(rt: HostRuntime) -> Result<(), Fail> {
+fn a_walk_reaches_the_one_table(rt: HostRuntime) -> Result<(), Fail> {
     let walks: [(&[u8], u32, &[u8], &[u8]); 6] = [
         (b"bkaagn", 0, b"0123", b"bkaagn"),
         (b"bkaagn", 0, b"2031", b"bkaaok"),
@@ -40,7 +40,7 @@ fn a_walk_leads_to_the_one_table(rt: HostRuntime) -> Result<(), Fail> {
 }
 
 #[test]
-fn two_loose_tetrahedra_are_not_walked(rt: HostRuntime) {
+fn two_disconnected_tetrahedra_are_not_walked(rt: HostRuntime) {
     let table = table_of(&rt, rt.alloc(), &[BALL, BALL]);
     let perm = Perm4::of_index(0).expect(&rt, "the identity");
     assert_eq!(rt; table.len(), 2);

@@ -38,7 +38,7 @@ fn refusal(rt: &impl Abort, table: &Table, mask: u8) -> Option<MoveFault> {
 }
 
 #[test]
-fn worked_moves_are_told_apart(rt: HostRuntime) {
+fn worked_moves_are_distinguished(rt: HostRuntime) {
     let free = table_of(&rt, rt.alloc(), &[BALL]);
     let sphere = table_of(&rt, rt.alloc(), &[sphere_row(0)]);
     let four = table_of(&rt, rt.alloc(), &four());
@@ -77,11 +77,11 @@ fn refused_moves_leave_the_table(rt: HostRuntime) {
         )
     );
     assert!(rt; table.equals(&four));
-    let loose = vec![in rt.alloc(); BALL; 998].expect(&rt, "memory");
-    let mut table = table_of(&rt, rt.alloc(), &loose);
+    let disconnected = vec![in rt.alloc(); BALL; 998].expect(&rt, "memory");
+    let mut table = table_of(&rt, rt.alloc(), &disconnected);
     let fault = apply(&mut table, move_at(&rt, 0, 15)).err();
     assert!(rt; matches!(fault, Some(MoveFault::TooMany)));
-    assert!(rt; table.rows() == loose.as_slice());
+    assert!(rt; table.rows() == disconnected.as_slice());
 }
 
 #[test]

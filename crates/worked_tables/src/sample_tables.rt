@@ -31,7 +31,7 @@ pub fn sphere_row(tet: u32) -> Row {
 }
 
 /// A row of the Gieseking manifold, which is non-orientable, with gluings to tetrahedron `tet`.
-pub fn turned_row(tet: u32) -> Row {
+pub fn gieseking_row(tet: u32) -> Row {
     [
         by(tet, b"1203"),
         by(tet, b"2013"),

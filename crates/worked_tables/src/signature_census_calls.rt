@@ -4,7 +4,7 @@ use signature_census::{Census, NotConnected};
 use std::test::Fail;
 
 #[test]
-fn classes_are_numbered_as_they_are_met(rt: HostRuntime) -> Result<(), Fail> {
+fn classes_are_numbered_as_they_are_visited(rt: HostRuntime) -> Result<(), Fail> {
     let mut census = Census::new(rt.alloc());
     let worked: [(&[u8], u32); 5] = [
         (b"bkaagn", 0),
@@ -26,10 +26,10 @@ fn classes_are_numbered_as_they_are_met(rt: HostRuntime) -> Result<(), Fail> {
 }
 
 #[test]
-fn loose_tables_are_refused(rt: HostRuntime) -> Result<(), Fail> {
+fn disconnected_tables_are_refused(rt: HostRuntime) -> Result<(), Fail> {
     let mut census = Census::new(rt.alloc());
-    let loose = table_of(&rt, rt.alloc(), &[BALL, BALL]);
-    let added = census.add(&loose);
+    let disconnected = table_of(&rt, rt.alloc(), &[BALL, BALL]);
+    let added = census.add(&disconnected);
     assert!(rt; matches!(added, Err(Failure::Fault(NotConnected { tet: 1 }))));
     assert_eq!(rt; census.len(), 0);
     Ok(())

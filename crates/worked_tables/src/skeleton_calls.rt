@@ -1,4 +1,4 @@
-use crate::sample_tables::{figure_eight, reversed_row, skeleton_of, sphere_row, turned_row};
+use crate::sample_tables::{figure_eight, gieseking_row, reversed_row, skeleton_of, sphere_row};
 
 #[test]
 fn the_figure_eight_complement(rt: HostRuntime) {
@@ -14,7 +14,7 @@ fn the_figure_eight_complement(rt: HostRuntime) {
 
 #[test]
 fn a_table_that_is_not_orientable(rt: HostRuntime) {
-    let skeleton = skeleton_of(&rt, rt.alloc(), &[turned_row(0)]);
+    let skeleton = skeleton_of(&rt, rt.alloc(), &[gieseking_row(0)]);
     assert!(rt; skeleton.orientation().is_none());
 }
 

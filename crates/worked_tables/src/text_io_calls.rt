@@ -62,7 +62,7 @@ fn place_and_kind(fault: LexFault) -> (u32, u32, LexKind) {
 
 /// The read of the first line of an input.
 #[derive(Clone, Copy)]
-enum Wanted {
+enum Expected {
     Line,
     Word,
     Number(u128),
@@ -70,103 +70,111 @@ enum Wanted {
     End,
 }
 
-/// The error of the read `wanted` of the first line of `bytes`.
-fn fault_of(bytes: &[u8], wanted: Wanted) -> Option<(u32, u32, LexKind)> {
+/// The error of the read `asked` of the first line of `bytes`.
+fn fault_of(bytes: &[u8], asked: Expected) -> Option<(u32, u32, LexKind)> {
     if bytes.len() > 1000 {
         return None;
     }
     let mut lexer = Lexer::new(bytes);
     let fault = lexer
         .need_line()
-        .and_then(|()| ask(&mut lexer, wanted))
+        .and_then(|()| ask(&mut lexer, asked))
         .err()?;
     Some(place_and_kind(fault))
 }
 
-fn ask(lexer: &mut Lexer, wanted: Wanted) -> Result<(), LexFault> {
-    match wanted {
-        Wanted::Line => lexer.need_line(),
-        Wanted::Word => lexer.word().map(|_| ()),
-        Wanted::Number(max) => lexer.number(max).map(|_| ()),
-        Wanted::Signed(max) if max < 1000 => lexer.signed(max).map(|_| ()),
-        Wanted::Signed(_) => Ok(()),
-        Wanted::End => lexer.end_line(),
+fn ask(lexer: &mut Lexer, asked: Expected) -> Result<(), LexFault> {
+    match asked {
+        Expected::Line => lexer.need_line(),
+        Expected::Word => lexer.word().map(|_| ()),
+        Expected::Number(max) => lexer.number(max).map(|_| ()),
+        Expected::Signed(max) if max < 1000 => lexer.signed(max).map(|_| ()),
+        Expected::Signed(_) => Ok(()),
+        Expected::End => lexer.end_line(),
     }
 }
 
-const CASES: [(&[u8], Wanted, Option<(u32, u32, LexKind)>); 26] = [
-    (b"", Wanted::Word, Some((1, 1, LexKind::MissingWord))),
-    (b" \t", Wanted::Word, Some((1, 3, LexKind::MissingWord))),
+const CASES: [(&[u8], Expected, Option<(u32, u32, LexKind)>); 26] = [
+    (b"", Expected::Word, Some((1, 1, LexKind::MissingWord))),
+    (b" \t", Expected::Word, Some((1, 3, LexKind::MissingWord))),
     (
         b"#a\n\n  ",
-        Wanted::Word,
+        Expected::Word,
         Some((3, 3, LexKind::MissingWord)),
     ),
-    (b"#\n", Wanted::Word, Some((2, 1, LexKind::MissingWord))),
-    (b"#\r", Wanted::Word, Some((1, 3, LexKind::MissingWord))),
-    (b"a \r\n", Wanted::Line, Some((2, 1, LexKind::MissingWord))),
-    (b"\xff#", Wanted::Word, Some((1, 1, LexKind::BadByte))),
+    (b"#\n", Expected::Word, Some((2, 1, LexKind::MissingWord))),
+    (b"#\r", Expected::Word, Some((1, 3, LexKind::MissingWord))),
+    (
+        b"a \r\n",
+        Expected::Line,
+        Some((2, 1, LexKind::MissingWord)),
+    ),
+    (b"\xff#", Expected::Word, Some((1, 1, LexKind::BadByte))),
     (
         b"\r\n  \r\r\n",
-        Wanted::Word,
+        Expected::Word,
         Some((2, 3, LexKind::BadByte)),
     ),
     (
         b"\n\t\x7f",
-        Wanted::Number(9),
+        Expected::Number(9),
         Some((2, 2, LexKind::BadByte)),
     ),
-    (b"  \x00", Wanted::End, Some((1, 3, LexKind::BadByte))),
-    (b" ab", Wanted::End, Some((1, 2, LexKind::ExtraWord))),
-    (b"a#", Wanted::Word, None),
-    (b"~!", Wanted::Word, None),
-    (b"\n 1x", Wanted::Number(9), Some((2, 2, LexKind::BadWord))),
-    (b"-1", Wanted::Number(9), Some((1, 1, LexKind::BadWord))),
-    (b"+1", Wanted::Signed(9), Some((1, 1, LexKind::BadWord))),
-    (b" -", Wanted::Signed(9), Some((1, 2, LexKind::BadWord))),
-    (b"--1", Wanted::Signed(9), Some((1, 1, LexKind::BadWord))),
+    (b"  \x00", Expected::End, Some((1, 3, LexKind::BadByte))),
+    (b" ab", Expected::End, Some((1, 2, LexKind::ExtraWord))),
+    (b"a#", Expected::Word, None),
+    (b"~!", Expected::Word, None),
+    (
+        b"\n 1x",
+        Expected::Number(9),
+        Some((2, 2, LexKind::BadWord)),
+    ),
+    (b"-1", Expected::Number(9), Some((1, 1, LexKind::BadWord))),
+    (b"+1", Expected::Signed(9), Some((1, 1, LexKind::BadWord))),
+    (b" -", Expected::Signed(9), Some((1, 2, LexKind::BadWord))),
+    (b"--1", Expected::Signed(9), Some((1, 1, LexKind::BadWord))),
     (
         b" -10",
-        Wanted::Signed(9),
+        Expected::Signed(9),
         Some((1, 2, LexKind::NumberTooWide)),
     ),
-    (b"-09", Wanted::Signed(9), None),
+    (b"-09", Expected::Signed(9), None),
     (
         b"10",
-        Wanted::Number(9),
+        Expected::Number(9),
         Some((1, 1, LexKind::NumberTooWide)),
     ),
     (
         b"0000000000000000000000000000000000000000000000009",
-        Wanted::Number(9),
+        Expected::Number(9),
         None,
     ),
     (
         b"170141183460469231731687303715884105727",
-        Wanted::Number(LIMIT),
+        Expected::Number(LIMIT),
         None,
     ),
     (
         b"170141183460469231731687303715884105728",
-        Wanted::Number(LIMIT),
+        Expected::Number(LIMIT),
         Some((1, 1, LexKind::NumberTooWide)),
     ),
     (
         b"340282366920938463463374607431768211456",
-        Wanted::Number(u128::MAX),
+        Expected::Number(u128::MAX),
         Some((1, 1, LexKind::NumberTooWide)),
     ),
     (
         b"340282366920938463463374607431768211456x",
-        Wanted::Number(u128::MAX),
+        Expected::Number(u128::MAX),
         Some((1, 1, LexKind::BadWord)),
     ),
 ];
 
 #[test]
 fn each_fault_has_its_place(rt: HostRuntime) {
-    for (bytes, wanted, expected) in &CASES {
-        assert!(rt; fault_of(bytes, *wanted) == *expected, "{bytes:?}");
+    for (bytes, asked, expected) in &CASES {
+        assert!(rt; fault_of(bytes, *asked) == *expected, "{bytes:?}");
     }
 }
 
@@ -198,7 +206,7 @@ fn all_is_read(rt: HostRuntime) -> Result<(), Fail> {
 }
 
 #[test]
-fn the_cause_of_a_failed_read_is_told(rt: HostRuntime) -> Result<(), Fail> {
+fn the_cause_of_a_failed_read_is_reported(rt: HostRuntime) -> Result<(), Fail> {
     let length = INPUT.len() as u64;
     let long = read_of(rt.alloc(), &[], length - 1)?;
     assert!(rt; matches!(long, Err(ReadEnd::TooLong)));

@@ -1,4 +1,4 @@
-use crate::sample_tables::{figure_eight, reversed_row, skeleton_of, turned_row};
+use crate::sample_tables::{figure_eight, gieseking_row, reversed_row, skeleton_of};
 use gluing_table::Row;
 use std::alloc::Global;
 use std::process::Abort;
@@ -30,7 +30,7 @@ fn the_figure_eight_complement_has_a_torus(rt: HostRuntime) {
 
 #[test]
 fn the_gieseking_manifold_has_a_klein_bottle(rt: HostRuntime) {
-    let found = links_of(&rt, rt.alloc(), &[turned_row(0)]);
+    let found = links_of(&rt, rt.alloc(), &[gieseking_row(0)]);
     assert_eq!(rt; found.len(), 1);
     assert!(rt;
         matches!(

@@ -6,7 +6,7 @@ pub returns : goal.returns
 returns c = record {
   accepted = one_four_accepted;
   there = candidates_there;
-  few = plays_add_few;
+  limited = plays_add_few;
   limit = makings_end_at_limit;
   moves = makings_go_on_lem;
   certificates = certificates_have_most;

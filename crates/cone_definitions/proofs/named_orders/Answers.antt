@@ -3,4 +3,4 @@ use Rattle.cone_definitions.proofs.PastLimit.{one_past, none_past}
 use Rattle.cone_definitions.proofs.named_orders.Goals as goal
 
 pub returns : goal.returns
-returns c = record { one_order = one_named_order_lem; one_large = one_past; none_beside = none_past }
+returns c = record { one_order = one_named_order_lem; one_large = one_past; none_listed = none_past }

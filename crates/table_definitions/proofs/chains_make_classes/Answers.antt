@@ -7,5 +7,5 @@ returns c = record {
   itself = joined_refl;
   further = joined_trans;
   back = λ rows p q t a j. (joined_place rows p q t a j, joined_sym rows p q t a j);
-  turned_too = joined_turned;
+  backwards_too = joined_turned;
 }

@@ -9,5 +9,5 @@ returns c = record {
   chain = source_has_chain;
   never_twice = never_twice;
   one_end = one_end_lem;
-  apart = sources_apart;
+  separate = sources_apart;
 }

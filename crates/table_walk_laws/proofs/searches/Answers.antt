@@ -1,5 +1,5 @@
 -- The lemmas are the laws.
-use Rattle.table_walk_laws.proofs.SearchLemmas.{closed_holds_joined, search_begins, none_is_closed, turn_starts, turn_starts_in_front, turn_marks, turn_passes, turn_ends, search_ends, has_few_turns}
+use Rattle.table_walk_laws.proofs.SearchLemmas.{closed_holds_joined, search_begins, none_is_closed, turn_starts, turn_starts_before, turn_marks, turn_passes, turn_ends, search_ends, has_few_turns}
 use Rattle.table_walk_laws.proofs.searches.Goals as goal
 
 pub returns : goal.returns
@@ -8,10 +8,10 @@ returns c = record {
   begins = search_begins;
   none_is_closed = none_is_closed;
   turn_starts = turn_starts;
-  turn_starts_in_front = turn_starts_in_front;
+  turn_starts_before = turn_starts_before;
   turn_marks = turn_marks;
   turn_passes = turn_passes;
   turn_ends = turn_ends;
   ends = search_ends;
-  few_turns = has_few_turns;
+  bounded_steps = has_few_turns;
 }

@@ -7,8 +7,8 @@ use Rattle.canonical_labelling.proofs.between.between.Goals as goal
 pub old_numbers-requires : goal.old_numbers-requires
 old_numbers-requires c =
     let equal = c.args.pair.equal in
-    let few = c.args.pair.few in
-    omega (arith, equal, few)
+    let limited = c.args.pair.limited in
+    omega (arith, equal, limited)
 
 pub perms_of-requires-clause-equal : goal.perms_of-requires-clause-equal
 perms_of-requires-clause-equal c =

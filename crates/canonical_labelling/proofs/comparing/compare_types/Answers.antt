@@ -8,8 +8,8 @@ use Rattle.canonical_labelling.proofs.FollowedEnds.{follows_begun}
 use Rattle.canonical_labelling.proofs.TypesFound.{follows_all, begins_whole, begins_all, agrees_on, short_on, untold}
 use Rattle.canonical_labelling.proofs.comparing.compare_types.Goals as goal
 
-pub returns-then-is_some-clause-told : goal.returns-then-is_some-clause-told
-returns-then-is_some-clause-told c =
+pub returns-then-is_some-clause-reported : goal.returns-then-is_some-clause-reported
+returns-then-is_some-clause-reported c =
     let rows : List Row = c.args.probe.now.rows in
     let inv = c.loop-place.invariant in
     let inside : c.loop-place.place < 4 * length rows = omega (arith, c.len-place-end.ensures, c.loop-place-test.true) in
@@ -17,8 +17,8 @@ returns-then-is_some-clause-told c =
     let short = short_on rows c.loop-place.probe.rows c.loop-place.place (comparison_view c.loop-place.space.comparison) (comparison_view c.take.new.comparison) c.args.bound.now inv.agreed c.in_ok-take.ensures.takes in
     let first = inv.reads in
     let second = c.in_ok-take.ensures.reads in
-    told_by_three_is rows c.args.start c.len-head.result (c.take.new.probe.taken - c.args.probe.now.taken) c.take.new.comparison.types.items c.args.bound.now c.compare_full_character-told.result (omega (arith, c.len-head.ensures, c.args.space.now.head.ok, ap (λ (t : List ℕ). length t) c.requires.space.head)) short
-    (c.compare_full_character-told.ensures ∙ ap (λ ts. compare_full_character ts c.args.bound.now c.len-head.result) c.deref.ensures.value)
+    told_by_three_is rows c.args.start c.len-head.result (c.take.new.probe.taken - c.args.probe.now.taken) c.take.new.comparison.types.items c.args.bound.now c.compare_full_character-reported.result (omega (arith, c.len-head.ensures, c.args.space.now.head.ok, ap (λ (t : List ℕ). length t) c.requires.space.head)) short
+    (c.compare_full_character-reported.ensures ∙ ap (λ ts. compare_full_character ts c.args.bound.now c.len-head.result) c.deref.ensures.value)
     (omega (arith, first, second))
     (λ m e. begins_whole rows c.args.start (c.loop-place.place + 1) m (comparison_view c.take.new.comparison) (omega (arith, inside)) follows e)
 
@@ -31,8 +31,8 @@ loop-place-init c = record {
       let zero : 3 * m ≡ 0 = omega (arith, l, ap (λ (t : List ℕ). length t) c.in_ok-begin.ensures.types) in
       let none : take (3 * m) c.begin.new.comparison.types.items ≡ [] = ap (λ n. take n c.begin.new.comparison.types.items) zero in
       let head : List ℕ = head_text (length c.args.probe.now.rows) in
-      subst (λ (ts : List ℕ). comparisons.told (head ++ map character (packed ts)) c.args.bound.now ≡ None) (sym none)
-      (subst (λ (text : List ℕ). comparisons.told text c.args.bound.now ≡ None) (sym (append-nil head)) c.requires.agreed);
+      subst (λ (ts : List ℕ). comparisons.reported (head ++ map character (packed ts)) c.args.bound.now ≡ None) (sym none)
+      (subst (λ (text : List ℕ). comparisons.reported text c.args.bound.now ≡ None) (sym (append-nil head)) c.requires.agreed);
   rows = refl;
   head = refl;
   reads = omega arith;
@@ -49,15 +49,15 @@ loop-place-preserved c =
       comparison = c.in_ok-take.ensures.comparison;
       size = c.in_ok-take.ensures.size ∙ inv.size;
       follows = follows_all rows c.loop-place.probe.rows c.args.start c.loop-place.place (comparison_view c.loop-place.space.comparison) (comparison_view c.take.new.comparison) c.requires.table inside inv.comparison inv.size inv.rows inv.follows c.in_ok-take.ensures.takes;
-      agreed = agrees_on rows c.loop-place.probe.rows c.loop-place.place (comparison_view c.loop-place.space.comparison) (comparison_view c.take.new.comparison) c.args.bound.now c.len-head.result c.compare_full_character-told.result (omega (arith, c.len-head.ensures, c.args.space.now.head.ok, ap (λ (t : List ℕ). length t) c.requires.space.head)) inv.agreed c.in_ok-take.ensures.takes
-          (c.compare_full_character-told.ensures ∙ ap (λ ts. compare_full_character ts c.args.bound.now c.len-head.result) c.deref.ensures.value) (sym c.is_some.ensures ∙ c.if-is_some.false);
+      agreed = agrees_on rows c.loop-place.probe.rows c.loop-place.place (comparison_view c.loop-place.space.comparison) (comparison_view c.take.new.comparison) c.args.bound.now c.len-head.result c.compare_full_character-reported.result (omega (arith, c.len-head.ensures, c.args.space.now.head.ok, ap (λ (t : List ℕ). length t) c.requires.space.head)) inv.agreed c.in_ok-take.ensures.takes
+          (c.compare_full_character-reported.ensures ∙ ap (λ ts. compare_full_character ts c.args.bound.now c.len-head.result) c.deref.ensures.value) (sym c.is_some.ensures ∙ c.if-is_some.false);
       rows = c.in_ok-take.ensures.rows ∙ inv.rows;
       head = inv.head;
       reads = omega (arith, first, second);
     }
 
-pub returns-clause-told : goal.returns-clause-told
-returns-clause-told c =
+pub returns-clause-reported : goal.returns-clause-reported
+returns-clause-reported c =
     let rows : List Row = c.args.probe.now.rows in
     let inv = c.loop-place.invariant in
     let end : c.loop-place.place ≡ 4 * length rows = omega (arith, c.len-place-end.ensures, c.loop-place-test.false, c.loop-place.auto) in

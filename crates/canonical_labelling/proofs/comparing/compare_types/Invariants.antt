@@ -9,7 +9,7 @@ invariant-loop-place l = record {
   comparison : IsComparison l.place (comparison_view l.space.comparison);
   size : length l.space.comparison.numbers.items ≡ length l.fn.probe.rows;
   follows : FollowsWalks l.fn.probe.rows l.fn.start l.place (comparison_view l.space.comparison);
-  agreed : (m : ℕ) → 3 * m ≤ length l.space.comparison.types.items → comparisons.told (head_text (length l.fn.probe.rows) ++ map character (packed (take (3 * m) l.space.comparison.types.items))) l.bound ≡ None;
+  agreed : (m : ℕ) → 3 * m ≤ length l.space.comparison.types.items → comparisons.reported (head_text (length l.fn.probe.rows) ++ map character (packed (take (3 * m) l.space.comparison.types.items))) l.bound ≡ None;
   rows : l.probe.rows ≡ l.fn.probe.rows;
   head : l.space.head.items ≡ l.fn.space.head.items;
   reads : l.probe.taken ≤ l.fn.probe.taken + length l.space.comparison.types.items;

@@ -9,7 +9,7 @@ use Rattle.canonical_labelling.proofs.counts.boundary_count.Goals as goal
 pub loop-place-preserved : goal.loop-place-preserved
 loop-place-preserved c = record {
   is = counted_on (λ k. is_boundary c.args.table.now (face_of k)) c.loop-place.place c.loop-place.count c.from-count.result c.is_boundary.result c.loop-place.invariant.is c.from-count.ensures c.is_boundary.ensures;
-  few = counted_few c.loop-place.count c.from-count.result c.loop-place.place c.is_boundary.result c.loop-place.invariant.few c.from-count.ensures;
+  limited = counted_few c.loop-place.count c.from-count.result c.loop-place.place c.is_boundary.result c.loop-place.invariant.limited c.from-count.ensures;
 }
 
 pub returns : goal.returns

@@ -7,5 +7,5 @@ use Rattle.canonical_labelling.proofs.counts.boundary_count.Given as goal
 abbrev pub invariant-loop-place : goal.invariant-loop-place
 invariant-loop-place l = record {
   is : l.count ≡ count_by (λ k. is_boundary l.table (face_of k)) (below l.place);
-  few : l.count ≤ l.place;
+  limited : l.count ≤ l.place;
 }

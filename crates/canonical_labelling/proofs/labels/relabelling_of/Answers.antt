@@ -13,8 +13,8 @@ use Rattle.canonical_labelling.proofs.labels.relabelling_of.Goals as goal
 pub overflow_cast-i : goal.overflow_cast-i
 overflow_cast-i c =
     let o = traversed c.args.traversal.now.table.now c.args.traversal.now.start c.deref-start-items.result.now c.args.traversal.now.is_table c.args.traversal.now.connected c.args.traversal.now.in_range c.in_ok-order.ensures.permutes (c.deref-start-items.ensures.value ∙ c.in_ok-order.ensures.whole) in
-    let few = o.few in
-    omega (arith, few, c.loop-i-test.true, c.len-count.ensures.value, c.len-count.ensures.few)
+    let limited = o.limited in
+    omega (arith, limited, c.loop-i-test.true, c.len-count.ensures.value, c.len-count.ensures.limited)
 
 pub index_mut-requires : goal.index_mut-requires
 index_mut-requires c =
@@ -55,7 +55,7 @@ from_sound-requires c =
     let i = c.loop-i.invariant in
     record {
       images = subst (λ n. IsPermutation c.loop-i.images.items (below n)) (sym i.size)
-          (are_numbered (length c.args.traversal.now.table.now) c.deref-start-items.result.now c.loop-i.images.items o.whole o.few i.size (λ k l. i.each k (omega (arith, c.loop-i-test.false, l))));
+          (are_numbered (length c.args.traversal.now.table.now) c.deref-start-items.result.now c.loop-i.images.items o.whole o.limited i.size (λ k l. i.each k (omega (arith, c.loop-i-test.false, l))));
       perms = i.perms ∙ sym i.size;
       permutes = all_permute (length c.args.traversal.now.table.now) c.deref-start-items.result.now c.loop-i.perms.items o.whole i.perms (λ k l. i.permute k (omega (arith, c.loop-i-test.false, l))) o.permute;
     }
@@ -65,7 +65,7 @@ returns-clause-bijection c =
     let o = traversed c.args.traversal.now.table.now c.args.traversal.now.start c.deref-start-items.result.now c.args.traversal.now.is_table c.args.traversal.now.connected c.args.traversal.now.in_range c.in_ok-order.ensures.permutes (c.deref-start-items.ensures.value ∙ c.in_ok-order.ensures.whole) in
     let i = c.loop-i.invariant in
     subst (λ (by : Relabelling). IsRelabelling (length c.args.traversal.now.table.now) by) (sym c.from_sound.ensures) (record {
-      images = are_numbered (length c.args.traversal.now.table.now) c.deref-start-items.result.now c.loop-i.images.items o.whole o.few i.size (λ k l. i.each k (omega (arith, c.loop-i-test.false, l)));
+      images = are_numbered (length c.args.traversal.now.table.now) c.deref-start-items.result.now c.loop-i.images.items o.whole o.limited i.size (λ k l. i.each k (omega (arith, c.loop-i-test.false, l)));
       perms = i.perms;
       permutes = all_permute (length c.args.traversal.now.table.now) c.deref-start-items.result.now c.loop-i.perms.items o.whole i.perms (λ k l. i.permute k (omega (arith, c.loop-i-test.false, l))) o.permute;
     })

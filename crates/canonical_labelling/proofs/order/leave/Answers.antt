@@ -7,7 +7,7 @@ use Rattle.canonical_labelling.proofs.Cleaning.{left_begins}
 use Rattle.canonical_labelling.proofs.order.leave.Goals as goal
 
 pub loop-i-init : goal.loop-i-init
-loop-i-init c = record { order = refl; size = refl; left = left_begins c.args.walking.now.order.items c.args.walking.now.met.items c.requires }
+loop-i-init c = record { order = refl; size = refl; left = left_begins c.args.walking.now.order.items c.args.walking.now.visited.items c.requires }
 
 pub index_mut-requires : goal.index_mut-requires
 index_mut-requires c =
@@ -17,6 +17,6 @@ index_mut-requires c =
     let tet : c.behind-walking.inside.tet ≡ (start_at c.loop-i.walking.order.items c.loop-i.i).tet =
     ap (λ (s : Start). s.tet) (c.behind-walking.view_is ∙ start_is c.loop-i.walking.order.items c.loop-i.i c.index.result.now inside c.index.ensures) in
     let old : (start_at c.loop-i.walking.order.items c.loop-i.i).tet ≡ (start_at c.args.walking.now.order.items c.loop-i.i).tet = ap (λ o. (start_at o c.loop-i.i).tet) inv.order in
-    let low : (start_at c.args.walking.now.order.items c.loop-i.i).tet < length c.args.walking.now.met.items = met_inside c.args.walking.now.order.items c.args.walking.now.met.items c.loop-i.i c.requires (omega (arith, inside, same)) in
+    let low : (start_at c.args.walking.now.order.items c.loop-i.i).tet < length c.args.walking.now.visited.items = met_inside c.args.walking.now.order.items c.args.walking.now.visited.items c.loop-i.i c.requires (omega (arith, inside, same)) in
     let size = inv.size in
-    omega (arith, tet, old, low, size, c.loop-i.walking.met.ok)
+    omega (arith, tet, old, low, size, c.loop-i.walking.visited.ok)

@@ -6,6 +6,6 @@ use Rattle.canonical_labelling.proofs.order.leave.Given as goal
 abbrev pub invariant-loop-i : goal.invariant-loop-i
 invariant-loop-i l = record {
   order : l.walking.order.items ≡ l.fn.walking.order.items;
-  size : length l.walking.met.items ≡ length l.fn.walking.met.items;
-  left : AreLeft l.walking.order.items l.i l.walking.met.items;
+  size : length l.walking.visited.items ≡ length l.fn.walking.visited.items;
+  left : AreLeft l.walking.order.items l.i l.walking.visited.items;
 }

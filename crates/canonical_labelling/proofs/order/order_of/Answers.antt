@@ -4,7 +4,7 @@ use Rattle.canonical_labelling.proofs.order.order_of.Goals as goal
 
 pub loop-place-init : goal.loop-place-init
 loop-place-init c = record {
-  walking = record { size = c.in_ok-walking.ensures.size; met = c.in_ok-walking.ensures.met };
+  walking = record { size = c.in_ok-walking.ensures.size; visited = c.in_ok-walking.ensures.visited };
   so_far = after_begun c.args.traversal.now.table.now c.args.traversal.now.start c.in_ok-walking.walking.order.items c.in_ok-walking.ensures.order;
   permutes = λ l. absurd (omega arith);
 }

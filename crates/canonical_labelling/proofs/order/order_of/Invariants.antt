@@ -5,7 +5,7 @@ use Rattle.canonical_labelling.proofs.order.order_of.Given as goal
 
 abbrev pub invariant-loop-place : goal.invariant-loop-place
 invariant-loop-place l = record {
-  walking : IsWalking l.traversal.table.now l.walking.order.items l.walking.met.items;
+  walking : IsWalking l.traversal.table.now l.walking.order.items l.walking.visited.items;
   so_far : l.walking.order.items ≡ order_after l.traversal.table.now l.fn.traversal.start l.place;
   permutes : 0 < l.place → IsPermutationOfFour l.fn.traversal.start.perm;
 }

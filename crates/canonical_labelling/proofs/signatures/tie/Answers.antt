@@ -7,9 +7,9 @@ use Rattle.canonical_labelling.proofs.signatures.tie.Goals as goal
 pub invariant_of-pair : goal.invariant_of-pair
 invariant_of-pair c =
     let size = found_size c.args.traversal.now.table.now c.args.best.now.by c.args.best.now.text.items c.requires.found in
-    let few = c.args.traversal.now.is_table.few in
+    let limited = c.args.traversal.now.is_table.limited in
     record {
-      few = omega (arith, size, few);
+      limited = omega (arith, size, limited);
       equal = length-images (length c.args.traversal.now.table.now) c.in_ok-walked.walked.relabelling c.in_ok-walked.ensures.relabels.0 ∙ sym size;
     }
 

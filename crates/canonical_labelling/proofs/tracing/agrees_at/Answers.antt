@@ -18,10 +18,10 @@ returns-in_default-clause-agrees c = λ by r numbers.
     } in
     let there : glue c.args.table.now (face_from c.index-from.result.now (c.args.place % 4)) ≡ None = ap (glue c.args.table.now) (sym c.face_from.ensures.value) ∙ sym c.glue.ensures.value ∙ c.in_default.is in
     let none = target_none c.args.table.now c.args.target.now c.args.trace.now.order.items c.args.place c.index-from.result.now h by r numbers there in
-    (none_by_test c.glue-wanted.result c.is_none.result (c.glue-wanted.ensures.value ∙ none) c.is_none.ensures, numbers)
+    (none_by_test c.glue-expected.result c.is_none.result (c.glue-expected.ensures.value ∙ none) c.is_none.ensures, numbers)
 
-pub returns-in_default-wanted-clause-agrees : goal.returns-in_default-wanted-clause-agrees
-returns-in_default-wanted-clause-agrees c = λ by r numbers.
+pub returns-in_default-expected-clause-agrees : goal.returns-in_default-expected-clause-agrees
+returns-in_default-expected-clause-agrees c = λ by r numbers.
     let low : c.args.place / 4 < length c.args.trace.now.order.items = omega (arith, c.if-number-len.false, c.len.ensures, c.args.trace.now.order.ok) in
     let h : IsCompared c.args.table.now c.args.target.now c.args.trace.now.order.items c.args.place c.index-from.result.now = record {
       table = c.glue.ensures.is_table;
@@ -31,7 +31,7 @@ returns-in_default-wanted-clause-agrees c = λ by r numbers.
       permutes = c.face_from.ensures.permutes;
     } in
     let there : glue c.args.table.now (face_from c.index-from.result.now (c.args.place % 4)) ≡ Some c.in-Some.glue = ap (glue c.args.table.now) (sym c.face_from.ensures.value) ∙ sym c.glue.ensures.value ∙ c.in-Some.is in
-    absurd (not_boundary c.args.table.now c.args.target.now c.args.trace.now.order.items c.args.place c.index-from.result.now h by r numbers c.in-Some.glue there (sym c.glue-wanted.ensures.value ∙ c.in_default-wanted.is))
+    absurd (not_boundary c.args.table.now c.args.target.now c.args.trace.now.order.items c.args.place c.index-from.result.now h by r numbers c.in-Some.glue there (sym c.glue-expected.ensures.value ∙ c.in_default-expected.is))
 
 pub returns-clause-agrees : goal.returns-clause-agrees
 returns-clause-agrees c =
@@ -44,5 +44,5 @@ returns-clause-agrees c =
       permutes = c.face_from.ensures.permutes;
     } in
     let there : glue c.args.table.now (face_from c.index-from.result.now (c.args.place % 4)) ≡ Some c.in-Some.glue = ap (glue c.args.table.now) (sym c.face_from.ensures.value) ∙ sym c.glue.ensures.value ∙ c.in-Some.is in
-    glued_agrees c.args.table.now c.args.target.now c.args.trace.now.order.items c.agrees_glued.new.trace.order.items c.args.place (length c.args.trace.now.numbers.items) c.index-from.result.now c.in-Some.glue c.in-Some-wanted.wanted c.agrees_glued.result
-    h c.requires.size there (sym c.glue-wanted.ensures.value ∙ c.in-Some-wanted.is) c.agrees_glued.ensures.agrees
+    glued_agrees c.args.table.now c.args.target.now c.args.trace.now.order.items c.agrees_glued.new.trace.order.items c.args.place (length c.args.trace.now.numbers.items) c.index-from.result.now c.in-Some.glue c.in-Some-expected.expected c.agrees_glued.result
+    h c.requires.size there (sym c.glue-expected.ensures.value ∙ c.in-Some-expected.is) c.agrees_glued.ensures.agrees

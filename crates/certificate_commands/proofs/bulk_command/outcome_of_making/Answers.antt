@@ -9,7 +9,7 @@ use Rattle.certificate_commands.proofs.bulk_command.outcome_of_making.Goals as g
 
 pub returns-in-Ok : goal.returns-in-Ok
 returns-in-Ok c = IfOk-weaker c.summary_outcome.result _ _
-    (λ o told. (let is = subst (λ (list : List (List ℕ)). (greatest : ℕ) × IsGreatestEntry list greatest × (o ≡ summary_outcome c.args.numbers list greatest)) c.deref.ensures.value told in
+    (λ o reported. (let is = subst (λ (list : List (List ℕ)). (greatest : ℕ) × IsGreatestEntry list greatest × (o ≡ summary_outcome c.args.numbers list greatest)) c.deref.ensures.value reported in
     listed_told c.args.numbers c.args.table.now c.in-Ok.surfaces.items is.0 o c.in-Ok.ensures.ok is.1 is.2)) c.summary_outcome.ensures
 
 pub returns-in-Err-Fault : goal.returns-in-Err-Fault

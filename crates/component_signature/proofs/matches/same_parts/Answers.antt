@@ -30,8 +30,8 @@ relabelling-requires c =
     c.in_ok-parts.ensures.is_table c.in_ok-others.ensures.is_table c.in_ok-parts.ensures.parts c.in_ok-others.ensures.parts c.in_ok-parts.ensures.order c.in_ok-others.ensures.order agree
     c.in_ok-draft.draft (c.in_ok-draft.ensures.images ∙ c.len.ensures.value) (c.in_ok-draft.ensures.perms ∙ c.len.ensures.value) c.in_ok-draft.ensures.written)
 
-pub returns-clause-told : goal.returns-clause-told
-returns-clause-told c =
+pub returns-clause-reported : goal.returns-clause-reported
+returns-clause-reported c =
     let agree : Agree c.in_ok-parts.parts.signed.items c.in_ok-others.others.signed.items = subst₂ Agree c.deref.ensures.value c.deref-2.ensures.value (c.agree.ensures.0 (let f = c.if-not-agree.false in cc)) in
     subst (IsSameParts c.args.first.now c.args.second.now) (sym c.relabelling.ensures)
     (told_of c.args.first.now c.args.second.now c.in_ok-parts.parts.parts.items c.in_ok-others.others.parts.items c.in_ok-parts.parts.signed.items c.in_ok-others.others.signed.items

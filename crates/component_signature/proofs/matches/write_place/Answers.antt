@@ -8,7 +8,7 @@ use Rattle.component_definitions.specs.Parts.{Part, IsPart}
 use Rattle.component_definitions.specs.SameParts.{GoesBy}
 use Rattle.component_signature.specs.Entries.{entries_of}
 use Rattle.component_laws.proofs.MatchLemmas.{part_in, is_part, is_connected, relabelled_at}
-use Rattle.component_signature.proofs.PlaceLemmas.{in_entries, in_others, number_in, part_here, tets_below, few_tets, one_image_each, images_there, written_more}
+use Rattle.component_signature.proofs.PlaceLemmas.{in_entries, in_others, number_in, part_here, tets_below, bounded_tets, one_image_each, images_there, written_more}
 use Rattle.component_signature.proofs.matches.write_place.Goals as goal
 
 pub index-part-requires : goal.index-part-requires
@@ -63,13 +63,13 @@ write_part-requires-clause-ascending c =
     part_here c.args.first.now.parts.items c.args.first.now.signed.items m.in_order c.args.place c.index.result.now c.requires.in_range c.index.ensures c.index-part.result.now c.index-part.ensures in
     subst (λ (p : Part). Ascends p.numbers) (sym e) (is_part m.first _ _ m.first_table m.are_parts m.in_order c.args.place (in_entries c.args.first.now.signed.items c.args.place c.requires.in_range)).ascending
 
-pub write_part-requires-clause-few : goal.write_part-requires-clause-few
-write_part-requires-clause-few c =
+pub write_part-requires-clause-limited : goal.write_part-requires-clause-limited
+write_part-requires-clause-limited c =
     let m = c.requires.matched in
     let e : c.index-part.result.now ≡ part_in c.args.first.now.parts.items (entries_of c.args.first.now.signed.items) c.args.place =
     part_here c.args.first.now.parts.items c.args.first.now.signed.items m.in_order c.args.place c.index.result.now c.requires.in_range c.index.ensures c.index-part.result.now c.index-part.ensures in
-    let few : length c.index-part.result.now.numbers ≤ 1000 = subst (λ (p : Part). length p.numbers ≤ 1000) (sym e)
-    (few_tets m.first m.first_table _ (is_part m.first _ _ m.first_table m.are_parts m.in_order c.args.place (in_entries c.args.first.now.signed.items c.args.place c.requires.in_range))) in
+    let limited : length c.index-part.result.now.numbers ≤ 1000 = subst (λ (p : Part). length p.numbers ≤ 1000) (sym e)
+    (bounded_tets m.first m.first_table _ (is_part m.first _ _ m.first_table m.are_parts m.in_order c.args.place (in_entries c.args.first.now.signed.items c.args.place c.requires.in_range))) in
     omega arith
 
 pub write_part-requires-clause-one_each : goal.write_part-requires-clause-one_each

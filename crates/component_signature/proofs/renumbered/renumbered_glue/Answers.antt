@@ -11,8 +11,8 @@ glue-requires c = record { in_range = member_below c.args.table.now c.requires.t
 pub place_in-requires-clause-ascending : goal.place_in-requires-clause-ascending
 place_in-requires-clause-ascending c = c.requires.part.ascending
 
-pub place_in-requires-clause-few : goal.place_in-requires-clause-few
-place_in-requires-clause-few c = let f : length c.args.numbers.now ≤ 1000 = few_numbers c.args.table.now c.args.numbers.now c.requires.table c.requires.part in omega arith
+pub place_in-requires-clause-limited : goal.place_in-requires-clause-limited
+place_in-requires-clause-limited c = let f : length c.args.numbers.now ≤ 1000 = few_numbers c.args.table.now c.args.numbers.now c.requires.table c.requires.part in omega arith
 
 pub place_in-requires-clause-there : goal.place_in-requires-clause-there
 place_in-requires-clause-there c =

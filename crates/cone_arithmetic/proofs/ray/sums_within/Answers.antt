@@ -7,7 +7,7 @@ use Rattle.cone_arithmetic.proofs.ray.sums_within.Goals as goal
 
 pub returns-in-None-clause-err : goal.returns-in-None-clause-err
 returns-in-None-clause-err c = record {
-  past = let e = entry-sums c.args.combination.a c.args.combination.b c.args.combination.w.now c.args.combination.u.now c.args.combination.lengths c.loop-column.column in omega (arith, c.in-None.ensures.none);
+  exceeded = let e = entry-sums c.args.combination.a c.args.combination.b c.args.combination.w.now c.args.combination.u.now c.args.combination.lengths c.loop-column.column in omega (arith, c.in-None.ensures.none);
   earlier = c.loop-column.invariant.within;
 }
 

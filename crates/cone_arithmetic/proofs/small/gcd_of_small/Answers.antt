@@ -1,8 +1,8 @@
 use Rattle.std.proofs.lemmas.Nat.Gcd.{IsGcd-from_mod, IsGcd-from_zero}
 use Rattle.cone_arithmetic.proofs.small.gcd_of_small.Goals as goal
 
-pub loop-lesser-preserved : goal.loop-lesser-preserved
-loop-lesser-preserved c g h = c.loop-lesser.invariant g (IsGcd-from_mod _ _ g h)
+pub loop-smaller-preserved : goal.loop-smaller-preserved
+loop-smaller-preserved c g h = c.loop-smaller.invariant g (IsGcd-from_mod _ _ g h)
 
 pub returns : goal.returns
-returns c = c.loop-lesser.invariant _ (IsGcd-from_zero _ _ c.loop-lesser-test.false)
+returns c = c.loop-smaller.invariant _ (IsGcd-from_zero _ _ c.loop-smaller-test.false)

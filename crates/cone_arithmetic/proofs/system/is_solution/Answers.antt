@@ -3,7 +3,7 @@ use Rattle.std.proofs.lemmas.Bool.{false≢true}
 use Rattle.std.proofs.lemmas.List.{get_or_default}
 use Rattle.cone_definitions.specs.Rows.{Row}
 use Rattle.cone_definitions.specs.Elimination.{HasLargePart}
-use Rattle.cone_definitions.specs.Met.{HoldsWithin}
+use Rattle.cone_definitions.specs.HoldingRows.{HoldsWithin}
 use Rattle.cone_arithmetic.specs.declared.numbers.TheConstants.{MAX_ENTRY}
 use Rattle.cone_arithmetic.proofs.system.is_solution.Goals as goal
 

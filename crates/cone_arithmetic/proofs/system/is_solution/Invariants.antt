@@ -1,4 +1,4 @@
-use Rattle.cone_definitions.specs.Met.{HoldWithinBefore}
+use Rattle.cone_definitions.specs.HoldingRows.{HoldWithinBefore}
 use Rattle.cone_arithmetic.specs.declared.numbers.TheConstants.{MAX_ENTRY}
 use Rattle.cone_arithmetic.proofs.system.is_solution.Given as goal
 

@@ -4,7 +4,7 @@ use Rattle.std.specs.Prelude.{◌==◌}
 use Rattle.std.specs.Vec.{with_items}
 use Rattle.std.proofs.lemmas.List.{nil_from_length, with_items_is}
 use Rattle.edge_group.specs.Searches.{unmarked, IsGrown, IsFaceOfSome, IsSearched}
-use Rattle.edge_group.proofs.Searched.{searched_start, start_count, searched_on, searched_end, level_inside, few_turns}
+use Rattle.edge_group.proofs.Searched.{searched_start, start_count, searched_on, searched_end, level_inside, bounded_steps}
 use Rattle.edge_group.proofs.distances.breadth_first.Goals as goal
 
 more_than_none : (n : ℕ) → false ≡ (n == 0) → 0 < n
@@ -18,7 +18,7 @@ none (suc n) e = absurd (let z : true ≡ (suc n == 0) = e in grind arith)
 pub levels-init : goal.levels-init
 levels-init c = record {
   searched = searched_start c.args.table.now c.len.ensures.is_table c.in_ok-marks.marks.items c.in_ok-level.level.items c.requires first start;
-  few = let a : unmarked c.in_ok-marks.marks.items + 1 ≡ length c.args.table.now = start_count c.args.table.now c.len.ensures.is_table c.in_ok-marks.marks.items c.requires first in
+  limited = let a : unmarked c.in_ok-marks.marks.items + 1 ≡ length c.args.table.now = start_count c.args.table.now c.len.ensures.is_table c.in_ok-marks.marks.items c.requires first in
       let b : length c.in_ok-level.level.items ≡ 1 = ap length start in omega arith;
 }
   where
@@ -37,8 +37,8 @@ pub levels-preserved : goal.levels-preserved
 levels-preserved c = record {
   searched = subst (λ (ms : List (Option ℕ)). IsSearched c.args.table.now (c.levels.distance + 1) ms c.in_ok-level-2.level.items) (sym written)
       (searched_on c.args.table.now c.len.ensures.is_table c.levels.distance c.levels.marks.items c.next_level.new.marks c.levels.level.items c.in_ok-level-2.level.items c.levels.invariant.searched grown);
-  few = subst (λ (ms : List (Option ℕ)). c.levels.distance + 1 + (unmarked ms + length c.in_ok-level-2.level.items) ≤ length c.args.table.now) (sym written)
-      (few_turns c.args.table.now c.len.ensures.is_table c.levels.distance c.levels.marks.items c.next_level.new.marks c.levels.level.items c.in_ok-level-2.level.items (IsFaceOfSome c.levels.level.items) grown some c.levels.invariant.few).0;
+  limited = subst (λ (ms : List (Option ℕ)). c.levels.distance + 1 + (unmarked ms + length c.in_ok-level-2.level.items) ≤ length c.args.table.now) (sym written)
+      (bounded_steps c.args.table.now c.len.ensures.is_table c.levels.distance c.levels.marks.items c.next_level.new.marks c.levels.level.items c.in_ok-level-2.level.items (IsFaceOfSome c.levels.level.items) grown some c.levels.invariant.limited).0;
 }
   where
     grown : IsGrown c.args.table.now (IsFaceOfSome c.levels.level.items) (c.levels.distance + 1) c.levels.marks.items c.next_level.new.marks c.in_ok-level-2.level.items

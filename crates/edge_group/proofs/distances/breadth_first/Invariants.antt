@@ -6,7 +6,7 @@ use Rattle.edge_group.proofs.distances.breadth_first.Given as goal
 abbrev pub invariant-levels : goal.invariant-levels
 invariant-levels l = record {
   searched : IsSearched l.table l.distance l.marks.items l.level.items;
-  few : l.distance + (unmarked l.marks.items + length l.level.items) ≤ length l.table;
+  limited : l.distance + (unmarked l.marks.items + length l.level.items) ≤ length l.table;
 }
 
 abbrev pub decreases-levels : goal.decreases-levels

@@ -16,7 +16,7 @@ loop-number-preserved c = elim c.if-face_class-len.branch [
         up_to = subst (AreFirstsUpTo (c.loop-number.number + 1) c.args.skeleton.now.faces.classes) (sym e)
             (first_grows c.loop-number.number c.args.skeleton.now.faces.classes c.loop-number.firsts.items c.loop-number.invariant.up_to inside
             (sym class ∙ w.if-face_class-len.true ∙ c.len.ensures ∙ c.loop-number.firsts.ok.0));
-        few = omega (arith, ap (λ (xs : List ℕ). length xs) e, length-append c.loop-number.firsts.items (c.loop-number.number ∷ []));
+        limited = omega (arith, ap (λ (xs : List ℕ). length xs) e, length-append c.loop-number.firsts.items (c.loop-number.number ∷ []));
       }
   | else-face_class-len w ↦
       let e : c.if-face_class-len.firsts.items ≡ c.loop-number.firsts.items = ap (λ (v : Vec ℕ Global). v.items) w.firsts-is in
@@ -24,7 +24,7 @@ loop-number-preserved c = elim c.if-face_class-len.branch [
         up_to = subst (AreFirstsUpTo (c.loop-number.number + 1) c.args.skeleton.now.faces.classes) (sym e)
             (first_passes c.loop-number.number c.args.skeleton.now.faces.classes c.loop-number.firsts.items (faces_ordered c.args.skeleton.now c.faces.ensures.skeleton) c.loop-number.invariant.up_to inside
             (λ h. w.if-face_class-len.false (class ∙ h ∙ sym (c.len.ensures ∙ c.loop-number.firsts.ok.0))));
-        few = omega (arith, ap (λ (xs : List ℕ). length xs) e);
+        limited = omega (arith, ap (λ (xs : List ℕ). length xs) e);
       }
 ]
   where

@@ -10,4 +10,4 @@ pub returns-then-not-in_tree-class : goal.returns-then-not-in_tree-class
 returns-then-not-in_tree-class c =
     generator_is c.args.of.skeleton.now c.table.ensures.skeleton c.args.of.class c.args.of.in_range c.glue.result c.is_some.result
     (c.glue.ensures.value ∙ ap₂ glue c.table.ensures.rows (c.face_of-first.ensures.value ∙ ap face_of (c.args.of.least.least_member c.args.of.class c.args.of.in_range))) c.is_some.ensures
-    (λ held. false≢true (sym c.if-not-in_tree-class.true ∙ (c.requires.told c.args.of.class).1 held))
+    (λ held. false≢true (sym c.if-not-in_tree-class.true ∙ (c.requires.reported c.args.of.class).1 held))

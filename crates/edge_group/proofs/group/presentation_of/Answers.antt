@@ -25,10 +25,10 @@ relators-requires c =
 
 pub invariant_of-result : goal.invariant_of-result
 invariant_of-result c = record {
-  few = c.generators.invariant.few;
+  limited = c.generators.invariant.limited;
   signs = AllZip-long (IsTurning c.in_ok-generators.generators.skeleton) c.in_ok-generators.generators.classes c.in_ok-turning.turning.items c.in_ok-turning.ensures
       ∙ ap (λ (g : Generators). length g.classes) (sym c.generators.view_is);
-  few_edges = c.in_ok-edges.ensures.few;
+  bounded_edges = c.in_ok-edges.ensures.limited;
   one_each = AllZip-long (IsRelator c.in_ok-generators.generators.skeleton c.in_ok-generators.generators.classes) c.deref-2.result.now (map letters_of c.in_ok-relators.relators.items) c.in_ok-relators.ensures
       ∙ ap (λ (xs : List ℕ). length xs) c.deref-2.ensures.value;
   root = λ t l. only_root c.table.result.now c.in_ok-tree.tree.faces.items t c.in_ok-tree.ensures.tree l;

@@ -3,7 +3,7 @@ use Rattle.std.proofs.Common.{sym, ap, subst₂, ◌∙◌}
 use Rattle.std.proofs.lemmas.Bool.{false≢true}
 use Rattle.table_definitions.specs.Table.{Gluing, Face}
 use Rattle.edge_group.specs.Searches.{mark_of}
-use Rattle.edge_group.specs.Behind.{IsOneLess}
+use Rattle.edge_group.specs.Across.{IsOneLess}
 use Rattle.edge_group.proofs.Closer.{closer_none}
 use Rattle.edge_group.proofs.tree.closer_face.Goals as goal
 

@@ -1,4 +1,4 @@
-use Rattle.edge_group.specs.Behind.{IsLeastCloser}
+use Rattle.edge_group.specs.Across.{IsLeastCloser}
 use Rattle.edge_group.proofs.tree.tree_face.Given as goal
 
 abbrev pub invariant-loop-face : goal.invariant-loop-face

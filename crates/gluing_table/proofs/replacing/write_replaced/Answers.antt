@@ -6,7 +6,7 @@ use Rattle.gluing_table.proofs.replacing.write_replaced.Goals as goal
 
 pub push_reserved-requires : goal.push_reserved-requires
 push_reserved-requires c =
-    let few = c.new_length-number-end.ensures.few in
+    let limited = c.new_length-number-end.ensures.limited in
     let size = length-written (replaced_row c.args.swap.now.rows c.args.swap.now.by) c.loop-number.number c.loop-number.new.items c.loop-number.invariant.so_far in
     let room = c.loop-number.invariant.room in
     omega arith

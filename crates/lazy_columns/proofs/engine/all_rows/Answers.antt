@@ -30,9 +30,9 @@ returns-clause-ok g c =
 pub next_late-requires : goal.next_late-requires
 next_late-requires g c = record {
   late = record {
-    apart = pairs_apart c.args.clashes.now.columns c.args.clashes.now.pairs c.pairs-pairs.ensures.different;
+    separate = pairs_apart c.args.clashes.now.columns c.args.clashes.now.pairs c.pairs-pairs.ensures.different;
     rows = take c.loop-number.number c.args.system.now.rows;
-    few = (let rows = c.args.system.now.rows in let n = length-take-le c.loop-number.number rows (omega (arith, c.len-number-end.ensures, c.loop-number-test.true)) in omega (arith, n, c.from-most.ensures));
+    limited = (let rows = c.args.system.now.rows in let n = length-take-le c.loop-number.number rows (omega (arith, c.len-number-end.ensures, c.loop-number-test.true)) in omega (arith, n, c.from-most.ensures));
     so_far = c.loop-number.invariant;
   };
 }

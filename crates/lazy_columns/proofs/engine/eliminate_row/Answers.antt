@@ -15,10 +15,10 @@ next_rays-requires g c =
     let h = c.requires.late in
     let late = c.enter_row.new.late in
     let all = subst (λ n. HaveEntered n c.args.step.late late) c.args.step.width c.in_ok-enter_row.ensures.entered in
-    let entered = all.late h.rows pairs h.apart h.so_far in
+    let entered = all.late h.rows pairs h.separate h.so_far in
     record {
       widths = late_widths columns h.rows pairs late entered;
-      small = few_unions columns c.args.step.most h.rows pairs late h.few entered;
+      small = few_unions columns c.args.step.most h.rows pairs late h.limited entered;
       singles = single_pairs columns (h.rows ++ held_rows 0 late.seen.items) pairs (rays_of late.ray_list.items) entered.surfaces;
     }
 
@@ -27,7 +27,7 @@ returns-clause-ok g c rows late =
     let pairs = c.args.step.clashes.now.pairs in
     let all = subst (λ n. HaveEntered n c.args.step.late c.enter_row.new.late) c.args.step.width c.in_ok-enter_row.ensures.entered in
     late_eliminated c.args.step.clashes.now.columns rows pairs c.args.step.row.now c.enter_row.new.late _ c.in_ok-enter_row.ensures.seen refl c.in_ok-next.ensures.ok
-    (all.late rows pairs c.requires.late.apart late)
+    (all.late rows pairs c.requires.late.separate late)
 
 pub returns-in_err-next-clause-err : goal.returns-in_err-next-clause-err
 returns-in_err-next-clause-err g c =
@@ -38,4 +38,4 @@ returns-in_err-next-clause-err g c =
     let p = err_from_is_err_and c.from_residual-in_err-next.result c.from_residual-in_err-next.ensures.1 in
     rw (p.1, p.2) (fault_weaker (PassesAt clashes row (rays_of late.ray_list.items))
     (PassesNext clashes row c.args.step.late)
-    (λ named h before are. record { late = late; are_late = all.late before clashes.pairs c.requires.late.apart are; passes = h }) _ c.in_err-next.ensures.err)
+    (λ named h before are. record { late = late; are_late = all.late before clashes.pairs c.requires.late.separate are; passes = h }) _ c.in_err-next.ensures.err)

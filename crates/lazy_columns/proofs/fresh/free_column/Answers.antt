@@ -15,7 +15,7 @@ returns g c =
     record {
       in_range = within;
       unseen = c.in_ok-column.ensures.unseen;
-      one = has_one step.clashes.now.columns step.row.now column coefficient c.first_free.ensures.sparse within c.in_ok-column.ensures.term c.in_ok-is_turned.is_turned
-          (simp to_z-of_z at c.in_ok-is_turned.ensures);
+      one = has_one step.clashes.now.columns step.row.now column coefficient c.first_free.ensures.sparse within c.in_ok-column.ensures.term c.in_ok-is_negated.is_negated
+          (simp to_z-of_z at c.in_ok-is_negated.ensures);
       free = c.in_ok-column.ensures.free;
     }

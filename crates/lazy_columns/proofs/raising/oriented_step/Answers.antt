@@ -6,11 +6,11 @@ use Rattle.lazy_columns.specs.Fresh.{oriented}
 use Rattle.lazy_columns.proofs.Oriented.{turned_step_of}
 use Rattle.lazy_columns.proofs.raising.oriented_step.Goals as goal
 
-pub returns-then-not-is_turned-clause-ok : goal.returns-then-not-is_turned-clause-ok
-returns-then-not-is_turned-clause-ok g c =
-    subst (λ turn. IsStepOf MAX_ENTRY c.args.input.clashes.now (oriented turn c.args.input.row.now) (rays_of c.args.input.ray_list.items) c.in_ok-step.step) (sym c.if-not-is_turned.true) c.in_ok-step.ensures.ok
+pub returns-then-not-is_negated-clause-ok : goal.returns-then-not-is_negated-clause-ok
+returns-then-not-is_negated-clause-ok g c =
+    subst (λ turn. IsStepOf MAX_ENTRY c.args.input.clashes.now (oriented turn c.args.input.row.now) (rays_of c.args.input.ray_list.items) c.in_ok-step.step) (sym c.if-not-is_negated.true) c.in_ok-step.ensures.ok
 
 pub returns-clause-ok : goal.returns-clause-ok
 returns-clause-ok g c =
-    subst (λ turn. IsStepOf MAX_ENTRY c.args.input.clashes.now (oriented turn c.args.input.row.now) (rays_of c.args.input.ray_list.items) c.in_ok-turned.turned) (sym c.if-not-is_turned.false)
-    (turned_step_of MAX_ENTRY c.args.input.clashes.now c.args.input.row.now (rays_of c.args.input.ray_list.items) c.in_ok-step.step c.in_ok-turned.turned c.in_ok-step.ensures.ok c.in_ok-turned.ensures.step)
+    subst (λ turn. IsStepOf MAX_ENTRY c.args.input.clashes.now (oriented turn c.args.input.row.now) (rays_of c.args.input.ray_list.items) c.in_ok-negated.negated) (sym c.if-not-is_negated.false)
+    (turned_step_of MAX_ENTRY c.args.input.clashes.now c.args.input.row.now (rays_of c.args.input.ray_list.items) c.in_ok-step.step c.in_ok-negated.negated c.in_ok-step.ensures.ok c.in_ok-negated.ensures.step)

@@ -13,7 +13,7 @@ use Rattle.lazy_columns.proofs.raising.raise_all.Goals as goal
 pub loop-kept-init : goal.loop-kept-init
 loop-kept-init c = record {
   left = sym (take_all (length c.args.ray_list.items) c.args.ray_list.items (omega arith));
-  few = omega arith;
+  limited = omega arith;
   keeps = λ pairs made.
       let n = length-rays_of c.args.ray_list.items in
       subst (λ m. IsRaisedFrom MAX_ENTRY pairs (rays_of c.args.ray_list.items) c.args.signs.now c.args.column m (rays_of c.args.next.now.items)) n
@@ -26,17 +26,17 @@ loop-kept-preserved c =
     let xs = c.args.ray_list.items in
     let signs = c.args.signs.now in
     let kept = c.in-Some.kept in
-    let p = popped xs c.loop-kept.ray_list.items c.pop.new.self.items kept c.loop-kept.invariant.left c.loop-kept.invariant.few c.in-Some.ensures.items in
+    let p = popped xs c.loop-kept.ray_list.items c.pop.new.self.items kept c.loop-kept.invariant.left c.loop-kept.invariant.limited c.in-Some.ensures.items in
     let m = length c.pop.new.self.items in
     let n = length-rays_of xs in
-    let read = ray_at-rays_of xs m kept p.few ∙ ap (λ k. k.ray) p.at in
+    let read = ray_at-rays_of xs m kept p.limited ∙ ap (λ k. k.ray) p.at in
     let appends = subst (λ k. AppendsRaised c.args.column (get_or signs k Zero) kept c.loop-kept.next.items c.raise.new.next.items) (let e : c.len.result ≡ m = search rules in e) c.in_ok-raise.ensures in
     record {
       left = p.left;
-      few = omega (arith, p.few);
+      limited = omega (arith, p.limited);
       keeps = λ pairs made.
           raised_one MAX_ENTRY pairs (rays_of xs) signs c.args.column m (get_or signs m Zero) kept c.loop-kept.next.items c.raise.new.next.items
-          (omega (arith, p.few)) refl (sym read) (subst (HasRoom c.args.column) p.at (c.requires.room m kept p.few)) (c.requires.bounded m Zero (omega (arith, p.few, c.requires.count))) appends
+          (omega (arith, p.limited)) refl (sym read) (subst (HasRoom c.args.column) p.at (c.requires.room m kept p.limited)) (c.requires.bounded m Zero (omega (arith, p.limited, c.requires.count))) appends
           (subst (λ k. IsRaisedFrom MAX_ENTRY pairs (rays_of xs) signs c.args.column k (rays_of c.loop-kept.next.items)) p.count (c.loop-kept.invariant.keeps pairs made));
     }
 

@@ -24,7 +24,7 @@ pub raise_all-requires-clause-bounded : goal.raise_all-requires-clause-bounded
 raise_all-requires-clause-bounded g c =
     let step = c.in_ok-step.step in
     subst (All (IsBoundedSign MAX_ENTRY)) (sym (c.deref.ensures.value ∙ c.in_ok-parts.ensures.ok.signs_are))
-    (bounded_signs MAX_ENTRY (oriented c.args.fresh.is_turned c.args.input.row.now) (rays_of c.args.input.ray_list.items) step.signs c.in_ok-step.ensures.ok.signed)
+    (bounded_signs MAX_ENTRY (oriented c.args.fresh.is_negated c.args.input.row.now) (rays_of c.args.input.ray_list.items) step.signs c.in_ok-step.ensures.ok.signed)
 
 pub returns-clause-ok : goal.returns-clause-ok
 returns-clause-ok g c =
@@ -58,5 +58,5 @@ returns-in_err-parts-clause-err g c =
     let clashes = c.args.input.clashes.now in
     let row = c.args.input.row.now in
     let p = err_from_is_err_and c.from_residual-in_err-parts.result c.from_residual-in_err-parts.ensures.1 in
-    rw (p.1, p.2) (fault_weaker (IsFirstLargeEitherWay step) (PassesAt clashes row rays) (λ named h. inr (pair_either_way clashes row c.args.fresh.is_turned rays step c.in_ok-step.ensures.ok named h)) _
+    rw (p.1, p.2) (fault_weaker (IsFirstLargeEitherWay step) (PassesAt clashes row rays) (λ named h. inr (pair_either_way clashes row c.args.fresh.is_negated rays step c.in_ok-step.ensures.ok named h)) _
     c.in_err-parts.ensures.err)

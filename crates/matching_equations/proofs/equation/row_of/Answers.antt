@@ -22,9 +22,9 @@ pub new-requires : goal.new-requires
 new-requires c =
     let whole : c.loop-column.column ≡ c.args.columns = omega arith in
     subst IsSparse (sym (made_row c.args.sides.left.now c.args.sides.right.now c.loop-column.column c.args.columns whole (c.as_slice.ensures ∙ c.loop-column.invariant.terms)))
-    (row_is_sparse (equation_of c.args.sides.left.now c.args.sides.right.now) c.args.columns c.args.sides.left_few c.args.sides.right_few)
+    (row_is_sparse (equation_of c.args.sides.left.now c.args.sides.right.now) c.args.columns c.args.sides.left_bounded c.args.sides.right_bounded)
 
 pub returns-clause-in_range : goal.returns-clause-in_range
 returns-clause-in_range c =
     let whole : c.loop-column.column ≡ c.args.columns = omega arith in
-    kept_in_range c.args.sides.left.now c.args.sides.right.now c.args.columns c.as_slice.result.now c.new.result c.new.ensures.keeps (made_row c.args.sides.left.now c.args.sides.right.now c.loop-column.column c.args.columns whole (c.as_slice.ensures ∙ c.loop-column.invariant.terms)) c.args.sides.left_few c.args.sides.right_few
+    kept_in_range c.args.sides.left.now c.args.sides.right.now c.args.columns c.as_slice.result.now c.new.result c.new.ensures.keeps (made_row c.args.sides.left.now c.args.sides.right.now c.loop-column.column c.args.columns whole (c.as_slice.ensures ∙ c.loop-column.invariant.terms)) c.args.sides.left_bounded c.args.sides.right_bounded

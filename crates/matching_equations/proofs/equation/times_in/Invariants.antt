@@ -5,5 +5,5 @@ use Rattle.matching_equations.proofs.equation.times_in.Given as goal
 abbrev pub invariant-loop-other : goal.invariant-loop-other
 invariant-loop-other l = record {
   value : l.times ≡ lists.times_in (take l.other-index l.columns) l.column;
-  few : l.times ≤ l.other-index;
+  limited : l.times ≤ l.other-index;
 }

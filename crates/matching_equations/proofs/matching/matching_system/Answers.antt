@@ -9,12 +9,12 @@ use Rattle.matching_equations.proofs.matching.matching_system.Goals as goal
 pub loop-tet-preserved : goal.loop-tet-preserved
 loop-tet-preserved c =
     let f : ℕ → ℕ → Rows = λ n k. tet_rows c.args.coords.system c.args.table.now n k in
-    let few : length c.push_tet.new.system.rows ≤ length c.loop-tet.system.rows + 16 = c.in_ok-push_tet.ensures.few in
+    let limited : length c.push_tet.new.system.rows ≤ length c.loop-tet.system.rows + 16 = c.in_ok-push_tet.ensures.limited in
     record {
       columns = c.in_ok-push_tet.ensures.columns ∙ c.loop-tet.invariant.columns;
       rows = appended_more (f (coordinates.columns c.args.coords.system (length c.args.table.now))) c.loop-tet.tet [] _ _ c.loop-tet.invariant.rows
           (c.in_ok-push_tet.ensures.rows ∙ ap (λ n. c.loop-tet.system.rows ++ f n c.loop-tet.tet) c.loop-tet.invariant.columns);
-      few = omega arith;
+      limited = omega arith;
     }
 
 pub returns-clause-rows : goal.returns-clause-rows

@@ -9,5 +9,5 @@ abbrev pub invariant-loop-tet : goal.invariant-loop-tet
 invariant-loop-tet l = record {
   columns : l.system.columns ≡ coordinates.columns l.coords.system (length l.table);
   rows : l.system.rows ≡ [] ++ flat_map (tet_rows l.coords.system l.table (coordinates.columns l.coords.system (length l.table))) (below l.tet);
-  few : length l.system.rows ≤ 16 * l.tet;
+  limited : length l.system.rows ≤ 16 * l.tet;
 }

@@ -6,10 +6,10 @@ use Rattle.surface_definitions.specs.Equations.{row_of, matching}
 use Rattle.table_definitions.proofs.PermutationLaws.{images_apart}
 use Rattle.matching_equations.proofs.matching.push_equation.Goals as goal
 
-pub arc_columns-right-requires-clause-apart : goal.arc_columns-right-requires-clause-apart
-arc_columns-right-requires-clause-apart c same =
+pub arc_columns-right-requires-clause-separate : goal.arc_columns-right-requires-clause-separate
+arc_columns-right-requires-clause-separate c same =
     let face : c.face.inside.face ≡ c.args.pair.now.face.face = ap (λ (x : Face). x.face) c.face.view_is in
-    images_apart c.glue.inside.perm c.args.vertex c.face.inside.face c.image-other_face.ensures.permutes c.requires.a_vertex c.face.invariant (λ e. c.requires.apart (e ∙ face))
+    images_apart c.glue.inside.perm c.args.vertex c.face.inside.face c.image-other_face.ensures.permutes c.requires.a_vertex c.face.invariant (λ e. c.requires.separate (e ∙ face))
     (sym c.image-other_vertex.ensures.value ∙ same ∙ c.image-other_face.ensures.value)
 
 pub returns-clause-rows : goal.returns-clause-rows

@@ -20,7 +20,7 @@ loop-vertex-preserved c =
                 c.loop-vertex.invariant.rows
                 (w.in_ok-push_equation.ensures.rows
                 ∙ ap (λ n. c.loop-vertex.system.rows ++ row_of n (matching c.args.coords.system c.args.pair.now.face c.args.pair.now.glue c.loop-vertex.vertex) ∷ []) c.loop-vertex.invariant.columns);
-            few = omega arith;
+            limited = omega arith;
           }
       | else-vertex-opposite w ↦
           let e : length c.if-vertex-opposite.system.rows ≡ length c.loop-vertex.system.rows = ap (λ (s : System). length s.rows) w.system-is in
@@ -28,7 +28,7 @@ loop-vertex-preserved c =
             columns = ap (λ (s : System). s.columns) w.system-is ∙ c.loop-vertex.invariant.columns;
             rows = ap (λ (s : System). s.rows) w.system-is
                 ∙ glued_skip c.args.coords.system c.args.system.now.columns c.args.pair.now.face c.args.pair.now.glue c.loop-vertex.vertex _ _ (w.if-vertex-opposite.false ∙ face) c.loop-vertex.invariant.rows;
-            few = omega arith;
+            limited = omega arith;
           }
     ]
 

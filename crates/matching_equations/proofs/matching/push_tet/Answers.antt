@@ -9,12 +9,12 @@ use Rattle.matching_equations.proofs.matching.push_tet.Goals as goal
 pub loop-face-preserved : goal.loop-face-preserved
 loop-face-preserved c =
     let f : ℕ → ℕ → Rows = λ n k. face_rows c.args.coords.system c.args.table.now n (face_at c.args.tet k) in
-    let few : length c.push_face.new.system.rows ≤ length c.loop-face.system.rows + 4 = c.in_ok-push_face.ensures.few in
+    let limited : length c.push_face.new.system.rows ≤ length c.loop-face.system.rows + 4 = c.in_ok-push_face.ensures.limited in
     record {
       columns = c.in_ok-push_face.ensures.columns ∙ c.loop-face.invariant.columns;
       rows = appended_more (f c.args.system.now.columns) c.loop-face.face _ _ _ c.loop-face.invariant.rows
           (c.in_ok-push_face.ensures.rows ∙ ap (λ n. c.loop-face.system.rows ++ f n c.loop-face.face) c.loop-face.invariant.columns);
-      few = omega arith;
+      limited = omega arith;
     }
 
 pub returns-clause-rows : goal.returns-clause-rows

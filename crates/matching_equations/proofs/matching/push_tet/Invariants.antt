@@ -9,5 +9,5 @@ abbrev pub invariant-loop-face : goal.invariant-loop-face
 invariant-loop-face l = record {
   columns : l.system.columns ≡ l.fn.system.columns;
   rows : l.system.rows ≡ l.fn.system.rows ++ flat_map (λ f. face_rows l.coords.system l.table l.fn.system.columns (face_at l.tet f)) (below l.face);
-  few : length l.system.rows ≤ length l.fn.system.rows + 4 * l.face;
+  limited : length l.system.rows ≤ length l.fn.system.rows + 4 * l.face;
 }

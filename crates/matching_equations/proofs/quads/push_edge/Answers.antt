@@ -7,9 +7,9 @@ pub push_around-requires-clause-corners : goal.push_around-requires-clause-corne
 push_around-requires-clause-corners c =
     (round_of c.args.skeleton.now c.args.class c.around.result.now c.requires.skeleton c.requires.class (sym c.if-is_boundary_edge.ensures) c.around.ensures).inside
 
-pub push_around-requires-clause-few : goal.push_around-requires-clause-few
-push_around-requires-clause-few c =
-    (round_of c.args.skeleton.now c.args.class c.around.result.now c.requires.skeleton c.requires.class (sym c.if-is_boundary_edge.ensures) c.around.ensures).few
+pub push_around-requires-clause-limited : goal.push_around-requires-clause-limited
+push_around-requires-clause-limited c =
+    (round_of c.args.skeleton.now c.args.class c.around.result.now c.requires.skeleton c.requires.class (sym c.if-is_boundary_edge.ensures) c.around.ensures).limited
 
 pub returns-clause-rows : goal.returns-clause-rows
 returns-clause-rows c =

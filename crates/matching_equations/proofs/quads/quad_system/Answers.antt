@@ -10,5 +10,5 @@ loop-class-preserved c =
       skeleton = c.loop-class.invariant.skeleton;
       columns = c.in_ok-push_edge.ensures.columns ∙ c.loop-class.invariant.columns;
       rows = more.0;
-      few = omega (arith, c.loop-class.invariant.few);
+      limited = omega (arith, c.loop-class.invariant.limited);
     }

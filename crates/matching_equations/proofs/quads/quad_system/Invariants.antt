@@ -12,5 +12,5 @@ invariant-loop-class l = record {
   skeleton : IsSkeleton l.skeleton;
   columns : l.system.columns ≡ columns Quad (length l.skeleton.rows);
   rows : AllZip (IsQuadRow l.skeleton.rows l.skeleton.edges.classes) (internal_edges l.skeleton.rows l.skeleton.edges.classes l.class) l.system.rows;
-  few : length l.system.rows ≤ l.class;
+  limited : length l.system.rows ≤ l.class;
 }

@@ -22,4 +22,4 @@ kept (suc (suc (suc (suc v)))) f a b ne = absurd (omega arith)
 kept v (suc (suc (suc (suc f)))) a b ne = absurd (omega arith)
 
 pub returns-clause-in_range : goal.returns-clause-in_range
-returns-clause-in_range c = kept c.args.vertex c.args.other c.requires.a_vertex c.requires.another c.requires.apart
+returns-clause-in_range c = kept c.args.vertex c.args.other c.requires.a_vertex c.requires.another c.requires.separate

@@ -17,9 +17,9 @@ loop-number-preserved c =
 
 pub returns : goal.returns
 returns c =
-    let past : length c.args.system.now.rows ≤ c.loop-number.number = omega (arith, c.len-number-end.ensures, c.loop-number-test.false) in
+    let exceeded : length c.args.system.now.rows ≤ c.loop-number.number = omega (arith, c.len-number-end.ensures, c.loop-number-test.false) in
     record {
-      some = all_small c.args.system.now.rows c.loop-number.number c.loop-number.greatest c.loop-number.invariant.small past;
+      some = all_small c.args.system.now.rows c.loop-number.number c.loop-number.greatest c.loop-number.invariant.small exceeded;
       attained = attained_all c.args.system.now.rows c.loop-number.number c.loop-number.greatest c.loop-number.invariant.attained
           (omega (arith, c.loop-number.auto.number-end, c.len-number-end.ensures));
       none = tt;

@@ -22,8 +22,8 @@ returns-clause-added c _ j = c.loop-column.invariant.each j ∙
     ap (λ n. get_or c.args.squares.now j 0 + n)
     (ap (λ r. row_square j r) (take_all c.loop-column.column-index c.args.row.now c.loop-column-test.false) ∙ row_square_is j c.args.row.now c.requires.sparse.ascending)
 
-pub returns-in-None-clause-past : goal.returns-in-None-clause-past
-returns-in-None-clause-past c _ =
+pub returns-in-None-clause-exceeded : goal.returns-in-None-clause-exceeded
+returns-in-None-clause-exceeded c _ =
     let f : FitsSigned w32 (get_or c.args.row.now c.loop-column.column-index (0, pos 0)).1 = search rules in
     let column = c.requires.in_range c.loop-column.column-index (0, pos 0) c.loop-column-test.true in (
       (get_or c.args.row.now c.loop-column.column-index (0, pos 0)).0,

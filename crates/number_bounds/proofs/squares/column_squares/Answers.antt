@@ -19,7 +19,7 @@ loop-number-preserved c =
 
 pub returns-then-not-add_row-clause-none : goal.returns-then-not-add_row-clause-none
 returns-then-not-add_row-clause-none c =
-    let heavy = c.add_row.ensures.past c.if-not-add_row.true in (
+    let heavy = c.add_row.ensures.exceeded c.if-not-add_row.true in (
       heavy.0,
       omega (arith, heavy.1, ap length c.deref_mut.ensures.value, c.loop-number.invariant.count),
       column_past c.args.system.now.rows c.loop-number.number heavy.0 (2 ^ 64) c.entries.result.now c.loop-number.squares.items c.deref_mut.result.now
@@ -28,8 +28,8 @@ returns-then-not-add_row-clause-none c =
 
 pub returns-clause-some : goal.returns-clause-some
 returns-clause-some c =
-    let past : length c.args.system.now.rows ≤ c.loop-number.number = omega (arith, c.len-number-end.ensures, c.loop-number-test.false) in
+    let exceeded : length c.args.system.now.rows ≤ c.loop-number.number = omega (arith, c.len-number-end.ensures, c.loop-number-test.false) in
     record {
       count = c.loop-number.invariant.count;
-      each = λ j. c.loop-number.invariant.each j ∙ ap (λ rows. sum_of_squares rows j) (take_all c.loop-number.number c.args.system.now.rows past);
+      each = λ j. c.loop-number.invariant.each j ∙ ap (λ rows. sum_of_squares rows j) (take_all c.loop-number.number c.args.system.now.rows exceeded);
     }

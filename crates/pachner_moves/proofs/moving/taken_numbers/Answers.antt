@@ -7,7 +7,7 @@ use Rattle.pachner_moves.proofs.moving.taken_numbers.Goals.{then-is_of_facet, el
 
 pub push-requires : goal.push-requires
 push-requires c =
-    let few : length c.loop-tet.numbers.items < 4 =
+    let limited : length c.loop-tet.numbers.items < 4 =
     few_taken c.args.taken.table.now c.args.taken.m.now c.args.taken.facets.now c.loop-tet.numbers.items c.loop-tet.tet c.args.taken.old c.loop-tet.invariant (omega (arith, c.loop-tet-test.true, c.len-tet-end.ensures.value))
     (sym c.is_of_facet.ensures ∙ c.if-is_of_facet.true) in
     omega arith

@@ -13,6 +13,6 @@ returns-clause-pairs c =
     let all : c.loop-first.first ≡ columns c.args.coords c.args.tets = omega arith in
     c.loop-first.invariant ∙ ap (pairs_before c.args.coords c.args.tets) all ∙ all_pairs c.args.coords c.args.tets
 
-pub returns-clause-apart : goal.returns-clause-apart
-returns-clause-apart c =
+pub returns-clause-separate : goal.returns-clause-separate
+returns-clause-separate c =
     subst (AreClashes (columns c.args.coords c.args.tets)) (sym (returns-clause-pairs c)) (are_clashes c.args.coords c.args.tets)

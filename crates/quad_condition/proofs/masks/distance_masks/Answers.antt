@@ -9,7 +9,7 @@ pub overflow_sub-distance-end : goal.overflow_sub-distance-end
 overflow_sub-distance-end c = let some = some_quads c.args.space.coords in omega (arith, some, c.triangles_each-least.ensures, c.columns_each.ensures)
 
 pub mask-requires : goal.mask-requires
-mask-requires c = let few = few_columns c.args.space.coords in omega (arith, few, c.columns_each.ensures, c.loop-distance-test.true)
+mask-requires c = let limited = few_columns c.args.space.coords in omega (arith, limited, c.columns_each.ensures, c.loop-distance-test.true)
 
 pub loop-distance-preserved : goal.loop-distance-preserved
 loop-distance-preserved c =

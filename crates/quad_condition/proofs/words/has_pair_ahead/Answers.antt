@@ -10,7 +10,7 @@ returns-then-mask-k-ne0 c =
     let k : ℕ = c.loop-k.k in
     let is = pair_is c.args.mask.now c.args.a.now c.args.b.now c.args.distance k _ _ _ c.either-here.ensures c.either-next.ensures c.ahead.ensures in (
       (λ _. pair_at c.args.mask.now c.args.a.now c.args.b.now c.args.distance k (Fits-lt-pow (c.type_inv.mask k)) (or_lt 64 _ _ (Fits-lt-pow (c.type_inv.a k)) (Fits-lt-pow (c.type_inv.b k)))
-          c.requires.some c.requires.few (λ z. c.if-mask-k-ne0.true (is ∙ z))),
+          c.requires.some c.requires.limited (λ z. c.if-mask-k-ne0.true (is ∙ z))),
       (λ _. refl),
     )
 
@@ -23,5 +23,5 @@ pub returns : goal.returns
 returns c = (
   (λ h. absurd (false≢true h)),
   (λ h. absurd (no_pair c.args.mask.now c.args.a.now c.args.b.now c.args.distance (λ k. or_lt 64 _ _ (Fits-lt-pow (c.type_inv.a k)) (Fits-lt-pow (c.type_inv.b k)))
-      c.requires.some c.requires.few (λ k l. c.loop-k.invariant k (omega arith)) h)),
+      c.requires.some c.requires.limited (λ k l. c.loop-k.invariant k (omega arith)) h)),
 )

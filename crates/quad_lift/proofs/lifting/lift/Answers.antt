@@ -8,8 +8,8 @@ use Rattle.quad_lift.proofs.lifting.lift.Goals as goal
 pub returns-then-class-classes-clause-fault : goal.returns-then-class-classes-clause-fault
 returns-then-class-classes-clause-fault c = (
   c.in-Some.ensures.fits,
-  least_without c.args.skeleton.now c.vertices-classes.ensures.skeleton c.args.x.now c.requires c.in_ok-values.values.items c.in_ok-values.ensures c.least_wrong-class.result
-      (subst (λ hs. IsLeastWrong c.args.skeleton.now c.args.x.now hs c.least_wrong-class.result) c.deref.ensures.value c.least_wrong-class.ensures)
+  least_without c.args.skeleton.now c.vertices-classes.ensures.skeleton c.args.x.now c.requires c.in_ok-values.values.items c.in_ok-values.ensures c.first_spinning_vertex-class.result
+      (subst (λ hs. IsLeastWrong c.args.skeleton.now c.args.x.now hs c.first_spinning_vertex-class.result) c.deref.ensures.value c.first_spinning_vertex-class.ensures)
       (omega (arith, c.if-class-classes.true, c.vertices-classes.ensures.count)),
 )
 
@@ -18,8 +18,8 @@ returns-clause-lifted c = (c.in-Some.ensures.fits, lifted)
   where
     lifted : IsLiftOf c.args.skeleton.now c.args.x.now c.in_ok-lifted.lifted.items
     lifted =
-        lift_is c.args.skeleton.now c.vertices-classes.ensures.skeleton c.args.x.now c.requires c.in_ok-values.values.items c.in_ok-values.ensures c.least_wrong-class.result
-        (subst (λ hs. IsLeastWrong c.args.skeleton.now c.args.x.now hs c.least_wrong-class.result) c.deref.ensures.value c.least_wrong-class.ensures) c.in_ok-lows.lows.items c.in_ok-lifted.lifted.items
+        lift_is c.args.skeleton.now c.vertices-classes.ensures.skeleton c.args.x.now c.requires c.in_ok-values.values.items c.in_ok-values.ensures c.first_spinning_vertex-class.result
+        (subst (λ hs. IsLeastWrong c.args.skeleton.now c.args.x.now hs c.first_spinning_vertex-class.result) c.deref.ensures.value c.first_spinning_vertex-class.ensures) c.in_ok-lows.lows.items c.in_ok-lifted.lifted.items
         (omega (arith, c.if-class-classes.false, c.vertices-classes.ensures.count))
         (subst (λ hs. AreLeastHeights c.args.skeleton.now hs c.in_ok-lows.lows.items) c.deref.ensures.value c.in_ok-lows.ensures)
         c.in_ok-lifted.ensures.length

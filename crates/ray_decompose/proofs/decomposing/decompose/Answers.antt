@@ -20,13 +20,13 @@ overflow_cast-turn c =
     let t = turn_is c.args.system.now.columns c.args.system.now.rows c.args.list.now c.args.x.now c.args.limit c.loop-ray.times c.loop-ray.terms.items c.loop-ray.rest.items c.loop-ray.ray-index
     c.in-Some.fraction.numerator c.in-Some.fraction.denominator _ _ _ c.requires c.loop-ray.invariant.led c.loop-ray.invariant.none c.loop-ray-test.true c.ray-item.is
     c.entries.ensures.entries c.deref.ensures.value c.in-Some.ensures.inside c.in-Some.ensures.least in
-    let few = turns_are_few c.args.system.now.columns c.args.system.now.rows c.args.list.now c.args.x.now c.args.limit c.loop-ray.times c.loop-ray.terms.items c.loop-ray.rest.items c.loop-ray.ray-index
+    let limited = turns_are_few c.args.system.now.columns c.args.system.now.rows c.args.list.now c.args.x.now c.args.limit c.loop-ray.times c.loop-ray.terms.items c.loop-ray.rest.items c.loop-ray.ray-index
     c.in-Some.fraction.numerator c.in-Some.fraction.denominator t in
     let wide = ray_width c.args.system.now.columns c.args.system.now.rows c.args.list.now c.args.x.now c.args.limit c.loop-ray.times c.loop-ray.terms.items c.loop-ray.rest.items c.loop-ray.ray-index
     c.in-Some.fraction.numerator c.in-Some.fraction.denominator t in
     let e = ap length (at_place c.args.list.now c.loop-ray.ray-index _ _ c.loop-ray-test.true c.ray-item.is c.entries.ensures.entries) in
     let n : c.len-turn.result ≡ length c.loop-ray.terms.items = c.len-turn.ensures ∙ c.loop-ray.terms.ok.0 in
-    omega (arith, few, wide, c.entries.ensures.reduced.width, e, n, ap length c.entries.ensures.entries)
+    omega (arith, limited, wide, c.entries.ensures.reduced.width, e, n, ap length c.entries.ensures.entries)
 
 pub returns-in-Some-first_large-clause-err : goal.returns-in-Some-first_large-clause-err
 returns-in-Some-first_large-clause-err c =

@@ -18,15 +18,15 @@ least_ratio r v k h = record {
 }
 
 pub nonzero_div-result : goal.nonzero_div-result
-nonzero_div-result c = positive _ _ _ c.gcd-divisor.ensures c.least_column-column.ensures.some
+nonzero_div-result c = positive _ _ _ c.gcd-divisor.ensures c.limiting_column-column.ensures.some
 
 pub nonzero_div-result-2 : goal.nonzero_div-result-2
-nonzero_div-result-2 c = positive _ _ _ c.gcd-divisor.ensures c.least_column-column.ensures.some
+nonzero_div-result-2 c = positive _ _ _ c.gcd-divisor.ensures c.limiting_column-column.ensures.some
 
 pub invariant_of-result : goal.invariant_of-result
 invariant_of-result c = record {
-  some = let some = c.least_column-column.ensures.some in quotient_positive _ _ c.gcd-divisor.ensures.1 (omega (arith, some));
+  some = let some = c.limiting_column-column.ensures.some in quotient_positive _ _ c.gcd-divisor.ensures.1 (omega (arith, some));
 }
 
 pub returns : goal.returns
-returns c = fraction_at c.args.division.rest.now c.args.division.ray.now c.least_column-column.result c.gcd-divisor.result (least_ratio _ _ _ c.least_column-column.ensures) c.gcd-divisor.ensures
+returns c = fraction_at c.args.division.rest.now c.args.division.ray.now c.limiting_column-column.result c.gcd-divisor.result (least_ratio _ _ _ c.limiting_column-column.ensures) c.gcd-divisor.ensures

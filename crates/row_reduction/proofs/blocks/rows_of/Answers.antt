@@ -18,5 +18,5 @@ loop-i-preserved c =
 
 pub returns-clause-same : goal.returns-clause-same
 returns-clause-same c =
-    let past : length c.args.system.now.rows ≤ c.loop-i.i = omega (arith, c.loop-i-test.false, c.len-i-end.ensures) in
-    c.loop-i.invariant.same ∙ take_all c.loop-i.i c.args.system.now.rows past
+    let exceeded : length c.args.system.now.rows ≤ c.loop-i.i = omega (arith, c.loop-i-test.false, c.len-i-end.ensures) in
+    c.loop-i.invariant.same ∙ take_all c.loop-i.i c.args.system.now.rows exceeded

@@ -60,5 +60,5 @@ returns-in_err-add_at-clause-passed c =
 pub returns-clause-each : goal.returns-clause-each
 returns-clause-each c =
     let start = c.args.list.now.rows.items in
-    let past : length start ≤ c.loop-i.i = search rules in
-    cleared_all c.args.pivot.now.row c.args.pivot.now.column start c.loop-i.list.rows.items c.loop-i.i past c.loop-i.invariant.each
+    let exceeded : length start ≤ c.loop-i.i = search rules in
+    cleared_all c.args.pivot.now.row c.args.pivot.now.column start c.loop-i.list.rows.items c.loop-i.i exceeded c.loop-i.invariant.each

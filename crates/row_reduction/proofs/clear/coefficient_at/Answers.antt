@@ -27,8 +27,8 @@ pub returns-clause-unit : goal.returns-clause-unit
 returns-clause-unit c u =
     let entries = c.entries-place-items.result.now in
     let is = sym c.entries-place-items.ensures.entries in
-    let past : length entries ≤ c.loop-place.place-index = search rules in
-    absurd (no_unit entries c.loop-place.place-index c.args.column (subst IsSparse is c.entries-place-items.ensures.sparse) c.loop-place.invariant (λ within. absurd (omega (arith, within, past)))
+    let exceeded : length entries ≤ c.loop-place.place-index = search rules in
+    absurd (no_unit entries c.loop-place.place-index c.args.column (subst IsSparse is c.entries-place-items.ensures.sparse) c.loop-place.invariant (λ within. absurd (omega (arith, within, exceeded)))
     (subst (IsUnitAt c.args.column) is u))
 
 pub returns-then-place-column-clause-none : goal.returns-then-place-column-clause-none
@@ -49,6 +49,6 @@ pub returns-clause-none : goal.returns-clause-none
 returns-clause-none c zero_now =
     let entries = c.entries-place-items.result.now in
     let is = sym c.entries-place-items.ensures.entries in
-    let past : length entries ≤ c.loop-place.place-index = search rules in
+    let exceeded : length entries ≤ c.loop-place.place-index = search rules in
     subst (λ r. HasNoTerm r c.args.column) (sym is) (no_term entries c.loop-place.place-index c.args.column (subst IsSparse is c.entries-place-items.ensures.sparse) c.loop-place.invariant
-    (λ within. absurd (omega (arith, within, past))))
+    (λ within. absurd (omega (arith, within, exceeded))))

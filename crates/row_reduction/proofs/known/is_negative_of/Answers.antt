@@ -3,7 +3,7 @@ use Rattle.std.proofs.Common.{rules, ◌≡◌, ◌<◌, ℕ, ℤ, pos, length, 
 use Rattle.std.proofs.lemmas.Int.{ints}
 use Rattle.std.proofs.lemmas.List.{take_more_same, get_or-map, length-map}
 use Rattle.cone_definitions.specs.Rows.{Row}
-use Rattle.cone_row_laws.specs.Operations.{turned}
+use Rattle.cone_row_laws.specs.Operations.{negated}
 use Rattle.row_reduction.proofs.known.is_negative_of.Goals as goal
 
 opposite : (z w r s : ℤ) → FitsSigned w32 z → FitsSigned w32 w → r ≡ to_z w32 (of_z w32 z) → s ≡ to_z w32 (of_z w32 w) →
@@ -13,15 +13,15 @@ opposite z w r s fits fits_other e f h = omega (arith, ints)
 turned_term : ℕ × ℤ → ℕ × ℤ
 turned_term term = (term.0, neg_ℤ term.1)
 
-term-turned : (row : Row) (i : ℕ) (term : ℕ × ℤ) → i < length row → term.0 ≡ (get_or row i (0, pos 0)).0 → term.1 ≡ neg_ℤ (get_or row i (0, pos 0)).1 →
-    term ≡ get_or (turned row) i (0, pos 0)
+term-negated : (row : Row) (i : ℕ) (term : ℕ × ℤ) → i < length row → term.0 ≡ (get_or row i (0, pos 0)).0 → term.1 ≡ neg_ℤ (get_or row i (0, pos 0)).1 →
+    term ≡ get_or (negated row) i (0, pos 0)
 unfolding turned_term
-term-turned row i term h e f =
+term-negated row i term h e f =
     ap (λ n. (n, term.1)) e ∙ ap (λ z. ((get_or row i (0, pos 0)).0, z)) f ∙ sym (get_or-map turned_term row i (0, pos 0) (0, pos 0) h)
 
-length-turned : (row : Row) → length (turned row) ≡ length row
+length-negated : (row : Row) → length (negated row) ≡ length row
 unfolding turned_term
-length-turned row = length-map row turned_term
+length-negated row = length-map row turned_term
 
 pub loop-i-preserved : goal.loop-i-preserved
 loop-i-preserved c =
@@ -35,6 +35,6 @@ loop-i-preserved c =
     let z = opposite (get_or one i (0, pos 0)).1 (get_or other i (0, pos 0)).1 c.from.result c.from-else-one-i.result fits fits_other c.from.ensures c.from-else-one-i.ensures c.if-from-ne0.false in
     record {
       count = c.loop-i.invariant.count;
-      same = take_more_same one (turned other) i (0, pos 0) within (let e = length-turned other in omega (arith, e)) c.loop-i.invariant.same
-          (term-turned other i (get_or one i (0, pos 0)) within_other c.if-one-i.false z);
+      same = take_more_same one (negated other) i (0, pos 0) within (let e = length-negated other in omega (arith, e)) c.loop-i.invariant.same
+          (term-negated other i (get_or one i (0, pos 0)) within_other c.if-one-i.false z);
     }

@@ -20,15 +20,15 @@ returns-in_err-join_faces c =
     let e = c.in_err-join_faces.field-0.0 in
     let n = c.args.parts.now.count in
     let P : Result (List Row) SigFault → Type 0 = λ q. Fails e q in
-    let Q : List (Option (Option Gluing)) → Type 0 = λ met. Fails e (slot_faces (4 * n) 0 (record { met = met; seen = 1; parts = parts_view c.args.parts.now })) in
-    rw (p.1, p.2) (subst P (slots_join n (parts_view c.args.parts.now) c.requires) (fails_on e (slot_faces (4 * n) 0 (slots_begun n (parts_view c.args.parts.now))) (λ s. Ok (slot_rows n s.met)) (subst Q c.in_ok-met.ensures.unmet c.in_err-join_faces.ensures)))
+    let Q : List (Option (Option Gluing)) → Type 0 = λ read_faces. Fails e (slot_faces (4 * n) 0 (record { read_faces = read_faces; seen = 1; parts = parts_view c.args.parts.now })) in
+    rw (p.1, p.2) (subst P (slots_join n (parts_view c.args.parts.now) c.requires) (fails_on e (slot_faces (4 * n) 0 (slots_begun n (parts_view c.args.parts.now))) (λ s. Ok (slot_rows n s.read_faces)) (subst Q c.in_ok-read_faces.ensures.unmet c.in_err-join_faces.ensures)))
 
 pub returns : goal.returns
 returns c =
     let n = c.args.parts.now.count in
-    let begun = ap (λ (met : List (Option (Option Gluing))). slot_faces (4 * n) 0 (record { met = met; seen = 1; parts = parts_view c.args.parts.now })) c.in_ok-met.ensures.unmet in
+    let begun = ap (λ (read_faces : List (Option (Option Gluing))). slot_faces (4 * n) 0 (record { read_faces = read_faces; seen = 1; parts = parts_view c.args.parts.now })) c.in_ok-read_faces.ensures.unmet in
     let a = slots_join n (parts_view c.args.parts.now) c.requires in
-    let b = next_ok (slot_faces (4 * n) 0 (slots_begun n (parts_view c.args.parts.now))) (slots_view c.join_faces.new.self) (λ s. Ok (slot_rows n s.met)) (sym begun ∙ c.in_ok-join_faces.ensures) in
+    let b = next_ok (slot_faces (4 * n) 0 (slots_begun n (parts_view c.args.parts.now))) (slots_view c.join_faces.new.self) (λ s. Ok (slot_rows n s.read_faces)) (sym begun ∙ c.in_ok-join_faces.ensures) in
     let r = c.in_ok-rows.ensures in
     let v = c.deref.ensures.value in
-    sym a ∙ b ∙ ap (λ met. Ok (slot_rows n met)) (sym v) ∙ ap Ok (sym r)
+    sym a ∙ b ∙ ap (λ read_faces. Ok (slot_rows n read_faces)) (sym v) ∙ ap Ok (sym r)

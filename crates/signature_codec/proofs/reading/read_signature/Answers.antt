@@ -41,7 +41,7 @@ returns-in_err-parts-clause-reads c =
 pub join-requires : goal.join-requires
 join-requires c =
     let h = head_view c.in_ok-head.head in
-    let fit = parts_fit c.args.text.now h (types_view c.in_ok-types.types.types) c.in_ok-types.types.next (parts_view c.in_ok-parts.parts) c.in_ok-head.head.few c.in_ok-types.ensures.reads c.in_ok-parts.ensures.reads in
+    let fit = parts_fit c.args.text.now h (types_view c.in_ok-types.types.types) c.in_ok-types.types.next (parts_view c.in_ok-parts.parts) c.in_ok-head.head.limited c.in_ok-types.ensures.reads c.in_ok-parts.ensures.reads in
     rw c.in_ok-parts.ensures.count fit
 
 pub returns-in_err-rows-clause-reads : goal.returns-in_err-rows-clause-reads
@@ -57,10 +57,10 @@ pub table_of-requires : goal.table_of-requires
 table_of-requires c =
     let h = head_view c.in_ok-head.head in
     let n = c.in_ok-parts.parts.count in
-    let fit = parts_fit c.args.text.now h (types_view c.in_ok-types.types.types) c.in_ok-types.types.next (parts_view c.in_ok-parts.parts) c.in_ok-head.head.few c.in_ok-types.ensures.reads c.in_ok-parts.ensures.reads in
+    let fit = parts_fit c.args.text.now h (types_view c.in_ok-types.types.types) c.in_ok-types.types.next (parts_view c.in_ok-parts.parts) c.in_ok-head.head.limited c.in_ok-types.ensures.reads c.in_ok-parts.ensures.reads in
     let fits : 0 < n → IsSlots n (slots_begun n (parts_view c.in_ok-parts.parts)) = rw c.in_ok-parts.ensures.count fit in
-    let few : n ≤ 1000 = rw c.in_ok-parts.ensures.count c.in_ok-head.head.few in
-    joined_table n (parts_view c.in_ok-parts.parts) c.in_ok-rows.rows.items few fits c.in_ok-rows.ensures
+    let limited : n ≤ 1000 = rw c.in_ok-parts.ensures.count c.in_ok-head.head.limited in
+    joined_table n (parts_view c.in_ok-parts.parts) c.in_ok-rows.rows.items limited fits c.in_ok-rows.ensures
 
 pub returns-clause-reads : goal.returns-clause-reads
 returns-clause-reads c =

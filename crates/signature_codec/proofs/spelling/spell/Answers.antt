@@ -3,7 +3,7 @@ use Rattle.std.specs.Prelude.{All}
 use Rattle.table_definitions.specs.Table.{Gluing, Row}
 use Rattle.signature_definitions.specs.Spelling as spellings
 use Rattle.signature_text_laws.specs.Texts.{destinations_text, indices_text}
-use Rattle.signature_text_laws.proofs.TextLaws.{types_small, few_types, whole_text}
+use Rattle.signature_text_laws.proofs.TextLaws.{types_small, bounded_types, whole_text}
 use Rattle.signature_text_laws.proofs.SpelledTables.{spelled_read}
 use Rattle.signature_codec.proofs.spelling.spell.Goals as goal
 
@@ -12,12 +12,12 @@ append_types-requires-clause-small c =
     let P : List ℕ → Type 0 = λ ts. All (λ t. t < 3) ts in
     subst P (sym (c.deref.ensures.value ∙ c.in_ok-walk.ensures.whole.types)) (types_small c.args.table.now)
 
-pub append_types-requires-clause-few : goal.append_types-requires-clause-few
-append_types-requires-clause-few c =
-    let few = few_types c.args.table.now in
-    let most = c.rows.ensures.is_table.few in
+pub append_types-requires-clause-limited : goal.append_types-requires-clause-limited
+append_types-requires-clause-limited c =
+    let limited = bounded_types c.args.table.now in
+    let most = c.rows.ensures.is_table.limited in
     let same = ap (λ (ts : List ℕ). length ts) (c.deref.ensures.value ∙ c.in_ok-walk.ensures.whole.types) in
-    omega (arith, few, most, same)
+    omega (arith, limited, most, same)
 
 pub returns-clause-spells : goal.returns-clause-spells
 returns-clause-spells c =

@@ -12,9 +12,9 @@ all_steps : (rows : List Row) (next : List (Option ℕ)) (place : ℕ) → lengt
 all_steps rows next place size all steps k = elim (cases_lt k place) [
   | inl less ↦ steps k less
   | inr more ↦
-      let past : length next ≤ k = omega arith in
+      let exceeded : length next ≤ k = omega arith in
       let end : 24 * length rows ≤ k = omega arith in
-      none_past next k past ∙ sym (no_next rows k end)
+      none_past next k exceeded ∙ sym (no_next rows k end)
 ]
 
 pub invariant_of-result-clause-injective : goal.invariant_of-result-clause-injective

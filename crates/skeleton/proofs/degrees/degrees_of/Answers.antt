@@ -25,10 +25,10 @@ overflow_add-index_mut c =
     let inside : x < count = subst (AreBelow count) (sym c.deref-class-items.ensures.value) c.args.numbering.now.in_range c.loop-class.class-index c.loop-class-test.true in
     let value : c.index_mut.result.now ≡ slice_index c.loop-class.degrees.items x = c.index_mut.ensures.value ∙ get_or_default c.loop-class.degrees.items x c.index_mut.result.now 0 (omega (arith, c.loop-class.invariant.one_each)) in
     let counted : slice_index c.loop-class.degrees.items x ≡ times_in (take c.loop-class.class-index classes) x = c.loop-class.invariant.counted x inside in
-    let few : times_in (take c.loop-class.class-index classes) x ≤ length (take c.loop-class.class-index classes) = count_by-le-length (λ m. m == x) (take c.loop-class.class-index classes) in
+    let limited : times_in (take c.loop-class.class-index classes) x ≤ length (take c.loop-class.class-index classes) = count_by-le-length (λ m. m == x) (take c.loop-class.class-index classes) in
     let size : length (take c.loop-class.class-index classes) ≤ c.loop-class.class-index = omega (arith, length-take-le c.loop-class.class-index classes) in
     let same : length classes ≡ length c.args.numbering.now.classes.items = ap length c.deref-class-items.ensures.value in
-    omega (arith, c.args.numbering.now.few)
+    omega (arith, c.args.numbering.now.limited)
 
 pub loop-class-preserved : goal.loop-class-preserved
 loop-class-preserved c =

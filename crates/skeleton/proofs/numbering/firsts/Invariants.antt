@@ -5,5 +5,5 @@ use Rattle.skeleton.proofs.numbering.firsts.Given as goal
 abbrev pub invariant-loop-place : goal.invariant-loop-place
 invariant-loop-place l = record {
   up_to : AreFirstsUpTo l.place l.classes l.firsts.items;
-  few : length l.firsts.items ≤ l.place;
+  limited : length l.firsts.items ≤ l.place;
 }

@@ -9,14 +9,14 @@ AreApart classes n = (t : ℕ) → t < n → slice_index classes (2 * t) ≢ sli
 abbrev HasJoined : List ℕ → ℕ → Type 0
 HasJoined classes n = (t : ℕ) × (t < n) × (slice_index classes (2 * t) ≡ slice_index classes (2 * t + 1))
 
-pub returns-then-tells_apart : goal.returns-then-tells_apart
-returns-then-tells_apart c =
+pub returns-then-is_consistent : goal.returns-then-is_consistent
+returns-then-is_consistent c =
     oriented c.args.table.now c.len.ensures.is_table _ _ c.in_ok-classes.ensures.numbering
-    (subst₂ AreApart c.deref.ensures.value c.len.ensures.value (c.tells_apart.ensures.apart c.if-tells_apart.true))
-    _ (subst₂ (λ (classes : List ℕ) (n : ℕ). AreSignsBy classes n c.in_ok-signs.signs.items) c.deref-then-tells_apart.ensures.value c.len-then-tells_apart.ensures.value c.in_ok-signs.ensures)
+    (subst₂ AreApart c.deref.ensures.value c.len.ensures.value (c.is_consistent.ensures.separate c.if-is_consistent.true))
+    _ (subst₂ (λ (classes : List ℕ) (n : ℕ). AreSignsBy classes n c.in_ok-signs.signs.items) c.deref-then-is_consistent.ensures.value c.len-then-is_consistent.ensures.value c.in_ok-signs.ensures)
 
 pub returns : goal.returns
 returns c =
     let j : HasJoined c.in_ok-classes.field-0.classes.items (length c.args.table.now) =
-    subst₂ HasJoined c.deref.ensures.value c.len.ensures.value (c.tells_apart.ensures.joined c.if-tells_apart.false) in
+    subst₂ HasJoined c.deref.ensures.value c.len.ensures.value (c.is_consistent.ensures.joined c.if-is_consistent.false) in
     not_orientable c.args.table.now c.len.ensures.is_table _ _ c.in_ok-classes.ensures.numbering j.0 j.1 j.2

@@ -8,7 +8,7 @@ use Rattle.sum_commands.proofs.addup_command.check_block.Goals as goal
 
 pub add_up-requires-clause-width : goal.add_up-requires-clause-width
 add_up-requires-clause-width c =
-    subst (λ (xs : List ℕ). length xs < 4294967296) (c.deref.ensures.value ∙ sym c.deref-3.ensures.value) (c.in_default.ensures.few refl)
+    subst (λ (xs : List ℕ). length xs < 4294967296) (c.deref.ensures.value ∙ sym c.deref-3.ensures.value) (c.in_default.ensures.limited refl)
 
 pub add_up-requires-clause-terms : goal.add_up-requires-clause-terms
 add_up-requires-clause-terms c =

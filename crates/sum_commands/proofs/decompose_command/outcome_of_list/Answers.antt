@@ -10,7 +10,7 @@ use Rattle.sum_commands.specs.Telling.{WritesBlocks}
 use Rattle.sum_commands.proofs.decompose_command.outcome_of_list.Goals as goal
 
 pub returns-in-Ok : goal.returns-in-Ok
-returns-in-Ok c = (Ok c.in-Ok.ensures.told, c.in-Ok.ensures.sums, c.with_text.ensures ∙ ap (λ (t : List ℕ). record { status = Done; text = t }) c.in-Ok.ensures.lines)
+returns-in-Ok c = (Ok c.in-Ok.ensures.reported, c.in-Ok.ensures.sums, c.with_text.ensures ∙ ap (λ (t : List ℕ). record { status = Done; text = t }) c.in-Ok.ensures.lines)
 
 pub returns-in-Err-Fault : goal.returns-in-Err-Fault
 returns-in-Err-Fault c = IfOk-weaker c.refusal_outcome.result _ _

@@ -19,7 +19,7 @@ overflow_add-before c =
     let more : sum (take (c.loop-entry.entry-index + 1) c.args.surface.now.entries.now) ≡ sum (take c.loop-entry.entry-index c.args.surface.now.entries.now) + get_or c.args.surface.now.entries.now c.loop-entry.entry-index 0 =
     sum_by_more (λ n. n) c.args.surface.now.entries.now c.loop-entry.entry-index 0 c.loop-entry-test.true in
     let low : sum (take (c.loop-entry.entry-index + 1) c.args.surface.now.entries.now) ≤ sum c.args.surface.now.entries.now = sum_by-take-le (λ n. n) c.args.surface.now.entries.now (c.loop-entry.entry-index + 1) in
-    omega (arith, c.loop-entry.invariant.all, c.args.surface.now.few)
+    omega (arith, c.loop-entry.invariant.all, c.args.surface.now.limited)
 
 pub loop-entry-preserved : goal.loop-entry-preserved
 loop-entry-preserved c = record {

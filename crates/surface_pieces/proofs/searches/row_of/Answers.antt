@@ -14,7 +14,7 @@ read_next kind k slot joined row o l u e = record {
   size = length-set row slot o ∙ u.size;
   each = λ s ls. elim (cases_eq s slot) [
     | inl same ↦ ap (λ t. slice_index_or (set row slot o) t None) same ∙ get_or-set_same row slot o None (omega (arith, u.size)) ∙ e ∙ ap (λ t. read_at kind k (slice_index_or joined t None)) (sym same)
-    | inr apart ↦ get_or-set_other row slot s o None apart ∙ u.each s (omega arith)
+    | inr separate ↦ get_or-set_other row slot s o None separate ∙ u.each s (omega arith)
   ];
 }
 

@@ -18,8 +18,8 @@ pub returns : goal.returns
 returns g c = record {
   size = c.in_ok-free.ensures.size;
   each = λ i l. (
-    (λ t. (told i l).0 (subst (λ (ks : List ℕ). IsFree ks c.args.components.now.classes.items i) c.deref.ensures.value ((c.in_ok-free.ensures.each i l).0 t))),
-    (λ h. (c.in_ok-free.ensures.each i l).1 (subst (λ (ks : List ℕ). IsFree ks c.args.components.now.classes.items i) (sym c.deref.ensures.value) ((told i l).1 h))),
+    (λ t. (reported i l).0 (subst (λ (ks : List ℕ). IsFree ks c.args.components.now.classes.items i) c.deref.ensures.value ((c.in_ok-free.ensures.each i l).0 t))),
+    (λ h. (c.in_ok-free.ensures.each i l).1 (subst (λ (ks : List ℕ). IsFree ks c.args.components.now.classes.items i) (sym c.deref.ensures.value) ((reported i l).1 h))),
   );
 }
   where
@@ -29,7 +29,7 @@ returns g c = record {
     numbered : IsNumbering (2 * length (discs_of c.args.joined.now.surface.entries.now)) (IsJoined (neighbours_of signed.listed)) c.in_ok-signed.signed.classes.items c.in_ok-signed.signed.count
     numbered = subst (λ n. IsNumbering n (IsJoined (neighbours_of signed.listed)) c.in_ok-signed.signed.classes.items c.in_ok-signed.signed.count) (signed.are).size signed.numbered
 
-    told : (i : ℕ) → i < c.args.components.now.count → IsFree c.in_ok-signed.signed.classes.items c.args.components.now.classes.items i
+    reported : (i : ℕ) → i < c.args.components.now.count → IsFree c.in_ok-signed.signed.classes.items c.args.components.now.classes.items i
         ↔ HasSigns c.args.joined.now.surface.table.now c.args.joined.now.surface.coords.system c.args.joined.now.surface.entries.now c.args.components.now.classes.items i (stays_at c.args.signs c.args.joined.now.surface.coords.system c.args.joined.now.surface.entries.now)
-    told = λ i l. free_is c.args.joined.now.surface.table.now c.args.joined.now.surface.coords.system c.args.joined.now.surface.entries.now (held c.args.joined.now.surface.table.now c.args.joined.now.surface.coords.system c.args.joined.now.surface.entries.now c.args.joined.now.surface.normal) c.args.signs
+    reported = λ i l. free_is c.args.joined.now.surface.table.now c.args.joined.now.surface.coords.system c.args.joined.now.surface.entries.now (held c.args.joined.now.surface.table.now c.args.joined.now.surface.coords.system c.args.joined.now.surface.entries.now c.args.joined.now.surface.normal) c.args.signs
         signed.listed signed.are c.in_ok-signed.signed.classes.items c.in_ok-signed.signed.count numbered c.args.components.now.classes.items c.args.components.now.count c.requires.components i l

@@ -35,12 +35,12 @@ count_piece-requires-clause-in_range c = omega (arith, column, of_vector.column,
     own : IsTally c.args.of.pieces.surface.entries.now c.args.of.components.now c.loop-number.number k (c.index_mut-vector.result.now).items
     own = held c.args.of.pieces.surface.entries.now c.args.of.components.now c.args.of.count c.loop-number.number c.loop-number.vectors.items c.index_mut-vector.result.now c.loop-number.invariant low c.index_mut-vector.ensures.value
 
-pub count_piece-requires-clause-few : goal.count_piece-requires-clause-few
-count_piece-requires-clause-few c =
+pub count_piece-requires-clause-limited : goal.count_piece-requires-clause-limited
+count_piece-requires-clause-limited c =
     let there : c.piece.inside.column < length c.args.of.pieces.surface.entries.now = omega (arith, column, of_vector.column) in
-    let few : slice_index c.deref_mut.result.now c.piece.inside.column ≡ tally c.args.of.pieces.surface.entries.now c.args.of.components.now c.loop-number.number k c.piece.inside.column =
+    let limited : slice_index c.deref_mut.result.now c.piece.inside.column ≡ tally c.args.of.pieces.surface.entries.now c.args.of.components.now c.loop-number.number k c.piece.inside.column =
     ap (λ (ys : List ℕ). slice_index ys c.piece.inside.column) c.deref_mut.ensures.value ∙ own.entry c.piece.inside.column there in
-    omega (arith, tally_low c.args.of.pieces.surface.entries.now c.args.of.components.now c.loop-number.number k c.piece.inside.column, inside, ap (λ (ps : List NormalDisc). length ps) c.args.of.pieces.all, (piece_numbers c.args.of.pieces.surface.entries.now).count, c.args.of.pieces.surface.few)
+    omega (arith, tally_low c.args.of.pieces.surface.entries.now c.args.of.components.now c.loop-number.number k c.piece.inside.column, inside, ap (λ (ps : List NormalDisc). length ps) c.args.of.pieces.all, (piece_numbers c.args.of.pieces.surface.entries.now).count, c.args.of.pieces.surface.limited)
   where
     k : ℕ
     k = slice_index c.args.of.components.now c.loop-number.number

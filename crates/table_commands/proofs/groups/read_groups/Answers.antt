@@ -17,7 +17,7 @@ loop-alloc-preserved c =
     let fewer = tables_fewer c.loop-alloc.lexer c.next_line.new.self (more.rows, c.group_table.new.lexer) c.loop-alloc-test.ensures.found more.read_so in (
       so_far.0 ++ more.rows ∷ [],
       more.grows so_far.0 so_far.1,
-      (let few = so_far.2 in omega (arith, fewer, length-append so_far.0 (more.rows ∷ []))),
+      (let limited = so_far.2 in omega (arith, fewer, length-append so_far.0 (more.rows ∷ []))),
       table_taken so_far.0 c.loop-alloc.lexer c.next_line.new.self (more.rows, c.group_table.new.lexer) c.loop-alloc-test.ensures.found more.read_so ∙ so_far.3,
     )
 

@@ -6,5 +6,5 @@ use Rattle.table_commands.proofs.groups.read_groups_document.Goals as goal
 
 pub read_groups-requires : goal.read_groups-requires
 read_groups-requires c = record {
-  few = omega (arith, few_lines c.args.bytes.now, ap (λ (r : Reading). length r.later) c.new-lexer.ensures);
+  limited = omega (arith, few_lines c.args.bytes.now, ap (λ (r : Reading). length r.later) c.new-lexer.ensures);
 }

@@ -8,7 +8,7 @@ returns-then-not-skips c =
     let some : 0 < length c.loop-later.later.now = grind (arith, nat_tests) in (
       sym c.loop-later.invariant.same
           ∙ found_line _ c.loop-later.later.now c.split_line.result.0.now c.split_line.result.1.now c.line_content-line.result.now
-          c.split_line.ensures.line c.split_line.ensures.behind c.line_content-line.ensures.content (sym c.skips.ensures ∙ c.if-not-skips.true),
+          c.split_line.ensures.line c.split_line.ensures.after c.line_content-line.ensures.content (sym c.skips.ensures ∙ c.if-not-skips.true),
       omega (arith, c.split_line.ensures.shorter some),
       omega (arith, c.split_line.ensures.within),
     )
@@ -19,7 +19,7 @@ loop-later-preserved c =
     record {
       same =
           sym (passed_line _ c.loop-later.later.now c.split_line.result.0.now c.split_line.result.1.now c.line_content-line.result.now
-          c.split_line.ensures.line c.split_line.ensures.behind c.line_content-line.ensures.content (sym c.skips.ensures ∙ c.if-not-skips.false))
+          c.split_line.ensures.line c.split_line.ensures.after c.line_content-line.ensures.content (sym c.skips.ensures ∙ c.if-not-skips.false))
           ∙ c.loop-later.invariant.same;
       numbers = omega (arith, c.split_line.ensures.shorter some);
       shorter = omega (arith, c.split_line.ensures.shorter some);

@@ -9,7 +9,7 @@ use Rattle.tri_build.proofs.candidates.candidates.Goals as goal
 pub returns : goal.returns
 returns c =
     let ok = c.append_accepted-2.new.moves.ok in
-    let told = c.is_empty.ensures in
+    let reported = c.is_empty.ensures in
     let first = first_listed c.args.table.now c.new-moves.result.items c.append_accepted.new.moves.items c.append_accepted-2.new.moves.items c.faces.result c.edges.result c.new-moves.ensures.items c.faces.ensures c.edges.ensures c.in_ok-append_accepted.ensures c.in_ok-append_accepted-2.ensures in
     elim c.if-is_empty.branch [
       | then-is_empty+in_ok-append_accepted-3 w ↦

@@ -2,5 +2,5 @@
 use Rattle.pachner_moves.proofs.MaskLaws.{bit_low}
 use Rattle.tri_build.proofs.carrying.bit_under.Goals as goal
 
-pub returns-then-has-clause-few : goal.returns-then-has-clause-few
-returns-then-has-clause-few c = bit_low c.image-bit.result c.image-bit.ensures.in_range
+pub returns-then-has-clause-limited : goal.returns-then-has-clause-limited
+returns-then-has-clause-limited c = bit_low c.image-bit.result c.image-bit.ensures.in_range

@@ -14,8 +14,8 @@ read xs k x n e l size = e ∙ get_or_default xs k x 0 (omega arith)
 pub loop-class-preserved : goal.loop-class-preserved
 loop-class-preserved c = record {
   one_each = ap (λ (xs : List Link). length xs) items ∙ length-append c.loop-class.links.items (c.link_of.result ∷ []) ∙ ap (λ n. n + 1) c.loop-class.invariant.one_each;
-  told = rw items (each_more (λ (n : ℕ) (k : Link). IsLink c.args.skeleton.now.rows c.args.skeleton.now.vertices.classes c.in_ok-tallies.tallies.directions.classes.items n k)
-      c.loop-class.links.items c.link_of.result c.loop-class.class c.loop-class.invariant.one_each c.loop-class.invariant.told new);
+  reported = rw items (each_more (λ (n : ℕ) (k : Link). IsLink c.args.skeleton.now.rows c.args.skeleton.now.vertices.classes c.in_ok-tallies.tallies.directions.classes.items n k)
+      c.loop-class.links.items c.link_of.result c.loop-class.class c.loop-class.invariant.one_each c.loop-class.invariant.reported new);
 }
   where
     items : c.push.new.self.items ≡ c.loop-class.links.items ++ c.link_of.result ∷ []
@@ -32,7 +32,7 @@ loop-class-preserved c = record {
       closed = c.link_of.ensures.closed ∙ ap (λ k. k == 0) (read _ _ _ _ c.index-in-loop-class-2.ensures inside c.in_ok-tallies.ensures.unglued) ∙ c.in_ok-tallies.ensures.closed c.loop-class.class inside;
       euler = c.link_of.ensures.euler;
       orientable = subst (λ b. IsTrue b ↔ IsOrientableLink c.args.skeleton.now.rows c.args.skeleton.now.vertices.classes c.loop-class.class)
-          (sym (c.link_of.ensures.orientable ∙ ap (λ k. k == 0) (read _ _ _ _ c.index-in-loop-class-3.ensures inside c.in_ok-tallies.ensures.turned)))
+          (sym (c.link_of.ensures.orientable ∙ ap (λ k. k == 0) (read _ _ _ _ c.index-in-loop-class-3.ensures inside c.in_ok-tallies.ensures.backwards)))
           (c.in_ok-tallies.ensures.orientable c.loop-class.class inside);
       kind = c.link_of.ensures.kind;
     }

@@ -16,8 +16,8 @@ overflow_add-index_mut c =
     let inside : x < c.args.count = c.requires.in_range c.loop-thing.thing c.loop-thing-test.true in
     let value : c.index_mut.result.now ≡ slice_index c.loop-thing.tallies.items x =
     c.index_mut.ensures.value ∙ get_or_default c.loop-thing.tallies.items x c.index_mut.result.now 0 (omega (arith, c.loop-thing.invariant.one_each)) in
-    let told : slice_index c.loop-thing.tallies.items x ≡ count_by (is_counted c.args.passes.now c.args.owners.now x) (below c.loop-thing.thing) = c.loop-thing.invariant.told x inside in
-    let few : count_by (is_counted c.args.passes.now c.args.owners.now x) (below c.loop-thing.thing) ≤ c.loop-thing.thing = count_below (is_counted c.args.passes.now c.args.owners.now x) c.loop-thing.thing in
+    let reported : slice_index c.loop-thing.tallies.items x ≡ count_by (is_counted c.args.passes.now c.args.owners.now x) (below c.loop-thing.thing) = c.loop-thing.invariant.reported x inside in
+    let limited : count_by (is_counted c.args.passes.now c.args.owners.now x) (below c.loop-thing.thing) ≤ c.loop-thing.thing = count_below (is_counted c.args.passes.now c.args.owners.now x) c.loop-thing.thing in
     omega arith
 
 pub loop-thing-preserved : goal.loop-thing-preserved

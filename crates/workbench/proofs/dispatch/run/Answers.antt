@@ -27,7 +27,7 @@ pub returns-clause-usage_alone : goal.returns-clause-usage_alone
 returns-clause-usage_alone g c = c.run_request.ensures.usage_alone
 
 pub returns-clause-usage_line : goal.returns-clause-usage_line
-returns-clause-usage_line g c = c.run_request.ensures.usage_told
+returns-clause-usage_line g c = c.run_request.ensures.usage_reported
 
 pub returns-clause-read_fault : goal.returns-clause-read_fault
 returns-clause-read_fault g c = c.run_request.ensures.read_fault
@@ -36,7 +36,7 @@ pub returns-clause-read_fault_alone : goal.returns-clause-read_fault_alone
 returns-clause-read_fault_alone g c = c.run_request.ensures.read_fault_alone
 
 pub returns-clause-read_fault_line : goal.returns-clause-read_fault_line
-returns-clause-read_fault_line g c = c.run_request.ensures.read_fault_told
+returns-clause-read_fault_line g c = c.run_request.ensures.read_fault_reported
 
 pub returns-clause-write_fault : goal.returns-clause-write_fault
 returns-clause-write_fault g c = c.run_request.ensures.write_fault
@@ -90,12 +90,12 @@ pub returns-clause-lifts : goal.returns-clause-lifts
 returns-clause-lifts g c = all_lifts c.args.words.now c.run_request.result _ _ (g.S.Source.left c.args.source.now) c.run_request.ensures.outcome
 
 pub returns-clause-makes : goal.returns-clause-makes
-returns-clause-makes g c = λ seed moves e few.
-    alone_told (IsTableWithMoves moves) (Make seed moves) refl (λ p. made_with_moves seed moves p few) c.run_request.result _ _ (c.run_request.ensures.words_alone (Make seed moves) e refl)
+returns-clause-makes g c = λ seed moves e limited.
+    alone_told (IsTableWithMoves moves) (Make seed moves) refl (λ p. made_with_moves seed moves p limited) c.run_request.result _ _ (c.run_request.ensures.words_alone (Make seed moves) e refl)
 
 pub returns-clause-sums_up : goal.returns-clause-sums_up
-returns-clause-sums_up g c = λ seed moves e few.
-    alone_told (IsSummaryWithMoves seed moves) (Bulk seed moves) refl (λ p. summed_up_with_moves seed moves p few) c.run_request.result _ _ (c.run_request.ensures.words_alone (Bulk seed moves) e refl)
+returns-clause-sums_up g c = λ seed moves e limited.
+    alone_told (IsSummaryWithMoves seed moves) (Bulk seed moves) refl (λ p. summed_up_with_moves seed moves p limited) c.run_request.result _ _ (c.run_request.ensures.words_alone (Bulk seed moves) e refl)
 
 pub returns-clause-checks : goal.returns-clause-checks
 returns-clause-checks g c = λ answered. checks_told c.args.words.now c.run_request.result _ _ (g.S.Source.left c.args.source.now) (c.run_request.ensures.outcome answered)

@@ -5,5 +5,5 @@ use Rattle.workbench.proofs.steady.run_steadily.Goals as goal
 
 pub returns-clause-outcome : goal.returns-clause-outcome
 returns-clause-outcome c = λ answered.
-    let told = c.run.ensures.outcome answered in
-    (told.0, subst (λ (bytes : List ℕ). IsOutcome c.args.words.now bytes told.0) c.new-source.ensures told.1, told.2)
+    let reported = c.run.ensures.outcome answered in
+    (reported.0, subst (λ (bytes : List ℕ). IsOutcome c.args.words.now bytes reported.0) c.new-source.ensures reported.1, reported.2)

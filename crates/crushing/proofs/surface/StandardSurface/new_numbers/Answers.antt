@@ -8,7 +8,7 @@ use Rattle.crushing.proofs.surface.StandardSurface.new_numbers.Goals.{then-not-i
 pub overflow_add-kept : goal.overflow_add-kept
 overflow_add-kept c =
     let is : c.loop-tet.kept ≡ number_kept c.args.self.now.entries.now c.loop-tet.tet = c.loop-tet.invariant.1 in
-    omega (arith, is, kept_fit c.args.self.now.entries.now c.loop-tet.tet, c.loop-tet-test.true, c.len-tet-end.ensures.few)
+    omega (arith, is, kept_fit c.args.self.now.entries.now c.loop-tet.tet, c.loop-tet-test.true, c.len-tet-end.ensures.limited)
 
 pub loop-tet-preserved : goal.loop-tet-preserved
 loop-tet-preserved c = (numbers_on c.args.self.now.entries.now c.loop-tet.numbers.items _ c.loop-tet.tet c.loop-tet.kept c.loop-tet.invariant.0 c.loop-tet.invariant.1 c.in_ok-push.ensures.items, kept)

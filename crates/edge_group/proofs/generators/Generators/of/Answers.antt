@@ -13,14 +13,14 @@ loop-class-preserved c = elim c.if-is_generator.branch [
       record {
         below = subst (AreGeneratorsBelow c.args.skeleton.now (c.loop-class.class + 1)) (sym e)
             (generator_grows c.args.skeleton.now c.loop-class.class c.loop-class.classes.items (c.is_generator.ensures.0 w.if-is_generator.true) c.loop-class.invariant.below);
-        few = omega (arith, ap (λ (xs : List ℕ). length xs) e, length-append c.loop-class.classes.items (c.loop-class.class ∷ []));
+        limited = omega (arith, ap (λ (xs : List ℕ). length xs) e, length-append c.loop-class.classes.items (c.loop-class.class ∷ []));
       }
   | else-is_generator w ↦
       let e : c.if-is_generator.classes.items ≡ c.loop-class.classes.items = ap (λ (v : Vec ℕ Global). v.items) w.classes-is in
       record {
         below = subst (AreGeneratorsBelow c.args.skeleton.now (c.loop-class.class + 1)) (sym e)
             (generator_passes c.args.skeleton.now c.loop-class.class c.loop-class.classes.items (λ g. false≢true (sym w.if-is_generator.false ∙ c.is_generator.ensures.1 g)) c.loop-class.invariant.below);
-        few = omega (arith, ap (λ (xs : List ℕ). length xs) e);
+        limited = omega (arith, ap (λ (xs : List ℕ). length xs) e);
       }
 ]
 
@@ -30,7 +30,7 @@ invariant_of-result c = record {
   firsts = c.in_ok-firsts.ensures;
   generators = all_generators c.args.skeleton.now c.loop-class.class c.loop-class.classes.items
       (let e : c.loop-class.class ≡ c.args.skeleton.now.faces.count = omega (arith, c.loop-class-test.false, c.loop-class.auto.class-end, c.faces-class-end.ensures.count) in e) c.loop-class.invariant.below;
-  few = omega (arith, c.loop-class.invariant.few, c.loop-class-test.false, c.loop-class.auto.class-end, c.faces-class-end.type_inv);
+  limited = omega (arith, c.loop-class.invariant.limited, c.loop-class-test.false, c.loop-class.auto.class-end, c.faces-class-end.type_inv);
 }
 
 pub returns-clause-generators : goal.returns-clause-generators

@@ -5,5 +5,5 @@ use Rattle.edge_group.proofs.generators.Generators.of.Given as goal
 abbrev pub invariant-loop-class : goal.invariant-loop-class
 invariant-loop-class l = record {
   below : AreGeneratorsBelow l.skeleton l.class l.classes.items;
-  few : length l.classes.items ≤ l.class;
+  limited : length l.classes.items ≤ l.class;
 }

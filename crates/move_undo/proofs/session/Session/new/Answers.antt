@@ -9,7 +9,7 @@ invariant_of-result c =
     let none : length c.new.result.items ≡ 0 = ap (λ (ms : List Move). length ms) c.new.ensures.items in
     record {
       recorded = recorded-begun c.args.table c.new.result.items c.new-2.result.items c.new.ensures.items c.new-2.ensures.items;
-      few = omega arith;
+      limited = omega arith;
       room = omega arith;
     }
 

@@ -43,13 +43,13 @@ invariant_of-self-2 c =
     let test = c.if-len.false in
     let played = c.len.ensures in
     let kept = c.self.inside.undos.ok in
-    let few : length c.self.inside.undos.items + 1 < 4294967296 = grind arith in
+    let limited : length c.self.inside.undos.items + 1 < 4294967296 = grind arith in
     let same = c.in_ok-reserve-2.ensures.len in
     let reserved = c.in_ok-reserve-2.ensures.ok in
     let room : length c.self.inside.undos.items + 1 ≤ vec_capacity c.keep.new.undos = grind (arith, c.keep.ensures.room) in
     record {
       recorded = recorded-as _ _ _ _ _ _ moves undos back (recorded-play _ _ _ _ c.args.m _ _ c.self.invariant.recorded c.in_ok-undo.ensures.played);
-      few = omega arith;
+      limited = omega arith;
       room = omega arith;
     }
 

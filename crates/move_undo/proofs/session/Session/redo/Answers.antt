@@ -47,7 +47,7 @@ invariant_of-self c =
     let again = recorded-again _ _ _ _ _ _ _ c.self.invariant.recorded (next_move _ _ c.index.result.now _ within next c.index.ensures) c.replay-undo.ensures in
     record {
       recorded = recorded-as _ c.self.inside.moves.items _ (c.self.inside.undos.items ++ c.replay-undo.result ∷ []) _ _ refl c.push_reserved.ensures.items back again;
-      few = c.self.invariant.few;
+      limited = c.self.invariant.limited;
       room = subst (λ k. length c.self.inside.moves.items ≤ k) (sym c.push_reserved.ensures.capacity) c.self.invariant.room;
     }
 

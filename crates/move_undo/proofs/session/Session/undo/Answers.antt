@@ -19,7 +19,7 @@ invariant_of-self-2 c =
     subst (λ (t : List Row). Recorded (first_table c.self.inside.undos.items c.self.inside.table) c.self.inside.moves.items c.pop.new.self.items t) (sym c.take_back.ensures.former) back.recorded in
     record {
       recorded = recorded-as _ c.self.inside.moves.items _ c.pop.new.self.items _ _ refl refl (first-last _ _ _ _ _ c.in-Some.ensures.items c.take_back.ensures.former) recorded;
-      few = c.self.invariant.few;
+      limited = c.self.invariant.limited;
       room = subst (λ k. length c.self.inside.moves.items ≤ k) (sym c.in-Some.ensures.capacity) c.self.invariant.room;
     }
 

@@ -4,7 +4,7 @@ use Rattle.std.specs.List.{slice_index_or}
 use Rattle.std.proofs.lemmas.List.{get_or_default, with_items_is, length-replicate}
 use Rattle.table_walk_laws.specs.Search.{IsMarked, IsClosed}
 use Rattle.table_walk_laws.proofs.SearchLemmas.{none_is_closed, none_marked}
-use Rattle.quad_lift.specs.Spreads.{vertices_round, AreSpread}
+use Rattle.quad_lift.specs.Spreads.{vertices_around, AreSpread}
 use Rattle.quad_lift.proofs.SpreadLemmas.{none_spread, all_spread}
 use Rattle.quad_lift.proofs.quad_vector.QuadVector.heights.Goals as goal
 use Rattle.quad_lift.proofs.quad_vector.QuadVector.heights.Goals.{then-not-index+in_ok-spread, else-not-index}
@@ -13,7 +13,7 @@ pub loop-root-init : goal.loop-root-init
 loop-root-init c = record {
   spread = none_spread c.args.self.now.skeleton.now c.args.self.now.entries.now c.in_ok-marked.marked.items c.in_ok-heights.heights.items (ap length fresh ∙ length-replicate (4 * c.len-count.result) false ∙ size)
       (ap length start ∙ length-replicate (4 * c.len-count.result) c.args.self.now.start ∙ size) (λ i. ap (λ (ms : List Bool). slice_index_or ms i false) fresh ∙ none_marked (4 * c.len-count.result) i);
-  closed = subst (IsClosed (vertices_round c.args.self.now.skeleton.now.rows)) (sym fresh) (none_is_closed (vertices_round c.args.self.now.skeleton.now.rows) (4 * c.len-count.result));
+  closed = subst (IsClosed (vertices_around c.args.self.now.skeleton.now.rows)) (sym fresh) (none_is_closed (vertices_around c.args.self.now.skeleton.now.rows) (4 * c.len-count.result));
   passed = λ i l. absurd (omega arith);
 }
   where
@@ -35,7 +35,7 @@ loop-root-preserved c = elim c.if-not-index.branch [
       with_items_is c.loop-root.heights w.spread.new.heights (w.spread.auto.heights ∙ ap length w.deref_mut-then-not-index.ensures.value ∙ sym c.loop-root.heights.ok.0) in
       record {
         spread = subst₂ (AreSpread c.args.self.now.skeleton.now c.args.self.now.entries.now) (sym em) (sym eh) w.in_ok-spread.ensures.spread;
-        closed = subst (IsClosed (vertices_round c.args.self.now.skeleton.now.rows)) (sym em) w.in_ok-spread.ensures.closed;
+        closed = subst (IsClosed (vertices_around c.args.self.now.skeleton.now.rows)) (sym em) w.in_ok-spread.ensures.closed;
         passed = subst (λ (ms : List Bool). (i : ℕ) → i < c.loop-root.root + 1 → IsMarked ms i) (sym em) (below_more (λ i. IsMarked w.spread.new.marked i) c.loop-root.root
             (λ i l. w.in_ok-spread.ensures.kept i (subst (λ (ms : List Bool). IsMarked ms i) (sym w.deref_mut.ensures.value) (c.loop-root.invariant.passed i l))) w.in_ok-spread.ensures.root);
       }
@@ -46,7 +46,7 @@ loop-root-preserved c = elim c.if-not-index.branch [
       let eh : c.if-not-index.heights.items ≡ c.loop-root.heights.items = ap (λ (v : Vec ℕ Global). v.items) w.heights-is in
       record {
         spread = subst₂ (AreSpread c.args.self.now.skeleton.now c.args.self.now.entries.now) (sym em) (sym eh) c.loop-root.invariant.spread;
-        closed = subst (IsClosed (vertices_round c.args.self.now.skeleton.now.rows)) (sym em) c.loop-root.invariant.closed;
+        closed = subst (IsClosed (vertices_around c.args.self.now.skeleton.now.rows)) (sym em) c.loop-root.invariant.closed;
         passed = subst (λ (ms : List Bool). (i : ℕ) → i < c.loop-root.root + 1 → IsMarked ms i) (sym em) (below_more (λ i. IsMarked c.loop-root.marked.items i) c.loop-root.root c.loop-root.invariant.passed marked);
       }
 ]

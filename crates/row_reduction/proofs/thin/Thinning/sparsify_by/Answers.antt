@@ -14,7 +14,7 @@ pub returns-in_ok-add_at-in-Some-clause-same : goal.returns-in_ok-add_at-in-Some
 returns-in_ok-add_at-in-Some-clause-same c =
     let rows = c.args.self.now.list.rows.items in
     let is = c.in_ok-other-in-Some.ensures ∙ c.index-in-Some.ensures ∙ sym (get_or_default rows c.args.j [] c.index-in-Some.result.now c.requires.other_place) in
-    thinned_at c.args.self.now.list.columns rows c.args.i c.args.j _ c.in_ok-other-in-Some.other c.add_at.new.list.rows.items c.requires.place c.requires.other_place c.requires.apart
+    thinned_at c.args.self.now.list.columns rows c.args.i c.args.j _ c.in_ok-other-in-Some.other c.add_at.new.list.rows.items c.requires.place c.requires.other_place c.requires.separate
     is c.in_ok-add_at-in-Some.ensures.adds
 
 pub returns-in_ok-add_at-in-Some-clause-count : goal.returns-in_ok-add_at-in-Some-clause-count
@@ -30,7 +30,7 @@ returns-in_ok-add_at-in-Some-clause-thinned c =
     let thins = subst₂ (λ row other. Thins row c.in-Some.factor other) row_is other_is c.in-Some.ensures in
     let sparse = subst IsSparse (c.index.ensures ∙ sym (get_or_default rows c.args.i [] c.index.result.now c.requires.place)) c.entries.ensures.sparse in
     let other_sparse = subst IsSparse (c.index-2.ensures ∙ sym (get_or_default rows c.args.j [] c.index-2.result.now c.requires.other_place)) c.entries-2.ensures.sparse in
-    thinned_once c.args.self.now.list.columns rows c.args.i c.args.j c.in-Some.factor c.in_ok-other-in-Some.other c.requires.place c.requires.other_place c.requires.apart is thins c.add_at.new.list.rows.items sparse other_sparse
+    thinned_once c.args.self.now.list.columns rows c.args.i c.args.j c.in-Some.factor c.in_ok-other-in-Some.other c.requires.place c.requires.other_place c.requires.separate is thins c.add_at.new.list.rows.items sparse other_sparse
     (simp to_z-of_z at c.in_ok-add_at-in-Some.ensures.adds)
 
 pub returns-in_err-add_at-in-Some-clause-passed : goal.returns-in_err-add_at-in-Some-clause-passed
@@ -42,7 +42,7 @@ returns-in_err-add_at-in-Some-clause-passed c =
     let other_is = c.entries-2.ensures.entries ∙ c.index-2.ensures ∙ sym (get_or_default rows c.args.j [] c.index-2.result.now c.requires.other_place) ∙ sym is in
     let thins = subst₂ (λ row other. Thins row c.in-Some.factor other) row_is other_is c.in-Some.ensures in
     let p = err_from_is_err_and c.from_residual-in_err-add_at-in-Some.result c.from_residual-in_err-add_at-in-Some.ensures.1 in
-    rw (p.1, p.2) (passes_once c.args.self.now.list.columns rows c.args.i c.args.j c.in-Some.factor c.in_ok-other-in-Some.other c.requires.place c.requires.other_place c.requires.apart is thins _
+    rw (p.1, p.2) (passes_once c.args.self.now.list.columns rows c.args.i c.args.j c.in-Some.factor c.in_ok-other-in-Some.other c.requires.place c.requires.other_place c.requires.separate is thins _
     (simp to_z-of_z at c.in_err-add_at-in-Some.ensures.passed))
 
 pub returns-in-None-clause-thinned : goal.returns-in-None-clause-thinned

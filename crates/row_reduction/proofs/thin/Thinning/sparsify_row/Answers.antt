@@ -5,11 +5,11 @@ use Rattle.row_reduction.specs.Eliminating.{as_they_are}
 use Rattle.row_reduction.proofs.EliminatingLemmas.{thinned_again, passes_again}
 use Rattle.row_reduction.proofs.RowLemmas.{zeros_follow}
 use Rattle.row_reduction.proofs.thin.Thinning.sparsify_row.Goals as goal
-use Rattle.row_reduction.proofs.thin.Thinning.sparsify_row.Goals.{then-j-i+then-is_due+in_ok-thinner, else-j-i}
+use Rattle.row_reduction.proofs.thin.Thinning.sparsify_row.Goals.{then-j-i+then-may_have_changed+in_ok-thinner, else-j-i}
 
 pub loop-j-preserved : goal.loop-j-preserved
 loop-j-preserved c = elim c.if-j-i.branch [
-  | then-j-i+then-is_due+in_ok-thinner w ↦ rw w.self-is (record {
+  | then-j-i+then-may_have_changed+in_ok-thinner w ↦ rw w.self-is (record {
     columns = w.in_ok-thinner.ensures.columns ∙ c.loop-j.invariant.columns;
     count = w.in_ok-thinner.ensures.count ∙ c.loop-j.invariant.count;
     same = zeros_follow _ _ _ c.loop-j.invariant.same w.in_ok-thinner.ensures.same;

@@ -33,8 +33,8 @@ pub invariant_of-self : goal.invariant_of-self
 invariant_of-self c =
     let s = slots_view c.args.self.now in
     let some : c.args.self.now.types_used < length c.args.self.now.parts.now.types.items = omega (arith, c.if-self-len.false, c.len.ensures, c.args.self.now.parts.now.types.ok) in
-    let met : (with_items c.args.self.now.met c.set_slot.new.met).items ≡ slice_set s.met (face_number c.args.face) (Some None) = with_items_is c.args.self.now.met c.set_slot.new.met (c.set_slot.auto.met ∙ c.deref_mut.ensures.len) ∙ c.set_slot.ensures ∙ ap (λ m. slice_set m (face_number c.args.face) (Some None)) c.deref_mut.ensures.value in
-    let joined = at_boundary c.args.face c.index-kind.result.now (drop (c.args.self.now.types_used + 1) c.args.self.now.parts.now.types.items) s (with_items c.args.self.now.met c.set_slot.new.met).items c.if-kind-eq0.true met in
+    let read_faces : (with_items c.args.self.now.read_faces c.set_slot.new.read_faces).items ≡ slice_set s.read_faces (face_number c.args.face) (Some None) = with_items_is c.args.self.now.read_faces c.set_slot.new.read_faces (c.set_slot.auto.read_faces ∙ c.deref_mut.ensures.len) ∙ c.set_slot.ensures ∙ ap (λ m. slice_set m (face_number c.args.face) (Some None)) c.deref_mut.ensures.value in
+    let joined = at_boundary c.args.face c.index-kind.result.now (drop (c.args.self.now.types_used + 1) c.args.self.now.parts.now.types.items) s (with_items c.args.self.now.read_faces c.set_slot.new.read_faces).items c.if-kind-eq0.true read_faces in
     record { slots = kept_next c.args.self.now.parts.now.count c.args.self.now.types_used c.index-kind.result.now c.args.face c.args.self.now.parts.now.types.items s _ c.args.self.now.slots some c.index-kind.ensures joined }
 
 pub returns-then-kind-eq0 : goal.returns-then-kind-eq0
@@ -42,18 +42,18 @@ returns-then-kind-eq0 c =
     let s = slots_view c.args.self.now in
     let some : c.args.self.now.types_used < length c.args.self.now.parts.now.types.items = omega (arith, c.if-self-len.false, c.len.ensures, c.args.self.now.parts.now.types.ok) in
     let seen : c.args.face.tet < c.args.self.now.seen = subst (λ (x : Face). x.tet < c.args.self.now.seen) c.face.view_is c.if-face-self.false in
-    let unmet : is_some (slot c.args.self.now.met.items c.args.face) ≡ false =
-    ap (λ met. is_some (slot met c.args.face)) (sym c.deref.ensures.value) ∙ ap is_some (sym c.slot.ensures) ∙ sym c.if-is_some.ensures in
-    let met : (with_items c.args.self.now.met c.set_slot.new.met).items ≡ slice_set s.met (face_number c.args.face) (Some None) = with_items_is c.args.self.now.met c.set_slot.new.met (c.set_slot.auto.met ∙ c.deref_mut.ensures.len) ∙ c.set_slot.ensures ∙ ap (λ m. slice_set m (face_number c.args.face) (Some None)) c.deref_mut.ensures.value in
-    let joined = at_boundary c.args.face c.index-kind.result.now (drop (c.args.self.now.types_used + 1) c.args.self.now.parts.now.types.items) s (with_items c.args.self.now.met c.set_slot.new.met).items c.if-kind-eq0.true met in
+    let unmet : is_some (slot c.args.self.now.read_faces.items c.args.face) ≡ false =
+    ap (λ read_faces. is_some (slot read_faces c.args.face)) (sym c.deref.ensures.value) ∙ ap is_some (sym c.slot.ensures) ∙ sym c.if-is_some.ensures in
+    let read_faces : (with_items c.args.self.now.read_faces c.set_slot.new.read_faces).items ≡ slice_set s.read_faces (face_number c.args.face) (Some None) = with_items_is c.args.self.now.read_faces c.set_slot.new.read_faces (c.set_slot.auto.read_faces ∙ c.deref_mut.ensures.len) ∙ c.set_slot.ensures ∙ ap (λ m. slice_set m (face_number c.args.face) (Some None)) c.deref_mut.ensures.value in
+    let joined = at_boundary c.args.face c.index-kind.result.now (drop (c.args.self.now.types_used + 1) c.args.self.now.parts.now.types.items) s (with_items c.args.self.now.read_faces c.set_slot.new.read_faces).items c.if-kind-eq0.true read_faces in
     face_typed c.args.face c.args.self.now.types_used c.index-kind.result.now c.args.self.now.parts.now.types.items s refl seen some c.index-kind.ensures unmet ∙ joined
 
 pub invariant_of-self-then-kind-eq1 : goal.invariant_of-self-then-kind-eq1
 invariant_of-self-then-kind-eq1 c =
     let s = slots_view c.args.self.now in
     let some : c.args.self.now.types_used < length c.args.self.now.parts.now.types.items = omega (arith, c.if-self-len.false, c.len.ensures, c.args.self.now.parts.now.types.ok) in
-    let met : (with_items c.args.self.now.met c.meet.new.met).items ≡ meet_at s.met c.args.face (record { tet = c.args.self.now.seen; perm = c.perm_at.result }) = with_items_is c.args.self.now.met c.meet.new.met (c.meet.auto.met ∙ c.deref_mut-then-kind-eq1.ensures.len) ∙ c.meet.ensures ∙ ap (λ m. meet_at m c.args.face (record { tet = c.args.self.now.seen; perm = c.perm_at.result })) c.deref_mut-then-kind-eq1.ensures.value in
-    let joined = at_new c.args.face c.index-kind.result.now (drop (c.args.self.now.types_used + 1) c.args.self.now.parts.now.types.items) s (with_items c.args.self.now.met c.meet.new.met).items c.perm_at.result c.if-kind-eq1.true c.perm_at.ensures met in
+    let read_faces : (with_items c.args.self.now.read_faces c.meet.new.read_faces).items ≡ meet_at s.read_faces c.args.face (record { tet = c.args.self.now.seen; perm = c.perm_at.result }) = with_items_is c.args.self.now.read_faces c.meet.new.read_faces (c.meet.auto.read_faces ∙ c.deref_mut-then-kind-eq1.ensures.len) ∙ c.meet.ensures ∙ ap (λ m. meet_at m c.args.face (record { tet = c.args.self.now.seen; perm = c.perm_at.result })) c.deref_mut-then-kind-eq1.ensures.value in
+    let joined = at_new c.args.face c.index-kind.result.now (drop (c.args.self.now.types_used + 1) c.args.self.now.parts.now.types.items) s (with_items c.args.self.now.read_faces c.meet.new.read_faces).items c.perm_at.result c.if-kind-eq1.true c.perm_at.ensures read_faces in
     record { slots = kept_next c.args.self.now.parts.now.count c.args.self.now.types_used c.index-kind.result.now c.args.face c.args.self.now.parts.now.types.items s _ c.args.self.now.slots some c.index-kind.ensures joined }
 
 pub returns-then-kind-eq1 : goal.returns-then-kind-eq1
@@ -61,10 +61,10 @@ returns-then-kind-eq1 c =
     let s = slots_view c.args.self.now in
     let some : c.args.self.now.types_used < length c.args.self.now.parts.now.types.items = omega (arith, c.if-self-len.false, c.len.ensures, c.args.self.now.parts.now.types.ok) in
     let seen : c.args.face.tet < c.args.self.now.seen = subst (λ (x : Face). x.tet < c.args.self.now.seen) c.face.view_is c.if-face-self.false in
-    let unmet : is_some (slot c.args.self.now.met.items c.args.face) ≡ false =
-    ap (λ met. is_some (slot met c.args.face)) (sym c.deref.ensures.value) ∙ ap is_some (sym c.slot.ensures) ∙ sym c.if-is_some.ensures in
-    let met : (with_items c.args.self.now.met c.meet.new.met).items ≡ meet_at s.met c.args.face (record { tet = c.args.self.now.seen; perm = c.perm_at.result }) = with_items_is c.args.self.now.met c.meet.new.met (c.meet.auto.met ∙ c.deref_mut-then-kind-eq1.ensures.len) ∙ c.meet.ensures ∙ ap (λ m. meet_at m c.args.face (record { tet = c.args.self.now.seen; perm = c.perm_at.result })) c.deref_mut-then-kind-eq1.ensures.value in
-    let joined = at_new c.args.face c.index-kind.result.now (drop (c.args.self.now.types_used + 1) c.args.self.now.parts.now.types.items) s (with_items c.args.self.now.met c.meet.new.met).items c.perm_at.result c.if-kind-eq1.true c.perm_at.ensures met in
+    let unmet : is_some (slot c.args.self.now.read_faces.items c.args.face) ≡ false =
+    ap (λ read_faces. is_some (slot read_faces c.args.face)) (sym c.deref.ensures.value) ∙ ap is_some (sym c.slot.ensures) ∙ sym c.if-is_some.ensures in
+    let read_faces : (with_items c.args.self.now.read_faces c.meet.new.read_faces).items ≡ meet_at s.read_faces c.args.face (record { tet = c.args.self.now.seen; perm = c.perm_at.result }) = with_items_is c.args.self.now.read_faces c.meet.new.read_faces (c.meet.auto.read_faces ∙ c.deref_mut-then-kind-eq1.ensures.len) ∙ c.meet.ensures ∙ ap (λ m. meet_at m c.args.face (record { tet = c.args.self.now.seen; perm = c.perm_at.result })) c.deref_mut-then-kind-eq1.ensures.value in
+    let joined = at_new c.args.face c.index-kind.result.now (drop (c.args.self.now.types_used + 1) c.args.self.now.parts.now.types.items) s (with_items c.args.self.now.read_faces c.meet.new.read_faces).items c.perm_at.result c.if-kind-eq1.true c.perm_at.ensures read_faces in
     face_typed c.args.face c.args.self.now.types_used c.index-kind.result.now c.args.self.now.parts.now.types.items s refl seen some c.index-kind.ensures unmet ∙ joined
 
 pub returns-in_err-glue : goal.returns-in_err-glue
@@ -75,8 +75,8 @@ returns-in_err-glue c =
     let s = slots_view c.args.self.now in
     let some : c.args.self.now.types_used < length c.args.self.now.parts.now.types.items = omega (arith, c.if-self-len.false, c.len.ensures, c.args.self.now.parts.now.types.ok) in
     let seen : c.args.face.tet < c.args.self.now.seen = subst (λ (x : Face). x.tet < c.args.self.now.seen) c.face.view_is c.if-face-self.false in
-    let unmet : is_some (slot c.args.self.now.met.items c.args.face) ≡ false =
-    ap (λ met. is_some (slot met c.args.face)) (sym c.deref.ensures.value) ∙ ap is_some (sym c.slot.ensures) ∙ sym c.if-is_some.ensures in
+    let unmet : is_some (slot c.args.self.now.read_faces.items c.args.face) ≡ false =
+    ap (λ read_faces. is_some (slot read_faces c.args.face)) (sym c.deref.ensures.value) ∙ ap is_some (sym c.slot.ensures) ∙ sym c.if-is_some.ensures in
     let typed = face_typed c.args.face c.args.self.now.types_used c.index-kind.result.now c.args.self.now.parts.now.types.items s refl seen some c.index-kind.ensures unmet in
     rw (p.1, p.2) (subst P (sym typed) (λ other. seen_refused c.args.face c.index-kind.result.now (drop (c.args.self.now.types_used + 1) c.args.self.now.parts.now.types.items) s e c.if-kind-eq0.false c.if-kind-eq1.false (c.in_err-glue.ensures other)))
 
@@ -93,10 +93,10 @@ pub invariant_of-self-2 : goal.invariant_of-self-2
 invariant_of-self-2 c =
     let s = slots_view c.args.self.now in
     let some : c.args.self.now.types_used < length c.args.self.now.parts.now.types.items = omega (arith, c.if-self-len.false, c.len.ensures, c.args.self.now.parts.now.types.ok) in
-    let met : (with_items c.args.self.now.met c.meet-2.new.met).items ≡ meet_at s.met c.args.face c.in_ok-glue.glue = with_items_is c.args.self.now.met c.meet-2.new.met (c.meet-2.auto.met ∙ c.deref_mut-2.ensures.len) ∙ c.meet-2.ensures ∙ ap (λ m. meet_at m c.args.face c.in_ok-glue.glue) c.deref_mut-2.ensures.value in
+    let read_faces : (with_items c.args.self.now.read_faces c.meet-2.new.read_faces).items ≡ meet_at s.read_faces c.args.face c.in_ok-glue.glue = with_items_is c.args.self.now.read_faces c.meet-2.new.read_faces (c.meet-2.auto.read_faces ∙ c.deref_mut-2.ensures.len) ∙ c.meet-2.ensures ∙ ap (λ m. meet_at m c.args.face c.in_ok-glue.glue) c.deref_mut-2.ensures.value in
     let u = c.args.self.now.seen_used in
-    let joined = at_glued c.args.face c.index-kind.result.now (drop (c.args.self.now.types_used + 1) c.args.self.now.parts.now.types.items) s c.in_ok-glue.glue (with_items c.args.self.now.met c.meet-2.new.met).items (drop (u + 1) c.args.self.now.parts.now.destinations.items) (drop (u + 1) c.args.self.now.parts.now.gluings.items)
-    c.if-kind-eq0.false c.if-kind-eq1.false c.in_ok-glue.ensures met (sym (drop-drop 1 u c.args.self.now.parts.now.destinations.items)) (sym (drop-drop 1 u c.args.self.now.parts.now.gluings.items)) in
+    let joined = at_glued c.args.face c.index-kind.result.now (drop (c.args.self.now.types_used + 1) c.args.self.now.parts.now.types.items) s c.in_ok-glue.glue (with_items c.args.self.now.read_faces c.meet-2.new.read_faces).items (drop (u + 1) c.args.self.now.parts.now.destinations.items) (drop (u + 1) c.args.self.now.parts.now.gluings.items)
+    c.if-kind-eq0.false c.if-kind-eq1.false c.in_ok-glue.ensures read_faces (sym (drop-drop 1 u c.args.self.now.parts.now.destinations.items)) (sym (drop-drop 1 u c.args.self.now.parts.now.gluings.items)) in
     record { slots = kept_next c.args.self.now.parts.now.count c.args.self.now.types_used c.index-kind.result.now c.args.face c.args.self.now.parts.now.types.items s _ c.args.self.now.slots some c.index-kind.ensures joined }
 
 pub returns : goal.returns
@@ -104,10 +104,10 @@ returns c =
     let s = slots_view c.args.self.now in
     let some : c.args.self.now.types_used < length c.args.self.now.parts.now.types.items = omega (arith, c.if-self-len.false, c.len.ensures, c.args.self.now.parts.now.types.ok) in
     let seen : c.args.face.tet < c.args.self.now.seen = subst (λ (x : Face). x.tet < c.args.self.now.seen) c.face.view_is c.if-face-self.false in
-    let unmet : is_some (slot c.args.self.now.met.items c.args.face) ≡ false =
-    ap (λ met. is_some (slot met c.args.face)) (sym c.deref.ensures.value) ∙ ap is_some (sym c.slot.ensures) ∙ sym c.if-is_some.ensures in
-    let met : (with_items c.args.self.now.met c.meet-2.new.met).items ≡ meet_at s.met c.args.face c.in_ok-glue.glue = with_items_is c.args.self.now.met c.meet-2.new.met (c.meet-2.auto.met ∙ c.deref_mut-2.ensures.len) ∙ c.meet-2.ensures ∙ ap (λ m. meet_at m c.args.face c.in_ok-glue.glue) c.deref_mut-2.ensures.value in
+    let unmet : is_some (slot c.args.self.now.read_faces.items c.args.face) ≡ false =
+    ap (λ read_faces. is_some (slot read_faces c.args.face)) (sym c.deref.ensures.value) ∙ ap is_some (sym c.slot.ensures) ∙ sym c.if-is_some.ensures in
+    let read_faces : (with_items c.args.self.now.read_faces c.meet-2.new.read_faces).items ≡ meet_at s.read_faces c.args.face c.in_ok-glue.glue = with_items_is c.args.self.now.read_faces c.meet-2.new.read_faces (c.meet-2.auto.read_faces ∙ c.deref_mut-2.ensures.len) ∙ c.meet-2.ensures ∙ ap (λ m. meet_at m c.args.face c.in_ok-glue.glue) c.deref_mut-2.ensures.value in
     let u = c.args.self.now.seen_used in
-    let joined = at_glued c.args.face c.index-kind.result.now (drop (c.args.self.now.types_used + 1) c.args.self.now.parts.now.types.items) s c.in_ok-glue.glue (with_items c.args.self.now.met c.meet-2.new.met).items (drop (u + 1) c.args.self.now.parts.now.destinations.items) (drop (u + 1) c.args.self.now.parts.now.gluings.items)
-    c.if-kind-eq0.false c.if-kind-eq1.false c.in_ok-glue.ensures met (sym (drop-drop 1 u c.args.self.now.parts.now.destinations.items)) (sym (drop-drop 1 u c.args.self.now.parts.now.gluings.items)) in
+    let joined = at_glued c.args.face c.index-kind.result.now (drop (c.args.self.now.types_used + 1) c.args.self.now.parts.now.types.items) s c.in_ok-glue.glue (with_items c.args.self.now.read_faces c.meet-2.new.read_faces).items (drop (u + 1) c.args.self.now.parts.now.destinations.items) (drop (u + 1) c.args.self.now.parts.now.gluings.items)
+    c.if-kind-eq0.false c.if-kind-eq1.false c.in_ok-glue.ensures read_faces (sym (drop-drop 1 u c.args.self.now.parts.now.destinations.items)) (sym (drop-drop 1 u c.args.self.now.parts.now.gluings.items)) in
     face_typed c.args.face c.args.self.now.types_used c.index-kind.result.now c.args.self.now.parts.now.types.items s refl seen some c.index-kind.ensures unmet ∙ joined

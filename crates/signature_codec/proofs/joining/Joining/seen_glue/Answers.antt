@@ -28,10 +28,10 @@ returns-then-same_face c =
     let u = c.args.self.now.seen_used in
     let x = c.args.face in
     let other = c.other_side-other.result in
-    let met = c.args.self.now.met.items in
-    let taken : (same_face other x || is_some (slot met other)) ≡ true = elim c.then-same_face.branch [
-      | then-same_face-via-then-same_face w ↦ ap (λ q. q || is_some (slot met other)) (sym c.same_face.ensures ∙ w.if-same_face.true)
-      | then-same_face-via-else-same_face+then-is_some w ↦ or_next (same_face other x) (is_some (slot met other)) true (sym c.same_face.ensures ∙ w.if-same_face.false)
+    let read_faces = c.args.self.now.read_faces.items in
+    let taken : (same_face other x || is_some (slot read_faces other)) ≡ true = elim c.then-same_face.branch [
+      | then-same_face-via-then-same_face w ↦ ap (λ q. q || is_some (slot read_faces other)) (sym c.same_face.ensures ∙ w.if-same_face.true)
+      | then-same_face-via-else-same_face+then-is_some w ↦ or_next (same_face other x) (is_some (slot read_faces other)) true (sym c.same_face.ensures ∙ w.if-same_face.false)
           (sym (w.is_some.ensures ∙ ap is_some (w.slot.ensures ∙ ap (λ m. slot m other) w.deref-else-same_face.ensures.value)) ∙ w.if-is_some.true)
     ] in
     λ no_want. face_taken x (slots_view c.args.self.now) c.pair_at-tet.result c.pair_at-index.result
@@ -44,8 +44,8 @@ returns c =
     let u = c.args.self.now.seen_used in
     let x = c.args.face in
     let other = c.other_side-other.result in
-    let met = c.args.self.now.met.items in
-    let free : (same_face other x || is_some (slot met other)) ≡ false = or_next (same_face other x) (is_some (slot met other)) false (sym c.same_face.ensures ∙ c.if-same_face.false)
+    let read_faces = c.args.self.now.read_faces.items in
+    let free : (same_face other x || is_some (slot read_faces other)) ≡ false = or_next (same_face other x) (is_some (slot read_faces other)) false (sym c.same_face.ensures ∙ c.if-same_face.false)
     (sym (c.is_some.ensures ∙ ap is_some (c.slot.ensures ∙ ap (λ m. slot m other) c.deref-else-same_face.ensures.value)) ∙ c.if-is_some.false) in
     face_met x (slots_view c.args.self.now) c.pair_at-tet.result c.pair_at-index.result
     (c.pair_at-tet.ensures ∙ ap (λ xs. signatures.first_pair (drop u xs)) c.deref.ensures.value)

@@ -10,7 +10,7 @@ returns c = subst (λ (s : Skeleton). IsAround s c.args.class c.deref.result.now
     (subst (λ (corners : List Corner). IsAround shown c.args.class corners) (sym c.deref.ensures.value)
     (around_class shown c.args.class (slice_index c.self.inside.edges.firsts.items c.args.class) _ c.index.result.now.items is_skeleton
     (c.self.invariant.edges.least_members.least_member c.args.class below) inside (c.self.invariant.edges.least_members.member c.args.class below)
-    (c.self.invariant.boundary.told c.args.class below) (c.self.invariant.walks.told c.args.class c.index.result.now below c.index.ensures)))
+    (c.self.invariant.boundary.reported c.args.class below) (c.self.invariant.walks.reported c.args.class c.index.result.now below c.index.ensures)))
   where
     shown : Skeleton
     shown = record {

@@ -20,11 +20,11 @@ runs_against-requires-clause-other_in_range c =
 
 pub returns : goal.returns
 returns c = subst (λ (s : Skeleton). IsTrue c.runs_against.result ↔ RunsAgainst s.rows c.args.one c.args.other) c.self.view_is
-    (λ h. told.0 (sym asked ∙ h), λ j. asked ∙ told.1 j)
+    (λ h. reported.0 (sym asked ∙ h), λ j. asked ∙ reported.1 j)
   where
     asked : c.runs_against.result ≡ runs_against c.self.inside.directions.classes.items c.args.one c.args.other
     asked = c.runs_against.ensures ∙ ap (λ (xs : List ℕ). runs_against xs c.args.one c.args.other) c.deref.ensures.value
 
-    told : (runs_against c.self.inside.directions.classes.items c.args.one c.args.other ≡ true) ↔ RunsAgainst c.self.inside.table c.args.one c.args.other
-    told = runs_against-is c.self.inside.table c.self.inside.directions.classes.items _ c.self.invariant.directions.numbering c.args.one c.args.other
+    reported : (runs_against c.self.inside.directions.classes.items c.args.one c.args.other ≡ true) ↔ RunsAgainst c.self.inside.table c.args.one c.args.other
+    reported = runs_against-is c.self.inside.table c.self.inside.directions.classes.items _ c.self.invariant.directions.numbering c.args.one c.args.other
         (rw (ap (λ (s : Skeleton). s.rows) c.self.view_is) c.requires.one_in_range) (rw (ap (λ (s : Skeleton). s.rows) c.self.view_is) c.requires.other_in_range)

@@ -8,8 +8,8 @@ use Rattle.surface_pieces.proofs.pieces.Pieces.build.Goals as goal
 pub invariant_of-surface : goal.invariant_of-surface
 invariant_of-surface c = record {
   normal = ∣ whole ∣₁;
-  few = omega (arith, ap (λ (ys : List ℕ). sum ys) entries, c.total-count.ensures, c.if-count-gt-MOST_PIECES.false);
-  few_tets = (whole.table).few;
+  limited = omega (arith, ap (λ (ys : List ℕ). sum ys) entries, c.total-count.ensures, c.if-count-gt-MOST_PIECES.false);
+  bounded_tets = (whole.table).limited;
   width = (whole.solves).width;
 }
   where

@@ -10,9 +10,9 @@ use Rattle.surface_pieces.proofs.surface.AdjacentDiscs.classes_of.Goals as goal
 
 pub classes-requires : goal.classes-requires
 classes-requires g c = (
-  omega (arith, c.args.self.now.few_slots),
+  omega (arith, c.args.self.now.bounded_slots),
   (
-    omega (arith, ap (λ (rs : List (List (Option ℕ))). length rs) c.deref.ensures.value, c.in_ok-rows.ensures.size, numbers_low c.args.kind (length c.args.self.now.rows.now), c.args.self.now.few),
+    omega (arith, ap (λ (rs : List (List (Option ℕ))). length rs) c.deref.ensures.value, c.in_ok-rows.ensures.size, numbers_low c.args.kind (length c.args.self.now.rows.now), c.args.self.now.limited),
     (
       subst (λ (rs : List (List (Option ℕ))). HasNeighboursBelow (length rs) (neighbours_of rs)) (sym c.deref.ensures.value) (rows_below c.args.self.now.surface.table.now c.args.self.now.surface.coords.system c.args.self.now.surface.entries.now (held c.args.self.now.surface.table.now c.args.self.now.surface.coords.system c.args.self.now.surface.entries.now c.args.self.now.surface.normal) c.args.kind c.in_ok-rows.rows.items are),
       subst (λ (rs : List (List (Option ℕ))). IsSymmetric (neighbours_of rs)) (sym c.deref.ensures.value) (rows_symmetric c.args.self.now.surface.table.now c.args.self.now.surface.coords.system c.args.self.now.surface.entries.now (held c.args.self.now.surface.table.now c.args.self.now.surface.coords.system c.args.self.now.surface.entries.now c.args.self.now.surface.normal) c.args.kind c.in_ok-rows.rows.items are),

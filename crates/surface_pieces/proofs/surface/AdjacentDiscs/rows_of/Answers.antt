@@ -9,7 +9,7 @@ use Rattle.surface_pieces.proofs.RowsOfPieces.{rows_push, piece_low}
 use Rattle.surface_pieces.proofs.surface.AdjacentDiscs.rows_of.Goals as goal
 
 pub row_of-requires : goal.row_of-requires
-row_of-requires g c = omega (arith, c.args.self.now.few_slots)
+row_of-requires g c = omega (arith, c.args.self.now.bounded_slots)
 
 pub loop-number-preserved : goal.loop-number-preserved
 loop-number-preserved g c = record {

@@ -34,7 +34,7 @@ pub invariant_of-result : goal.invariant_of-result
 invariant_of-result c =
     let low : disc_number c.args.self.now.pieces.surface.entries.now (disc_of c.args.self.now.pieces.surface.coords.system c.args.self.now.pieces.surface.entries.now c.in_ok-meeting.meeting.other) < sum c.args.self.now.pieces.surface.entries.now = number_low c.args.self.now.pieces.surface.entries.now (disc_of c.args.self.now.pieces.surface.coords.system c.args.self.now.pieces.surface.entries.now c.in_ok-meeting.meeting.other) c.in_ok-meeting.ensures.some.other_piece in
     let same : c.number_of.result ≡ disc_number c.args.self.now.pieces.surface.entries.now (disc_of c.args.self.now.pieces.surface.coords.system c.args.self.now.pieces.surface.entries.now c.in_ok-meeting.meeting.other) = c.number_of.ensures ∙ ap (λ (p : NormalDisc). disc_number c.args.self.now.pieces.surface.entries.now p) c.piece_of.ensures in
-    omega (arith, c.args.self.now.pieces.surface.few)
+    omega (arith, c.args.self.now.pieces.surface.limited)
 
 pub returns-clause-some : goal.returns-clause-some
 returns-clause-some c =

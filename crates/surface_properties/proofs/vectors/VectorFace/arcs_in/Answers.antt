@@ -12,9 +12,9 @@ pub returns : goal.returns
 returns c =
     c.add.ensures
     ∙ capped_three (round (slice_index (others c.args.self.now.face.face) 0)) (round (slice_index (others c.args.self.now.face.face) 1)) (round (slice_index (others c.args.self.now.face.face) 2))
-    c.arcs_round-one.result c.arcs_round.result c.arcs_round-2.result c.add-two.result
-    c.arcs_round-one.ensures.value c.arcs_round.ensures.value c.arcs_round-2.ensures.value
-    c.add-two.ensures ∙ ap capped (sym (three_others round c.args.self.now.face.face c.arcs_round.ensures.a_face))
+    c.arcs_around_vertex-one.result c.arcs_around_vertex.result c.arcs_around_vertex-2.result c.add-two.result
+    c.arcs_around_vertex-one.ensures.value c.arcs_around_vertex.ensures.value c.arcs_around_vertex-2.ensures.value
+    c.add-two.ensures ∙ ap capped (sym (three_others round c.args.self.now.face.face c.arcs_around_vertex.ensures.a_face))
   where
     round : ℕ → ℕ
     round v = arcs_around c.args.self.now.vector.coords.system c.args.self.now.vector.entries.now c.args.self.now.face.tet c.args.self.now.face.face v

@@ -11,4 +11,4 @@ returns-in-Stray c =
 
 pub returns-in-Word : goal.returns-in-Word
 returns-in-Word c =
-    rw (← c.self.view_is) (word-word c.self.inside _ c.in-Word.word c.in-Word.behind (rw c.in-Word.is at c.front_of-column.ensures))
+    rw (← c.self.view_is) (word-word c.self.inside _ c.in-Word.word c.in-Word.after (rw c.in-Word.is at c.front_of-column.ensures))

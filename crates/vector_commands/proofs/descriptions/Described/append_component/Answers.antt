@@ -16,7 +16,7 @@ use Rattle.vector_commands.proofs.descriptions.Described.append_component.Goals 
 
 pub returns : goal.returns
 returns c =
-    grown old (one ++ codes " sides " ++ sides ++ codes " orientable " ++ oriented ++ codes " ") (vector_text c.vector.result.now) (vector_text told.vector) _ _
+    grown old (one ++ codes " sides " ++ sides ++ codes " orientable " ++ oriented ++ codes " ") (vector_text c.vector.result.now) (vector_text reported.vector) _ _
     (grown old (one ++ codes " sides " ++ sides ++ codes " orientable " ++ oriented) (codes " ") (codes " ") _ _
     (grown old (one ++ codes " sides " ++ sides ++ codes " orientable ") c.yes_or_no.result.now oriented _ _
     (grown old (one ++ codes " sides " ++ sides) (codes " orientable ") (codes " orientable ") _ _
@@ -31,17 +31,17 @@ returns c =
     old : List ℕ
     old = c.args.out.now.items
 
-    told : Component
-    told = slice_index_or c.args.self.now.pieces.now c.args.component no_component
+    reported : Component
+    reported = slice_index_or c.args.self.now.pieces.now c.args.component no_component
 
     one : List ℕ
-    one = codes "component euler " ++ signed_decimal (characteristic c.args.self.now.skeleton.now c.args.self.now.coords.system told.vector)
+    one = codes "component euler " ++ signed_decimal (characteristic c.args.self.now.skeleton.now c.args.self.now.coords.system reported.vector)
 
     sides : List ℕ
-    sides = sides_word told.two_sided
+    sides = sides_word reported.two_sided
 
     oriented : List ℕ
-    oriented = yes_or_no told.orientable
+    oriented = yes_or_no reported.orientable
 
     whole : SFits w128 c.euler_of.result
     whole = search rules

@@ -1,6 +1,0 @@
--- The lemma is the law.
-use Rattle.surface_definitions.proofs.ClashPairs.{clashes_apart}
-use Rattle.surface_definitions.proofs.clashes_are_apart.Goals as goal
-
-pub returns : goal.returns
-returns c = clashes_apart
