@@ -1,5 +1,5 @@
 #!/usr/bin/env python3
-"""Writes the table of commands, python/trinorm/commands.txt, from the definitions of the command line and README's table.
+"""Writes the table of commands, python/trinorm/commands.txt, and README's list, from the definitions of the command line and REFERENCE.
 
     tools/commands.py [--check]
 
@@ -17,6 +17,11 @@ from typing import Dict, List, NamedTuple, Tuple
 from repository import TOP
 
 TABLE = TOP / "python" / "trinorm" / "commands.txt"
+README = TOP / "README.md"
+REFERENCE = TOP / "docs" / "REFERENCE.md"
+# around README's list, and the command with which each of its parts begins
+MARKS = ("<!-- commands: tools/commands.py -->", "<!-- end of commands -->")
+PARTS = {"surfaces": "Surfaces", "info": "Triangulations", "play": "3-spheres"}
 DEFINITIONS = TOP / "crates"
 HEAD = """\
 # The commands; tools/commands.py writes this file. Fields are separated by tabs: name, what is read, options, an example, and
@@ -125,21 +130,21 @@ def documents() -> Dict[str, str]:
     return found
 
 
-def rows_of_readme() -> Dict[str, Tuple[str, str]]:
-    """What each command prints, by README's list, and its first example without a pipe, by its section of REFERENCE."""
-    answers = dict(re.findall(r"^- `([\w-]+)`: (.+)$", (TOP / "README.md").read_text("utf8"), re.M))
-    sections = re.split(r"(?m)^## `", (TOP / "docs" / "REFERENCE.md").read_text("utf8"))[1:]
+def rows_of_reference(page: str) -> Dict[str, Tuple[str, str]]:
+    """What each command prints, by the table of REFERENCE, and its first example without a pipe, by its section there."""
+    answers = {name: row[1] for row in cells_of(page, "Commands") for name in re.findall(r"\[`([\w-]+)`\]", row[0])}
+    sections = re.split(r"(?m)^## `", page)[1:]
     examples = {name: found[1] for section in sections for name in [section.split("`")[0]]
                 for found in [re.search(rf"^    \$ (trinorm {name}(?: [^|\n]*)?)$", section, re.M)] if found}
     return {name: (text, f"./{examples[name]}") for name, text in answers.items() if name in examples}
 
 
 def made() -> List[Command]:
-    """The commands, in README's order, which is that of what one wants to know."""
-    reads, rows = documents(), rows_of_readme()
+    """The commands, in REFERENCE's order, which is that of what one wants to know."""
+    reads, rows = documents(), rows_of_reference(REFERENCE.read_text("utf8"))
     options = {entry.name: [option_of_kind(kind) for kind in entry.kinds] for entry in entries()}
     for name in set(options) ^ set(rows):
-        raise NotFound(f"the command {name} stands in README's table or in the grammar, and not in both")
+        raise NotFound(f"the command {name} stands in REFERENCE's table or in the grammar, and not in both")
     return [Command(name, reads[name], options[name], example, answers) for name, (answers, example) in rows.items()]
 
 
@@ -164,11 +169,6 @@ def read_table(path: Path = TABLE) -> List[Command]:
     return found
 
 
-def text() -> str:
-    """The table as it should be."""
-    return HEAD + "".join(f"{command.line()}\n" for command in made())
-
-
 def cells_of(page: str, heading: str) -> List[List[str]]:
     """The cells of the table under a heading of a page."""
     found = re.search(rf"^## {heading}\n\n((?:\|.*\n)+)", page, re.M)
@@ -177,7 +177,7 @@ def cells_of(page: str, heading: str) -> List[List[str]]:
 
 def faults_of_reference(page: str, known: List[Command]) -> List[str]:
     """A line for each command without its options in REFERENCE's table, and for each option without its values."""
-    options = {name: re.findall(r"`--([\w-]+)`", row[2]) for row in cells_of(page, "Commands") for name in re.findall(r"\[`([\w-]+)`\]", row[0])}
+    options = {name: re.findall(r"`--([\w-]+)`", row[3]) for row in cells_of(page, "Commands") for name in re.findall(r"\[`([\w-]+)`\]", row[0])}
     values = {row[0].strip("`-"): row[1] for row in cells_of(page, "Options")}
     faults = [f"refused: REFERENCE has other options of {command.name} than the grammar" for command in known
               if options.get(command.name) != [option.name for option in command.options]]
@@ -187,21 +187,43 @@ def faults_of_reference(page: str, known: List[Command]) -> List[str]:
                      for value in option.values or [str(option.numbers[0])] if not re.search(rf"\b{value}\b", values.get(name, ""))]
 
 
+def list_of(commands: List[Command]) -> str:
+    """README's list: what each command prints, in parts with a heading."""
+    lines: List[str] = []
+    for command in commands:
+        if command.name in PARTS:
+            lines += ["", f"{PARTS[command.name]}:", ""]
+        lines.append(f"- `{command.name}`: {command.answers}")
+    return "\n".join(lines[1:])
+
+
+def with_list(page: str, commands: List[Command]) -> str:
+    """The page with the list between its marks."""
+    begin, end = MARKS
+    return re.sub(rf"{begin}.*?{end}", lambda _: f"{begin}\n{list_of(commands)}\n{end}", page, flags=re.S)
+
+
+def table_of(commands: List[Command]) -> str:
+    """The table as it should be."""
+    return HEAD + "".join(f"{command.line()}\n" for command in commands)
+
+
 def main(checking: bool) -> int:
-    faults = faults_of_reference((TOP / "docs" / "REFERENCE.md").read_text("utf8"), made())
+    commands = made()
+    faults = faults_of_reference(REFERENCE.read_text("utf8"), commands)
     for line in faults:
         print(line)
-    return 1 if write(checking) or faults else 0
+    expected = {TABLE: table_of(commands), README: with_list(README.read_text("utf8"), commands)}
+    return max([write(path, text, checking) for path, text in expected.items()] + [int(bool(faults))])
 
 
-def write(checking: bool) -> int:
-    """Writes the table if it is stale, or says that it is."""
-    wanted = text()
-    if TABLE.is_file() and TABLE.read_text("utf8") == wanted:
+def write(path: Path, text: str, checking: bool) -> int:
+    """Writes a file if it is stale, or says that it is."""
+    if path.is_file() and path.read_text("utf8") == text:
         return 0
     if not checking:
-        TABLE.write_text(wanted, "utf8")
-    print(f"{'stale' if checking else 'written'}: {TABLE.relative_to(TOP)}")
+        path.write_text(text, "utf8")
+    print(f"{'stale' if checking else 'written'}: {path.relative_to(TOP)}")
     return int(checking)
 
 

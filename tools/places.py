@@ -32,6 +32,7 @@ DOCUMENT = "table"
 # files that a tool writes, with the tool; what a page has between the marks of a tool is the tool's as well
 MADE = {
     "python/trinorm/commands.txt": "tools/commands.py", "python/trinorm/worked_rows.json": "tools/worked_rows.py",
+    "python/trinorm/table_methods.py": "tools/methods.py",
     "docs/LAWS.md": "tools/laws.py", "docs/READING.md": "tools/reading.py", "crates.txt": "tools/floors.py",
     "web/names.json": "tools/names.py", "python/trinorm/endings.txt": "bench/endings.py",
 }

@@ -68,7 +68,7 @@ SENTENCES = {
     "other_side": "the face that the gluing g of the face x reaches",
     "preimage": "the preimage of w under p",
     "inverse": "the inverse of p: for each w, the v with p(v) = w",
-    "way_back": "the inverse of the gluing g of the face x. It glues the face that g reaches to x",
+    "inverse_gluing": "the inverse of the gluing g of the face x. It glues the face that g reaches to x",
     "IsTable": "a gluing table has at most 1,000 rows of four entries each. Each gluing has a permutation and a tetrahedron of the table. It "
                "reaches a face other than its own, and that face is glued by the inverse",
     "has_triangles": "whether vectors in these coordinates have columns of triangles. In all coordinates they have columns of quads",
@@ -101,7 +101,7 @@ SENTENCES = {
                 "image of v in the face that is reached",
     "others": "the vertices other than f",
     "is_face_before": "the order of faces: by tetrahedron, then by number",
-    "lesser_side": "a glued face with its gluing, if it comes before the face that it is glued to",
+    "smaller_side": "a glued face with its gluing, if it comes before the face that it is glued to",
     "pairs_of": "all pairs of a member of xs and a member of ys, in the order of xs, then of ys",
     "faces": "all faces of n tetrahedra, in order",
     "glued_pairs": "the pairs of glued faces, in order. Each is given by the first of its faces, with its gluing",
@@ -119,7 +119,7 @@ SENTENCES = {
     "edge_ends": "the two ends of each of the edges 0 to 5 of a tetrahedron",
     "ends": "the two ends of edge e of a tetrahedron",
     "edge": "edge i: the edge i % 6 of tetrahedron i / 6",
-    "turned": "the place p with its vertices in reverse order",
+    "backwards": "the place p with its vertices in reverse order",
     "SameEdge": "edges i and j are identified by gluings, in either direction",
     "Corner": "a corner: the edge ab of a tetrahedron, as part of a tour around that edge. The tour enters the tetrahedron through face d and "
               "leaves it through face c",

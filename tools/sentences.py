@@ -32,6 +32,8 @@ FILE = TOP / "tools" / "sentences.json"
 # what users are shown
 PLACES = ("web/*.js", "web/index.html", "python/trinorm/*.py", "python/trinorm/hints.txt", "launcher/*", "examples/*.sh", "examples/*.py",
           "docs/GUIDE.md")
+# what a tool makes of texts that are looked at
+COPIES = ("python/trinorm/table_methods.py",)
 CLAIMED = re.compile(r"\b(?:[Pp]roved|[Pp]roves|[Tt]heorems?|machine-checked|(?:is|are|not|Not) 0-efficient)\b")
 # the premises that a sentence for users names; others say of which kind something is
 NAMED = (*OF_PAGES, "coordinates", "not quad", "status 0", "text as written", "canonical", "moves within the limit", "333 moves")
@@ -152,7 +154,8 @@ def faults(sentences: Sequence[Sentence], book: Book) -> Iterator[str]:
     """What is refused."""
     # names of one word, such as `orbits` or `chains`, are words of any text
     names = [name for name in book.names if name.count("_") > 1]
-    paths = [path for pattern in PLACES for path in sorted(TOP.glob(pattern)) if path.is_file()]
+    copies = [TOP / name for name in COPIES]
+    paths = [path for pattern in PLACES for path in sorted(TOP.glob(pattern)) if path.is_file() and path not in copies]
     for sentence in sentences:
         for fault in book.faults(sentence):
             yield f"{sentence.place}: {sentence.texts[0][:60]}..: {fault}"

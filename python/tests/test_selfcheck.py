@@ -1,5 +1,6 @@
 """The check of an installation: what it finds, and what it says."""
 import contextlib
+import doctest
 import io
 import json
 import tempfile
@@ -7,25 +8,26 @@ import threading
 import unittest
 from argparse import Namespace
 from pathlib import Path
+from typing import Tuple
 from unittest import mock
 
-from trinorm import program, selfcheck
+from trinorm import commands, program, selfcheck
 from trinorm.errors import Failed
 
 from .programs import script
 
 
 class Rows(unittest.TestCase):
-    def test_rows_are_questions_with_answers_of_all_commands(self):
+    def test_rows_are_questions_with_answers_of_all_commands(self) -> None:
         rows = selfcheck.read_rows()
         self.assertGreater(len(rows), 350)
         table = (selfcheck.HERE / "commands.txt").read_text("utf8").splitlines()
-        commands = {line.split("\t")[0] for line in table if line and not line.startswith("#")}
-        self.assertLessEqual(commands, {row.words[0] for row in rows if row.words})
+        names = {line.split("\t")[0] for line in table if line and not line.startswith("#")}
+        self.assertLessEqual(names, {row.words[0] for row in rows if row.words})
         self.assertEqual({row.status for row in rows}, {0, 2, 3, 4, 5})
         self.assertTrue(any(len(row.input) > 1048576 for row in rows))
 
-    def test_each_difference_is_found(self):
+    def test_each_difference_is_found(self) -> None:
         rows = selfcheck.read_rows()[:5]
         by_row = {row: (row.status, row.output) for row in rows}
         self.assertEqual(selfcheck.check_rows(by_row.__getitem__, rows).differences, [])
@@ -34,25 +36,38 @@ class Rows(unittest.TestCase):
             [difference] = selfcheck.check_rows(by_row.__getitem__, rows).differences
             self.assertIn(" ".join(rows[2].words), difference)
 
-    def test_a_program_that_cannot_be_started(self):
+    def test_a_program_that_cannot_be_started(self) -> None:
         with tempfile.NamedTemporaryFile() as file:
             for path in (file.name, f"{file.name}/none"):
                 [difference] = selfcheck.check_rows(selfcheck.by_program(path), selfcheck.read_rows()[:1]).differences
                 self.assertIn("the program cannot be started: ", difference)
 
-    def test_the_library_answers_all_rows_in_several_threads(self):
+    def test_the_library_answers_all_rows_in_several_threads(self) -> None:
         library = program.find_library()
         if library is None:
             self.skipTest("there is no library")
         rows, outcomes = selfcheck.read_rows(), []
-        threads = [threading.Thread(target=lambda: outcomes.append(selfcheck.check_rows(selfcheck.by_library(library), rows))) for _ in range(4)]
+        answer = selfcheck.by_library(library)
+        threads = [threading.Thread(target=lambda: outcomes.append(selfcheck.check_rows(answer, rows))) for _ in range(4)]
         for thread in threads:
             thread.start()
         for thread in threads:
             thread.join()
         self.assertEqual([outcome.differences for outcome in outcomes], [[]] * 4)
 
-    def test_limits_and_interruption(self):
+    def test_each_command_has_examples(self) -> None:
+        found = {test.name: len(test.examples) for test in selfcheck.examples()}
+        self.assertEqual(set(found), {*commands.__all__, "examples.txt"})
+        self.assertTrue(all(found.values()), found)
+
+    def test_an_example_that_differs(self) -> None:
+        tests = [doctest.DocTestParser().get_doctest(text, {}, "made up", None, 0) for text in (">>> 1 + 1\n3\n>>> 2\n2\n", ">>> 4\n4\n")]
+        with mock.patch.object(selfcheck, "examples", lambda: tests):
+            outcome = selfcheck.check_examples()
+        self.assertEqual((outcome.checks, len(outcome.differences)), (3, 1))
+        self.assertIn("1 + 1", outcome.differences[0])
+
+    def test_limits_and_interruption(self) -> None:
         library = program.find_library()
         if library is None:
             self.skipTest("there is no library")
@@ -61,19 +76,19 @@ class Rows(unittest.TestCase):
 
 
 class Report(unittest.TestCase):
-    def report(self):
+    def report(self) -> Tuple[int, str]:
         said = io.StringIO()
         with contextlib.redirect_stdout(said):
             status = selfcheck.main(Namespace())
         return status, said.getvalue()
 
-    def test_all_is_as_expected(self):
+    def test_all_is_as_expected(self) -> None:
         status, said = self.report()
         self.assertEqual(status, 0, said)
         self.assertTrue(said.startswith("trinorm "))
         self.assertTrue(said.endswith("everything is as expected\n"))
 
-    def test_a_wrong_program_is_reported(self):
+    def test_a_wrong_program_is_reported(self) -> None:
         with tempfile.TemporaryDirectory() as folder, mock.patch.object(program, "find_library", return_value=None):
             wrong = script(folder, "echo refused: nonsense; exit 3\n")
             with mock.patch.dict("os.environ", {"TRINORM": wrong}):
@@ -82,7 +97,7 @@ class Report(unittest.TestCase):
         self.assertRegex(said, "differs: surfaces < ")
         self.assertRegex(said.splitlines()[-1], "^[0-9]+ differences; please report all of the above$")
 
-    def test_a_program_that_can_not_be_started_is_reported(self):
+    def test_a_program_that_can_not_be_started_is_reported(self) -> None:
         """As one for another processor, or in a folder whose files may not be run."""
         with tempfile.TemporaryDirectory() as folder, mock.patch.object(program, "find_library", return_value=None):
             other = Path(folder, "trinorm")
@@ -94,13 +109,13 @@ class Report(unittest.TestCase):
         self.assertIn("the program cannot be started: ", said)
         self.assertRegex(said.splitlines()[-1], "differences; please report all of the above$")
 
-    def test_where_nothing_is_installed(self):
+    def test_where_nothing_is_installed(self) -> None:
         with mock.patch.object(program, "find_library", side_effect=Failed("no program")), mock.patch.object(program, "find", side_effect=Failed("no program")):
             status, said = self.report()
         self.assertEqual(status, 1)
         self.assertIn("differs: no program\n", said)
 
-    def test_without_a_program_the_library_is_checked_alone(self):
+    def test_without_a_program_the_library_is_checked_alone(self) -> None:
         if program.find_library() is None:
             self.skipTest("there is no library")
         missing = mock.patch.object(program, "find", side_effect=Failed("nowhere"))
@@ -110,13 +125,13 @@ class Report(unittest.TestCase):
         self.assertEqual(status, 0, said)
         self.assertIn("no program: nowhere", said)
 
-    def test_without_anything_it_fails(self):
+    def test_without_anything_it_fails(self) -> None:
         with mock.patch.object(program, "find", side_effect=Failed("nowhere")), mock.patch.object(program, "find_library", return_value=None):
             status, said = self.report()
         self.assertEqual(status, 1)
         self.assertIn("differs: nowhere\n", said)
 
-    def test_the_data_is_not_changed_by_hand_to_nonsense(self):
+    def test_the_data_is_not_changed_by_hand_to_nonsense(self) -> None:
         rows = json.loads((selfcheck.HERE / "worked_rows.json").read_text("utf8"))
         self.assertTrue(all(set(row) == {"words", "input", "output", "status"} for row in rows))
 

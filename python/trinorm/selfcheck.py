@@ -24,7 +24,7 @@ import time
 from pathlib import Path
 from typing import TYPE_CHECKING, Callable, Iterator, List, NamedTuple, Tuple
 
-from . import batch, program, versions
+from . import batch, commands, program, versions
 from .census import census
 
 if TYPE_CHECKING:
@@ -112,16 +112,21 @@ def by_program(path: str) -> Answer:
     return answer
 
 
+def examples() -> List[doctest.DocTest]:
+    """The examples of each command's function, by its docstring, and those of several functions together."""
+    finder, file = doctest.DocTestFinder(recurse=False), HERE / "examples.txt"
+    found = [test for name in commands.__all__ for test in finder.find(getattr(commands, name), name)]
+    return [*found, doctest.DocTestParser().get_doctest(file.read_text("utf8"), {}, file.name, str(file), 0)]
+
+
 def check_examples() -> Outcome:
     """Runs the package's examples."""
-    text = (HERE / "examples.txt").read_text("utf8")
-    test = doctest.DocTestParser().get_doctest(text, {}, "examples.txt", str(HERE / "examples.txt"), 0)
     said: List[str] = []
     runner = doctest.DocTestRunner(verbose=False)
     begun = time.monotonic()
-    outcome = runner.run(test, out=said.append)
+    outcomes = [runner.run(test, out=said.append) for test in examples()]
     differences = [part for part in "".join(said).split("*" * 70) if part.strip()]
-    return Outcome(outcome.attempted, differences[:outcome.failed], time.monotonic() - begun)
+    return Outcome(sum(it.attempted for it in outcomes), differences[:sum(it.failed for it in outcomes)], time.monotonic() - begun)
 
 
 def _ends_by_interruption(library: Library) -> bool:

@@ -1,12 +1,9 @@
-"""The functions of a triangulation as methods of `Table`.
+"""The functions of a triangulation as methods of `Table`; tools/methods.py writes this file.
 
-The functions need tables, so they are not imported here: the package hands them over by `offer` once it has loaded them. Each method
-has the parameters of its function after the first, and the sections of its docstring.
+The functions need tables, so they are not imported here: the package hands them over by `offer` once it has loaded them.
 """
 from __future__ import annotations
 
-import inspect
-import re
 from typing import TYPE_CHECKING, Any, Callable, Dict, Iterable, List, Literal, Optional, Union, cast, overload
 
 if TYPE_CHECKING:
@@ -31,24 +28,7 @@ def offer(*functions: Callable[..., object], picture: Callable[[Table], str]) ->
         functions: those that are methods
         picture: draws a table for a notebook
     """
-    _functions["picture"] = picture
-    for function in functions:
-        _functions[function.__name__] = function
-        method = getattr(TableMethods, function.__name__)
-        method.__doc__ = _described(method, inspect.getdoc(function) or "")
-
-
-def _described(method: Callable[..., object], of_function: str) -> str:
-    """The docstring of a method: its first line, the sections of its function, without the first argument, and its own example."""
-    own = inspect.getdoc(method) or ""
-    if "Returns:" in own:  # it was offered before
-        return own
-    sections = re.search(r"(?ms)^Args:.*?(?=^>>> |\Z)", of_function)
-    if sections is None:
-        return own
-    without_first = re.sub(r"(?m)\A(Args:\n)    \w+: .*\n(?:     .*\n)*", r"\1", sections[0].rstrip("\n") + "\n")
-    summary, _, example = own.partition("\n\n")
-    return "\n\n".join(filter(None, [summary, re.sub(r"\AArgs:\n\n", "", without_first).rstrip("\n"), example]))
+    _functions.update({function.__name__: function for function in functions}, picture=picture)
 
 
 class TableMethods:
@@ -57,33 +37,6 @@ class TableMethods:
     def _repr_svg_(self) -> str:
         """What a notebook shows: the face-pairing graph."""
         return cast("str", _functions["picture"](self))
-
-    def info(self, *, timeout: Optional[float] = None, program: Program = None) -> Info:
-        """The skeleton, as `trinorm.info` returns it.
-
-        >>> import trinorm
-        >>> trinorm.table("cPcbbbiht").info().euler
-        1
-        """
-        return cast("Info", _functions["info"](self, timeout=timeout, program=program))
-
-    def sig(self, *, timeout: Optional[float] = None, program: Program = None) -> str:
-        """The isomorphism signature, as `trinorm.sig` returns it.
-
-        >>> import trinorm
-        >>> trinorm.table("bkaagn").sig()
-        'bkaagj'
-        """
-        return cast("str", _functions["sig"](self, timeout=timeout, program=program))
-
-    def csig(self, *, timeout: Optional[float] = None, program: Program = None) -> str:
-        """The signatures of the components, as `trinorm.csig` returns them.
-
-        >>> import trinorm
-        >>> trinorm.table(["- - - -", "- - - -"]).csig()
-        'baa.baa'
-        """
-        return cast("str", _functions["csig"](self, timeout=timeout, program=program))
 
     @overload
     def surfaces(self, coords: Coords = ..., order: Optional[Order] = ..., max_entry: Optional[int] = ..., *,
@@ -98,13 +51,337 @@ class TableMethods:
     def surfaces(self, coords: Coords = "standard", order: Optional[Order] = None, max_entry: Optional[int] = None, *,
                  timeout: Optional[float] = None, program: Program = None, progress: Optional[Progress] = None,
                  arrays: Arrays = False) -> Any:
-        """All vertex normal surfaces, as `trinorm.surfaces` returns them.
+        """All vertex normal surfaces, each once, in lexicographic order.
+
+        Args:
+            coords: `standard`, `quad` or `octagon`
+            order: the order in which the equations are processed: `given` (the default), `short` or `zeros`. The list does not depend on
+                it; time and memory do
+            max_entry: the greatest number that may occur in the calculation; 2^127 - 1 by default
+            timeout: seconds, after which the call ends with `TimedOut`
+            program: the path of a program, or a `trinorm.server.Server`; by default the program that `find` finds, or its library
+            progress: a function that is called about ten times a second with the seconds since the call began and the bytes that it
+                holds. An exception that it raises ends the call
+            arrays: True for an array of NumPy with a row for each vector, of type `int64`, or `object` if an entry exceeds that; or
+                the name of an integer type, such as `int8`
+
+        Returns:
+            A list of vectors, which are tuples of whole numbers, with 7, 3 or 10 entries for each tetrahedron; or an array.
+
+        Raises:
+            Refused: the triangulation is not a gluing table, or a number exceeds `max_entry`
+            BadArgument: an argument is invalid, or an entry does not fit into the type of the array
+            Failed: the program was not found, was killed, or ran out of memory; `TimedOut` if it ran out of time
 
         >>> import trinorm
+        >>> trinorm.table("bkaagj").surfaces()
+        [(1, 1, 0, 0, 1, 0, 0), (1, 1, 1, 1, 0, 0, 0)]
         >>> trinorm.table("bkaagj").surfaces("quad")
         [(1, 0, 0)]
         """
         return _functions["surfaces"](self, coords, order, max_entry, timeout=timeout, program=program, progress=progress, arrays=arrays)
+
+    def verify(self, vectors: Vectors, coords: Coords = "standard", *, timeout: Optional[float] = None,
+               program: Program = None) -> List[Verdict]:
+        """For each vector, whether it is the vector of a normal surface, or what fails first.
+
+        Args:
+            vectors: a list of any length
+            coords: `standard`, `quad` or `octagon`
+            timeout, program: as for `surfaces`
+
+        Returns:
+            A list of `Verdict`, one for each vector, which are true or false.
+
+        Raises:
+            Refused: the triangulation is not a gluing table, or an entry is negative
+            BadArgument, Failed, TimedOut: as for `surfaces`
+
+        >>> import trinorm
+        >>> [verdict.kind for verdict in trinorm.table("bkaagj").verify([(1, 1, 0, 0, 1, 0, 0), (1, 1, 0, 0, 1, 1, 0)])]
+        ['solution', 'fails']
+        """
+        return cast("List[Verdict]", _functions["verify"](self, vectors, coords, timeout=timeout, program=program))
+
+    def info(self, *, timeout: Optional[float] = None, program: Program = None) -> Info:
+        """The skeleton: vertices with their links, edges with their degrees, orientability, boundary, Euler characteristic.
+
+        Args:
+            timeout, program: as for `surfaces`
+
+        Returns:
+            An `Info`.
+
+        Raises:
+            Refused: the triangulation is not a gluing table
+            BadArgument, Failed, TimedOut: as for `surfaces`
+
+        >>> import trinorm
+        >>> skeleton = trinorm.table("cPcbbbiht").info()
+        >>> skeleton.tetrahedra, skeleton.euler, [vertex.kind for vertex in skeleton.vertices]
+        (2, 1, ['torus'])
+        """
+        return cast("Info", _functions["info"](self, timeout=timeout, program=program))
+
+    def sig(self, *, timeout: Optional[float] = None, program: Program = None) -> str:
+        """The isomorphism signature of a connected triangulation.
+
+        Args:
+            timeout, program: as for `surfaces`
+
+        Returns:
+            A string. Connected triangulations have the same if and only if they are isomorphic.
+
+        Raises:
+            Refused: the triangulation is not connected, or not a gluing table
+            BadArgument, Failed, TimedOut: as for `surfaces`
+
+        >>> import trinorm
+        >>> trinorm.table("tri 1\\n0:1023 0:1023 0:1230 0:3012").sig()
+        'bkaagj'
+        """
+        return cast("str", _functions["sig"](self, timeout=timeout, program=program))
+
+    def csig(self, *, timeout: Optional[float] = None, program: Program = None) -> str:
+        """The signatures of the components of a triangulation.
+
+        Args:
+            timeout, program: as for `surfaces`
+
+        Returns:
+            A string: the signatures in ascending order, separated by full stops.
+
+        Raises:
+            Refused: the triangulation is not a gluing table
+            BadArgument, Failed, TimedOut: as for `surfaces`
+
+        >>> import trinorm
+        >>> trinorm.table(["- - - -", "1:1023 1:1023 1:1230 1:3012"]).csig()
+        'baa.bkaagj'
+        """
+        return cast("str", _functions["csig"](self, timeout=timeout, program=program))
+
+    def same(self, other: Triangulation, *, timeout: Optional[float] = None, program: Program = None) -> Optional[Isomorphism]:
+        """An isomorphism from one connected triangulation to another.
+
+        Args:
+            other: a triangulation
+            timeout, program: as for `surfaces`
+
+        Returns:
+            An `Isomorphism`, or None if the triangulations are not isomorphic.
+
+        Raises:
+            Refused: a triangulation is not connected, or not a gluing table
+            BadArgument, Failed, TimedOut: as for `surfaces`
+
+        >>> import trinorm
+        >>> trinorm.table("bkaagn").same("bkaagj").images
+        ((0, (0, 1, 3, 2)),)
+        >>> trinorm.table("bkaagb").same("bkaagj") is None
+        True
+        """
+        return cast("Optional[Isomorphism]", _functions["same"](self, other, timeout=timeout, program=program))
+
+    def cover(self, *, timeout: Optional[float] = None, program: Program = None) -> Cover:
+        """The orientable double cover.
+
+        Args:
+            timeout, program: as for `surfaces`
+
+        Returns:
+            A `Cover` with 2n tetrahedra, of which u and n + u lie over tetrahedron u.
+
+        Raises:
+            Refused: the triangulation is not a gluing table, or has more than 500 tetrahedra
+            BadArgument, Failed, TimedOut: as for `surfaces`
+
+        >>> import trinorm
+        >>> shown = trinorm.table("bkaagj").cover()
+        >>> len(shown.table), shown.connected
+        (2, False)
+        """
+        return cast("Cover", _functions["cover"](self, timeout=timeout, program=program))
+
+    def pi1(self, *, timeout: Optional[float] = None, program: Program = None) -> Presentation:
+        """A presentation of the fundamental group of a connected triangulation, by its dual 2-complex.
+
+        Args:
+            timeout, program: as for `surfaces`
+
+        Returns:
+            A `Presentation`, with a generator for each pair of glued faces outside a maximal tree, and a relator for each internal edge.
+
+        Raises:
+            Refused: the triangulation is not connected, has an edge that is identified with itself in reverse, or is not a gluing table
+            BadArgument, Failed, TimedOut: as for `surfaces`
+
+        >>> import trinorm
+        >>> group = trinorm.table("cPcbbbiht").pi1()
+        >>> len(group.generators), group.relators[0].letters
+        (3, (2, -1, 3, 1, -3))
+        """
+        return cast("Presentation", _functions["pi1"](self, timeout=timeout, program=program))
+
+    @overload
+    def describe(self, vectors: Vectors, coords: WithTriangles = ..., *, timeout: Optional[float] = ...,
+                 program: Program = ..., arrays: Literal[False] = ...) -> List[Surface]: ...
+
+    @overload
+    def describe(self, vectors: Vectors, coords: WithTriangles = ..., *, timeout: Optional[float] = ...,
+                 program: Program = ..., arrays: Union[Literal[True], str]) -> Described: ...
+
+    def describe(self, vectors: Vectors, coords: WithTriangles = "standard", *,
+                 timeout: Optional[float] = None, program: Program = None, arrays: Arrays = False) -> Union[List[Surface], Described]:
+        """For each vector the Euler characteristic of its surface, and its components.
+
+        Args:
+            vectors: a list of any length
+            coords: `standard` or `octagon`
+            timeout, program: as for `surfaces`
+            arrays: as for `surfaces`, for a `Described` with arrays instead of a list
+
+        Returns:
+            A list of `Surface`, one for each vector; or a `Described`.
+
+        Raises:
+            Refused: a vector is not that of a normal surface, an edge is identified with itself in reverse, or the triangulation is not
+                a gluing table
+            BadArgument, Failed, TimedOut: as for `surfaces`
+
+        >>> import trinorm
+        >>> [(surface.euler, surface.linking) for surface in trinorm.table("bkaagj").describe(trinorm.surfaces("bkaagj"))]
+        [(0, False), (2, True)]
+        """
+        answer = _functions["describe"](self, vectors, coords, timeout=timeout, program=program, arrays=arrays)
+        return cast("Union[List[Surface], Described]", answer)
+
+    def lift(self, vectors: Vectors, *, timeout: Optional[float] = None, program: Program = None) -> List[Vector]:
+        """The lifts of vectors in quad coordinates: in standard coordinates, with the same quads and, at each vertex, a triangle entry 0.
+
+        Args:
+            vectors: a list of any length, of vectors in quad coordinates
+            timeout, program: as for `surfaces`
+
+        Returns:
+            A list of vectors in standard coordinates, one for each.
+
+        Raises:
+            Refused: a vector is not a solution, or its surface is spun-normal at a vertex; or the triangulation is not a gluing table
+            BadArgument, Failed, TimedOut: as for `surfaces`
+
+        >>> import trinorm
+        >>> trinorm.table("bkaagj").lift([(1, 0, 0)])
+        [(1, 1, 0, 0, 1, 0, 0)]
+        """
+        return cast("List[Vector]", _functions["lift"](self, vectors, timeout=timeout, program=program))
+
+    def crush(self, vector: GivenVector, *, timeout: Optional[float] = None, program: Program = None) -> Table:
+        """The triangulation crushed along a normal surface. Tetrahedra without quads are retained.
+
+        Args:
+            vector: a vector in standard coordinates
+            timeout, program: as for `surfaces`
+
+        Returns:
+            A `Table`.
+
+        Raises:
+            Refused: the vector is not that of a normal surface, or the triangulation is not a gluing table
+            BadArgument, Failed, TimedOut: as for `surfaces`
+
+        >>> import trinorm
+        >>> plane = trinorm.zero_efficient("eLMkabcddbrrag").witness
+        >>> trinorm.table("eLMkabcddbrrag").crush(plane.vector).sig()
+        'dLQabccbrwb'
+        """
+        return cast("Table", _functions["crush"](self, vector, timeout=timeout, program=program))
+
+    def decompose(self, vectors: Vectors, coords: Coords = "standard", max_entry: Optional[int] = None, *,
+                  timeout: Optional[float] = None, program: Program = None) -> List[Sum]:
+        """Each vector as a sum of vertex surfaces.
+
+        Args:
+            vectors: a list of vectors of normal surfaces
+            coords: `standard`, `quad` or `octagon`
+            max_entry, timeout, program: as for `surfaces`
+
+        Returns:
+            A list of `Sum`, one for each vector.
+
+        Raises:
+            Refused: a vector is not that of a normal surface, a number exceeds `max_entry`, or the triangulation is not a gluing table
+            BadArgument, Failed, TimedOut: as for `surfaces`
+
+        >>> import trinorm
+        >>> [total] = trinorm.table("bkaagj").decompose([(3, 3, 1, 1, 2, 0, 0)])
+        >>> [(term.count, term.vector) for term in total.terms]
+        [(2, (1, 1, 0, 0, 1, 0, 0)), (1, (1, 1, 1, 1, 0, 0, 0))]
+        """
+        return cast("List[Sum]", _functions["decompose"](self, vectors, coords, max_entry, timeout=timeout, program=program))
+
+    def play(self, steps: Iterable[str] = (), *, timeout: Optional[float] = None, program: Program = None) -> Played:
+        """The triangulation after Pachner moves.
+
+        Args:
+            steps: a list of moves, such as `14 0`, `23 1 0`, `32 0 01`, `41 2 3`, and of `undo` and `redo`
+            timeout, program: as for `surfaces`
+
+        Returns:
+            A `Played` with what each step did, and the last table. A move that is not legal changes nothing.
+
+        Raises:
+            Refused: the triangulation is not a gluing table, or a line is not a step
+            BadArgument, Failed, TimedOut: as for `surfaces`
+
+        >>> import trinorm
+        >>> played = trinorm.table("bkaagj").play(["14 0", "14 9", "undo"])
+        >>> played.answers, len(played.table)
+        (('done', 'illegal no-such-tet', 'undone'), 1)
+        """
+        return cast("Played", _functions["play"](self, steps, timeout=timeout, program=program))
+
+    def check(self, moves: Iterable[str], *, timeout: Optional[float] = None, program: Program = None) -> Accepted:
+        """Whether the moves are legal and lead to the standard 3-sphere.
+
+        Args:
+            moves: a list of moves, such as `14 0`, `23 1 0`, `32 0 01` and `41 2 3`
+            timeout, program: as for `surfaces`
+
+        Returns:
+            An `Accepted`, which is true or false. If it is false it says which move is illegal, or where they lead; `.required()` raises
+            that.
+
+        Raises:
+            Refused: the triangulation is not a gluing table, or a line is not a move
+            BadArgument, Failed, TimedOut: as for `surfaces`
+
+        >>> import trinorm
+        >>> made = trinorm.make(seed=7, moves=20)
+        >>> bool(trinorm.table(made.table).check(made.moves)), trinorm.table("bkaagb").check([]).kind
+        (True, 'check not-standard')
+        """
+        return cast("Accepted", _functions["check"](self, moves, timeout=timeout, program=program))
+
+    def descend(self, *, timeout: Optional[float] = None, program: Program = None) -> Descent:
+        """Moves that make a connected triangulation smaller, while there are any, and whether they reach the standard 3-sphere.
+
+        Args:
+            timeout, program: as for `surfaces`
+
+        Returns:
+            A `Descent`.
+
+        Raises:
+            Refused: the triangulation is not connected, or not a gluing table
+            BadArgument, Failed, TimedOut: as for `surfaces`
+
+        >>> import trinorm
+        >>> descent = trinorm.table(trinorm.play("bkaagj", ["14 0"]).table).descend()
+        >>> descent.reached, len(descent.moves)
+        (True, 1)
+        """
+        return cast("Descent", _functions["descend"](self, timeout=timeout, program=program))
 
     @overload
     def described(self, coords: WithTriangles = ..., *, timeout: Optional[float] = ..., program: Program = ...,
@@ -114,15 +391,30 @@ class TableMethods:
     def described(self, coords: WithTriangles = ..., *, timeout: Optional[float] = ..., program: Program = ...,
                   progress: Optional[Progress] = ..., arrays: Union[Literal[True], str]) -> Described: ...
 
-    def described(self, coords: WithTriangles = "standard", *, timeout: Optional[float] = None, program: Program = None,
-                  progress: Optional[Progress] = None, arrays: Arrays = False) -> Union[List[Surface], Described]:
-        """What `describe` returns for each vertex surface, as `trinorm.described` returns it.
+    def described(self, coords: WithTriangles = "standard", *, timeout: Optional[float] = None,
+                  program: Program = None, progress: Optional[Progress] = None,
+                  arrays: Arrays = False) -> Union[List[Surface], Described]:
+        """What `describe` returns for each vertex surface.
+
+        Args:
+            coords: `standard` or `octagon`
+            timeout, program, progress: as for `surfaces`; the time limit is one for the whole call
+            arrays: as for `describe`
+
+        Returns:
+            A list of `Surface`; or a `Described`.
+
+        Raises:
+            Refused: the triangulation is not a gluing table, has an edge that is identified with itself in reverse, or a number exceeds
+                the limit
+            BadArgument, Failed, TimedOut: as for `surfaces`
 
         >>> import trinorm
-        >>> [surface.euler for surface in trinorm.table("bkaagj").described()]
-        [0, 2]
+        >>> [(surface.vector, surface.euler) for surface in trinorm.table("bkaagj").described()]
+        [((1, 1, 0, 0, 1, 0, 0), 0), ((1, 1, 1, 1, 0, 0, 0), 2)]
         """
-        return cast("List[Surface]", _functions["described"](self, coords, timeout=timeout, program=program, progress=progress, arrays=arrays))
+        answer = _functions["described"](self, coords, timeout=timeout, program=program, progress=progress, arrays=arrays)
+        return cast("Union[List[Surface], Described]", answer)
 
     @overload
     def count(self, coords: WithTriangles = ..., *, timeout: Optional[float] = ..., program: Program = ...,
@@ -132,18 +424,45 @@ class TableMethods:
     def count(self, coords: WithTriangles = ..., *, timeout: Optional[float] = ..., program: Program = ...,
               progress: Optional[Progress] = ..., arrays: Literal[True]) -> CountArrays: ...
 
-    def count(self, coords: WithTriangles = "standard", *, timeout: Optional[float] = None, program: Program = None,
-              progress: Optional[Progress] = None, arrays: bool = False) -> Union[Count, CountArrays]:
-        """The vertex surfaces counted, as by `trinorm.count`.
+    def count(self, coords: WithTriangles = "standard", *, timeout: Optional[float] = None,
+              program: Program = None, progress: Optional[Progress] = None, arrays: bool = False) -> Union[Count, CountArrays]:
+        """The vertex surfaces counted. None of them is kept in memory.
+
+        In octagon coordinates the list has vectors without octagons, vectors with one octagon, and vectors with several of one type:
+        only those with one are octagonal almost normal surfaces.
+
+        Args:
+            coords: `standard` or `octagon`
+            timeout, program, progress: as for `described`
+            arrays: True for a `CountArrays`
+
+        Returns:
+            A `Count`, or a `CountArrays`.
+
+        Raises:
+            Refused: as for `described`
+            BadArgument, Failed, TimedOut: as for `surfaces`
 
         >>> import trinorm
-        >>> trinorm.table("bkaagj").count().surfaces
-        2
+        >>> trinorm.table("bkaagj").count().euler
+        {2: 1, 0: 1}
         """
-        return cast("Count", _functions["count"](self, coords, timeout=timeout, program=program, progress=progress, arrays=arrays))
+        answer = _functions["count"](self, coords, timeout=timeout, program=program, progress=progress, arrays=arrays)
+        return cast("Union[Count, CountArrays]", answer)
 
-    def spheres(self, *, timeout: Optional[float] = None, program: Program = None, progress: Optional[Progress] = None) -> List[Surface]:
-        """The vertex surfaces that are spheres, as `trinorm.spheres` returns them.
+    def spheres(self, *, timeout: Optional[float] = None, program: Program = None,
+                progress: Optional[Progress] = None) -> List[Surface]:
+        """The vertex surfaces that are spheres, but not vertex links. A projective plane is not listed, though its double is a sphere.
+
+        Args:
+            timeout, program, progress: as for `described`
+
+        Returns:
+            A list of `Surface`, in standard coordinates.
+
+        Raises:
+            Refused: as for `described`
+            BadArgument, Failed, TimedOut: as for `surfaces`
 
         >>> import trinorm
         >>> trinorm.table("eLMkabcddbrrag").spheres()
@@ -152,7 +471,17 @@ class TableMethods:
         return cast("List[Surface]", _functions["spheres"](self, timeout=timeout, program=program, progress=progress))
 
     def tori(self, *, timeout: Optional[float] = None, program: Program = None, progress: Optional[Progress] = None) -> List[Surface]:
-        """The vertex surfaces that are tori, as `trinorm.tori` returns them.
+        """The vertex surfaces that are tori, but not vertex links. A Klein bottle is not listed, though its double may be a torus.
+
+        Args:
+            timeout, program, progress: as for `described`
+
+        Returns:
+            A list of `Surface`, in standard coordinates.
+
+        Raises:
+            Refused: as for `described`
+            BadArgument, Failed, TimedOut: as for `surfaces`
 
         >>> import trinorm
         >>> len(trinorm.table("eLMkabcddbrrag").tori())
@@ -162,130 +491,54 @@ class TableMethods:
 
     def zero_efficient(self, *, timeout: Optional[float] = None, program: Program = None,
                        progress: Optional[Progress] = None) -> ZeroEfficiency:
-        """The verdict of `trinorm.zero_efficient`.
+        """True if each connected normal surface of positive Euler characteristic is a vertex link; else false, with a vertex
+        surface that is none: a sphere, a projective plane or a disc.
+
+        That lists decide this is proved: the quad list with its lifts, which is far shorter, if all vertex links are spheres or discs and
+        all edges valid; else the list in standard coordinates. For a closed orientable triangulation it is the 0-efficiency of Jaco and
+        Rubinstein: each normal sphere is a vertex link. In a non-orientable one a projective plane with two sides counts too, though its
+        double is not a sphere. For a triangulation with boundary they ask it of each normal disc, and Regina's `isZeroEfficient()` also
+        says no if a boundary component is a sphere; here it is asked of spheres, projective planes and discs. A list in octagon
+        coordinates decides another property: a sphere with an octagon is not a vertex link, and 0-efficient triangulations of the 3-sphere
+        have one.
+
+        Args:
+            timeout, program, progress: as for `described`
+
+        Returns:
+            A `ZeroEfficiency`, which is true or false, with a `witness` if it is false, and the `kind` of the triangulation.
+
+        Raises:
+            Refused: as for `described`
+            BadArgument, Failed, TimedOut: as for `surfaces`
 
         >>> import trinorm
-        >>> bool(trinorm.table("bkaagj").zero_efficient())
-        True
+        >>> shown = trinorm.table("eLMkabcddbrrag").zero_efficient()
+        >>> bool(shown), shown.kind, shown.witness.euler
+        (False, 'closed', 1)
         """
         return cast("ZeroEfficiency", _functions["zero_efficient"](self, timeout=timeout, program=program, progress=progress))
 
-    def cover(self, *, timeout: Optional[float] = None, program: Program = None) -> Cover:
-        """The orientable double cover, as `trinorm.cover` returns it.
-
-        >>> import trinorm
-        >>> trinorm.table("bkaagj").cover().connected
-        False
-        """
-        return cast("Cover", _functions["cover"](self, timeout=timeout, program=program))
-
-    def pi1(self, *, timeout: Optional[float] = None, program: Program = None) -> Presentation:
-        """A presentation of the fundamental group, as `trinorm.pi1` returns it.
-
-        >>> import trinorm
-        >>> len(trinorm.table("cPcbbbiht").pi1().generators)
-        3
-        """
-        return cast("Presentation", _functions["pi1"](self, timeout=timeout, program=program))
-
-    def descend(self, *, timeout: Optional[float] = None, program: Program = None) -> Descent:
-        """Moves that make it smaller, as `trinorm.descend` returns them.
-
-        >>> import trinorm
-        >>> trinorm.table("bkaagb").descend().reached
-        False
-        """
-        return cast("Descent", _functions["descend"](self, timeout=timeout, program=program))
-
     def certify(self, seed: int = 0, timeout: Optional[float] = None, *, program: Program = None) -> Optional[Certificate]:
-        """Moves to the standard 3-sphere, as `trinorm.certify` returns them.
+        """Moves that show that a triangulation is a 3-sphere, accepted by `check`; None if none were found.
+
+        None says nothing of the manifold, unless `info` or the first homology rules a 3-sphere out: then it is returned at once.
+
+        Args:
+            seed: a whole number, from which the random numbers of the search are drawn; the moves depend on it alone
+            timeout: seconds of processor time that the search takes at most; 10 by default
+            program: as for `surfaces`
+
+        Returns:
+            A `Certificate`, or None.
+
+        Raises:
+            Refused: the triangulation is not a gluing table
+            BadArgument, Failed, TimedOut: as for `surfaces`
 
         >>> import trinorm
-        >>> trinorm.table("cPcbbbiht").certify() is None
+        >>> certificate = trinorm.table("bkaagb").certify()
+        >>> bool(trinorm.check("bkaagb", certificate.moves))
         True
         """
         return cast("Optional[Certificate]", _functions["certify"](self, seed, timeout, program=program))
-
-    @overload
-    def describe(self, vectors: Vectors, coords: WithTriangles = ..., *, timeout: Optional[float] = ..., program: Program = ...,
-                 arrays: Literal[False] = ...) -> List[Surface]: ...
-
-    @overload
-    def describe(self, vectors: Vectors, coords: WithTriangles = ..., *, timeout: Optional[float] = ..., program: Program = ...,
-                 arrays: Union[Literal[True], str]) -> Described: ...
-
-    def describe(self, vectors: Vectors, coords: WithTriangles = "standard", *, timeout: Optional[float] = None,
-                 program: Program = None, arrays: Arrays = False) -> Union[List[Surface], Described]:
-        """Euler characteristics and components of surfaces, as `trinorm.describe` returns them.
-
-        >>> import trinorm
-        >>> trinorm.table("bkaagj").describe([(1, 1, 0, 0, 1, 0, 0)])[0].euler
-        0
-        """
-        return cast("List[Surface]", _functions["describe"](self, vectors, coords, timeout=timeout, program=program, arrays=arrays))
-
-    def verify(self, vectors: Vectors, coords: Coords = "standard", *, timeout: Optional[float] = None,
-               program: Program = None) -> List[Verdict]:
-        """Whether vectors are those of normal surfaces, as by `trinorm.verify`.
-
-        >>> import trinorm
-        >>> bool(trinorm.table("bkaagj").verify([(1, 1, 0, 0, 1, 0, 0)])[0])
-        True
-        """
-        return cast("List[Verdict]", _functions["verify"](self, vectors, coords, timeout=timeout, program=program))
-
-    def lift(self, vectors: Vectors, *, timeout: Optional[float] = None, program: Program = None) -> List[Vector]:
-        """The lifts of vectors in quad coordinates, as `trinorm.lift` returns them.
-
-        >>> import trinorm
-        >>> trinorm.table("bkaagj").lift([(1, 0, 0)])
-        [(1, 1, 0, 0, 1, 0, 0)]
-        """
-        return cast("List[Vector]", _functions["lift"](self, vectors, timeout=timeout, program=program))
-
-    def crush(self, vector: GivenVector, *, timeout: Optional[float] = None, program: Program = None) -> Table:
-        """This triangulation crushed along a normal surface, as by `trinorm.crush`.
-
-        >>> import trinorm
-        >>> trinorm.table("bkaagj").crush((1, 1, 1, 1, 0, 0, 0)).sig()
-        'bkaagj'
-        """
-        return cast("Table", _functions["crush"](self, vector, timeout=timeout, program=program))
-
-    def decompose(self, vectors: Vectors, coords: Coords = "standard", max_entry: Optional[int] = None, *,
-                  timeout: Optional[float] = None, program: Program = None) -> List[Sum]:
-        """Vectors as sums of vertex surfaces, as by `trinorm.decompose`.
-
-        >>> import trinorm
-        >>> len(trinorm.table("bkaagj").decompose([(3, 3, 1, 1, 2, 0, 0)])[0].terms)
-        2
-        """
-        return cast("List[Sum]", _functions["decompose"](self, vectors, coords, max_entry, timeout=timeout, program=program))
-
-    def play(self, steps: Iterable[str] = (), *, timeout: Optional[float] = None, program: Program = None) -> Played:
-        """What Pachner moves make of it, as by `trinorm.play`.
-
-        >>> import trinorm
-        >>> len(trinorm.table("bkaagj").play(["14 0"]).table)
-        4
-        """
-        return cast("Played", _functions["play"](self, steps, timeout=timeout, program=program))
-
-    def check(self, moves: Iterable[str], *, timeout: Optional[float] = None, program: Program = None) -> Accepted:
-        """Whether moves lead to the standard 3-sphere, as by `trinorm.check`.
-
-        >>> import trinorm
-        >>> made = trinorm.make(seed=7, moves=20)
-        >>> bool(made.table.check(made.moves))
-        True
-        """
-        return cast("Accepted", _functions["check"](self, moves, timeout=timeout, program=program))
-
-    def same(self, other: Triangulation, *, timeout: Optional[float] = None, program: Program = None) -> Optional[Isomorphism]:
-        """An isomorphism to another triangulation, as `trinorm.same` returns it.
-
-        >>> import trinorm
-        >>> trinorm.table("bkaagn").same("bkaagj") is None
-        False
-        """
-        return cast("Optional[Isomorphism]", _functions["same"](self, other, timeout=timeout, program=program))
