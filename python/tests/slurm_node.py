@@ -9,7 +9,7 @@ import socket
 import subprocess
 import time
 from pathlib import Path
-from typing import Dict, List
+from typing import Callable, Dict, List
 
 NEEDED = ("munged", "slurmctld", "slurmd", "sbatch", "srun")
 
@@ -61,7 +61,7 @@ class Node:
 
     def __init__(self, folder: str) -> None:
         self.folder = Path(folder)
-        self.processes: List["subprocess.Popen[bytes]"] = []
+        self.processes: Dict[str, "subprocess.Popen[bytes]"] = {}
         self.environment: Dict[str, str] = dict(os.environ, SLURM_CONF=str(self.folder / "slurm.conf"),
                                                 PATH=f"{os.environ['PATH']}:/usr/sbin:/sbin")
 
@@ -91,15 +91,15 @@ class Node:
 
     def _start(self, *words: str) -> None:
         with open(self.folder / f"{words[0]}.out", "wb") as log:
-            self.processes.append(subprocess.Popen(words, env=self.environment, stdin=subprocess.DEVNULL, stdout=log, stderr=log,
-                                                   start_new_session=True))
+            self.processes[words[0]] = subprocess.Popen(words, env=self.environment, stdin=subprocess.DEVNULL, stdout=log, stderr=log,
+                                                        start_new_session=True)
 
-    def _until(self, is_so, seconds: float = 60) -> None:
+    def _until(self, is_so: Callable[[], object], seconds: float = 60) -> None:
         end = time.monotonic() + seconds
         while not is_so():
-            for process in self.processes:
+            for name, process in self.processes.items():
                 if process.poll() is not None:
-                    raise RuntimeError(f"{process.args[0]} ended: {(self.folder / (process.args[0] + '.out')).read_text()[-1000:]}")
+                    raise RuntimeError(f"{name} ended: {(self.folder / (name + '.out')).read_text()[-1000:]}")
             if time.monotonic() > end:
                 logs = [path.read_text()[-1000:] for path in self.folder.glob("*.out")]
                 raise RuntimeError("SLURM didn't start:\n" + "\n".join(logs))
@@ -110,7 +110,7 @@ class Node:
         return subprocess.run(words, env={**self.environment, **more}, capture_output=True, timeout=timeout, check=False)
 
     def __exit__(self, *_: object) -> None:
-        for process in self.processes[::-1]:
+        for process in [*self.processes.values()][::-1]:
             if process.poll() is None:
                 process.send_signal(signal.SIGTERM)
                 try:

@@ -1,9 +1,12 @@
 """A census by executors: handfuls, what is given back, workers that die, and engines that end."""
+import asyncio
 import concurrent.futures
 import contextlib
 import io
 import json
 import os
+import re
+import resource
 import signal
 import subprocess
 import sys
@@ -289,6 +292,10 @@ class Handing(Programs):
             silence = executors.Silence(watch)
             time.sleep(0.1)
             self.assertEqual([silence.is_too_long() for _ in range(5)], [False] * 5)
+            for _ in within(60):
+                if client.asked:  # in a thread, which may be slow to start
+                    break
+                time.sleep(0.02)
         self.assertEqual(said.getvalue().count("no result for a minute: the executor does not answer"), 1)
         self.assertEqual(client.asked, 1)
         client.goes_on.set()
@@ -307,7 +314,10 @@ class Handing(Programs):
             found = []
             reader = threading.Thread(target=lambda: found.extend(answers(entries(3), self.task(), executor, 2, executors.Unknown())), daemon=True)
             reader.start()
-            time.sleep(0.3)
+            for _ in within(60):
+                if said.getvalue():
+                    break
+                time.sleep(0.02)
             end = time.monotonic() + 120
             while reader.is_alive() and time.monotonic() < end:
                 with contextlib.suppress(IndexError):
@@ -320,6 +330,86 @@ class Handing(Programs):
         with ThreadPoolExecutor(3) as executor:
             self.assertEqual(executors.hands_of(executor), 6)
         self.assertEqual(executors.hands_of(Executor()), 16)
+
+
+class MadeClient:
+    """A client of Dask's with one call. What comes of it is made up: each exception is raised once, any other value is the answer."""
+
+    def __init__(self, *outcomes, status="finished"):
+        self.outcomes, self.status, self.loop = list(outcomes), status, self
+        self.released, self.is_asked, self.may_answer = 0, threading.Event(), threading.Event()
+        self.may_answer.set()
+
+    def submit(self, _function, *_given, pure):
+        assert not pure
+        if self.status == "closing":
+            raise OSError("a message after the end")
+        return self
+
+    def release(self):
+        self.released += 1
+
+    def add_callback(self, function, *given):
+        self.thread = threading.Thread(target=asyncio.run, args=(function(*given),), daemon=True)
+        self.thread.start()
+
+    async def gather(self, asked, asynchronous):
+        assert asked is self and asynchronous
+        self.is_asked.set()
+        self.may_answer.wait(60)
+        outcome = self.outcomes.pop(0)
+        if isinstance(outcome, BaseException):
+            raise outcome
+        return outcome
+
+
+class DaskExecutors(unittest.TestCase):
+    def asked(self, *outcomes, **named):
+        """The future of a call that is over, and its client."""
+        client = MadeClient(*outcomes, **named)
+        executor = executors.DaskExecutor(client)
+        executor.again = 0.01
+        future = executor.submit(len, "abc")
+        client.thread.join(60)
+        self.assertTrue(future.done())
+        self.assertEqual((client.outcomes, client.released), ([], 1))
+        return future
+
+    def test_answers(self):
+        self.assertEqual(self.asked(3).result(0), 3)
+
+    def test_a_connection_that_is_lost(self):
+        """The answer is fetched again."""
+        self.assertEqual(self.asked(OSError("a closed connection"), asyncio.TimeoutError(), 3).result(0), 3)
+
+    def test_what_a_call_raises(self):
+        for fault, status in ((OSError("no such file"), "error"), (RuntimeError("wrong"), "error"), (ImportError("no module"), "finished")):
+            self.assertIs(self.asked(fault, status=status).exception(0), fault)
+
+    def test_a_client_that_gives_up(self):
+        for fault in (concurrent.futures.CancelledError("run-1"), asyncio.CancelledError()):
+            self.assertTrue(self.asked(fault).cancelled())
+
+    def test_a_client_that_is_closed(self):
+        with self.assertRaisesRegex(RuntimeError, "the client is closed"):
+            executors.DaskExecutor(MadeClient(status="closed")).submit(len, "abc")
+        client = MadeClient(status="closing")
+        future = executors.DaskExecutor(client).submit(len, "abc")
+        with self.assertRaisesRegex(concurrent.futures.BrokenExecutor, "a message after the end"):
+            future.result(60)
+
+    def test_an_answer_that_comes_too_late(self):
+        """It is dropped, without an exception in the thread of the client."""
+        for outcome in (3, RuntimeError("late"), concurrent.futures.CancelledError("run-1")):
+            client, raised = MadeClient(outcome), []
+            client.may_answer.clear()
+            with unittest.mock.patch.object(threading, "excepthook", raised.append):
+                future = executors.DaskExecutor(client).submit(len, "abc")
+                client.is_asked.wait(60)
+                self.assertTrue(future.cancel())
+                client.may_answer.set()
+                client.thread.join(60)
+            self.assertEqual((raised, client.released, future.cancelled()), ([], 1, True))
 
 
 class Processes(unittest.TestCase):
@@ -429,8 +519,8 @@ class FromPython(Programs):
                 trinorm.census(wrong, self.out, "sig", jobs=1)
 
     def test_nonsense(self):
-        for wrong in (7, b"a", object(), 0.5, [7], [None], [b"bkaagj"], int):
-            with self.subTest(wrong), self.assertRaises(BadArgument):
+        for wrong in (7, b"a", object(), 0.5, [7], [None], [b"bkaagj"], int, "", "a\0b", "\ud800"):
+            with self.subTest(repr(wrong)), self.assertRaises(BadArgument):
                 self.census(wrong, jobs=1)
         for name in ("command", "coords", "timeout", "jobs", "executor", "out"):
             for wrong in (7.5, b"a", [], object(), "", -1, int, {}):
@@ -494,6 +584,26 @@ class Interrupted(Programs):
             self.assertEqual(run.returncode, status)
             self.assertIn("stopped: 1 answered, 0 refused, 0 failed", said)
             self.assertIn("if it is started again with the same arguments, it resumes" if words[1] == out else "only if --out names a file", said)
+
+    def test_a_disc_that_is_full(self):
+        """What the last line counts is in the output, which may have more lines; the next run has each line once."""
+        given, out = os.path.join(self.folder, "signatures"), os.path.join(self.folder, "answers")
+        with open(given, "w", encoding="utf8") as file:
+            file.writelines(f"s{number}\n" for number in range(300))
+        around = dict(os.environ, TRINORM=script(self.folder, ECHO), PYTHONPATH=os.path.dirname(os.path.dirname(os.path.abspath(trinorm.__file__))))
+        words = [sys.executable, "-m", "trinorm", "census", given, "--command", "sig", "--jobs", "1", "--out", out]
+        run = subprocess.run(words, env=around, capture_output=True, text=True, timeout=120, check=False,
+                             preexec_fn=lambda: resource.setrlimit(resource.RLIMIT_FSIZE, (9999, 9999)))
+        self.assertEqual((run.returncode, os.path.getsize(out)), (3, 9999))
+        self.assertIn("File too large", run.stderr)
+        [counted] = re.findall(r"stopped: (\d+) answered", run.stderr)
+        with open(out, encoding="utf8") as file:
+            whole = file.read().count("\n")
+        self.assertTrue(0 < int(counted) <= whole < 300, (counted, whole))
+        run = subprocess.run(words, env=around, capture_output=True, text=True, timeout=120, check=True)
+        self.assertIn(f"{whole} done before; {300 - whole} answered", run.stderr)
+        with open(out, encoding="utf8") as file:
+            self.assertEqual(sorted(json.loads(line)["name"] for line in file), sorted(f"s{number}" for number in range(300)))
 
     def test_standard_input(self):
         around = dict(os.environ, TRINORM=script(self.folder, ECHO),

@@ -5,6 +5,7 @@ it hasn't begun when its time is up. How a triangulation is answered, and how lo
 """
 from __future__ import annotations
 
+import asyncio
 import collections
 import contextlib
 import dataclasses
@@ -15,8 +16,8 @@ import shutil
 import sys
 import threading
 import time
-from concurrent.futures import BrokenExecutor, CancelledError, Executor, Future
-from typing import Any, Deque, Dict, Iterable, Iterator, List, NamedTuple, Optional, Protocol, Tuple
+from concurrent.futures import BrokenExecutor, CancelledError, Executor, Future, InvalidStateError
+from typing import Any, Callable, Deque, Dict, Iterable, Iterator, List, NamedTuple, Optional, Protocol, Set, Tuple
 
 from .program import Failed
 from .server import Server
@@ -353,6 +354,82 @@ class DaskWatch:
             self._came.put(None)
 
 
+class DaskExecutor(Executor):
+    """The workers of a Dask client. The executor that Dask has itself asks the scheduler before a call is given up, which waits for
+    one that is gone, and writes a traceback to its log if an answer comes while the call is given up. Here it is dropped."""
+
+    # seconds until an answer is fetched again after a connection was lost, and until calls that were given up are left to themselves
+    again, patience = 1.0, 5.0
+
+    def __init__(self, client: Any) -> None:
+        self._client = client
+        self._tasks: "Set[asyncio.Task[None]]" = set()
+
+    def submit(self, function: Callable[..., Any], /, *given: Any, **_named: Any) -> "Future[Any]":
+        """As of any executor."""
+        if self._client.status == "closed":
+            raise RuntimeError("the client is closed")
+        future: Future[Any] = Future()
+        self._client.loop.add_callback(self._ask, future, function, given)
+        return future
+
+    async def _ask(self, future: "Future[Any]", function: Callable[..., Any], given: Tuple[Any, ...]) -> None:
+        """Asks in the thread of the client, in which no handler of a signal can raise, and gives what comes to a future."""
+        task = asyncio.current_task()
+        if task is not None:
+            self._tasks.add(task)
+            task.add_done_callback(self._tasks.discard)
+        try:
+            asked = self._client.submit(function, *given, pure=False)
+        except Exception as fault:  # pylint: disable=broad-except
+            _end(future, BrokenExecutor(str(fault)))
+            return
+        future.add_done_callback(lambda _: asked.release())
+        await self._carry(asked, future)
+
+    async def _carry(self, asked: Any, future: "Future[Any]") -> None:
+        """Waits for what comes. A client that finds its scheduler no more cancels all calls."""
+        while not future.done():
+            try:
+                result = await self._client.gather(asked, asynchronous=True)
+            except (CancelledError, asyncio.CancelledError):
+                future.cancel()
+            except Exception as fault:  # pylint: disable=broad-except
+                if asked.status == "error" or not isinstance(fault, (OSError, asyncio.TimeoutError)):
+                    _end(future, fault)
+                else:
+                    await asyncio.sleep(self.again)
+            else:
+                _end(future, None, result)
+
+    def shutdown(self, wait: bool = True, *, cancel_futures: bool = False) -> None:
+        """Gives up the calls that are left, before the client ends its loop. What Dask itself has left there is dropped without a
+        message then: nobody waits for it."""
+        ended = threading.Event()
+        with contextlib.suppress(RuntimeError):
+            self._client.loop.add_callback(self._give_up, ended)
+            ended.wait(self.patience)
+
+    async def _give_up(self, ended: threading.Event) -> None:
+        """Ends the tasks of all calls, in the thread of the client."""
+        asyncio.get_running_loop().set_exception_handler(lambda _loop, _context: None)
+        tasks = list(self._tasks)
+        for task in tasks:
+            task.cancel()
+        if tasks:
+            await asyncio.wait(tasks, timeout=self.patience)
+        ended.set()
+
+
+def _end(future: "Future[Any]", fault: Optional[BaseException], result: Any = None) -> None:
+    """Ends a future by an exception or a result, unless nobody waits for it any more."""
+    with contextlib.suppress(InvalidStateError):
+        if fault is None:
+            future.set_result(result)
+        else:
+            future.set_exception(fault)
+
+
 @contextlib.contextmanager
 def by_dask(address: str) -> Iterator[Engine]:
     """The workers of a Dask scheduler.
@@ -370,7 +447,8 @@ def by_dask(address: str) -> Iterator[Engine]:
     with client:
         threads = sum(client.nthreads().values())
         # which workers come and go isn't known, so there is something in hand for more of them
-        yield Engine(client.get_executor(pure=False), max(2 * threads, 16), DaskWatch(client))
+        with DaskExecutor(client) as executor:
+            yield Engine(executor, max(2 * threads, 16), DaskWatch(client))
 
 
 @contextlib.contextmanager
