@@ -14,6 +14,12 @@ sys.dont_write_bytecode = True
 import packages  # noqa: E402
 from installed import Installed  # noqa: E402
 
+NO_PROGRAM = """there is no program to put into the package. One of these gives it one:
+- install the file trinorm-*.whl of a release in place of this folder
+- tools/build.py --take FILE, with a file of a release of the same sources
+- ./trinorm, which proves and builds the program with the Rattle kit
+- the variable TRINORM with the path of a program"""
+
 
 def named_program(named: str) -> bytes:
     """The program at a path; a launcher, which finds it elsewhere, is none."""
@@ -31,7 +37,7 @@ def current_program() -> packages.Made:
         return packages.Made(version, {"program": named_program(named)}, f"proved elsewhere\nversion {version}\n")
     done = subprocess.run([sys.executable, str(TOP / "tools" / "build.py"), "--no-proof"], check=False)
     if done.returncode:
-        raise SystemExit("there is no program to put into the package: build it first by ./trinorm, or name it by TRINORM")
+        raise SystemExit(NO_PROGRAM)
     return packages.Made(version, installed.files(), (installed.out / ".version").read_text("utf8"))
 
 

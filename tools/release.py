@@ -80,7 +80,7 @@ def main() -> None:
         refuse("this is no checkout, so there is no commit to tell")
     if changed(TOP):
         refuse("the checkout differs from its commit")
-    if commands.TABLE.read_text("utf8") != commands.text():
+    if commands.TABLE.read_text("utf8") != commands.table_of(commands.made()):
         refuse("python/trinorm/commands.txt is stale: tools/commands.py writes it")
     files = release(last_line(given.gate) if given.gate else "")
     out = Path(given.out)

@@ -58,10 +58,10 @@ class Release(unittest.TestCase):
         """Status, answer and what is said of a run without the kit."""
         environment, cwd = {"PATH": "/usr/bin:/bin", "HOME": str(self.folder)}, self.folder
         if not terminal:
-            done = subprocess.run(words, env=environment, cwd=cwd, stdin=subprocess.DEVNULL, capture_output=True, text=True, timeout=60, check=False)
+            done = subprocess.run(words, env=environment, cwd=cwd, stdin=subprocess.DEVNULL, capture_output=True, text=True, timeout=600, check=False)
             return done.returncode, done.stdout, done.stderr
         ours, theirs = pty.openpty()
-        done = subprocess.run(words, env=environment, cwd=cwd, stdin=subprocess.DEVNULL, stdout=subprocess.PIPE, stderr=theirs, text=True, timeout=60, check=False)
+        done = subprocess.run(words, env=environment, cwd=cwd, stdin=subprocess.DEVNULL, stdout=subprocess.PIPE, stderr=theirs, text=True, timeout=600, check=False)
         os.write(theirs, b"|")
         said = ""
         while not said.endswith("|"):
@@ -83,7 +83,8 @@ class Release(unittest.TestCase):
         self.assertEqual(self.done.returncode, 0, self.done.stderr)
         before = {path.name: path.read_bytes() for path in (self.clone.top / "dist").iterdir()}
         self.assertEqual(len(before), 5)
-        self.clone.run(["tools/release.py", "--gate", str(self.folder / "gate"), "--out", str(self.folder / "again")])
+        again = self.clone.run(["tools/release.py", "--gate", str(self.folder / "gate"), "--out", str(self.folder / "again")])
+        self.assertEqual(again.returncode, 0, again.stderr)
         self.assertEqual({path.name: path.read_bytes() for path in (self.folder / "again").iterdir()}, before)
         done = subprocess.run(["sha256sum", "-c", "--quiet", "SHA256SUMS"], cwd=self.clone.top / "dist", check=False)
         self.assertEqual(done.returncode, 0)
@@ -180,8 +181,8 @@ class Release(unittest.TestCase):
             self.assertRegex(done.stderr, f"{why}|isn't the one that its manifest tells|holds no program", name)
 
     def test_pip(self):
-        """The wheel, and the package from its folder, without network, in fresh environments."""
-        for name, given in (("wheel", str(self.file(".whl"))), ("folder", str(self.clone.top / "python"))):
+        """The wheel, and the package from the clone and from its folder, without network, in fresh environments."""
+        for name, given in (("wheel", str(self.file(".whl"))), ("top", str(self.clone.top)), ("folder", str(self.clone.top / "python"))):
             with self.subTest(name):
                 place = self.folder / name
                 venv.create(place, with_pip=True)
@@ -194,6 +195,25 @@ class Release(unittest.TestCase):
                 self.assertEqual(found[0], 0, found)
                 self.assertTrue(found[1].startswith(str(place)), found)
                 self.assertIn("census", self.run_alone([str(place / "bin" / "trinorm-py"), "--help"])[1])
+
+    def test_pip_without_a_program(self):
+        """It says which file of a release can be installed, and which commands make a program."""
+        other = MadeUp(self.folder, "without")
+        other.lay_out_rest()
+        for given in (".", "./python"):
+            done = other.run([sys.executable, "-m", "pip", "wheel", "--no-index", "--no-deps", "--no-build-isolation", "--disable-pip-version-check", given],
+                             kit=False, XDG_CACHE_HOME=str(self.folder / "no cache"))
+            self.assertEqual(done.returncode, 1)
+            for part in ("there is no program to put into the package", "trinorm-*.whl of a release", "tools/build.py --take FILE", "./trinorm"):
+                self.assertIn(part, done.stdout + done.stderr)
+
+    def test_what_the_wheel_says_of_itself(self):
+        """All wheels have one text, so it names no need of one system."""
+        with zipfile.ZipFile(self.file(".whl")) as wheel:
+            metadata = wheel.read(next(name for name in wheel.namelist() if name.endswith("/METADATA"))).decode()
+        for line in ("Classifier: Typing :: Typed", "Classifier: Intended Audience :: Science/Research", "Classifier: Programming Language :: Python :: 3.9", "Requires-Python: >=3.9"):
+            self.assertIn(f"\n{line}\n", metadata)
+        self.assertNotRegex(metadata, "(?i)glibc|x86|manylinux|musl")
 
 
 class Table(unittest.TestCase):
