@@ -1,9 +1,12 @@
 #!/usr/bin/env python3
-"""Times the module for WebAssembly in Node and in both browsers beside the native library: bench/web.py MODULE
+"""Times the module for WebAssembly in Node and in both browsers beside the native library: bench/web.py [--memory] MODULE
 
 Processor seconds of one call, the least of several rounds, and in brackets how many times the native library's. Calls
 share an instance, as the page's do. As many calls go before those that are measured, since engines compile a module better
 while it runs. Browsers are measured with all of their processes.
+
+--memory measures in place of that how much memory (its resident set) the process of the page has in Chromium, before it lists
+the surfaces of 24 tetrahedra and with the whole list described, each ten seconds after its garbage was collected.
 """
 from __future__ import annotations
 
@@ -118,18 +121,74 @@ def by_browser(window: Any, process: int, address: str, command: str, text: str,
     return (spent_below(process) - begun) / times
 
 
+# seconds after which Chromium has given back what was freed
+SETTLED = 10
+# a list of 106,026 surfaces
+LONG_LIST = "sig yLALvLvAzAQMzzMQQaccehjikqpoornspvuttwwvxxbggggtccanffxwavawcvaeccc\n"
+LISTED = """
+const by = (id) => document.getElementById(id);
+const until = async (condition) => { while (!condition()) await new Promise((done) => setTimeout(done, 100)); };
+await until(() => document.documentElement.dataset.ready && by('stop').disabled);
+"""
+ASK = """
+by('input').value = TEXT;
+by('message').textContent = '';
+by('answer').click();
+await until(() => by('message').textContent && by('stop').disabled);
+return by('tally').textContent.split(';')[0];
+"""
+
+
+def resident() -> Dict[int, int]:
+    """The resident set of each process of a page in Chromium, in MB."""
+    found: Dict[int, int] = {}
+    for path in Path("/proc").glob("[0-9]*"):
+        try:
+            if b"--type=renderer" in (path / "cmdline").read_bytes():
+                [line] = [line for line in (path / "status").read_text("utf8").splitlines() if line.startswith("VmRSS:")]
+                found[int(path.name)] = int(line.split()[1]) // 1000
+        except (OSError, ValueError):
+            continue
+    return found
+
+
+def print_memory(address: str) -> None:
+    """Prints the memory of the page without a list and with a long one."""
+    makers: Any = browsers
+    window = makers.Chromium()
+    try:
+        window.driver.set_script_timeout(1800)
+        window.open(address)
+        window.run(LISTED + "return 0;")
+        measured = []
+        for script in (LISTED + "return '';", LISTED + ASK.replace("TEXT", json.dumps(LONG_LIST))):
+            said = window.run(script)
+            window.driver.execute_cdp_cmd("HeapProfiler.collectGarbage", {})
+            time.sleep(SETTLED)
+            measured.append(resident())
+        before, after = measured
+        page = max(after, key=lambda process: after[process] - before.get(process, 0))
+        print(f"{said}: {after[page]} MB, before {before.get(page, 0)} MB")
+    finally:
+        window.close()
+
+
 def least(measure: Callable[..., float], *words: Any) -> float:
     return min(measure(*words) for _ in range(ROUNDS))
 
 
 def main() -> None:
-    module = os.path.realpath(sys.argv[1])
+    module = os.path.realpath(sys.argv[-1])
     with tempfile.TemporaryDirectory() as folder:
         web_page.write(Path(module).read_bytes(), Path(folder))
         handler = functools.partial(Quiet, directory=f"{folder}/web")
         server = http.server.ThreadingHTTPServer(("127.0.0.1", 0), handler)
         threading.Thread(target=server.serve_forever, daemon=True).start()
         address = f"http://127.0.0.1:{server.server_port}/index.html"
+        if "--memory" in sys.argv[1:]:
+            print_memory(address)
+            server.shutdown()
+            return
         makers: Any = browsers
         windows: Dict[str, Any] = {"Chromium": makers.Chromium(), "Firefox": makers.Firefox()}
         pids = {"Chromium": windows["Chromium"].driver.service.process.pid, "Firefox": windows["Firefox"].process.pid}

@@ -167,7 +167,7 @@ def files(module: Optional[bytes], build: Optional[Dict[str, str]] = None) -> Di
     site = built(sources(with_page), with_page)
     site[INDEX] = index_of(site)
     if module is not None:
-        site[TRY] = web_page.one_file(module, build).encode("utf8")
+        site[TRY] = web_page.one_file(module, build, "../").encode("utf8")
     wrong = list(faults(site))
     if wrong:
         raise NotMade("\n".join(wrong))

@@ -23,7 +23,7 @@ from repository import PROGRAM, TOP, sum_of, version
 PAGE = f"{PROGRAM}.html"
 SOURCES = TOP / "web"
 # in this order in the one file: each stands after those that it imports
-SCRIPTS = ["elements.js", "engine.js", "files.js", "asking.js", "texts.js", "kinds.js", "foreign.js", "reading.js", "understood.js",
+SCRIPTS = ["elements.js", "engine.js", "files.js", "texts.js", "asking.js", "kinds.js", "foreign.js", "reading.js", "understood.js",
            "links.js", "hints.js", "words.js", "long_table.js", "pictures.js", "turning.js", "exports.js", "questions.js", "next.js",
            "surface_list.js", "several.js", "menu.js", "visit.js", "input_field.js", "form.js", "views.js", "citation.js", "page.js"]
 WORKER = ["engine.js", "texts.js", "worker.js"]
@@ -49,7 +49,7 @@ def build_of(module: bytes, fields: Dict[str, str]) -> Dict[str, str]:
     return {name: fields[name] for name in NOTED} if is_known else {}
 
 
-def data_files(build: Optional[Dict[str, str]] = None) -> Dict[str, str]:
+def data_files(build: Optional[Dict[str, str]] = None, pages: str = "") -> Dict[str, str]:
     """What the page reads besides the module: the table of commands, hints, how discs are drawn, explained words, names of
     manifolds, examples with and without a story, the version with what is known of the build, and the licences."""
     table = (TOP / "python" / PROGRAM / "commands.txt").read_text("utf8")
@@ -61,7 +61,7 @@ def data_files(build: Optional[Dict[str, str]] = None) -> Dict[str, str]:
         "names.json": (SOURCES / "names.json").read_text("utf8"),
         "stories.json": (SOURCES / "stories.json").read_text("utf8"),
         "examples.json": json.dumps(examples(table), indent=1) + "\n",
-        "about.json": json.dumps({"version": version(TOP), "build": build or None}) + "\n",
+        "about.json": json.dumps({"version": version(TOP), "build": build or None, "pages": pages}) + "\n",
         **{name: (TOP / name).read_text("utf8") for name in LICENCES},
     }
 
@@ -102,10 +102,12 @@ def replace(pattern: str, text: str, page: str) -> Tuple[str, int]:
     return re.subn(pattern, lambda match: match[1] + text[2:] if keeps else text, page)
 
 
-def one_file(module: bytes, build: Optional[Dict[str, str]] = None) -> str:
-    """The page as one file, which fetches nothing. `build` is what `build_of` returns."""
+def one_file(module: bytes, build: Optional[Dict[str, str]] = None, pages: str = "") -> str:
+    """The page as one file, which fetches nothing. `build` is what `build_of` returns; `pages` leads to the folder of the
+    documentation, if it is known."""
     script, style = joined(SCRIPTS), (SOURCES / "page.css").read_text("utf8")
-    held = {**data_files(build), "worker.js": joined(WORKER), "reader.js": joined(READER), f"{PROGRAM}.wasm": base64.b64encode(module).decode()}
+    held = {**data_files(build, pages), "worker.js": joined(WORKER), "reader.js": joined(READER)}
+    held[f"{PROGRAM}.wasm"] = base64.b64encode(module).decode()
     parts = [*(element(name, text) for name, text in held.items()), f'<script type="module">{script}</script>']
     page = (SOURCES / "index.html").read_text("utf8")
     replaced = {

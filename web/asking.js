@@ -1,6 +1,7 @@
 // Questions to the engine, and files to be read, one at a time, in workers that can be stopped at once.
 import {MOST_KEPT} from './engine.js';
 import {new_worker} from './files.js';
+import {vectors_of} from './texts.js';
 
 /** The question was ended by `stop`. */
 export class Stopped extends Error {}
@@ -8,18 +9,28 @@ export class Stopped extends Error {}
 /** The engine trapped or did not start. */
 export class Broken extends Error {}
 
-/** What was answered: {status, bytes, held, milliseconds}, or `surfaces` in place of bytes that were read already. */
+/** What was answered: {status, held, milliseconds} with the bytes of the answer, or `surfaces` that were read of them already. */
 class Outcome {
-    bytes;
+    answer; lines;
 
     constructor({answer, ...facts}) {
-        Object.assign(this, facts, {bytes: answer});
+        Object.assign(this, facts, {answer, size: answer?.length, lines: null});
     }
 
-    /** The answer as text, which is made when it is needed: a long one is kept as bytes alone. */
-    get text() {
-        return new TextDecoder().decode(this.bytes);
+    /** The vectors of the answer as lines. The answer is kept in these from then on, since a long one takes much memory. */
+    vectors() {
+        this.lines ??= vectors_of(this.answer);
+        this.answer = null;
+        return this.lines;
     }
+
+    get bytes() { return this.answer ?? this.lines.bytes(); }
+
+    /** At least the first `most` bytes. */
+    first(most) { return (this.answer ?? this.lines.first(most)).subarray(0, most); }
+
+    /** The answer as text. */
+    get text() { return new TextDecoder().decode(this.bytes); }
 }
 
 const MOST_ANSWERED = 1 << 22; // bytes that a worker may have worked on and wait for another question

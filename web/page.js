@@ -14,7 +14,7 @@ import {SeveralList} from './several.js';
 import {coordinates_of, first_table, plural} from './texts.js';
 import {Discs} from './turning.js';
 import {Names, understood} from './understood.js';
-import {efficiency_view, large_graph, shortened, shortened_bytes, triangulation_view, view_of} from './views.js';
+import {efficiency_view, large_graph, shortened, shortened_text, triangulation_view, view_of} from './views.js';
 import {Visit, name_of_question} from './visit.js';
 import {Words} from './words.js';
 
@@ -22,6 +22,7 @@ const NO_TABLE = ['none', 'cone'];
 const LICENCES = ['NOTICES', 'LICENSE-MIT', 'LICENSE-APACHE'];
 const MOST_SHOWN_LINES = 1100; // of a question: a triangulation of 1,000 tetrahedra, and some vectors
 const MOST_IN_A_TITLE = 80;
+const MOST_REFUSED = 300; // characters of a refusal that are shown first
 const GONE = 'This question was too long for a link, and its input is not kept any more.';
 
 /** Says something below the form; `is_bad` for refusals and failures. */
@@ -38,7 +39,7 @@ let hints = [];
 let discs = null;
 let names = null;
 let words_explained = null;
-let about = {version: '', build: null}; // the page's version, and what its build noted of a module
+let about = {version: '', build: null, pages: ''}; // the page's version, what its build noted of a module, and where the documentation is
 let module = null; // what is known of the module that answers
 let newest = 0; // the number of the newest question
 let newest_asked = null; // {reads, options, fragment} of the newest question; the form may have been changed since
@@ -68,7 +69,8 @@ function show_busy(busy, begun) {
     is_busy = busy;
     show_stop();
     by_id('clock').classList.toggle('busy', busy);
-    by_id('clock').value = `${((performance.now() - begun) / 1000).toFixed(1)} s`;
+    // afterwards the message says how long it took
+    by_id('clock').value = busy ? `${((performance.now() - begun) / 1000).toFixed(1)} s` : '';
 }
 
 function say_failure(fault) {
@@ -115,6 +117,17 @@ function place_button(refusal, input) {
     return [' ', make('button', {type: 'button', id: 'place', onclick: show}, `Line ${line}, column ${column}`)];
 }
 
+/** The text of a refusal. A long one, which can have hundreds of numbers, is shown by its beginning and a button for the rest. */
+function refusal_parts(refusal) {
+    const shown = make('strong', {tabIndex: -1}, refusal.length > MOST_REFUSED ? `${refusal.slice(0, MOST_REFUSED)} …` : refusal);
+    const show_rest = () => {
+        shown.textContent = refusal;
+        shown.focus();
+        by_id('rest').remove();
+    };
+    return refusal.length > MOST_REFUSED ? [shown, ' ', make('button', {type: 'button', id: 'rest', onclick: show_rest}, 'Show all of it')] : [shown];
+}
+
 /** Says why a question has no answer. */
 function say_refusal({status, text}, words, input) {
     if (status === NO_MEMORY) {
@@ -124,8 +137,7 @@ function say_refusal({status, text}, words, input) {
     const command = words[0] === EFFICIENCY ? 'describe' : words[0], refusal = text.trim();
     const sentence = hint(hints, {status, refusal, command, reads: form.commands.get(words[0]).reads, coordinates: coordinates_of(words), input});
     const usage = status === 2 ? 'an option has an invalid value' : '';
-    const parts = [make('strong', {}, refusal), sentence || usage ? ` – ${sentence || usage}.` : ''];
-    say([...parts, ...place_button(refusal, input)], true);
+    say([...refusal_parts(refusal), sentence || usage ? ` – ${sentence || usage}.` : '', ...place_button(refusal, input)], true);
 }
 
 // ---- the question above its answer
@@ -176,7 +188,7 @@ function offer_files(words, input, outcome, tables) {
     };
     for (const [id, act] of Object.entries(offered)) Object.assign(by_id(id), {hidden: !act, onclick: act || null});
     by_id('text').hidden = !outcome;
-    by_id('raw').textContent = outcome ? shortened_bytes(outcome.bytes) : '';
+    by_id('raw').textContent = outcome ? shortened_text(outcome) : '';
 }
 
 /** Offers the sentences for a paper. `cited` is what `citation` takes. */
@@ -234,7 +246,7 @@ async function answer_command(words, {input}) {
     const outcome = await ask(words, input);
     if (outcome.status !== 0) return say_refusal(outcome, words, input);
     const {parts, list} = await view_of(outcome, words, context_of(input));
-    offer_files(words, input, outcome.bytes.length ? outcome : null, tables_of(list, words, input));
+    offer_files(words, input, outcome.size ? outcome : null, tables_of(list, words, input));
     offer_citation({words, input});
     show(parts);
     say(`Answered in ${spent(outcome.milliseconds)}.`);
@@ -392,11 +404,17 @@ function listen() {
 
 // ---- the beginning
 
+/** The name of a page of the documentation. In the site of these pages it is a link. */
+const named_page = (name, anchor = '') => (about.pages ? make('a', {href: `${about.pages}${name}.html${anchor}`}, name) : name);
+
 /** Shows what is known of the module. Browsers compute checksums for pages from the disk, from this machine, or by https alone. */
 async function show_module(bytes) {
     module = module_of(await checksum_of(bytes), about.build);
     by_id('version').textContent = about.version ? `Version ${about.version}.` : '';
-    by_id('checksum').textContent = module.checksum ? `SHA-256 of trinorm.wasm: ${module.checksum} (compare with the line wasm of the release’s MANIFEST).` : '';
+    const compare = ['Compare it with the line wasm of the release’s MANIFEST: ', named_page('WEB', '#what-to-trust'), ' explains how.'];
+    by_id('checksum').replaceChildren(...(module.checksum ? [`SHA-256 of trinorm.wasm: ${module.checksum}. `, ...compare]
+        : ['Over http, this browser computes no SHA-256 of trinorm.wasm. Open the page over https or from the disk to see it.']));
+    by_id('pages').replaceChildren('In the documentation, ', named_page('GUIDE'), ' is a tutorial, ', named_page('REFERENCE'), ' has all commands and terms, and ', named_page('WEB'), ' describes this page.');
 }
 
 const data_of = async (name) => JSON.parse(await text_of(name));

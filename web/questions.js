@@ -1,12 +1,12 @@
 // Questions that take several calls of the engine: lists described in parts, and whether a triangulation is 0-efficient.
-import {VectorLines, first_table, read_info} from './texts.js';
+import {first_table, read_info} from './texts.js';
 
 const MOST_SURFACES = 500; // described at a time
 const MOST_BYTES = 350000; // of their vectors: a lift may make these 7/3 as long, and an input has at most 1 MiB
 
 /** How many of the vectors from `from` on are described at a time; 0 if all before `from` are all. */
 export function part_length(lines, from) {
-    const fitting = Math.floor(MOST_BYTES / ((lines.size_of(from) || 0) + 1));
+    const fitting = Math.floor(MOST_BYTES / ((from < lines.length ? lines.at(from).length : 0) + 1));
     return Math.min(lines.length - from, MOST_SURFACES, Math.max(1, fitting));
 }
 
@@ -60,7 +60,7 @@ export async function zero_efficiency(ask, input, progress) {
     if (numbers.status !== 0) return {outcome: numbers};
     const list = await ask(['surfaces'], input);
     if (list.status !== 0) return {outcome: list};
-    const lines = new VectorLines(list.bytes), info = read_info(numbers.text);
+    const lines = list.vectors(), info = read_info(numbers.text);
     for (let from = 0; from < lines.length;) {
         const length = part_length(lines, from), part = await described(ask, input, lines.slice(from, from + length), 'standard');
         const refused = part.find((surface) => surface.why);

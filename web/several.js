@@ -3,7 +3,7 @@ import {make} from './elements.js';
 import {kind_of} from './kinds.js';
 import {LongTable} from './long_table.js';
 import {described, part_length, zero_efficiency} from './questions.js';
-import {VectorLines, coordinates_of, name_of, plural, read_info} from './texts.js';
+import {coordinates_of, name_of, plural, read_info} from './texts.js';
 
 const MOST_IN_A_CELL = 100; // characters of an answer
 
@@ -16,7 +16,7 @@ const KINDS = {spheres: 'sphere', 'projective planes': 'projective plane', tori:
 async function counts_of_surfaces(ask, words, input) {
     const listed = await ask(words, input);
     if (listed.status !== 0) return {why: refused(listed)};
-    const lines = new VectorLines(listed.bytes), coordinates = coordinates_of(words), counts = new Map();
+    const lines = listed.vectors(), coordinates = coordinates_of(words), counts = new Map();
     const count = (name) => counts.set(name, (counts.get(name) ?? 0) + 1);
     for (let from = 0, length; from < lines.length; from += length) {
         length = part_length(lines, from);

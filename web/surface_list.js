@@ -38,16 +38,16 @@ function facts_of(surface) {
     };
 }
 
-/** The columns of the table. A record is {index, about}; its vector is in the lines. */
-function columns_of(coordinates, lines) {
+/** The columns of the table. A record is the index of a surface, whose facts and vector are in the lists. */
+function columns_of(coordinates, facts, lines) {
     /** @type {(property: string, last?: any) => any} */
-    const by = (property, last = LAST) => ({about}) => (about[property] === '' ? last : about[property]);
+    const by = (property, last = LAST) => (index) => (facts[index][property] === '' ? last : facts[index][property]);
     return [
-        {name: '#', is_number: true, key: ({index}) => index}, {name: 'surface', key: by('order'), type: 'name'}, {name: '', label: 'what can be done', type: 'draw'},
+        {name: '#', is_number: true, key: (index) => index}, {name: 'surface', key: by('order'), type: 'name'}, {name: '', label: 'what can be done', type: 'draw'},
         {name: 'χ', is_number: true, key: by('euler'), word: 'Euler characteristic'}, {name: 'sides', key: by('sides', ''), word: 'sides'},
         {name: 'orientable', key: by('orientable', ''), word: 'orientable'}, {name: 'union of vertex links', key: by('linking', ''), word: 'vertex linking'},
         {name: 'boundary', key: by('boundary', ''), word: 'boundary'}, {name: 'components', is_number: true, key: by('components'), word: 'component'},
-        {name: DISCS[coordinates], key: ({index}) => lines.at(index), word: 'vector'},
+        {name: DISCS[coordinates], key: (index) => lines.at(index), word: 'vector'},
     ];
 }
 
@@ -65,11 +65,11 @@ class Filter {
             make('label', {}, 'χ ', this.euler), this.shown);
     }
 
-    /** Whether a record is shown. */
+    /** Whether a surface with some facts is shown. */
     test() {
         const kind = this.kind.value, euler = /^-?\d+$/.test(this.euler.value.trim()) ? Number(this.euler.value) : null;
         const is_one_sided = this.one_sided.checked, is_no_link = this.not_linking.checked;
-        return ({about}) => (!kind || about.name === kind) && (euler === null || about.euler === euler)
+        return (about) => (!kind || about.name === kind) && (euler === null || about.euler === euler)
             && (!is_one_sided || about.parts?.some(({sides}) => sides === 'one')) && (!is_no_link || about.linking === 'no');
     }
 
@@ -91,12 +91,12 @@ class Filter {
 
 /** A list of surfaces. */
 export class SurfaceList {
-    lines; coordinates; noun; context; done; counts; known;
+    lines; coordinates; noun; context; done; counts; known; facts;
 
-    /** lines: vectors, as VectorLines; noun: what one of them is; context: as `view_of` has it */
+    /** lines: vectors, as `vectors_of` returns them; noun: what one of them is; context: as `view_of` has it */
     constructor({lines, coordinates, noun, context}) {
-        Object.assign(this, {lines, coordinates, noun, context, done: 0, counts: new Map(), known: new Map()});
-        this.table = new LongTable('Surfaces', columns_of(coordinates, lines), (record) => this.cells(record));
+        Object.assign(this, {lines, coordinates, noun, context, done: 0, counts: new Map(), known: new Map(), facts: []});
+        this.table = new LongTable('Surfaces', columns_of(coordinates, this.facts, lines), (index) => this.cells(index));
         this.filter = new Filter(() => this.show_filtered());
         this.tally = make('p', {id: 'tally'});
         this.progress = make('progress', {max: lines.length, value: 0, ariaLabel: 'Surfaces described'});
@@ -109,10 +109,10 @@ export class SurfaceList {
     async describe_next() {
         const from = this.done, length = part_length(this.lines, from), part = this.lines.slice(from, from + length);
         const surfaces = await described(this.context.ask, this.context.input, part, this.coordinates);
-        const records = surfaces.map((surface, number) => ({index: from + number, about: this.about(surface)}));
-        for (const {about} of records) this.counts.set(about.name, (this.counts.get(about.name) ?? 0) + 1);
+        for (const surface of surfaces) this.facts.push(this.about(surface));
+        for (const {name} of this.facts.slice(from)) this.counts.set(name, (this.counts.get(name) ?? 0) + 1);
         this.done += length;
-        this.table.add(records);
+        this.table.add(surfaces.map((_, number) => from + number));
         this.say();
     }
 
@@ -137,22 +137,23 @@ export class SurfaceList {
     }
 
     show_filtered() {
-        this.table.filter(this.filter.test());
+        const test = this.filter.test();
+        this.table.filter((index) => test(this.facts[index]));
         this.say();
     }
 
-    cells(record) {
-        const {index, about} = record, line = this.lines.at(index), {name, euler, sides, orientable, linking, boundary, components} = about;
+    cells(index) {
+        const about = this.facts[index], line = this.lines.at(index), {name, euler, sides, orientable, linking, boundary, components} = about;
         const title = `Surface ${index}: ${name}`, actions = () => actions_on(line, this.coordinates, this.context);
-        const draw = make('button', {type: 'button', ariaLabel: `Draw ${title}`, onclick: () => this.draw(record, title)}, 'Draw');
+        const draw = make('button', {type: 'button', ariaLabel: `Draw ${title}`, onclick: () => this.draw(index, title)}, 'Draw');
         const more = make('button', {type: 'button', ariaLabel: `More for ${title}`, ariaHasPopup: 'menu', onclick: () => this.context.offer(more, actions())}, '⋯');
         return [index, name, make('span', {}, draw, ' ', more), euler, sides, orientable, linking, boundary, components, vector_cell(line, this.coordinates)].map((cell) => cell ?? '');
     }
 
-    draw(record, title) {
-        const section = surface_picture(this.lines.at(record.index), this.coordinates, title, this.context);
+    draw(index, title) {
+        const section = surface_picture(this.lines.at(index), this.coordinates, title, this.context);
         this.drawing.replaceChildren(section);
-        this.table.choose(record);
+        this.table.choose(index);
         section.focus();
     }
 
@@ -168,7 +169,7 @@ export class SurfaceList {
     }
 
     /** The surfaces that are shown, in their order, as {index, about, line}. */
-    get records() { return this.table.shown.map((record) => ({...record, line: this.lines.at(record.index)})); }
+    get records() { return this.table.shown.map((index) => ({index, about: this.facts[index], line: this.lines.at(index)})); }
 
     elements() {
         this.say();

@@ -61,40 +61,154 @@ export function read_table(text) {
     return {size: rows.length, pairs, boundary};
 }
 
-const LINE_FEED = 10;
-const is_vector = (bytes, at) => bytes[at] === 0x76 && bytes[at + 1] === 0x65 && bytes[at + 2] === 0x63; // `vec`
+const LINE_FEED = 10, SPACE = 32, ZERO = 48;
+const VEC = [0x76, 0x65, 0x63];
+const is_vector = (bytes, at) => VEC.every((byte, place) => bytes[at + place] === byte);
+const is_digit = (byte) => byte >= ZERO && byte < ZERO + 10;
 
-/** The vectors of an answer as its lines. They are kept as its bytes alone, since a list can have a hundred thousand of them. */
+/** The vectors of an answer as its lines. The answer is kept as its bytes. */
 export class VectorLines {
-    bytes; starts; ends; length;
+    answer; starts; ends; length;
 
-    /** bytes: those of the answer */
-    constructor(bytes) {
+    /** answer: its bytes */
+    constructor(answer) {
         const starts = [], ends = [];
-        for (let at = 0, end; at < bytes.length; at = end + 1) {
-            end = bytes.indexOf(LINE_FEED, at);
-            if (end < 0) end = bytes.length;
-            if (!is_vector(bytes, at)) continue;
+        for (let at = 0, end; at < answer.length; at = end + 1) {
+            end = answer.indexOf(LINE_FEED, at);
+            if (end < 0) end = answer.length;
+            if (!is_vector(answer, at)) continue;
             starts.push(at);
             ends.push(end);
         }
-        Object.assign(this, {bytes, starts: Uint32Array.from(starts), ends: Uint32Array.from(ends), length: starts.length});
+        Object.assign(this, {answer, starts: Uint32Array.from(starts), ends: Uint32Array.from(ends), length: starts.length});
     }
 
     /** The line of an index. */
     at(index) {
-        return new TextDecoder().decode(this.bytes.subarray(this.starts[index], this.ends[index]));
-    }
-
-    /** How many bytes the line of an index has. */
-    size_of(index) {
-        return this.ends[index] - this.starts[index];
+        return new TextDecoder().decode(this.answer.subarray(this.starts[index], this.ends[index]));
     }
 
     /** The lines from an index to another one. */
     slice(from, to) {
         return Array.from({length: to - from}, (_, number) => this.at(from + number));
     }
+
+    /** The bytes of the answer. */
+    bytes() {
+        return this.answer;
+    }
+
+    /** At least the first `most` bytes of the answer. */
+    first(most) {
+        return this.answer.subarray(0, most);
+    }
+}
+
+/** Where the first vector of an answer begins; its end if there is none. */
+function first_vector(answer) {
+    let at = 0;
+    while (at < answer.length && !is_vector(answer, at)) at = (answer.indexOf(LINE_FEED, at) + 1) || answer.length;
+    return at;
+}
+
+/** How many vectors an answer has from a place on, and how many half bytes they take; null if it has there anything else. */
+function packed_counts(answer, begin) {
+    let vectors = 0, halves = 0;
+    for (let at = begin; at < answer.length; at++) {
+        if (!is_vector(answer, at)) return null;
+        at += VEC.length;
+        while (answer[at] === SPACE && is_digit(answer[at + 1])) {
+            for (at += 2; is_digit(answer[at]); at++) halves += 2;
+            halves++;
+        }
+        if (answer[at] !== LINE_FEED) return null;
+        vectors++;
+    }
+    return vectors ? {vectors, halves} : null;
+}
+
+const MORE = 10; // half a byte before each digit but the last one of an entry
+
+/**
+ * The vectors of an answer that has nothing else after its head, as its lines. They are kept packed, since a list can have a
+ * hundred thousand of them: a digit that ends an entry takes half a byte, and another one takes a byte.
+ */
+export class PackedLines {
+    head; halves; starts; length; size;
+
+    /** answer: its bytes; begin: where its first vector does; counts: how many vectors and half bytes there are */
+    constructor(answer, begin, {vectors, halves}) {
+        Object.assign(this, {head: answer.slice(0, begin), halves: new Uint8Array((halves + 1) >> 1), starts: new Uint32Array(vectors + 1), length: vectors, size: answer.length});
+        let half = 0, index = 0;
+        for (let at = begin; at < answer.length; at++) {
+            for (at += VEC.length; answer[at] !== LINE_FEED; at++) {
+                for (at++; is_digit(answer[at + 1]); at++) {
+                    this.put(half++, MORE);
+                    this.put(half++, answer[at] - ZERO);
+                }
+                this.put(half++, answer[at] - ZERO);
+            }
+            this.starts[++index] = half;
+        }
+    }
+
+    put(half, value) {
+        this.halves[half >> 1] |= half & 1 ? value << 4 : value;
+    }
+
+    half(half) {
+        return half & 1 ? this.halves[half >> 1] >> 4 : this.halves[half >> 1] & 15;
+    }
+
+    /** Writes the line of an index, with its end, from a place on. Returns the place after it. */
+    write(index, into, place) {
+        into.set(VEC, place);
+        let at = place + VEC.length;
+        for (let half = this.starts[index]; half < this.starts[index + 1]; half++) {
+            into[at++] = SPACE;
+            for (; this.half(half) === MORE; half += 2) into[at++] = ZERO + this.half(half + 1);
+            into[at++] = ZERO + this.half(half);
+        }
+        into[at] = LINE_FEED;
+        return at + 1;
+    }
+
+    /** The bytes of the line of an index, with its end. */
+    line(index) {
+        const into = new Uint8Array(VEC.length + 1 + 2 * (this.starts[index + 1] - this.starts[index]));
+        return into.subarray(0, this.write(index, into, 0));
+    }
+
+    /** The line of an index. */
+    at(index) {
+        return new TextDecoder().decode(this.line(index).subarray(0, -1));
+    }
+
+    /** The lines from an index to another one. */
+    slice(from, to) {
+        return Array.from({length: to - from}, (_, number) => this.at(from + number));
+    }
+
+    /** The bytes of the answer. */
+    bytes() {
+        const into = new Uint8Array(this.size);
+        into.set(this.head);
+        for (let index = 0, at = this.head.length; index < this.length; index++) at = this.write(index, into, at);
+        return into;
+    }
+
+    /** At least the first `most` bytes of the answer. */
+    first(most) {
+        const parts = [...this.head];
+        for (let index = 0; index < this.length && parts.length < most; index++) parts.push(...this.line(index));
+        return Uint8Array.from(parts);
+    }
+}
+
+/** The vectors of an answer, given as its bytes, as lines. */
+export function vectors_of(answer) {
+    const begin = first_vector(answer), counts = packed_counts(answer, begin);
+    return counts ? new PackedLines(answer, begin, counts) : new VectorLines(answer);
 }
 
 /** The entries of a line `vec ..`, as words: they may exceed what a number of JavaScript can hold. */

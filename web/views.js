@@ -4,13 +4,13 @@ import {invalid_sentence, is_of_jaco_and_rubinstein, kind_of, kind_sentence, mea
 import {action_buttons, surface_picture, triangulation_in} from './next.js';
 import {about_small, about_table, face_pairing_graph} from './pictures.js';
 import {SurfaceList} from './surface_list.js';
-import {VectorLines, coordinates_of, name_of, plural, read_info, read_table} from './texts.js';
+import {coordinates_of, name_of, plural, read_info, read_table} from './texts.js';
 import {explained} from './words.js';
 
 const MOST_SHOWN = 200000; // characters of a text
 
-/** The text of an answer, given as bytes, as far as a page can show it. */
-export const shortened_bytes = (bytes) => shortened(new TextDecoder().decode(bytes.subarray(0, MOST_SHOWN + 1)));
+/** The text of an answer as far as a page can show it. */
+export const shortened_text = (outcome) => shortened(new TextDecoder().decode(outcome.first(MOST_SHOWN + 1)));
 
 /** A text as far as a page can show it. */
 export const shortened = (text) => (text.length > MOST_SHOWN ? `${text.slice(0, MOST_SHOWN)}\n… (shortened; copy or download the whole text)` : text);
@@ -73,7 +73,7 @@ async function list_view(lines, coordinates, noun, context) {
  */
 export async function view_of(outcome, words, context) {
     const noun = {surfaces: 'vertex normal surface', describe: 'surface'}[words[0]];
-    if (noun) return list_view(new VectorLines(outcome.bytes), coordinates_of(words), noun, context);
+    if (noun) return list_view(outcome.vectors(), coordinates_of(words), noun, context);
     return {parts: words[0] === 'info' ? info_view(outcome.text) : text_view(outcome.text, words[0], context), list: null};
 }
 

@@ -19,7 +19,10 @@ from pathlib import Path
 PACKAGES = "/usr/lib/python3/dist-packages"
 # a wide window, and that of a phone
 WIDE, NARROW = (1100, 1250), (390, 840)
-FLAGS = ["--headless=new", "--no-sandbox", "--disable-dev-shm-usage", "--disable-background-networking", "--disable-component-update"]
+# a name of this machine that browsers trust as little as another machine
+ELSEWHERE = "elsewhere.test"
+FLAGS = ["--headless=new", "--no-sandbox", "--disable-dev-shm-usage", "--disable-background-networking", "--disable-component-update",
+         f"--host-resolver-rules=MAP {ELSEWHERE} 127.0.0.1"]
 
 
 class Missing(Exception):
@@ -149,6 +152,7 @@ class Firefox(Downloads):
         self.profile = tempfile.mkdtemp(prefix="firefox-")
         settings = {"ui.systemUsesDarkTheme": int(dark), "layout.css.prefers-color-scheme.content-override": 0 if dark else 1,
                     "ui.prefersReducedMotion": int(still), "dom.max_script_run_time": 0, "browser.shell.checkDefaultBrowser": False,
+                    "network.dns.localDomains": ELSEWHERE,
                     "browser.download.folderList": 2, "browser.download.dir": self.folder, "browser.download.useDownloadDir": True,
                     # else the list of downloads opens, and takes the focus from the page
                     "browser.download.alwaysOpenPanel": False}

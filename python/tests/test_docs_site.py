@@ -2,6 +2,7 @@
 import contextlib
 import io
 import json
+import os
 import pathlib
 import re
 import shutil
@@ -51,6 +52,18 @@ class Site(unittest.TestCase):
                 self.assertNotRegex(text, r'(?:href|src)="/', name)
                 self.assertEqual(re.findall(r"<script[^>]*>", text), ['<script defer src="search.js">'], name)
                 self.assertIn("default-src 'none'; script-src 'self'; style-src 'self';", text)
+
+    def test_the_page_for_a_browser_leads_to_the_other_pages(self):
+        page = self.site[docs_site.TRY].decode("utf8")
+        about = json.loads(re.search(r'data-file="about.json">(.*?)</script>', page, re.S)[1])
+        self.assertEqual(os.path.normpath(os.path.join(os.path.dirname(docs_site.TRY), about["pages"])), ".")
+        named = re.findall(r"named_page\('(\w+)'(?:, '#([\w-]+)')?\)", (REPOSITORY / "web" / "page.js").read_text("utf8"))
+        self.assertGreater(len(named), 2)
+        for name, anchor in named:
+            text = self.site[f"{name}.html"].decode("utf8")
+            self.assertTrue(not anchor or anchor in docs_site.Links(text).names, (name, anchor))
+        # a page that is alone does not know where the others are
+        self.assertEqual(json.loads(web_page.data_files()["about.json"])["pages"], "")
 
     def test_the_index_has_all_sections(self):
         text = self.site[docs_site.INDEX].decode("utf8")

@@ -9,7 +9,7 @@ TOP = Path(__file__).resolve().parents[2]
 
 
 class Pages(unittest.TestCase):
-    def test_pictures_are_current(self):
+    def test_pictures_are_current(self) -> None:
         with mock.patch.object(sys, "path", [str(TOP / "bench"), *sys.path]):
             drawn = runpy.run_path(str(TOP / "bench" / "draw_pages.py"))["drawn"]()
         for name, picture in drawn.items():

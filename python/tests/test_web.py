@@ -255,6 +255,43 @@ class Files(unittest.TestCase):
             web_page.element("evil.txt", "</ScRiPt>")
 
 
+class Lists(unittest.TestCase):
+    """How the page keeps a long list, by Node."""
+
+    def kept(self, *texts):
+        lines = "".join(f"{json.dumps(text)}\n" for text in texts)
+        done = subprocess.run([node(), str(REPOSITORY / "web" / "tests" / "lists.js")], input=lines, capture_output=True, text=True, check=False)
+        self.assertEqual(done.returncode, 0, done.stderr)
+        return [json.loads(line) for line in done.stdout.splitlines()]
+
+    def test_every_answer_is_the_same_again(self):
+        """Packed or not: numbers of any length, another head, other lines, and what no program prints."""
+        texts = ["# surfaces 2\nvec 1 0 12\nvec 340282366920938463463374607431768211455 0 9\n", "# surfaces 1\nvec 0\n", "vec 10 010 100\n", "a\nb\nvec 1\n", "# surfaces 0\n", "",
+                 "vec 1\neuler 2 linking yes boundary no\ncomponent 0 euler 2 sides two orientable yes\nvec 2\n", "vec\nvec\n", "vec 1", "vec 1 \n", "vec  1\n", "vec 1\r\n", "vec -1\n", "vec 1\n\n", "vector\n", "vecvec 1\n"]
+        for text, found in zip(texts, self.kept(*texts)):
+            with self.subTest(text=text):
+                self.assertEqual(found["text"], text)
+                self.assertEqual(found["lines"], [line for line in text.split("\n") if line.startswith("vec")])
+                self.assertTrue(text.startswith(found["first"]))
+                self.assertGreaterEqual(len(found["first"]), min(20, len(text)))
+
+    def test_a_list_takes_little(self):
+        """A fourth of its text, if most numbers have one digit."""
+        lines = [" ".join(["vec", "12", *(str((index * place) % 10) for place in range(167))]) for index in range(2000)]
+        text = "".join(f"{line}\n" for line in [f"# surfaces {len(lines)}", *lines])
+        [found] = self.kept(text)
+        self.assertEqual((found["text"], found["lines"]), (text, lines))
+        self.assertLess(found["kept"], 0.27 * len(text))
+
+    def test_cases_of_the_built_program(self):
+        library = find_library()
+        if library is None:
+            self.skipTest("there is no library of the built program")
+        texts = [library.answer(words, text)[1].decode() for words in (["surfaces"], ["surfaces", "--coords", "quad"], ["surfaces", "--coords", "octagon"]) for text in ("sig cPcbbbiht\n", OF_9, OF_14)]
+        for text, found in zip(texts, self.kept(*texts)):
+            self.assertEqual((found["text"], found["lines"]), (text, text.splitlines()[1:]))
+
+
 class Reading(unittest.TestCase):
     """What the page makes of texts before it asks, by Node."""
 
@@ -786,6 +823,24 @@ by('file').dispatchEvent(new Event('change'));
                          ["Lift it", "Decompose it", "Copy the vector", "Copy for Regina", "Copy for Python", "Save the picture (SVG)"])
         self.assertEqual(self.run_script(press % "Decompose it" + "await until(idle); return [by('command').value, document.querySelector('[data-option=coords]').value, message().split(' ')[0]];"), ["decompose", "quad", "Answered"])
 
+    @timed
+    def test_from_a_bare_signature_to_crush_lift_and_count(self):
+        """Who pastes a signature sees a surface drawn within ten seconds of opening the page, and goes on by buttons alone."""
+        begun = time.monotonic()
+        self.open()
+        drawn = "document.querySelector('#view td button').click(); return document.querySelectorAll('#drawing polygon').length;"
+        self.assertGreater(self.ask("surfaces", "dLQbcccajqs", drawn), 0)
+        self.assertLess(time.monotonic() - begun, 10)
+        counted, shown = self.run_script("return [by('tally').textContent, document.querySelectorAll('#view tbody:not(.gap) tr').length];")
+        self.assertEqual(counted.split()[0], str(shown))
+        self.assertEqual(sum(int(count) for count in re.findall(r"(\d+) × ", counted)), shown)
+        press = "by('message').textContent = ''; [...document.querySelectorAll('%s')].find((one) => one.textContent.startsWith('%s')).click(); await until(idle); return [by('command').value, message().split(' ')[0]];"
+        self.assertEqual(self.run_script(press % ("#drawing button", "Crush along it")), ["crush", "Answered"])
+        self.assertEqual(self.run_script(press % ("#visited button", "surfaces of dLQbcccajqs")), ["surfaces", "Answered"])
+        self.run_script("document.querySelector('[data-option=coords]').value = 'quad'; by('message').textContent = ''; by('answer').click(); await until(idle);")
+        self.assertGreater(self.run_script(drawn), 0)
+        self.assertEqual(self.run_script(press % ("#drawing button", "Lift it")), ["lift", "Answered"])
+
     def test_licences(self):
         self.open()
         self.assertEqual(self.run_script("by('licences').querySelector('summary').click(); await until(() => document.querySelectorAll('#licences pre').length === 3); return [...document.querySelectorAll('#licences pre')].map((one) => one.textContent);"),
@@ -887,6 +942,18 @@ await until(idle);
 const {citation, module_of} = await import('./citation.js');
 return (await citation({words: ['make', '--seed', '5'], input: ''}, module_of('', {wasm: ''}), {wasm: ''})).split('. ')[1];"""),
                          "Without the checksum its version, commit and Rattle kit are unknown, and nothing is cited as proved")
+
+    def test_over_http_from_another_machine(self):
+        """Browsers compute no checksum there, and let no page copy. The page answers, and says both."""
+        if self.from_disk:
+            self.skipTest("over HTTP alone")
+        self.window.open(f"http://{browsers.ELSEWHERE}:{self.server.server_port}/index.html#command=sig&input=sig+bkaagn")
+        self.assertEqual(self.run_script("await until(idle); return [isSecureContext, by('raw').textContent, by('checksum').textContent, by('asked').textContent.includes('trinorm.wasm')];"),
+                         [False, "bkaagj\n", "Over http, this browser computes no SHA-256 of trinorm.wasm. Open the page over https or from the disk to see it.", False])
+        for button, noun, part in (("link", "link", "#command=sig&input=sig+bkaagn"), ("cite", "citation", "nothing is cited as proved")):
+            shown = self.run_script(f"by('{button}').click(); await until(() => by('address')?.ariaLabel === '{noun}'); return [message(), by('address').value];")
+            self.assertEqual(shown[0], f"The browser did not allow copying. This is the {noun}: ")
+            self.assertIn(part, shown[1])
 
     def test_a_table_of_surfaces(self):
         self.open(command="surfaces", input="sig bkaagj\n")
@@ -1045,6 +1112,21 @@ return [first < 100, rows() < 100, Math.abs(middle - 50000) < 1000, document.act
         self.assertRegex(self.ask("info", "tri 1\n- - - x"), "an entry is `-`, or a tetrahedron and the images")
         self.assertRegex(self.ask("info", ""), "the input is empty")
         self.assertRegex(self.ask("check", "sig bkaagj\n14 0"), "the moves are legal, but end at")
+
+    def test_a_long_refusal_is_shown_by_its_beginning(self):
+        """As one with a ray of 168 numbers."""
+        self.open(command="surfaces", input=OF_24, **{"max-entry": "1"})
+        short = self.run_script("await until(idle); return by('message').querySelector('strong').textContent;")
+        self.assertRegex(short, "^refused: large step [0-9]+ row [0-9]+ value [0-9 ]+ …$")
+        self.assertEqual(len(short), 302)
+        whole, focused = self.run_script("by('rest').click(); return [by('message').querySelector('strong').textContent, document.activeElement.tagName];")
+        self.assertRegex(whole, "^refused: large step [0-9]+ row [0-9]+ value( [0-9]+){168}$")
+        self.assertEqual((whole[:300], focused, self.run_script("return by('rest');")), (short[:300], "STRONG", None))
+
+    def test_the_clock_runs_while_the_page_works(self):
+        """Afterwards the message alone says how long it took."""
+        self.open()
+        self.assertRegex(self.ask("surfaces", OF_9, "return `${message()}|${by('clock').value}`;"), r"^Answered in [0-9.]+ m?s\.\|$")
 
     def test_stop_ends_a_long_question_at_once(self):
         self.open()
