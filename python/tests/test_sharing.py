@@ -16,10 +16,12 @@ import unittest.mock
 
 import trinorm
 from trinorm import citation, versions
+from trinorm.options import reading
 from trinorm.processes import Child
 from trinorm.server import Server
 from trinorm.table_methods import TableMethods
 
+from .cases import within
 from .programs import script
 from .test_nonsense import values
 from .test_processes import Asked, children
@@ -33,16 +35,21 @@ def results():
     made = trinorm.make(7, 20)
     vectors = trinorm.surfaces(SPHERE)
     return [made, made.table, made.table.rows[0][0], trinorm.verify(SPHERE, [*vectors, (1,) * 7]), trinorm.check(SPHERE, []), trinorm.check("bkaagb", []),
-            trinorm.addup(SPHERE, trinorm.decompose(SPHERE, vectors)), trinorm.addup(SPHERE, [trinorm.Sum(vectors[0], 0, ())]), trinorm.info(KNOT),
+            trinorm.addup(SPHERE, trinorm.decompose(SPHERE, vectors)), trinorm.addup(SPHERE, [trinorm.Sum(vectors[0], 0, ())]),
             trinorm.described(PLANES), trinorm.zero_efficient(PLANES), trinorm.zero_efficient(SPHERE), trinorm.count(PLANES), trinorm.same("bkaagn", SPHERE),
-            trinorm.group([SPHERE, KNOT]), trinorm.cover(SPHERE), trinorm.pi1(KNOT), trinorm.play(SPHERE, ["14 0"]), trinorm.descend("bkaagb"),
-            trinorm.certify("bkaagb"), trinorm.bulk(1, 2)]
+            trinorm.group([SPHERE, KNOT]), trinorm.play(SPHERE, ["14 0"]), trinorm.certify("bkaagb"), trinorm.bulk(1, 2),
+            *filter(dataclasses.is_dataclass, answers_on(trinorm.table(KNOT)))]
+
+
+def answers_on(table):
+    """What each command that reads one triangulation answers on a table, by its method."""
+    return [getattr(table, name)() for name in reading("table")]
 
 
 def asked_of(table):
     """What the methods of a table return, those that take a while left out."""
-    return (table.sig(), table.csig(), table.info(), table.surfaces("quad"), table.count(), table.zero_efficient(), table.cover(), table.pi1(),
-            table.verify(table.surfaces()), table.play(["14 0"]), table.same(table), str(table.check([])))
+    return (*answers_on(table), table.surfaces("quad"), table.count(), table.zero_efficient(), table.verify(table.surfaces()), table.play(["14 0"]),
+            table.same(table), str(table.check([])))
 
 
 def descriptors():
@@ -224,11 +231,23 @@ class Interrupted(unittest.TestCase):
             raise Asked
 
     def interrupted(self, call, seconds, times=120):
-        """Calls it many times, each time with a signal a little later, until after the call would have ended. Returns how often it was
-        interrupted."""
+        """Calls it many times, each time with a signal a little later, until after the call would have ended; where the calls end before most
+        signals come, as on a fast machine, again with signals that come twice as soon, until more than five calls were interrupted."""
         call()
         gc.collect()
         processes, files, count = children(), descriptors(), 0
+        for halved in range(12):
+            count += self.interruptions(call, seconds / 2 ** halved, times)
+            if count > 5:
+                break
+        self.assertTrue(self.settles(lambda: children() == processes), children())
+        gc.collect()
+        self.assertTrue(self.settles(lambda: descriptors() <= files), (descriptors(), files))
+        self.assertGreater(count, 5)
+
+    def interruptions(self, call, seconds, times):
+        """How many of some calls were interrupted, with signals that come up to some seconds after their begin."""
+        count = 0
         for step in range(times):
             try:
                 self.is_on = True
@@ -241,14 +260,11 @@ class Interrupted(unittest.TestCase):
                     signal.setitimer(signal.ITIMER_REAL, 0)
             except Asked:
                 count += 1
-        self.assertTrue(self.settles(lambda: children() == processes), children())
-        gc.collect()
-        self.assertTrue(self.settles(lambda: descriptors() <= files), (descriptors(), files))
         return count
 
     @staticmethod
     def settles(holds):
-        for _ in range(100):
+        for _ in within(60):
             if holds():
                 return True
             threading.Event().wait(0.05)
@@ -257,14 +273,12 @@ class Interrupted(unittest.TestCase):
     def test_methods_by_the_library(self):
         table = trinorm.make(6, 12).table
         right = table.surfaces()
-        count = self.interrupted(lambda: self.assertEqual(table.surfaces(), right), 0.02)
-        self.assertGreater(count, 5)
+        self.interrupted(lambda: self.assertEqual(table.surfaces(), right), 0.02)
         self.assertEqual(table.surfaces(), right)
 
     def test_methods_by_a_process(self):
         table, program = trinorm.table(SPHERE), trinorm.find()
-        count = self.interrupted(lambda: self.assertEqual(len(table.surfaces(program=program)), 2), 0.03)
-        self.assertGreater(count, 5)
+        self.interrupted(lambda: self.assertEqual(len(table.surfaces(program=program)), 2), 0.03)
 
     def test_verdicts(self):
         made, program = trinorm.make(7, 20), trinorm.find()
@@ -278,7 +292,7 @@ class Interrupted(unittest.TestCase):
             with Child([quick]) as run:
                 self.assertEqual(run.communicate(b"text")[0], b"text")
 
-        self.assertGreater(self.interrupted(call, 0.02), 5)
+        self.interrupted(call, 0.02)
 
     def test_a_process_with_its_input(self):
         quick = script(self.folder.name, "cat\n")
@@ -287,7 +301,7 @@ class Interrupted(unittest.TestCase):
             with Child([quick], b"text" * 30_000) as run:
                 self.assertEqual(len(run.communicate()[0]), 120_000)
 
-        self.assertGreater(self.interrupted(call, 0.02), 5)
+        self.interrupted(call, 0.02)
 
 
 class Processes(unittest.TestCase):
