@@ -6,18 +6,20 @@
 Each input is that of a stored example of the package with some bytes changed, dropped or doubled, numbers made wide, words or
 lines exchanged. Checked of each run: the status is one of those told; a refusal is one line of the grammar of refusals and
 nothing else; what was answered is read again as itself (its form is written here once more, as a second opinion beside the
-package's); the program ends within a time and a size. Prints the first that fails,
+package's, or compared with stored answers); the program ends within a time and a size. Prints the first that fails,
 with its words and input, and ends with inputs, statuses and seconds.
 """
 import argparse
 import collections
+import functools
+import itertools
 import multiprocessing
 import random
 import re
 import resource
 import subprocess
 import time
-from typing import Callable, Counter, Dict, List, Optional, Sequence, Tuple
+from typing import Callable, Counter, DefaultDict, Dict, List, Optional, Sequence, Set, Tuple
 
 import common  # noqa: F401  (with the path of the package)
 from trinorm import find
@@ -132,12 +134,48 @@ def played(program: str, words: Words, text: bytes, answer: bytes) -> None:
     table_text(program, match[2])
 
 
-def informed(program: str, words: Words, text: bytes, answer: bytes) -> None:
-    head = rb"tetrahedra \d+\n(?:(?:connected|orientable|closed) (?:yes|no)\n){3}vertices \d+\nedges \d+\nfaces \d+\neuler -?\d+\n"
-    vertex = rb"vertex \d+ degree \d+ euler -?\d+ closed (?:yes|no) kind (?:sphere|disc|torus|klein|other)\n"
-    edge = rb"edge \d+ degree \d+ place (?:inner|boundary) valid (?:yes|no)\n"
-    if not re.fullmatch(head + rb"(?:%s)*(?:%s)*" % (vertex, edge), answer):
-        raise Wrong(f"no information: {answer[:200]!r}")
+class Form:
+    """What stored answers of a command look like: the words at each place of their lines, and the order of the lines' first words."""
+
+    def __init__(self, answers: Sequence[bytes]) -> None:
+        self.words: DefaultDict[Tuple[bytes, int, int], Set[bytes]] = collections.defaultdict(set)
+        for words in (line.split(b" ") for answer in answers for line in answer.split(b"\n")[:-1]):
+            for at, word in enumerate(words):
+                self.words[words[0], len(words), at].add(without_numbers(word))
+        self.orders = {first_words(answer) for answer in answers}
+
+    def has(self, answer: bytes) -> bool:
+        """Whether each word of an answer is known at its place, and the first words of its lines are in a known order, some left out."""
+        lines = [line.split(b" ") for line in answer.split(b"\n")[:-1]]
+        known = all(without_numbers(word) in self.words.get((words[0], len(words), at), ()) for words in lines for at, word in enumerate(words))
+        return known and answer[-1:] in (b"", b"\n") and any(is_part(first_words(answer), order) for order in self.orders)
+
+
+def without_numbers(word: bytes) -> bytes:
+    return re.sub(rb"-?\d+", b"0", word)
+
+
+def first_words(answer: bytes) -> Tuple[bytes, ...]:
+    """The first words of the lines, one for lines with the same that follow each other."""
+    return tuple(word for word, _ in itertools.groupby(line.split(b" ")[0] for line in answer.split(b"\n")[:-1]))
+
+
+def is_part(words: Sequence[bytes], order: Sequence[bytes]) -> bool:
+    """Whether words are in this order, with or without others between them."""
+    left = iter(order)
+    return all(word in left for word in words)
+
+
+@functools.lru_cache(maxsize=None)
+def form_of(name: str) -> Form:
+    """The form of a command's stored answers."""
+    return Form([row.output for row in read_rows() if row.words[:1] == (name,) and row.status == 0])
+
+
+def formed(program: str, words: Words, text: bytes, answer: bytes) -> None:
+    """An answer of a command that has no check of its own."""
+    if not form_of(words[0]).has(answer):
+        raise Wrong(f"an answer unlike the stored ones: {answer[:200]!r}")
 
 
 def judged(program: str, words: Words, text: bytes, answer: bytes) -> None:
@@ -214,11 +252,12 @@ def decomposed(program: str, words: Words, text: bytes, answer: bytes) -> None:
 
 
 def covered(program: str, words: Words, text: bytes, answer: bytes) -> None:
-    again(program, ["info"], answer, None, "a cover")
+    again(program, ["csig"], answer, None, "a cover")
 
 
+# the checks of commands whose answers can be read again, or have sums to compare; the others have `formed`
 CHECKS: Dict[str, Callable[[str, Words, bytes, bytes], None]] = {
-    "surfaces": lists, "rays": lists, "sig": signed, "same": compared, "group": grouped, "play": played, "info": informed,
+    "surfaces": lists, "rays": lists, "sig": signed, "same": compared, "group": grouped, "play": played,
     "verify": judged, "crush": written_table, "make": certified, "descend": descended, "lift": lifted, "decompose": decomposed,
     "cover": covered, "csame": compared, "csig": signed_apart, "describe": described, "pi1": presented, "check": accepted,
     "addup": accepted, "bulk": summed_up,
@@ -273,7 +312,7 @@ def try_one(program: str, inputs: Inputs, seed: int, number: int) -> Tuple[Optio
     try:
         status, answer = run(program, words, text)
         if status == 0:
-            CHECKS[words[0]](program, words, text, answer)
+            CHECKS.get(words[0], formed)(program, words, text, answer)
         else:
             refusal(status, answer)
     except Wrong as wrong:

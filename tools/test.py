@@ -43,7 +43,7 @@ PYTHON = TOP / "python"
 TESTS = {
     "tools": ("test_build", "test_ci", "test_claims", "test_commits", "test_docs_site", "test_edits", "test_floors", "test_language", "test_laws",
               "test_links", "test_messages", "test_places", "test_prose", "test_reading", "test_release", "test_table_of_commands", "test_test",
-              "test_twice", "test_words", "test_worked_rows"),
+              "test_try_release", "test_twice", "test_words", "test_worked_rows"),
     "launcher": ("test_launcher",),
     "library": ("test_c_library", "test_installing", "test_library", "test_server"),
     "rust": ("test_rust",),
@@ -52,6 +52,10 @@ TESTS = {
 }
 # the packages that tests take if they are there
 PACKAGES = ("regina", "numpy", "pandas", "distributed", "mpi4py", "selenium", "websocket", "nbconvert")
+# the files of python/tests whose types aren't checked yet; one whose functions all have annotations leaves this list
+UNTYPED = ("browsers", "test_arguments", "test_arrays", "test_batch", "test_census", "test_certificates", "test_docs_site", "test_engines",
+           "test_executors", "test_launcher", "test_native", "test_nonsense", "test_parts", "test_pictures", "test_progress", "test_release",
+           "test_server", "test_sharing", "test_web")
 # what shellcheck doesn't see: files that are read in, their variables, and backquotes that are printed
 NOT_SEEN = "SC1091,SC2016,SC2034,SC2154,SC2185"
 # seconds after which a part is ended; the longest takes some three minutes on an idle machine, and eleven under a load of ten
@@ -154,6 +158,7 @@ def quick_parts() -> List[Part]:
         Part("edits apply", python("tools/edits.py")),
         Part("crates in order", python("tools/floors.py", "--check")),
         Part("table of commands", python("tools/commands.py", "--check")),
+        Part("methods of tables", python("tools/methods.py", "--check")),
         Part("stored examples", python("tools/worked_rows.py", "--check")),
         Part("places in recipes", python("tools/places.py", "--check")),
         Part("times of builds", python("tools/build_times.py", "--check")),
@@ -194,6 +199,7 @@ def late_parts() -> List[Part]:
         typed("types", TOP / "tools", *files["tools"]),
         typed("types of the package", PYTHON, "trinorm"),
         typed("types of bench", TOP / "bench", *files["bench"]),
+        typed("types of tests", PYTHON, *(f"tests/{path.name}" for path in sorted((PYTHON / "tests").glob("*.py")) if path.stem not in UNTYPED)),
         Part("types of the page", ["tsc", "--project", "web"], TOP, "tsc"),
         Part("worked rows", [python_of_tests(), "-m", "trinorm.selfcheck"], PYTHON, str(PYTHON / "trinorm" / "selfcheck")),
         Part("examples", [python_of_tests(), "bench/examples.py"]),
@@ -211,7 +217,7 @@ def lacks(part: Part) -> str:
 def run(part: Part, seconds: float = LONGEST) -> Result:
     """Runs a part, in a process group of its own, which is ended after some seconds."""
     around = {name: value for name, value in os.environ.items() if name not in ("TRINORM", "TRINORM_LIBRARY")}
-    around.update(PYTHONPATH=str(PYTHON), MYPYPATH=f"{PYTHON}:{TOP / 'tools'}", PYTHONDONTWRITEBYTECODE="1")
+    around.update(PYTHONPATH=str(PYTHON), MYPYPATH=f"{PYTHON}:{TOP / 'tools'}:{TOP / 'bench'}", PYTHONDONTWRITEBYTECODE="1")
     with tempfile.TemporaryFile() as log:
         running = subprocess.Popen(part.words, cwd=part.folder, env=around, stdin=subprocess.DEVNULL, stdout=log,
                                    stderr=subprocess.STDOUT, start_new_session=True, preexec_fn=take_signals)

@@ -6,13 +6,15 @@ import subprocess
 import sys
 import unittest
 from pathlib import Path
-from typing import Optional
+from typing import Callable, Dict, Optional, TypeVar
 
 import trinorm
 
 # MPI refuses to run for the superuser, and to start more processes than there are processors, unless it is asked to
 MPI = {"OMPI_ALLOW_RUN_AS_ROOT": "1", "OMPI_ALLOW_RUN_AS_ROOT_CONFIRM": "1", "OMPI_MCA_rmaps_base_oversubscribe": "1",
        "OMPI_MCA_btl_vader_single_copy_mechanism": "none"}
+
+Test = TypeVar("Test", bound=Callable[..., object])
 
 
 @functools.lru_cache(maxsize=None)
@@ -24,12 +26,12 @@ def python_with(module: str) -> Optional[str]:
     return None
 
 
-def skip_without(name: str, is_there: object):
+def skip_without(name: str, is_there: object) -> "Callable[[Test], Test]":
     """A decorator that skips a test by the name of what is missing."""
     return unittest.skipUnless(is_there, f"{name} isn't installed")
 
 
-def environment(program: str, **more: str) -> "dict[str, str]":
+def environment(program: str, **more: str) -> Dict[str, str]:
     """The environment of a census by a program."""
     top = Path(trinorm.__file__).resolve().parents[1]
     return dict(os.environ, TRINORM=program, PYTHONPATH=str(top), **MPI, **more)

@@ -4,11 +4,11 @@ import os
 import shutil
 import subprocess
 from pathlib import Path
-from typing import List, Optional
+from typing import Dict, List, Optional
 
 from trinorm.program import REPOSITORY
 
-CRATES = {"ground": [], "left": ["ground"], "right": ["ground"], "trinorm": ["left", "right"], "beside": ["ground"]}
+CRATES: Dict[str, List[str]] = {"ground": [], "left": ["ground"], "right": ["ground"], "trinorm": ["left", "right"], "beside": ["ground"]}
 
 IGNORED = shutil.ignore_patterns("__pycache__")
 
@@ -149,7 +149,7 @@ class MadeUp:
         for name in ("examples", "docs", "python/trinorm"):
             shutil.copytree(REPOSITORY / name, self.top / name, ignore=IGNORED)
         for name in ("README.md", "CHANGELOG.md", "CONTRIBUTING.md", "SECURITY.md", "CITATION.cff", "paper.md", "paper.bib", "LICENSE-MIT",
-                     "LICENSE-APACHE", "NOTICES", ".gitignore", "python/README.md", "python/wheels.py"):
+                     "LICENSE-APACHE", "NOTICES", ".gitignore", "pyproject.toml", "python/README.md", "python/wheels.py"):
             shutil.copy(REPOSITORY / name, self.top / name)
         for name in ("command_definitions", "text_definitions", "outcome_definitions", "surface_definitions"):
             shutil.copytree(REPOSITORY / "crates" / name / "specs", self.top / "crates" / name / "specs")
@@ -197,8 +197,8 @@ class MadeUp:
         done = self.run(["./trinorm"], kit)
         return done.stdout if done.returncode == 0 else f"status {done.returncode}: {done.stderr}"
 
-    def build(self, *words: str, **more: str) -> "subprocess.CompletedProcess[str]":
-        return self.run(["python3", "tools/build.py", *words], **more)
+    def build(self, *words: str, kit: bool = True, **more: str) -> "subprocess.CompletedProcess[str]":
+        return self.run(["python3", "tools/build.py", *words], kit, **more)
 
     def proved(self) -> Optional[List[str]]:
         """The crates that were proved since this was asked last, in the order of their names."""

@@ -2,7 +2,7 @@
 import os
 
 
-def script(folder, text):
+def script(folder: str, text: str) -> str:
     """A shell script. Returns its path."""
     path = os.path.join(folder, "program")
     with open(path, "w", encoding="utf8") as file:

@@ -3,7 +3,7 @@ import pathlib
 import unittest
 
 import trinorm
-from trinorm import BadArgument, pictures
+from trinorm import BadArgument, hints, pictures
 from trinorm.arguments import shown
 from trinorm.documents import fault_of
 
@@ -138,6 +138,17 @@ class Arguments(unittest.TestCase):
         self.assertEqual(shown([0] * 20), repr([0] * 20))
         self.assertEqual(shown([0] * 21), "[" + "0, " * 16 + "0 .. (of type list)")
 
+    def test_columns_of_other_packages(self):
+        """What has a type of its entries, but no `tolist`, is read as any other iterable."""
+        class Column:
+            dtype = "Int64"
+
+            def __iter__(self):
+                return iter(TORUS)
+
+        self.assertEqual(trinorm.sig(trinorm.crush(SPHERE, Column())), trinorm.sig(trinorm.crush(SPHERE, TORUS)))
+        self.is_none("a list of vectors", trinorm.verify, SPHERE, Column())
+
     def test_are_errors_of_both_kinds(self):
         self.assertTrue(issubclass(BadArgument, ValueError) and issubclass(BadArgument, trinorm.Error))
 
@@ -194,6 +205,12 @@ class Hints(unittest.TestCase):
             self.assertEqual(fault_of(reads, kind, (line, 5 if state == "tri" else 1), text).state, state, (reads, text, line))
         self.assertEqual(fault_of("table", kind, (2, 3), "tri 1\n- x - -\n").words, ("x",))
         self.assertEqual(fault_of("table", kind, (2, 3), "tri 1\n- x - -\n").number, 2)
+        for column, state, number in ((1, "table", 1), (5, "sig", 2), (12, "sig", 3)):
+            found = fault_of("table", kind, (1, column), "sig bkaagj x\n")
+            self.assertEqual((found.state, found.number), (state, number))
+
+    def test_a_refusal_of_which_no_command_is_known(self):
+        self.assertEqual(hints.hint(trinorm.Refused(3, "refused: signature trailing 6")), "the signature is complete before this")
 
     def test_checks_and_limits(self):
         for text, call, words in (

@@ -11,6 +11,8 @@ import unittest.mock
 import trinorm
 from trinorm import batch, machine
 
+from .cases import timed
+
 SIGNATURES = ["bkaagj", "cPcbbbiht", "bkaajj", "cMcabbgaj", "gLLPQccdfeefqffaqnw", "eLMkabcddbrrag"] * 20
 
 
@@ -94,6 +96,7 @@ class Many(unittest.TestCase):
         with self.assertRaises(InterruptedError):
             list(trinorm.many(SIGNATURES, "sig", progress=ends))
 
+    @timed
     def test_timeouts(self):
         long = trinorm.make(6, 24).table
         found = list(trinorm.many(["bkaagj", long, "cPcbbbiht"], "described", timeout=0.15))
@@ -179,7 +182,7 @@ class Many(unittest.TestCase):
         class Loses(concurrent.futures.ThreadPoolExecutor):
             def submit(self, *given, **named):
                 future = concurrent.futures.Future()
-                threading.Timer(0.3, future.set_exception, (RuntimeError("it was lost"),)).start()
+                threading.Timer(3, future.set_exception, (RuntimeError("it was lost"),)).start()
                 return future
 
         with Loses(1) as executor, unittest.mock.patch.multiple(batch, LOOK=0.02, SILENCE=0.05):

@@ -1,6 +1,7 @@
 """The tests of commands once more: by a process for each call, and by the library in this process."""
 import os
 import unittest
+from typing import Any, ClassVar, Dict, List, Optional, Tuple, Type
 from unittest import mock
 
 import trinorm
@@ -10,27 +11,31 @@ from trinorm.program import find_library
 from . import test_commands, test_library, test_questions, test_regina
 
 CHOICES = ("TRINORM", "TRINORM_LIBRARY")
+# the name of a way, what chooses it, and the library that is found
+Way = Tuple[str, Dict[str, str], Optional[library.Library]]
 
 
-def environment(**chosen):
+def environment(**chosen: str) -> Dict[str, str]:
     return {**{name: value for name, value in os.environ.items() if name not in CHOICES}, **chosen}
 
 
-def within(case, way, chosen, wanted):
+def within(case: Type[unittest.TestCase], way: str, chosen: Dict[str, str], wanted: Optional[library.Library]) -> Type[unittest.TestCase]:
     """The tests of a class, where the environment chooses the way."""
-    class Again(case):
+    class Again(case):  # type: ignore[valid-type, misc]
+        around: ClassVar[Any]
+
         @classmethod
-        def setUpClass(cls):
+        def setUpClass(cls) -> None:
             cls.around = mock.patch.dict(os.environ, environment(**chosen), clear=True)
             cls.around.start()
             super().setUpClass()
 
         @classmethod
-        def tearDownClass(cls):
+        def tearDownClass(cls) -> None:
             super().tearDownClass()
             cls.around.stop()
 
-        def setUp(self):
+        def setUp(self) -> None:
             super().setUp()
             self.assertIs(find_library(), wanted)
 
@@ -38,9 +43,9 @@ def within(case, way, chosen, wanted):
     return Again
 
 
-def load_tests(loader, tests, _pattern):
+def load_tests(loader: unittest.TestLoader, tests: object, _pattern: object) -> unittest.TestSuite:
     path, found = test_library.named(), unittest.TestSuite()
-    ways = [("Process", {"TRINORM": trinorm.find()}, None)]
+    ways: List[Way] = [("Process", {"TRINORM": trinorm.find()}, None)]
     if path:
         ways.append(("Library", {"TRINORM_LIBRARY": path}, library.at(os.path.realpath(path))))
     for module in (test_commands, test_questions, test_regina):

@@ -232,7 +232,7 @@ class Ends(Folder):
             with self.subTest(number), self.start(self.waiting()) as run:
                 self.until(lambda: len(self.processes()) == 2)
                 run.send_signal(number)
-                self.assertEqual(run.wait(20), status)
+                self.assertEqual(run.wait(120), status)
                 self.until(lambda: not any(map(self.is_there, self.processes())))
                 self.assertEqual(self.lines(), [])
             os.unlink(os.path.join(self.folder, "processes"))

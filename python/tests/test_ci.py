@@ -10,10 +10,10 @@ from trinorm.program import REPOSITORY
 
 
 class Gate(unittest.TestCase):
-    def test_it_can_be_run(self):
+    def test_it_can_be_run(self) -> None:
         self.assertTrue(os.access(REPOSITORY / ".ci" / "run", os.X_OK))
 
-    def test_its_status(self):
+    def test_its_status(self) -> None:
         """That of the tests, but flaky tests that passed in the end refuse no merge."""
         with tempfile.TemporaryDirectory() as folder:
             for name in (".ci", "tools"):

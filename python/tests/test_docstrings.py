@@ -10,6 +10,7 @@ import pkgutil
 import re
 import types
 import unittest
+from typing import Any, Iterator, List, Optional, Tuple
 
 import trinorm
 from trinorm import arrays, citation, comparisons, library, pictures, program, questions, regina_surfaces
@@ -27,7 +28,7 @@ WITHOUT_EXAMPLE = {"sentences", "Components"}
 RAISES_NOTHING = {"Library.held", "library.next_to", "Server.close"}
 
 
-def public():
+def public() -> Iterator[Tuple[str, Any]]:
     """What users call, with its name."""
     for thing in [*(getattr(trinorm, name) for name in trinorm.__all__), *OTHERS]:
         yield thing.__qualname__ if inspect.isclass(thing) or thing.__module__ != "trinorm.library" else f"library.{thing.__name__}", thing
@@ -38,23 +39,23 @@ def public():
                     yield f"{thing.__qualname__}.{name}", getattr(thing, name)
 
 
-def section(text, name):
+def section(text: Optional[str], name: str) -> List[str]:
     """The lines of a section, without their indentation."""
-    found = re.search(rf"(?ms)^{name}:\n(.*?)(?=\n\n|\Z)", text)
+    found = re.search(rf"(?ms)^{name}:\n(.*?)(?=\n\n|\Z)", text or "")
     return inspect.cleandoc(found[1]).split("\n") if found else []
 
 
-def named_in(lines):
+def named_in(lines: List[str]) -> List[str]:
     """The names that a section describes."""
     return [name.strip() for line in lines if not line.startswith(" ") for name in line.split(":")[0].split(",")]
 
 
-def needs(example):
+def needs(example: doctest.DocTest) -> List[str]:
     """The modules without which an example can't run."""
     return re.findall(r"# needs (\w+)", "".join(it.source for it in example.examples))
 
 
-def examples():
+def examples() -> Iterator[doctest.DocTest]:
     """The examples of all modules of the package."""
     finder = doctest.DocTestFinder()
     names = [f"trinorm.{it.name}" for it in pkgutil.iter_modules(trinorm.__path__) if it.name != "__main__"]
@@ -63,12 +64,12 @@ def examples():
 
 
 class Sections(unittest.TestCase):
-    def test_each_has_a_first_line(self):
+    def test_each_has_a_first_line(self) -> None:
         for name, thing in public():
             text = inspect.getdoc(thing) or ""
             self.assertRegex(text.split("\n\n")[0], r"(?s)\A[A-Z`0].*[.:]\Z", name)
 
-    def test_arguments(self):
+    def test_arguments(self) -> None:
         """All arguments are described, each once, and no others."""
         for name, thing in public():
             if callable(thing) and not (inspect.isclass(thing) and (dataclasses.is_dataclass(thing) or issubclass(thing, Exception))):
@@ -76,7 +77,7 @@ class Sections(unittest.TestCase):
                 with self.subTest(name):
                     self.assertEqual(sorted(named_in(section(inspect.getdoc(thing), "Args"))), sorted(own))
 
-    def test_results_and_exceptions(self):
+    def test_results_and_exceptions(self) -> None:
         for name, thing in public():
             if callable(thing) and not inspect.isclass(thing):
                 text = inspect.getdoc(thing)
@@ -87,7 +88,7 @@ class Sections(unittest.TestCase):
                     for raised in named_in(section(text, "Raises")):
                         self.assertTrue(hasattr(trinorm, raised) or raised == "BaseException", raised)
 
-    def test_attributes(self):
+    def test_attributes(self) -> None:
         """Of data classes all fields."""
         for name, thing in public():
             if inspect.isclass(thing) and dataclasses.is_dataclass(thing):
@@ -95,12 +96,12 @@ class Sections(unittest.TestCase):
                 with self.subTest(name):
                     self.assertLessEqual(fields, set(named_in(section(inspect.getdoc(thing), "Attributes"))))
 
-    def test_each_has_an_example(self):
+    def test_each_has_an_example(self) -> None:
         for name, thing in public():
             if callable(thing) and name not in WITHOUT_EXAMPLE:
-                self.assertIn(">>> ", inspect.getdoc(thing), name)
+                self.assertIn(">>> ", inspect.getdoc(thing) or "", name)
 
-    def test_methods_of_tables_are_the_functions(self):
+    def test_methods_of_tables_are_the_functions(self) -> None:
         """They have the parameters of the functions but the first, their defaults and types, and their sections."""
         names = [name for name, _ in inspect.getmembers(TableMethods, inspect.isfunction) if not name.startswith("_")]
         self.assertGreater(len(names), 20)
@@ -118,13 +119,13 @@ class Sections(unittest.TestCase):
 class Examples(unittest.TestCase):
     """Each in a part of its own, so that one that needs Regina or NumPy is left out where these are not there."""
 
-    def test_they_run(self):
+    def test_they_run(self) -> None:
         run = 0
         for example in examples():
             with self.subTest(example.name):
                 if not all(importlib.util.find_spec(name) for name in needs(example)):
                     continue
-                said = []
+                said: List[str] = []
                 with contextlib.redirect_stderr(io.StringIO()):  # to which a census writes how far it is
                     outcome = doctest.DocTestRunner(verbose=False).run(example, out=said.append)
                 self.assertEqual(outcome.failed, 0, "".join(said))
@@ -136,12 +137,12 @@ class Helpers(unittest.TestCase):
     """What reads docstrings here."""
     TEXT = "A line.\n\nArgs:\n    one, two: that\n        goes on\n    three: it\n\nReturns:\n    This."
 
-    def test_sections(self):
+    def test_sections(self) -> None:
         self.assertEqual(named_in(section(self.TEXT, "Args")), ["one", "two", "three"])
         self.assertEqual(section(self.TEXT, "Returns"), ["This."])
         self.assertEqual(section(self.TEXT, "Raises"), [])
 
-    def test_needs(self):
+    def test_needs(self) -> None:
         self.assertEqual(needs(doctest.DocTestParser().get_doctest(">>> 1  # needs regina\n1\n", {}, "name", None, 0)), ["regina"])
 
 

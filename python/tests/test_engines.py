@@ -148,6 +148,18 @@ class Dask(Engines):
         failed = [line["failed"] for line in self.lines() if line["signature"] == "slow"]
         self.assertEqual(failed, ["sig: no result within 0.02 s"])
 
+    def test_interrupts(self):
+        """The last line says how to go on, and Dask's client has no errors of calls that were given up."""
+        self.put(*(f"slow{number}" for number in range(1000)))
+        for number in (signal.SIGINT, signal.SIGTERM) * 3:
+            before, run = len(self.lines()), self.start(self.census())
+            self.until(lambda: len(self.lines()) > before + 5)
+            os.kill(run.pid, number)
+            said = run.communicate(timeout=120)[1]
+            self.assertEqual(run.returncode, 128 + number, said)
+            self.assertRegex(said.splitlines()[-1], "^stopped: .*if it is started again with the same arguments, it resumes", said)
+            self.assertNotIn("Traceback", said)
+
     def test_a_scheduler_that_ends(self):
         self.put(*(f"slow{number}" for number in range(400)))
         run = self.start([*self.census(), "--jobs", "4"])

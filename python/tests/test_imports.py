@@ -5,21 +5,22 @@ import sys
 import tempfile
 import unittest
 from pathlib import Path
+from typing import Dict, Iterable, Iterator, List, Mapping, Set
 
 import trinorm
 
 PACKAGE = Path(trinorm.__file__).parent
 
 
-def is_for_types_alone(node):
+def is_for_types_alone(node: ast.AST) -> bool:
     """Whether a statement is `if TYPE_CHECKING:`, whose imports are made by those who check types and never at run time."""
     return isinstance(node, ast.If) and isinstance(node.test, ast.Name) and node.test.id == "TYPE_CHECKING"
 
 
-def statements(node):
+def statements(node: ast.AST) -> Iterator[ast.AST]:
     """All statements that can run, at any depth."""
     for child in ast.iter_child_nodes(node):
-        if is_for_types_alone(child):
+        if isinstance(child, ast.If) and is_for_types_alone(child):
             for other in child.orelse:
                 yield from [other, *statements(other)]
         else:
@@ -27,7 +28,7 @@ def statements(node):
             yield from statements(child)
 
 
-def modules_named(node, package, names):
+def modules_named(node: ast.AST, package: str, names: Set[str]) -> Set[str]:
     """The modules of a package that an import names; `__init__` if it takes a name of the package itself."""
     if isinstance(node, ast.Import):
         parts = [alias.name.split(".") for alias in node.names]
@@ -44,17 +45,17 @@ def modules_named(node, package, names):
     return {alias.name if alias.name in names else "__init__" for alias in node.names}
 
 
-def imports_of(folder):
+def imports_of(folder: Path) -> Dict[str, Set[str]]:
     """Which modules of a package each one imports."""
     names = {path.stem for path in folder.glob("*.py")}
-    found = {}
+    found: Dict[str, Set[str]] = {}
     for name in sorted(names):
         tree = ast.parse((folder / f"{name}.py").read_text("utf8"))
         found[name] = {it for node in statements(tree) for it in modules_named(node, folder.name, names)} & names - {name}
     return found
 
 
-def cycle_in(imports):
+def cycle_in(imports: Mapping[str, Iterable[str]]) -> List[str]:
     """Modules of which each imports the next and the last one the first; empty if there are none."""
     left = {name: set(others) for name, others in imports.items()}
     while True:
@@ -74,7 +75,7 @@ def cycle_in(imports):
 
 
 class Imports(unittest.TestCase):
-    def made_up(self, **modules):
+    def made_up(self, **modules: str) -> Dict[str, Set[str]]:
         folder = tempfile.TemporaryDirectory()
         self.addCleanup(folder.cleanup)
         package = Path(folder.name, "made_up")
@@ -83,15 +84,15 @@ class Imports(unittest.TestCase):
             (package / f"{name}.py").write_text(text)
         return imports_of(package)
 
-    def test_the_package(self):
+    def test_the_package(self) -> None:
         self.assertEqual(cycle_in(imports_of(PACKAGE)), [])
 
-    def test_each_module_is_seen(self):
+    def test_each_module_is_seen(self) -> None:
         found = imports_of(PACKAGE)
         self.assertGreaterEqual(found["commands"], {"tables", "answers", "program"})
         self.assertLessEqual({"library", "outcomes"}, found["program"])
 
-    def test_cycles_are_found(self):
+    def test_cycles_are_found(self) -> None:
         for modules in (
             {"one": "from . import two\n", "two": "import made_up.one\n"},
             {"one": "from .two import x\n", "two": "def f():\n    from .one import y\n"},
@@ -101,7 +102,7 @@ class Imports(unittest.TestCase):
         ):
             self.assertEqual(set(cycle_in(self.made_up(**modules))), set(modules))
 
-    def test_what_is_none(self):
+    def test_what_is_none(self) -> None:
         for modules in (
             {"one": "from . import two\n", "two": "if TYPE_CHECKING:\n    from .one import x\n"},
             {"one": "from . import two, three\n", "two": "from . import three\n", "three": "import one\n"},
@@ -109,7 +110,7 @@ class Imports(unittest.TestCase):
         ):
             self.assertEqual(cycle_in(self.made_up(**modules)), [])
 
-    def test_each_module_can_be_imported_first(self):
+    def test_each_module_can_be_imported_first(self) -> None:
         """Not only in the order in which the package itself loads them."""
         lines = ["import importlib, sys, types", f"package = types.ModuleType('trinorm'); package.__path__ = [{str(PACKAGE)!r}]", "kept = set(sys.modules)"]
         lines += ["for name in sys.argv[1:]:", "    for known in set(sys.modules) - kept:", "        if known.startswith('trinorm'): del sys.modules[known]",
@@ -120,7 +121,7 @@ class Imports(unittest.TestCase):
 
 
 class Names(unittest.TestCase):
-    def test_names_stay_where_they_were(self):
+    def test_names_stay_where_they_were(self) -> None:
         """Those that moved to a module of their own."""
         from trinorm import answers, program, regina_surfaces, results
         for name in ("Accepted", "Bulk", "Component", "Cover", "Descent", "Edge", "Generator", "Grouping", "Info", "Isomorphism", "Made", "Played",

@@ -5,12 +5,29 @@ import pty
 import re
 import shutil
 import subprocess
+import sys
 import tempfile
+import time
 import unittest
+from typing import List
 
 import trinorm
 from tests import repository
 from trinorm import hints
+
+# a `tee` that writes a block to the file only when its reader has taken all of it, and ends if the reader has ended
+TEE = """
+import os, sys
+with open(sys.argv[1], "wb") as file:
+    for block in iter(lambda: sys.stdin.buffer.read(1 << 18), b""):
+        left = memoryview(block)
+        while left:
+            try:
+                left = left[os.write(1, left):]
+            except BrokenPipeError:
+                sys.exit(141)
+        file.write(block)
+"""
 
 
 class Launcher(unittest.TestCase):
@@ -258,6 +275,18 @@ class Launcher(unittest.TestCase):
         self.assertIn("compare the signatures", self.said(["group"], b"sig bkaagj\n" * 100000))
         self.assertEqual(self.said(["group"], b"sig bkaagj\nsig bkaagjx\n"), "trinorm: the signature is complete before this\n")
 
+    def test_more_than_the_program_reads(self):
+        """The second run reads what the first one has read, also if `tee` writes blocks that are larger than a pipe."""
+        with tempfile.TemporaryDirectory() as folder:
+            path = os.path.join(folder, "tee")
+            with open(path, "w", encoding="utf8") as file:
+                file.write(f"#!{sys.executable}\n{TEE}")
+            os.chmod(path, 0o755)
+            script = f"PATH={folder}:$PATH; {self.launcher} info"
+            text = b"sig bkaagj\n" + b"#\n" * 600000
+            self.assertEqual(self.run_with("sh", ["-c", script], text), (*self.run_with(self.program, ["info"], text)[:2], self.said(["info"], text)))
+            self.assertIn("longer than 1 MiB", self.run_with("sh", ["-c", script], text)[2])
+
     def test_reading_and_writing_that_fails(self):
         script = "exec %s info %s; echo $?"
         for given in ("<&-", "</", "<%s/crates.txt" % self.folder.name):
@@ -297,17 +326,17 @@ class Launcher(unittest.TestCase):
     def test_a_long_run(self):
         """What is said after ten seconds, which a made-up `sleep` makes shorter; what waits ends with the program."""
         with tempfile.TemporaryDirectory() as folder:
-            for name, text in (("sleep", "exec /bin/sleep ${1%0}"), ("slow", "cat; exec /bin/sleep 2"), ("quick", "cat")):
+            for name, text in (("sleep", "exec /bin/sleep $wait"), ("slow", "cat; exec /bin/sleep 6"), ("quick", "cat")):
                 path = os.path.join(folder, name)
                 with open(path, "w", encoding="utf8") as file:
                     file.write(f"#!/bin/sh\n{text}\n")
                 os.chmod(path, 0o755)
-            start = f"PATH={folder}:$PATH commands={self.folder.name}/python/trinorm/commands.txt here={self.folder.name}/launcher version_file=x"
+            start = f"export wait; PATH={folder}:$PATH commands={self.folder.name}/python/trinorm/commands.txt here={self.folder.name}/launcher version_file=x"
             for shell in ("dash", "bash"):
                 if not shutil.which(shell):
                     continue
-                for name, said in (("slow", "trinorm: sig has been running for ten seconds; Ctrl-C stops it\n"), ("quick", "")):
-                    script = f"{start}; program={folder}/{name}; set -- sig; . {self.folder.name}/launcher/hints.sh"
+                for name, wait, said in (("slow", 1, "trinorm: sig has been running for ten seconds; Ctrl-C stops it\n"), ("quick", 100, "")):
+                    script = f"wait={wait}; {start}; program={folder}/{name}; set -- sig; . {self.folder.name}/launcher/hints.sh"
                     self.assertEqual(self.run_with(shell, ["-c", script], b"answer\n"), (0, b"answer\n", said))
 
     def test_what_waits_ends(self):
@@ -316,10 +345,17 @@ class Launcher(unittest.TestCase):
         ours, theirs = pty.openpty()
         script = f"for n in 1 2 3 4 5 6 7 8 9 10; do echo sig bkaagj | {self.launcher} sig; done"
         done = subprocess.run(["sh", "-c", script], env=dict(os.environ, TRINORM_MARK=mark), stdin=subprocess.DEVNULL, stdout=subprocess.PIPE,
-                              stderr=theirs, timeout=60, check=False)
+                              stderr=theirs, timeout=300, check=False)
         os.close(ours)
         os.close(theirs)
         self.assertEqual(done.stdout, b"bkaagj\n" * 10)
+        until = time.monotonic() + 5
+        while self.marked(mark) and time.monotonic() < until:
+            time.sleep(0.1)
+        self.assertEqual(self.marked(mark), [])
+
+    def marked(self, mark: str) -> List[str]:
+        """The processes that have this mark in their environment."""
         left = []
         for process in filter(str.isdigit, os.listdir("/proc")):
             try:
@@ -328,7 +364,7 @@ class Launcher(unittest.TestCase):
                         left.append(process)
             except OSError:
                 pass
-        self.assertEqual(left, [])
+        return left
 
     def test_no_place_for_what_was_read(self):
         script = f"TMPDIR=/no/such/folder; export TMPDIR; echo sig bkaagj | {self.launcher} sig"

@@ -4,6 +4,7 @@ import io
 import subprocess
 import sys
 import unittest
+from typing import List, Tuple
 
 from trinorm.program import REPOSITORY
 
@@ -48,22 +49,22 @@ pub fn computes(n: u32) -> u32 {
 
 
 class Comments(unittest.TestCase):
-    def laws(self):
+    def laws(self) -> Crate:
         return crate_of("half_laws", FILE)
 
-    def test_laws_of_a_file(self):
+    def test_laws_of_a_file(self) -> None:
         crate = self.laws()
         self.assertEqual(crate.head, "Halves of numbers, which are whole.")
         self.assertEqual(crate.words, ["Words: a number is *even* if it has a half."])
         self.assertEqual([(law.anchor, law.kind, law.statements) for law in crate.laws],
                          [("half_laws.halves", "Theorem", ("Descent", "Contains")), ("half_laws.halves_are_small", "Lemma", ("Contains",))])
 
-    def test_items(self):
+    def test_items(self) -> None:
         found = list(blocks(["Let n be", "1. Two lines.", "", "1. One", "and more.", "2. Two.", "", "After. 3. Not one.", "", "3. Three."]))
         self.assertEqual([(block.number, block.text) for block in found],
                          [(0, "Let n be 1. Two lines."), (1, "One and more."), (2, "Two."), (0, "After. 3. Not one."), (3, "Three.")])
 
-    def test_entry(self):
+    def test_entry(self) -> None:
         crate = self.laws()
         text = entry(crate, crate.laws[0], Links([crate, Crate("cone_laws", "", [], [], Names(""))]), Definitions())
         self.assertTrue(text.startswith('<a id="half_laws.halves"></a>\n\n### `halves`\n\n**Theorem** (Euclid 300). Let n be an even number, at least 1. Then:\n\n'
@@ -73,20 +74,20 @@ class Comments(unittest.TestCase):
         self.assertIn("<code>Contains</code>, in crates/cone_definitions/specs/Laws.antt:\n\n```\nabbrev pub EachContainsRay : Type 0\nEachContainsRay =", text)
         self.assertTrue(text.endswith("```\n\n</details>"))
 
-    def test_lemmas_are_apart(self):
+    def test_lemmas_are_apart(self) -> None:
         crate = self.laws()
         links = Links([crate])
         self.assertNotIn("### `halves_are_small`", section(crate, links, Definitions()))
         self.assertIn("Lemma of this crate: [`halves_are_small`](#half_laws.halves_are_small).", section(crate, links, Definitions()))
         self.assertIn("### `halves_are_small`", lemmas_of(crate, links, Definitions()))
 
-    def test_unknown_statement(self):
+    def test_unknown_statement(self) -> None:
         crate = crate_of("half_laws", FILE.replace("Descent,", ""))
         with self.assertRaisesRegex(ValueError, "half_laws: no definition of the statement Descent"):
             section(crate, Links([crate]), Definitions())
 
-    def test_refused(self):
-        def wrong(*lines, statements=("One",)):
+    def test_refused(self) -> None:
+        def wrong(*lines: str, statements: Tuple[str, ...] = ("One",)) -> List[str]:
             return list(faults(Law("a_laws", "one", lines, statements)))
 
         self.assertEqual(wrong("Theorem: it is so."), [])
@@ -96,12 +97,14 @@ class Comments(unittest.TestCase):
         self.assertEqual(wrong(""), ["begins with none of Theorem, Lemma and Example"])
         self.assertEqual(wrong("Lemma:", "", "1. It is.", "2. It is so."), ["has 2 items, and its contract 1 statements"])
 
-    def test_one_name_in_two_crates(self):
+    def test_one_name_in_two_crates(self) -> None:
         links = Links([Crate(name, "", [], [Law(name, "same", ("Theorem.",), ())], Names("")) for name in ("a_laws", "b_laws")])
-        self.assertEqual(links.find("same", "b_laws").anchor, "b_laws.same")
+        found = links.find("same", "b_laws")
+        assert found is not None
+        self.assertEqual(found.anchor, "b_laws.same")
         self.assertIsNone(links.find("same", "c_laws"))
 
-    def test_cited(self):
+    def test_cited(self) -> None:
         crates = [Crate("a_laws", "", [], [Law("a_laws", "one", (), ()), Law("a_laws", "two", (), ())], Names("")),
                   Crate("b_laws", "", [], [Law("b_laws", "one", (), ())], Names(""))]
         text = "1. **All.** It is. (`a_laws`\\*: `one`; `b_laws`: `one`, `two`)\n2. **Both.** (`b_laws`) [x](LAWS.md#a_laws.two)\n3. **None.** `nothing`\n`a_laws`: `one`\n"
@@ -110,35 +113,35 @@ class Comments(unittest.TestCase):
 
 
 class Specs(unittest.TestCase):
-    def test_definitions(self):
+    def test_definitions(self) -> None:
         text = "-- a head\nuse Rattle.std.specs.List.{length as size, map}\nuse Rattle.a.specs.B as Other\nuse Rattle.a.specs.C.{One as Two}\n"
         names = Names(text)
         self.assertEqual(names.library, {"size": "length", "map": "map"})
         self.assertEqual((names.modules, names.items), ({"Other": ("a", "B")}, {"Two": ("a", "C", "One")}))
         self.assertEqual(list(paragraphs(text + "\n-- of one\nabbrev one : ℕ\none = 1\n\n-- alone\n")), ["-- of one\nabbrev one : ℕ\none = 1"])
 
-    def test_nothing_there(self):
+    def test_nothing_there(self) -> None:
         self.assertIsNone(Definitions().get(("no_crate", "No.file", "Nothing")))
 
 
 class Page(unittest.TestCase):
-    def test_current(self):
+    def test_current(self) -> None:
         done = subprocess.run([sys.executable, str(REPOSITORY / "tools" / "laws.py"), "--check"], capture_output=True, text=True, check=False)
         self.assertEqual(done.returncode, 0, done.stdout + done.stderr)
 
-    def test_each_law_has_an_anchor(self):
+    def test_each_law_has_an_anchor(self) -> None:
         found = anchors(PAGE)
         for crate in read_crates():
             self.assertIn(crate.name, found)
             for law in crate.laws:
                 self.assertIn(law.anchor, found)
 
-    def test_each_law_is_read(self):
+    def test_each_law_is_read(self) -> None:
         for crate in read_crates():
             text = (REPOSITORY / "crates" / crate.name / "src" / "lib.rt").read_text("utf8")
             self.assertEqual(len(list(laws_of(crate.name, text))), text.count("\n{}\n"), crate.name)
 
-    def test_other_text(self):
+    def test_other_text(self) -> None:
         with contextlib.redirect_stdout(io.StringIO()) as said:
             self.assertEqual(written(PAGE, "another page\n", True), 1)
             self.assertEqual(written(REPOSITORY / "docs" / "NO-PAGE.md", "", True), 1)

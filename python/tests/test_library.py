@@ -1,6 +1,8 @@
 """The library in this process: the program's answers, limits, and bad use."""
 import ctypes
+import errno
 import gc
+import mmap
 import os
 import shutil
 import signal
@@ -13,6 +15,7 @@ import unittest
 import unittest.mock
 import weakref
 from pathlib import Path
+from typing import Any, Callable, List, Optional, Sequence, Tuple
 
 import trinorm
 from trinorm import library
@@ -22,66 +25,68 @@ from trinorm.program import REPOSITORY
 from .programs import script
 
 # no command, options that are none, values that are none, a command twice
-NO_WORDS = [[], [""], ["surface"], ["sig", "sig"], ["surfaces", "--coords"], ["surfaces", "--coords=quads"], ["info", "--seed", "1"],
-            ["--help"], ["sig", "--"], ["é"], ["surfaces", "--max-entry", "0"], ["verify", "--coords", "quad", "--coords", "quad"]]
+NO_WORDS: List[List[str]] = [
+    [], [""], ["surface"], ["sig", "sig"], ["surfaces", "--coords"], ["surfaces", "--coords=quads"], ["info", "--seed", "1"],
+    ["--help"], ["sig", "--"], ["é"], ["surfaces", "--max-entry", "0"], ["verify", "--coords", "quad", "--coords", "quad"]]
 INPUTS = ["", "sig cPcbbbiht\n", "sig bkaagj\n", "tri 1\n0:1023 0:1023 0:1230 0:3012\n", "tri 0\n", "sig jvLLMQQcdghifhihinktpphggkw\n",
           "tri 1\n- - - -\n", "cone 3 1\n1 -1 0\n", "sig \udcff\n", "sig bkaagj\0\n", "sig é\n"]
-ASKED = [["surfaces", "--coords=quad", "--order", "zeros"], ["surfaces", "--coords", "octagon"], ["surfaces", "--max-entry", "1"],
-         *([name] for name in reading("table")), ["rays"], ["make", "--seed", "7", "--moves", "20"],
-         ["bulk", "--seed", "7", "--moves", "2"], ["play"], ["group"], ["same"], ["verify"], ["check"]]
+ASKED: List[List[str]] = [
+    ["surfaces", "--coords=quad", "--order", "zeros"], ["surfaces", "--coords", "octagon"], ["surfaces", "--max-entry", "1"],
+    *([name] for name in reading("table")), ["rays"], ["make", "--seed", "7", "--moves", "20"],
+    ["bulk", "--seed", "7", "--moves", "2"], ["play"], ["group"], ["same"], ["verify"], ["check"]]
 # a list of 15,129 surfaces, in a good fraction of a second
 LONG = "tri 20\n" + "".join(
     f"{(it + 1) % 20}:1023 {(it - 1) % 20}:1023 {(it - 1) % 20}:0132 {(it + 1) % 20}:0132\n" for it in range(20))
 
 
-def named():
+def named() -> Optional[str]:
     """The library that is tested, or None where it isn't built."""
     path = os.environ.get("TRINORM_LIBRARY") or Path(os.path.realpath(trinorm.find())).parent / library.NAME
     return str(path) if os.path.isfile(path) else None
 
 
-def by_process(words, text):
+def by_process(words: Sequence[str], text: str) -> Tuple[int, bytes]:
     done = subprocess.run([trinorm.find(), *words], input=text.encode("utf8", "surrogateescape"), stdout=subprocess.PIPE, check=False)
     return done.returncode, done.stdout
 
 
 @unittest.skipUnless(named(), "the library isn't built")
 class Library(unittest.TestCase):
-    def setUp(self):
-        self.library = library.at(named())
+    def setUp(self) -> None:
+        self.library = library.at(str(named()))
 
-    def answer(self, words, text="", **limits):
-        return self.library.answer(words, text, **limits)[:2]
+    def answer(self, words: Sequence[str], text: str = "") -> Tuple[int, bytes]:
+        return self.library.answer(words, text)[:2]
 
-    def test_answers_are_the_program_s(self):
+    def test_answers_are_the_program_s(self) -> None:
         for text in INPUTS:
             for words in ASKED:
                 self.assertEqual(self.answer(words, text), by_process(words, text), (words, text))
 
-    def test_words_that_are_none(self):
+    def test_words_that_are_none(self) -> None:
         for words in NO_WORDS:
             self.assertEqual(self.answer(words, INPUTS[1]), (2, b"refused: usage\n"), words)
             self.assertEqual(by_process(words, INPUTS[1]), (2, b"refused: usage\n"), words)
 
-    def test_words_that_are_no_texts(self):
+    def test_words_that_are_no_texts(self) -> None:
         self.assertEqual(self.answer(["\udcff"]), (9, b""))
         with self.assertRaisesRegex(trinorm.Failed, "not UTF-8"):
             self.library.run(["sig", "\udcff"])
         with self.assertRaisesRegex(ValueError, "null character"):
             self.library.run(["sig\0"])
 
-    def test_long_inputs(self):
+    def test_long_inputs(self) -> None:
         for more in (0, 1, 5_000_000):
             text = "tri 1\n0:1023 0:1023 0:1230 0:3012\n".ljust((1 << 20) + more)
             self.assertEqual(self.answer(["sig"], text), by_process(["sig"], text), more)
         self.assertEqual(self.answer(["make", "--seed", "1", "--moves", "1"], "x" * 2_000_000), self.answer(["make", "--seed", "1", "--moves", "1"]))
 
-    def test_four_threads(self):
+    def test_four_threads(self) -> None:
         jobs = [(words, text) for words in ASKED for text in INPUTS]
         wanted = [self.answer(*job) for job in jobs]
-        wrong = []
+        wrong: List[object] = []
 
-        def work(first):
+        def work(first: int) -> None:
             for at in range(len(jobs)):
                 at = (at * 7 + first * 50) % len(jobs)
                 if self.answer(*jobs[at]) != wanted[at]:
@@ -94,10 +99,10 @@ class Library(unittest.TestCase):
             it.join()
         self.assertEqual(wrong, [])
 
-    def test_forked_children(self):
+    def test_forked_children(self) -> None:
         wanted = self.answer(["surfaces"], LONG), self.answer(["surfaces", "--coords", "quad"], LONG)
 
-        def is_right():
+        def is_right() -> bool:
             return all(self.answer(["surfaces", "--coords", "quad"], LONG) == wanted[1] and self.answer(["surfaces"], LONG) == wanted[0]
                        for _ in range(2))
 
@@ -107,7 +112,7 @@ class Library(unittest.TestCase):
         self.assertTrue(is_right())
         self.assertEqual(os.waitpid(child, 0)[1], 0)
 
-    def test_little_room_in_the_system(self):
+    def test_little_room_in_the_system(self) -> None:
         script = ("import resource; from trinorm import library; it = library.at(%r)\n"
                   "now = int(open('/proc/self/statm').read().split()[0]) << 12\n"
                   "resource.setrlimit(resource.RLIMIT_AS, (now + (6 << 20),) * 2)\n"
@@ -116,7 +121,25 @@ class Library(unittest.TestCase):
         done = subprocess.run([sys.executable, "-c", script % (named(), LONG)], stdout=subprocess.PIPE, text=True, env=around, check=False)
         self.assertIn(done.stdout, [f"(0, b'bkaagj\\n', 0) {it} 0\n" for it in (0, 8)])
 
-    def test_a_small_stack(self):
+    def test_no_memory_for_an_answer(self) -> None:
+        """As if a command had none left, whether or not it is reported on."""
+        for fault in (OSError(errno.ENOMEM, "Cannot allocate memory"), MemoryError()):
+            for progress in (None, abs):
+                found: List[object] = []
+
+                def ask() -> None:  # in a thread of its own, which has no room yet
+                    found.append(self.library.answer(["sig"], "sig bkaagj\n", progress=progress))
+                    with self.assertRaisesRegex(trinorm.Failed, "out of memory"):
+                        self.library.run(["sig"], "sig bkaagj\n", progress=progress)
+                    found.append("refused")
+
+                with self.subTest((fault, progress)), unittest.mock.patch.object(mmap, "mmap", side_effect=fault):
+                    thread = threading.Thread(target=ask)
+                    thread.start()
+                    thread.join()
+                    self.assertEqual(found, [(8, b"", 0), "refused"])
+
+    def test_a_small_stack(self) -> None:
         statuses = []
         before = threading.stack_size(256 << 10)
         try:
@@ -127,20 +150,20 @@ class Library(unittest.TestCase):
             threading.stack_size(before)
         self.assertEqual(statuses, [0])
 
-    def test_a_limit_of_time(self):
+    def test_a_limit_of_time(self) -> None:
         begun = time.monotonic()
         with self.assertRaises(trinorm.TimedOut):
             self.library.run(["surfaces"], LONG, timeout=0.01)
         self.assertLess(time.monotonic() - begun, 30)
         self.assertEqual(self.library.run(["sig"], "sig bkaagj\n", timeout=60), "bkaagj\n")
 
-    def test_a_limit_of_memory(self):
+    def test_a_limit_of_memory(self) -> None:
         with self.assertRaisesRegex(trinorm.Failed, "needs more than 1048576 bytes of memory"):
             self.library.run(["surfaces"], LONG, memory=1 << 20)
         self.assertEqual(self.library.answer(["surfaces"], LONG, memory=1 << 20), (8, b"", library.MOST_MEMORY))
         self.assertEqual(self.library.run(["sig"], "sig bkaagj\n", memory=1 << 20), "bkaagj\n")
 
-    def test_each_room_for_memory(self):
+    def test_each_room_for_memory(self) -> None:
         said = set()
         for most in range(1, 400_000, 7_001):
             status, answer, reached = self.library.answer(["surfaces"], INPUTS[5], memory=most)
@@ -148,7 +171,7 @@ class Library(unittest.TestCase):
             said.add((status, answer))
         self.assertEqual(said, {(8, b""), by_process(["surfaces"], INPUTS[5])})
 
-    def by_alarm(self, handler, seconds=0.05):
+    def by_alarm(self, handler: Callable[..., object], seconds: float = 0.05) -> None:
         """The long list, asked again and again, while the handler is called once."""
         before = signal.signal(signal.SIGALRM, handler)
         try:
@@ -160,30 +183,30 @@ class Library(unittest.TestCase):
             signal.setitimer(signal.ITIMER_REAL, 0)
             signal.signal(signal.SIGALRM, before)
 
-    def test_a_handler_of_signals_ends_a_call(self):
+    def test_a_handler_of_signals_ends_a_call(self) -> None:
         for kind in (InterruptedError, KeyboardInterrupt, TimeoutError, trinorm.Failed):
-            def stop(*_):
+            def stop(*_: object) -> None:
                 raise kind("enough")
 
             with self.assertRaisesRegex(kind, "enough"):
                 self.by_alarm(stop)
             self.assertEqual(self.library.run(["sig"], "sig bkaagj\n"), "bkaagj\n")
 
-    def test_ctrl_c_ends_a_call(self):
+    def test_ctrl_c_ends_a_call(self) -> None:
         text = ("import os, signal, threading\nfrom trinorm import library\nit = library.at(%r)\n"
-                "threading.Timer(0.3, os.kill, (os.getpid(), signal.SIGINT)).start()\n"
+                "threading.Timer(1, os.kill, (os.getpid(), signal.SIGINT)).start()\n"
                 "try:\n    while True:\n        it.answer(['surfaces'], %r)\nexcept KeyboardInterrupt:\n    print('ended', it.run(['sig'], 'sig bkaagj'))\n")
         done = subprocess.run([sys.executable, "-c", text % (named(), LONG)], env=dict(os.environ, PYTHONPATH=str(REPOSITORY / "python")),
                               stdout=subprocess.PIPE, text=True, timeout=60, check=False)
         self.assertEqual((done.returncode, done.stdout), (0, "ended bkaagj\n\n"))
 
-    def test_exceptions_of_handlers_are_released(self):
+    def test_exceptions_of_handlers_are_released(self) -> None:
         class Enough(Exception):
             """One that can be referred to weakly."""
 
         faults = []
 
-        def stop(*_):
+        def stop(*_: object) -> None:
             fault = Enough("enough")
             faults.append(weakref.ref(fault))
             raise fault
@@ -194,15 +217,15 @@ class Library(unittest.TestCase):
         gc.collect()
         self.assertEqual([it() for it in faults], [None] * 5)
 
-    def test_a_handler_may_call_too(self):
+    def test_a_handler_may_call_too(self) -> None:
         """Its answer is its own, and the call around it has its limit and its answer."""
-        inside = []
+        inside: List[object] = []
         small = self.library.answer(["sig"], "sig bkaagj\n")
         long = self.library.answer(["surfaces", "--coords", "quad"], LONG)
 
-        def ask(*_):
-            inside.append(self.library.answer(["sig"], "sig bkaagj\n", memory=1 << 20, timeout=100))
-            inside.append(self.library.answer(["surfaces", "--coords", "quad"], LONG))
+        def ask(*_: object) -> None:  # which may be interrupted by itself
+            one = self.library.answer(["sig"], "sig bkaagj\n", memory=1 << 20, timeout=100)
+            inside.append((one, self.library.answer(["surfaces", "--coords", "quad"], LONG)))
 
         before = signal.signal(signal.SIGALRM, ask)
         try:
@@ -216,20 +239,23 @@ class Library(unittest.TestCase):
             signal.setitimer(signal.ITIMER_REAL, 0)
             signal.signal(signal.SIGALRM, before)
         self.assertTrue(inside)
-        self.assertEqual(inside[::2] + inside[1::2], [small] * len(inside[::2]) + [long] * len(inside[1::2]))
+        self.assertEqual(inside, [(small, long)] * len(inside))
 
-    def test_limits_that_are_none(self):
-        for timeout in (0, -1, float("nan"), float("inf"), "1", True):
+    def test_limits_that_are_none(self) -> None:
+        timeouts: Tuple[Any, ...] = (0, -1, float("nan"), float("inf"), "1", True)
+        for timeout in timeouts:
             with self.assertRaisesRegex(trinorm.BadArgument, "timeout must be a positive number"):
                 self.library.answer(["sig"], "sig bkaagj\n", timeout=timeout)
-        for memory in (0, -1, 1.5, "1", True, 1 << 64):
+        memories: Tuple[Any, ...] = (0, -1, 1.5, "1", True, 1 << 64)
+        for memory in memories:
             with self.assertRaisesRegex(trinorm.BadArgument, "memory must be a positive number"):
                 self.library.answer(["sig"], "sig bkaagj\n", memory=memory)
-        for words, text in (("sig", ""), ([7], ""), (["sig"], b"sig bkaagj"), (["sig"], "\ud800"), (["sig"], None)):
+        inputs: Tuple[Any, ...] = (("sig", ""), ([7], ""), (["sig"], b"sig bkaagj"), (["sig"], "\ud800"), (["sig"], None))
+        for words, text in inputs:
             with self.assertRaises(trinorm.BadArgument):
                 self.library.answer(words, text)
 
-    def test_it_is_taken_where_no_program_is_named(self):
+    def test_it_is_taken_where_no_program_is_named(self) -> None:
         others = {name: value for name, value in os.environ.items() if name != "TRINORM"}
         with unittest.mock.patch.dict(os.environ, dict(others, TRINORM_LIBRARY=named()), clear=True), \
                 unittest.mock.patch("trinorm.program.run_process", side_effect=AssertionError):
@@ -241,7 +267,7 @@ class Library(unittest.TestCase):
 
 
 class NoLibrary(unittest.TestCase):
-    def test_one_that_cannot_be_loaded_is_passed_over(self):
+    def test_one_that_cannot_be_loaded_is_passed_over(self) -> None:
         with tempfile.TemporaryDirectory() as folder:
             os.rename(script(folder, "echo by a process\n"), os.path.join(folder, "trinorm"))
             Path(folder, library.NAME).write_text("no library", "ascii")
@@ -257,17 +283,17 @@ class NoLibrary(unittest.TestCase):
 class Areas(unittest.TestCase):
     """The function for C, with areas that are none."""
 
-    def setUp(self):
+    def setUp(self) -> None:
         self.call = ctypes.CDLL(named()).trinorm_run
         size, place = ctypes.c_size_t, ctypes.c_void_p
         self.call.argtypes, self.call.restype = [place, size, place, size, place, size, place], ctypes.c_uint8
         self.words, self.input = ctypes.create_string_buffer(b"sig", 3), ctypes.create_string_buffer(b"sig bkaagj\n", 11)
         self.room, self.needed = ctypes.create_string_buffer(b"x" * 64, 64), ctypes.c_size_t(5)
 
-    def run_in(self, room, size, needed=None):
-        return self.call(self.words, 3, self.input, 11, room, size, ctypes.byref(self.needed) if needed is None else needed)
+    def run_in(self, room: Any, size: int, needed: Any = None) -> int:
+        return int(self.call(self.words, 3, self.input, 11, room, size, ctypes.byref(self.needed) if needed is None else needed))
 
-    def test_rooms(self):
+    def test_rooms(self) -> None:
         for size in range(9):
             status = self.run_in(self.room, size)
             self.assertEqual((status, self.needed.value), (0 if size >= 7 else 7, 7))
@@ -275,7 +301,7 @@ class Areas(unittest.TestCase):
             self.room.raw = b"x" * 64
         self.assertEqual((self.run_in(None, 0), self.needed.value), (7, 7))
 
-    def test_the_proved_function_itself(self):
+    def test_the_proved_function_itself(self) -> None:
         call = ctypes.CDLL(named()).trinorm_answer
         call.argtypes, call.restype = self.call.argtypes, ctypes.c_uint8
         for size, wanted in ((6, 7), (7, 0), (64, 0)):
@@ -283,14 +309,14 @@ class Areas(unittest.TestCase):
             self.assertEqual(self.needed.value, 7)
         self.assertEqual(self.room.raw, b"bkaagj\n".ljust(64, b"x"))
 
-    def test_null(self):
+    def test_null(self) -> None:
         self.assertEqual(self.call(None, 0, None, 0, self.room, 64, ctypes.byref(self.needed)), 2)
         self.assertEqual(self.call(self.words, 3, None, 0, self.room, 64, None), 3)
         self.assertEqual(self.run_in(None, 1), 10)
         self.assertEqual(self.call(None, 1, self.input, 11, self.room, 64, None), 10)
         self.assertEqual(self.call(self.words, 3, None, 1 << 40, self.room, 64, None), 10)
 
-    def test_areas_that_lie_over_others(self):
+    def test_areas_that_lie_over_others(self) -> None:
         self.assertEqual(self.run_in(self.input, 11), 10)
         self.assertEqual(self.run_in(ctypes.addressof(self.words) + 2, 1), 10)
         self.assertEqual(self.run_in(self.room, 64, ctypes.addressof(self.room) + 32), 10)
@@ -305,26 +331,26 @@ ARCHIVE = Path(named() or "").parent / "libtrinorm_c.a"
 class Memory(unittest.TestCase):
     """The proved function over other functions of memory, which refuse each request in turn."""
 
-    def setUp(self):
+    def setUp(self) -> None:
         self.folder = tempfile.TemporaryDirectory()
         self.program = os.path.join(self.folder.name, "refused")
         sources = REPOSITORY / "library"
         subprocess.run(["cc", "-O1", "-I", sources, "-o", self.program, sources / "tests" / "refused.c", ARCHIVE], check=True)
 
-    def tearDown(self):
+    def tearDown(self) -> None:
         self.folder.cleanup()
 
-    def refused(self, words, text, *before):
+    def refused(self, words: List[str], text: str, *before: str) -> str:
         done = subprocess.run([*before, self.program, *words], input=text, stdout=subprocess.PIPE, text=True, check=False)
         self.assertEqual(done.returncode, 0, done.stdout)
         return done.stdout
 
-    def test_each_request_in_turn(self):
+    def test_each_request_in_turn(self) -> None:
         for words in (*([name] for name in reading("table")), ["surfaces", "--coords", "quad"], ["rays"], ["none"]):
             self.assertIn("requests refused in turn", self.refused(words, "sig cPcbbbiht\n"))
 
     @unittest.skipUnless(shutil.which("valgrind"), "valgrind isn't there")
-    def test_nothing_is_lost(self):
+    def test_nothing_is_lost(self) -> None:
         check = ["valgrind", "--quiet", "--leak-check=full", "--show-leak-kinds=all", "--error-exitcode=9"]
         for words in (["sig"], ["info"], ["surfaces"]):
             self.refused(words, "sig bkaagj\n", *check)

@@ -4,6 +4,7 @@ import re
 import subprocess
 import sys
 import unittest
+from typing import List, Tuple
 
 from trinorm.program import REPOSITORY
 
@@ -15,7 +16,7 @@ LINES = 20000
 
 @unittest.skipUnless((REPOSITORY / "bench" / "long_census.py").exists(), "the repository's bench/ isn't there")
 class LongCensus(unittest.TestCase):
-    def run_it(self, number, status):
+    def run_it(self, number: str, status: str) -> List[Tuple[int, int]]:
         """The numbers of lines before and after each start."""
         # a pause, so that the signal comes before the end
         words = [sys.executable, SCRIPT, "--lines", str(LINES), "--signal", number, "--pause", "0.00005"]
@@ -24,28 +25,28 @@ class LongCensus(unittest.TestCase):
         *starts, last = run.stdout.splitlines()
         self.assertEqual(last, f"{LINES:,} lines, each once")
         self.assertEqual([line.rpartition(" ")[2] for line in starts], [status, status, "0", "0"])
-        found = [re.match(r"([\d,]+) lines before, ([\d,]+) after; ", line) for line in starts]
-        return [tuple(int(word.replace(",", "")) for word in one.groups()) for one in found]
+        found = [re.findall(r"\A([\d,]+) lines before, ([\d,]+) after; ", line)[0] for line in starts]
+        return [(int(before.replace(",", "")), int(after.replace(",", ""))) for before, after in found]
 
-    def check(self, starts):
+    def check(self, starts: List[Tuple[int, int]]) -> None:
         """Each start goes on where the one before ended; the first two end in the middle."""
         (none, first), (before, second), (earlier, third), last = starts
         self.assertEqual((none, before, earlier, third, last), (0, first, second, LINES, (LINES, LINES)))
         self.assertTrue(0 < first < second < LINES, starts)
 
     @timed
-    def test_interrupted(self):
+    def test_interrupted(self) -> None:
         self.check(self.run_it("INT", "130"))
 
     @timed
-    def test_terminated(self):
+    def test_terminated(self) -> None:
         self.check(self.run_it("TERM", "143"))
 
     @timed
-    def test_killed(self):
+    def test_killed(self) -> None:
         self.check(self.run_it("KILL", "-9"))
 
-    def test_nonsense(self):
+    def test_nonsense(self) -> None:
         for words in (["--lines", "many"], ["--signal", "HUP"], ["--jobs", "0", "--lines", "10"], ["--pause", "long"]):
             run = subprocess.run([sys.executable, SCRIPT, *words], capture_output=True, timeout=120, check=False)
             self.assertNotEqual(run.returncode, 0, words)

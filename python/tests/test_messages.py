@@ -31,19 +31,19 @@ ONE_PLACE = {
 
 
 class Messages(unittest.TestCase):
-    def test_words(self):
+    def test_words(self) -> None:
         for text in ("it answers a question", "Words of it", "the document is empty", "no room for it", "what comes behind", "the number passes the limit",
                      "this is no signature", "the surfaces are none", "the engine has ended", "parted by commas", "it wants a number", "the gate said",
                      "the first pieces", "0-efficient by its numbers", "what is there", "it stands here", "an edit of it", "it goes by sums"):
             self.assertTrue(Text("a", 1, text).words(), text)
 
-    def test_usual_words(self):
+    def test_usual_words(self) -> None:
         for text in ("there is no such command", "whether there are none", "the merge gate (rt ci)", "pass the vectors in several inputs", "the input missing-word",
                      "read `the words` first", "the field {word} of ${words.length} in $words", "--words of tools/words.py", "more than 30 words", "documentation",
                      "the sum of two surfaces", "an inner edge", "the answer is incomplete", "bandwidth of swords"):
             self.assertEqual(Text("a", 1, text).words(), [], text)
 
-    def test_places(self):
+    def test_places(self) -> None:
         with tempfile.TemporaryDirectory() as folder:
             for name, (content, _) in ONE_PLACE.items():
                 path = Path(folder, name)
@@ -52,16 +52,16 @@ class Messages(unittest.TestCase):
             for name, (_, wanted) in ONE_PLACE.items():
                 self.assertEqual([text.text for text in texts(Path(folder)) if text.path == name], wanted, name)
 
-    def test_lines(self):
+    def test_lines(self) -> None:
         self.assertEqual(list(messages.of_javascript("\n\nsay('a word');\n")), [(3, "a word")])
         self.assertEqual(list(messages.of_python('\nit = f"a {b}"\n')), [(2, "a {}")])
 
-    def test_each_place_has_texts(self):
+    def test_each_place_has_texts(self) -> None:
         found = {text.path for text in texts(REPOSITORY)}
         for pattern, _ in messages.PLACES:
             self.assertTrue(any(path.relative_to(REPOSITORY).as_posix() in found for path in REPOSITORY.glob(pattern)), pattern)
 
-    def test_the_repository(self):
+    def test_the_repository(self) -> None:
         done = subprocess.run([sys.executable, str(REPOSITORY / "tools" / "messages.py"), "--check"], capture_output=True, text=True, check=False)
         self.assertEqual((done.returncode, done.stdout), (0, ""), done.stderr)
 

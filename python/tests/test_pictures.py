@@ -8,9 +8,9 @@ import unittest
 import xml.etree.ElementTree as xml
 
 import trinorm
-from trinorm import Table, graph_layout, pictures
+from trinorm import Table, drawing, graph_layout, pictures
 from trinorm.disc_pictures import DISCS, EDGES, Discs, edge_classes, place_of_vertex, vertex_links
-from trinorm.graph_layout import APART, places, ports
+from trinorm.graph_layout import APART, Pair, places, ports
 from trinorm.html_tables import Shown
 from trinorm.pictures import LABEL, face_pairing_dot, face_pairing_svg, face_pairs, growth_points, growth_svg
 from trinorm.tables import BadArgument
@@ -64,6 +64,15 @@ class FacePairings(unittest.TestCase):
                 points = [tuple(map(float, word.lstrip("MC").split(","))) for word in path.get("d").split()]
                 self.assertAlmostEqual(math.dist(points[0], at[pair.tet]), 13, delta=0.2)
                 self.assertAlmostEqual(math.dist(points[3], at[pair.other_tet]), 13, delta=0.2)
+
+    def test_all_tetrahedra_are_in_the_picture(self):
+        """With room for their gluings on all sides."""
+        for table in examples():
+            picture = xml.fromstring(face_pairing_svg(table))
+            wide, high = float(picture.get("width")), float(picture.get("height"))
+            for circle in elements(face_pairing_svg(table), "circle"):
+                x, y = float(circle.get("cx")), float(circle.get("cy"))
+                self.assertTrue(84.4 < x < wide - 84.4 and 84.4 < y < high - 84.4, (table, x, y, wide, high))
 
     def test_thirty_tetrahedra_are_readable(self):
         """None is on another, and no two numbers of faces are."""
@@ -176,7 +185,7 @@ class Links(unittest.TestCase):
                 svg = pictures.vertex_link_svg(table, number)
                 self.assertEqual(count(svg, "polygon", class_="triangle"), vertex.degree)
                 cuts = collections.Counter(it.text for it in elements(svg, "text", class_="glued"))
-                self.assertEqual(set(cuts.values()) | {2}, {2})
+                self.assertEqual(cuts, {str(cut): 2 for cut in range(len(cuts))})
                 boundary = count(svg, "line", class_="boundary")
                 self.assertEqual(boundary == 0, vertex.closed)
                 joined = 3 * vertex.degree - boundary - 2 * len(cuts)
@@ -236,6 +245,95 @@ class Angles(unittest.TestCase):
             self.assertAlmostEqual(turn % 4, right)
 
 
+class Layout(unittest.TestCase):
+    """Where tetrahedra are, in numbers."""
+
+    def assert_near(self, found, right):
+        self.assertEqual(len(found), len(right))
+        for one, other in zip(found, right):
+            self.assertAlmostEqual(math.dist(one, other), 0.0, msg=(found, right), delta=1e-6)
+
+    def test_distances(self):
+        self.assertEqual(graph_layout.distances(4, [Pair(0, 0, 1, 0), Pair(1, 1, 2, 0), Pair(0, 1, 2, 1), Pair(2, 2, 2, 3)]),
+                         [{0: 0, 1: 1, 2: 1}, {1: 0, 0: 1, 2: 1}, {2: 0, 1: 1, 0: 1}, {3: 0}])
+        self.assertEqual(graph_layout.distances(3, [Pair(0, 0, 1, 0), Pair(1, 1, 2, 0)]), [{0: 0, 1: 1, 2: 2}, {1: 0, 0: 1, 2: 1}, {2: 0, 1: 1, 0: 2}])
+
+    def test_a_circle(self):
+        self.assert_near(graph_layout.on_circle([3, 1, 0, 2], 10).values(), [(0, -10), (10, 0), (0, 10), (-10, 0)])
+
+    def test_small_ones(self):
+        self.assert_near(places(1, []), [(0, 0)])
+        self.assert_near(places(3, [Pair(0, 0, 1, 0)]), [(0, 0), (0, 95), (95, 0)])
+        triangle = places(3, [Pair(0, 0, 1, 0), Pair(0, 1, 2, 0), Pair(1, 1, 2, 1)])
+        self.assertEqual([round(math.dist(one, other)) for one, other in itertools.combinations(triangle, 2)], [95] * 3)
+        line = places(3, [Pair(0, 0, 1, 0), Pair(1, 1, 2, 0)])
+        self.assertEqual([round(math.dist(line[one], line[other]) / 10) for one, other in ((0, 1), (1, 2), (0, 2))], [10, 10, 19])
+
+    def test_components_are_side_by_side(self):
+        triangle = [Pair(0, 0, 1, 0), Pair(0, 1, 2, 0), Pair(1, 1, 2, 1)]
+        at = places(6, [*triangle, *(Pair(one + 3, face, other + 3, back) for one, face, other, back in triangle)])
+        self.assert_near([(x - max(it for it, _ in at[:3]) - 95, y) for x, y in at[3:]], [(x, y) for x, y in at[:3]])
+        self.assertEqual([min(x for x, _ in at), min(y for _, y in at)], [0, 0])
+
+    def test_large_ones_are_on_a_circle(self):
+        for size, radius in ((graph_layout.MOST + 1, APART * (graph_layout.MOST + 1) / 6), (2, 47.5)):
+            at = places(size, [Pair(tet, 0, tet + 1, 1) for tet in range(size - 1)])
+            for one, other in zip(at, at[1:]):
+                self.assertAlmostEqual(math.dist(one, other), 2 * radius * math.sin(math.pi / size))
+
+    def test_a_step(self):
+        """Two tetrahedra: the first moves to where the second would have it, then the second."""
+        far = graph_layout.distances(2, [Pair(0, 0, 1, 0)])
+        self.assert_near(graph_layout._relaxed({0: (0.0, 0.0), 1: (3.0, 4.0)}, far).values(), [(-54, -72), (3, 4)])
+        self.assert_near(graph_layout._relaxed({0: (0.0, 0.0), 1: (0.0, 0.0)}, far).values(), [(0, 0), (0, 0)])
+        self.assert_near(graph_layout._relaxed({0: (7.0, 8.0)}, [{0: 0}]).values(), [(7, 8)])
+
+    def test_a_step_is_weighted(self):
+        """One at twice the distance counts a quarter."""
+        far = graph_layout.distances(3, [Pair(0, 0, 1, 0), Pair(1, 1, 2, 0)])
+        at = graph_layout._relaxed({0: (0.0, 0.0), 1: (100.0, 0.0), 2: (0.0, 200.0)}, far)
+        self.assert_near([at[0]], [((100 - 95) * 0.8, (200 - 190) * 0.2)])
+
+    def test_pushing_apart(self):
+        push = graph_layout._pushed_apart
+        self.assert_near(push({0: (0.0, 0.0), 1: (30.0, 40.0)}).values(), [(-4.2, -5.6), (34.2, 45.6)])
+        self.assert_near(push({0: (5.0, 7.0), 1: (5.0, 7.0)}).values(), [(-27, 7), (37, 7)])
+        self.assert_near(push({0: (0.0, 0.0), 1: (63.995, 0.0)}).values(), [(0, 0), (63.995, 0)])
+        self.assert_near(push({0: (0.0, 0.0), 1: (63.98, 0.0)}).values(), [(-0.01, 0), (63.99, 0)])
+        many = push({tet: (tet * 7.0, tet * tet * 3.0) for tet in range(6)})
+        for one, other in itertools.combinations(many.values(), 2):
+            self.assertGreater(math.dist(one, other), APART - 0.011)
+
+    def test_wishes(self):
+        at, half = [(0.0, 0.0), (95.0, 0.0)], graph_layout.GAP / 2
+        found = graph_layout._wishes(at, [Pair(0, 0, 1, 1), Pair(1, 0, 0, 3), Pair(0, 1, 0, 2), Pair(1, 2, 1, 3)])
+        self.assertEqual({key: round(value, 9) for key, value in found.items()}, {key: round(value, 9) for key, value in {
+            (0, 0): -half, (1, 1): math.pi + half, (1, 0): math.pi - half, (0, 3): half,
+            (0, 1): math.pi / 2, (0, 2): math.pi / 2, (1, 2): math.pi / 2, (1, 3): math.pi / 2}.items()})
+        self.assertAlmostEqual(graph_layout._wishes(at, [Pair(0, 0, 0, 1), Pair(0, 2, 0, 3)])[0, 2], 3 * math.pi / 2)
+
+    def test_spreading(self):
+        gap = graph_layout.GAP
+        for wishes, right in (([], {}), ([(7.0, 2)], {2: 7.0}), ([(0.0, 0), (3.0, 1)], {0: 0.0, 1: 3.0}), ([(1.0, 0), (1.0, 1)], {1: 1 - gap / 2, 0: 1 + gap / 2}),
+                              ([(6.2, 0), (6.2 - gap / 2, 1)], {1: 6.2 - 3 * gap / 4, 0: 6.2 + gap / 4}),
+                              ([(-0.1, 0), (3.0, 1)], {0: -0.1, 1: 3.0}),
+                              # over the place where angles begin anew
+                              ([(0.1, 0), (6.2, 1), (3.0, 2)], {2: 3.0, 1: 3.15 + math.pi - gap / 2, 0: 3.15 + math.pi + gap / 2})):
+            found = graph_layout._spread(wishes)
+            self.assertEqual(sorted(found), sorted(right))
+            for face, angle in right.items():
+                self.assertAlmostEqual(math.cos(found[face] - angle), 1.0, msg=wishes)
+
+
+class Parts(unittest.TestCase):
+    def test_elements(self):
+        self.assertEqual(drawing.line((1.0, 2.0), (3.0, 4.0), "m"), '<line x1="1.0" y1="2.0" x2="3.0" y2="4.0" m/>')
+        self.assertEqual(drawing.text((1.0, 2.0), "a<b", "m"), '<text x="1.0" y="6.5" m>a&lt;b</text>')
+        self.assertEqual(drawing.polygon([(1.0, 2.0), (3.0, 4.0)], "m"), '<polygon points="1.0,2.0 3.0,4.0" m/>')
+        self.assertEqual(drawing.between((1.0, 2.0), (5.0, 10.0), 0.25), (2.0, 4.0))
+        self.assertEqual([round(it, 9) for it in drawing.towards((1.0, 2.0), math.pi / 6, 2.0)], [round(1 + 3 ** 0.5, 9), 3.0])
+
+
 class Growth(unittest.TestCase):
     def test_points(self):
         lines = [{"signature": "cPcbbbiht", "answer": [[1], [2]]}, {"signature": "bkaagj", "refused": {}}, {"signature": "bkaagj", "answer": []},
@@ -252,6 +350,8 @@ class Growth(unittest.TestCase):
         lengths, sizes, legend = texts[:3], texts[3:6], texts[6]
         self.assertEqual([it[2] for it in lengths], ["1", "10", "100"])
         self.assertEqual(len({it[0] for it in lengths}), 1)
+        lines = re.findall(r'<line x1="([0-9.]+)" x2="([0-9.]+)" y1="([0-9.]+)" y2="([0-9.]+)"', picture)
+        self.assertEqual(lines, [("70", "700", y, y) for y in ("350", "185", "20")])
         self.assertEqual([(it[2], float(it[0])) for it in sizes], [("1", 175.0), ("2", 385.0), ("3", 595.0)])
         self.assertEqual((legend, len(texts)), (("395", "388", "tetrahedra; the line joins the medians"), 7))
         for most, labels in ((0, ["1", "10"]), (10, ["1", "10"]), (11, ["1", "10", "100"]), (100, ["1", "10", "100"])):

@@ -1,22 +1,25 @@
 """Processes that are interrupted while they are started, are used by many threads, and are asked for nonsense."""
 import os
 import signal
+import subprocess
 import tempfile
 import threading
 import unittest
 from pathlib import Path
+from typing import Any, Callable, List
 from unittest import mock
 
 import trinorm
 from trinorm import processes
 from trinorm.processes import Child
 
+from .cases import within
 from .programs import script
 
 
-def children():
+def children() -> List[str]:
     """The numbers of the children of this process that run or were not waited for."""
-    found = []
+    found: List[str] = []
     for path in Path("/proc/self/task").glob("*/children"):
         try:
             found += path.read_text("ascii").split()
@@ -33,12 +36,12 @@ class Asked(Exception):
 class Interrupts(unittest.TestCase):
     """Nothing is left running, whenever the signal comes."""
 
-    def setUp(self):
+    def setUp(self) -> None:
         self.folder = tempfile.TemporaryDirectory()
         self.addCleanup(self.folder.cleanup)
         self.endless = script(self.folder.name, "exec sleep 300\n")
 
-        def raises(_number, _frame):
+        def raises(_number: int, _frame: object) -> None:
             signal.setitimer(signal.ITIMER_REAL, 0)
             raise Asked
 
@@ -46,7 +49,7 @@ class Interrupts(unittest.TestCase):
         self.addCleanup(signal.signal, signal.SIGALRM, before)
         self.addCleanup(signal.setitimer, signal.ITIMER_REAL, 0)
 
-    def interrupted(self, call):
+    def interrupted(self, call: Callable[[], object]) -> None:
         """Calls it many times, each time with a signal a little later, from before the process is there until after it runs."""
         before = children()
         for step in range(150):
@@ -58,40 +61,40 @@ class Interrupts(unittest.TestCase):
         for thread in threading.enumerate():
             if thread is not threading.current_thread() and not thread.daemon:
                 thread.join(10)
-        for _ in range(100):
+        for _ in within(60):
             if children() == before:
                 return
             threading.Event().wait(0.05)
         self.assertEqual(children(), before)
 
-    def test_of_a_call(self):
+    def test_of_a_call(self) -> None:
         self.interrupted(lambda: trinorm.surfaces("bkaagj", program=self.endless))
 
-    def test_of_a_call_that_reports(self):
+    def test_of_a_call_that_reports(self) -> None:
         self.interrupted(lambda: trinorm.surfaces("bkaagj", progress=lambda *_: None, program=self.endless))
 
-    def test_while_the_process_is_started(self):
+    def test_while_the_process_is_started(self) -> None:
         """The signal comes while `Popen` runs, which no time is short enough to miss."""
         begun, go = threading.Event(), threading.Event()
-        popen = processes.subprocess.Popen
+        popen = subprocess.Popen
 
-        def slow(*words, **how):
+        def slow(*words: Any, **how: Any) -> "subprocess.Popen[bytes]":
             begun.set()
             go.wait(10)
             return popen(*words, **how)
 
-        def signals():
+        def signals() -> None:
             begun.wait(10)
             os.kill(os.getpid(), signal.SIGALRM)
 
         before = children()
         thread = threading.Thread(target=signals)
-        with mock.patch.object(processes.subprocess, "Popen", slow):
+        with mock.patch.object(subprocess, "Popen", slow):
             thread.start()
             with self.assertRaises(Asked), Child([self.endless]):
                 pass
             go.set()
-            for _ in range(100):
+            for _ in within(60):
                 if go.is_set() and children() == before:
                     break
                 threading.Event().wait(0.05)
@@ -100,7 +103,7 @@ class Interrupts(unittest.TestCase):
 
 
 class Started(unittest.TestCase):
-    def test_threads(self):
+    def test_threads(self) -> None:
         listed = trinorm.surfaces("cPcbbbiht")
         program, found = trinorm.find(), []
         threads = [threading.Thread(target=lambda: found.append(trinorm.surfaces("cPcbbbiht", program=program))) for _ in range(20)]
@@ -110,25 +113,25 @@ class Started(unittest.TestCase):
             thread.join()
         self.assertEqual(found, [listed] * 20)
 
-    def test_without_threads(self):
+    def test_without_threads(self) -> None:
         """Where no thread can be started, the process is started here."""
         with mock.patch.object(processes, "start_new_thread", side_effect=RuntimeError("can't start new thread")):
             self.assertEqual(len(trinorm.surfaces("bkaagj", program=trinorm.find())), 2)
 
-    def test_forked_children(self):
+    def test_forked_children(self) -> None:
         child = os.fork()
         if child == 0:
             os._exit(0 if len(trinorm.surfaces("bkaagj", program=trinorm.find())) == 2 else 1)
         self.assertEqual(os.waitpid(child, 0)[1], 0)
 
-    def test_what_cannot_be_started(self):
+    def test_what_cannot_be_started(self) -> None:
         for path, why in (("/no/such/program", "No such file"), (os.path.dirname(__file__), "Permission denied")):
             with self.assertRaisesRegex(trinorm.Failed, f"^{path}: {why}"), Child([path]):
                 pass
         with self.assertRaises(ValueError), Child(["a\0b"]):
             pass
 
-    def test_what_ends_by_an_exception_is_killed(self):
+    def test_what_ends_by_an_exception_is_killed(self) -> None:
         with tempfile.TemporaryDirectory() as folder:
             with self.assertRaises(Asked), Child([script(folder, "exec sleep 300\n")]) as run:
                 raise Asked

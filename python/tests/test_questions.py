@@ -8,6 +8,7 @@ import subprocess
 import tempfile
 import unittest
 from pathlib import Path
+from typing import Any, List
 
 import trinorm
 from trinorm.answers import Surface
@@ -26,35 +27,36 @@ NOT_EFFICIENT = ("cMcabbjaj", "cMcabbgaj", "cPcbbbaai", "cPcbbbahh", "cMcabbgqw"
 
 
 class Questions(unittest.TestCase):
-    def test_spheres(self):
+    def test_spheres(self) -> None:
         self.assertEqual(trinorm.spheres(SPHERE), [])
         [sphere] = trinorm.spheres("cMcabbjaj")
         self.assertEqual((sphere.euler, sphere.linking, len(sphere.components)), (2, False, 1))
         self.assertEqual(trinorm.spheres("eLMkabcddbrrag"), [])
 
-    def test_tori(self):
+    def test_tori(self) -> None:
         self.assertEqual([it.vector for it in trinorm.tori(SPHERE)], [TORUS])
         self.assertEqual(trinorm.tori("bkaajj"), [])
         self.assertEqual(trinorm.tori("cPcbbbiht"), [])
 
-    def test_zero_efficiency(self):
+    def test_zero_efficiency(self) -> None:
         for signature in (SPHERE, "bkaajj", "cPcbbbiht"):
             self.assertTrue(trinorm.zero_efficient(signature))
         for signature in NOT_EFFICIENT:
             shown = trinorm.zero_efficient(signature)
             self.assertFalse(shown)
             self.assertIsInstance(shown, ZeroEfficiency)
+            assert shown.witness is not None
             self.assertIn(shown.witness.vector, trinorm.surfaces(signature))
             self.assertGreater(shown.witness.euler, 0)
-        self.assertEqual(trinorm.zero_efficient("eLMkabcddbrrag").witness.euler, 1)
+        self.assertEqual(getattr(trinorm.zero_efficient("eLMkabcddbrrag").witness, "euler"), 1)
         self.assertFalse(trinorm.zero_efficient(["- - - -"]))
 
-    def test_kinds(self):
+    def test_kinds(self) -> None:
         for t, kind, orientable in ((SPHERE, "closed", True), ("cPcbbbiht", "ideal", True), (["- - - -"], "bounded", True), ("bkaagb", "closed", True)):
             found = trinorm.zero_efficient(t)
             self.assertEqual((found.kind, found.orientable), (kind, orientable), t)
 
-    def test_truth_and_equality_agree(self):
+    def test_truth_and_equality_agree(self) -> None:
         shown, other, right = (trinorm.zero_efficient(it) for it in ("eLMkabcddbrrag", "cMcabbjaj", SPHERE))
         self.assertFalse(shown)
         self.assertTrue(shown == False and shown != True and shown != other and right == True and not right == False)  # noqa: E712
@@ -65,10 +67,10 @@ class Questions(unittest.TestCase):
             self.assertIsInstance(again, ZeroEfficiency)
             self.assertEqual((again, again.witness), (shown, shown.witness))
         with self.assertRaises(dataclasses.FrozenInstanceError):
-            shown.witness = None
+            setattr(shown, "witness", None)
         self.assertIsInstance(shown.witness, Surface)
 
-    def test_old_names(self):
+    def test_old_names(self) -> None:
         shown = trinorm.zero_efficient("eLMkabcddbrrag")
         for name in ("vector", "euler", "linking", "boundary", "components"):
             with self.assertWarnsRegex(DeprecationWarning, f"write `.witness.{name}`"):
@@ -83,7 +85,7 @@ class Questions(unittest.TestCase):
             getattr(trinorm, "nothing")
 
     @unittest.skipIf(shutil.which("mypy") is None, "mypy isn't there")
-    def test_types(self):
+    def test_types(self) -> None:
         with tempfile.TemporaryDirectory() as folder:
             user = Path(folder) / "user.py"
             user.write_text("import trinorm\nz = trinorm.zero_efficient('bkaagj')\nif z.witness is not None:\n    z.witness.vector\n"
@@ -93,7 +95,7 @@ class Questions(unittest.TestCase):
                                   text=True, check=False)
             self.assertEqual((done.returncode, done.stderr), (0, ""), done.stdout)
 
-    def test_counts(self):
+    def test_counts(self) -> None:
         self.assertEqual(trinorm.count(SPHERE), trinorm.Count(2, {2: 1, 0: 1}, 1, 1))
         self.assertEqual(trinorm.count([]), trinorm.Count(0, {}, 0, 0))
         self.assertEqual(trinorm.count(SPHERE, "octagon").surfaces, len(trinorm.surfaces(SPHERE, "octagon")))
@@ -101,7 +103,7 @@ class Questions(unittest.TestCase):
 
 @unittest.skipIf(regina is None, "this Python has no module regina")
 class BesideRegina(unittest.TestCase):
-    def closed(self):
+    def closed(self) -> List[Any]:
         """The first of Regina's closed orientable census, and a few that aren't 0-efficient."""
         census = [it.triangulateComponents()[0] for it in (regina.Triangulation3.fromIsoSig(s) for s in NOT_EFFICIENT)]
         for name in ("s2xs1", "rp3rp3", "poincare", "weeks"):
@@ -110,24 +112,24 @@ class BesideRegina(unittest.TestCase):
         census += [regina.Example3.layeredLoop(size, twisted) for size in (2, 3, 4) for twisted in (False, True)]
         return census
 
-    def test_zero_efficiency(self):
+    def test_zero_efficiency(self) -> None:
         for t in self.closed():
             self.assertEqual(bool(trinorm.zero_efficient(t)), t.isZeroEfficient(), t.isoSig())
 
-    def grown(self, t, size, draws):
+    def grown(self, t: Any, size: int, draws: random.Random) -> Any:
         """The triangulation after 2-3 moves at drawn triangles."""
         t = regina.Triangulation3(t)
         while t.size() < size:
             t.pachner(t.triangle(draws.randrange(t.countTriangles())))
         return t
 
-    def test_zero_efficiency_of_large_ones(self):
+    def test_zero_efficiency_of_large_ones(self) -> None:
         draws = random.Random(1)
         for t in (regina.Example3.weeks(), regina.Example3.poincare(), regina.Example3.rp3rp3()):
             grown = self.grown(t, 12, draws)
             self.assertEqual(bool(trinorm.zero_efficient(grown)), grown.isZeroEfficient(), grown.isoSig())
         # Regina decides these spheres at once, and takes minutes for a 0-efficient triangulation of this size
-        sizes = []
+        sizes: List[int] = []
         for seed in range(40):
             table = trinorm.make(seed, 26).table
             if 20 <= len(table) <= 26 and len(sizes) < 8:
@@ -135,7 +137,7 @@ class BesideRegina(unittest.TestCase):
                 self.assertEqual(bool(trinorm.zero_efficient(table)), table.to_regina().isZeroEfficient(), seed)
         self.assertEqual(len(sizes), 8)
 
-    def test_a_handlebody(self):
+    def test_a_handlebody(self) -> None:
         t = regina.Example3.handlebody(4)
         self.assertEqual(t.size(), 10)
         vectors = trinorm.surfaces(t)
@@ -147,16 +149,17 @@ class BesideRegina(unittest.TestCase):
         self.assertEqual(ours, sorted(map(trinorm.vector_of, discs)))
         self.assertEqual(bool(trinorm.zero_efficient(t)), t.isZeroEfficient())
 
-    def test_a_boundary_component_that_is_a_sphere(self):
+    def test_a_boundary_component_that_is_a_sphere(self) -> None:
         t = regina.Triangulation3.fromIsoSig("bGab")
         self.assertEqual((bool(trinorm.zero_efficient(t)), t.isZeroEfficient()), (True, False))
 
-    def test_projective_planes_with_two_sides(self):
+    def test_projective_planes_with_two_sides(self) -> None:
         t = regina.Example3.rp2xs1()
         shown = trinorm.zero_efficient(t).witness
+        assert shown is not None
         self.assertEqual((shown.euler, shown.components[0].sides, t.isZeroEfficient()), (1, 2, True))
 
-    def test_spheres_and_tori(self):
+    def test_spheres_and_tori(self) -> None:
         for t in self.closed():
             theirs = [it for it in regina.NormalSurfaces(t, regina.NS_STANDARD) if not it.isVertexLinking() and it.isCompact()]
             for ours, euler in ((trinorm.spheres(t), 2), (trinorm.tori(t), 0)):

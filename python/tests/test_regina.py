@@ -1,7 +1,9 @@
 """Both ways between Regina and trinorm; left out where this Python has no module regina."""
 import unittest
+from typing import Tuple
 
 import trinorm
+from trinorm.options import Coords
 from trinorm.regina_surfaces import vertex_surfaces
 
 try:
@@ -9,12 +11,13 @@ try:
 except ImportError:
     regina = None
 
+COORDS: Tuple[Coords, ...] = ("standard", "quad", "octagon")
 SIGNATURES = ("bkaagj", "bkaajj", "cPcbbbiht", "gLLPQccdfeefqffaqnw", "gLvQQadefeffbaddcjo")
 
 
 @unittest.skipIf(regina is None, "this Python has no module regina")
 class Regina(unittest.TestCase):
-    def test_triangulations(self):
+    def test_triangulations(self) -> None:
         for signature in SIGNATURES:
             theirs = regina.Triangulation3.fromIsoSig(signature)
             self.assertEqual(trinorm.sig(theirs), signature)
@@ -24,12 +27,12 @@ class Regina(unittest.TestCase):
         ball.newTetrahedron()
         self.assertEqual(str(trinorm.from_regina(ball)), "tri 1\n- - - -\n")
 
-    def test_lists(self):
+    def test_lists(self) -> None:
         for signature in SIGNATURES:
-            for coords in ("standard", "quad", "octagon"):
+            for coords in COORDS:
                 self.assertEqual(trinorm.surfaces(signature, coords), vertex_surfaces(signature, coords))
 
-    def test_surfaces(self):
+    def test_surfaces(self) -> None:
         theirs = regina.Triangulation3.fromIsoSig("bkaagj")
         octagon = (0, 0, 1, 1, 0, 0, 0, 1, 0, 0)
         surface = trinorm.normal_surface(theirs, octagon, "octagon")
@@ -38,22 +41,23 @@ class Regina(unittest.TestCase):
         for it in regina.NormalSurfaces(theirs, regina.NS_STANDARD):
             self.assertEqual(trinorm.verify(theirs, [it])[0].kind, "solution")
 
-    def test_isomorphisms(self):
+    def test_isomorphisms(self) -> None:
         one, other = (regina.Triangulation3.fromIsoSig(it) for it in ("bkaagn", "bkaagj"))
-        carried = trinorm.same(one, other).to_regina().apply(one)
-        self.assertTrue(carried == other)
+        found = trinorm.same(one, other)
+        assert found is not None
+        self.assertTrue(found.to_regina().apply(one) == other)
 
-    def test_groups(self):
+    def test_groups(self) -> None:
         group = trinorm.pi1("cPcbbbiht").to_regina()
         theirs = regina.Triangulation3.fromIsoSig("cPcbbbiht").group()
         self.assertEqual(str(group.abelianisation()), str(theirs.abelianisation()))
         self.assertEqual((group.countGenerators(), group.countRelations()), (3, 2))
 
-    def test_covers(self):
+    def test_covers(self) -> None:
         cover = trinorm.cover(["0:1203 0:2013 0:0231 0:0312"])
         self.assertEqual(cover.to_regina().isoSig(), "cPcbbbiht")
 
-    def test_packets_and_lists(self):
+    def test_packets_and_lists(self) -> None:
         packet = regina.PacketOfTriangulation3(regina.Triangulation3.fromIsoSig("bkaagj"))
         self.assertEqual(trinorm.sig(packet), "bkaagj")
         self.assertEqual(trinorm.sig(regina.SnapPeaTriangulation(regina.Triangulation3.fromIsoSig("cPcbbbiht"))), "cPcbbbiht")

@@ -7,15 +7,18 @@ from __future__ import annotations
 import collections
 import random
 import unittest
-from typing import ClassVar, List, Optional, Sequence, Tuple
+from typing import ClassVar, Dict, List, Optional, Sequence, Tuple
 
 import trinorm
+from trinorm.options import Coords, WithTriangles
 from trinorm.program import REPOSITORY
 from trinorm.tables import Gluing, Images, Table
 
 # the partner of vertex 0 in each type of quads
 PARTNERS = (1, 2, 3)
-WIDTHS = {"standard": 7, "quad": 3, "octagon": 10}
+WIDTHS: Dict[Coords, int] = {"standard": 7, "quad": 3, "octagon": 10}
+# those in which surfaces are described
+OF_COMPONENTS: Tuple[WithTriangles, ...] = ("standard", "octagon")
 
 
 def type_of(images: Images, kind: int) -> int:
@@ -25,7 +28,7 @@ def type_of(images: Images, kind: int) -> int:
     return PARTNERS.index(max(pair))
 
 
-def column_under(coords: str, tets: Sequence[int], perms: Sequence[Images], column: int) -> int:
+def column_under(coords: Coords, tets: Sequence[int], perms: Sequence[Images], column: int) -> int:
     """The column of the disc type into which a relabelling takes that of a column."""
     width = WIDTHS[coords]
     tet, kind = divmod(column, width)
@@ -36,7 +39,7 @@ def column_under(coords: str, tets: Sequence[int], perms: Sequence[Images], colu
     return width * tets[tet] + triangles + 3 * octagon + type_of(perms[tet], kind)
 
 
-def relabelled_vector(coords: str, tets: Sequence[int], perms: Sequence[Images], vector: Sequence[int]) -> Tuple[int, ...]:
+def relabelled_vector(coords: Coords, tets: Sequence[int], perms: Sequence[Images], vector: Sequence[int]) -> Tuple[int, ...]:
     """The vector of the same surface after a relabelling."""
     made = [0] * len(vector)
     for column, entry in enumerate(vector):
@@ -108,7 +111,7 @@ class Relabellings(unittest.TestCase):
             image = relabelled(table, tets, perms)
             if not trinorm.info(table).edges or any(not edge.valid for edge in trinorm.info(table).edges):
                 continue
-            for coords in ("standard", "octagon"):
+            for coords in OF_COMPONENTS:
                 vectors = [tuple(map(sum, zip(one, other))) for one, other in zip(*[iter(trinorm.surfaces(table, coords=coords))] * 2)]
                 vectors = [it for it, said in zip(vectors, trinorm.verify(table, vectors, coords=coords)) if said.kind == "solution"]
                 moved = [relabelled_vector(coords, tets, perms, it) for it in vectors]

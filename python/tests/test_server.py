@@ -18,11 +18,13 @@ import tempfile
 import threading
 import time
 import unittest
+import unittest.mock
 import warnings
 from pathlib import Path
 
 import trinorm
 from trinorm import server
+from trinorm.errors import NO_MEMORY_HERE
 from trinorm.program import REPOSITORY
 from trinorm.server import Server
 
@@ -147,6 +149,12 @@ class Answers(Folder):
             with self.assertRaises(trinorm.TimedOut):
                 self.echo(text, "sleep", timeout=0.2)
         self.assertLess(time.monotonic() - begun, 60)
+        self.assertEqual(self.echo("two"), "two")
+
+    def test_no_memory_for_an_answer(self):
+        with unittest.mock.patch.object(server.ServerProcess, "ask", side_effect=MemoryError):
+            with self.assertRaisesRegex(trinorm.Failed, f"^echo: {NO_MEMORY_HERE}$"):
+                self.echo("one")
         self.assertEqual(self.echo("two"), "two")
 
     def test_one_that_does_not_read(self):

@@ -1,5 +1,6 @@
 """What is taken for a triangulation."""
 import unittest
+from typing import Any, Tuple
 
 from trinorm import Gluing, Table
 from trinorm.tables import document, size_of_signature
@@ -8,15 +9,15 @@ TEXT = "tri 2\n1:0123 1:1203 1:1032 1:3021\n0:0123 0:1320 0:2013 0:1032\n"
 
 
 class Forms(unittest.TestCase):
-    def test_signature(self):
+    def test_signature(self) -> None:
         self.assertEqual(document("cPcbbbiht"), "sig cPcbbbiht\n")
         self.assertEqual(document("cPcbbbiht\n"), "sig cPcbbbiht\n")
 
-    def test_text(self):
+    def test_text(self) -> None:
         self.assertEqual(document(TEXT), TEXT)
         self.assertEqual(document("# a comment\nsig bkaagj"), "# a comment\nsig bkaagj\n")
 
-    def test_rows(self):
+    def test_rows(self) -> None:
         lines = TEXT.splitlines()[1:]
         self.assertEqual(document(lines), TEXT)
         self.assertEqual(document([line.split() for line in lines]), TEXT)
@@ -25,8 +26,9 @@ class Forms(unittest.TestCase):
         self.assertEqual(document([[None, "-", None, "-"]]), "tri 1\n- - - -\n")
         self.assertEqual(document([]), "tri 0\n")
 
-    def test_what_is_none(self):
-        for rows in (["- - -"], ["0:012 - - -"], [[1, 2, 3, 4]], ["0 - - -"]):
+    def test_what_is_none(self) -> None:
+        wrong: Tuple[Any, ...] = (["- - -"], ["0:012 - - -"], [[1, 2, 3, 4]], ["0 - - -"])
+        for rows in wrong:
             with self.assertRaises((ValueError, TypeError)):
                 document(rows)
         with self.assertRaises(ValueError):
@@ -34,7 +36,7 @@ class Forms(unittest.TestCase):
 
 
 class Sizes(unittest.TestCase):
-    def test_head(self):
+    def test_head(self) -> None:
         self.assertEqual([size_of_signature(it) for it in ("a", "bkaagj", "-cLa", "-cOpaaa")], [0, 1, 37, 15 * 64 + 40])
 
 

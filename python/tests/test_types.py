@@ -4,6 +4,7 @@ import shutil
 import subprocess
 import tempfile
 import unittest
+from typing import ClassVar, List
 
 from trinorm.program import REPOSITORY
 
@@ -52,21 +53,23 @@ trinorm.table("bkaagj").count(arrays=True).number + trinorm.table("bkaagj").coun
 
 @unittest.skipUnless(shutil.which("mypy"), "mypy isn't there")
 class Types(unittest.TestCase):
+    words: ClassVar[List[str]]
+
     @classmethod
-    def setUpClass(cls):
+    def setUpClass(cls) -> None:
         cache = tempfile.TemporaryDirectory()
         cls.addClassCleanup(cache.cleanup)
         cls.words = ["mypy", "--strict", "--python-version", "3.9", "--config-file", str(PACKAGE / "pyproject.toml"), "--cache-dir", cache.name]
 
-    def mypy(self, *words):
+    def mypy(self, *words: str) -> str:
         done = subprocess.run([*self.words, *words], cwd=PACKAGE, env=dict(os.environ, MYPYPATH=str(PACKAGE)),
                               stdout=subprocess.PIPE, stderr=subprocess.STDOUT, text=True, check=False)
         return done.stdout
 
-    def test_the_package(self):
+    def test_the_package(self) -> None:
         self.assertIn("Success: no issues found", self.mypy("trinorm"))
 
-    def test_its_users(self):
+    def test_its_users(self) -> None:
         self.assertIn("Success: no issues found", self.mypy("-c", USER))
         said = self.mypy("-c", WRONG)
         self.assertEqual(said.count(": error: "), 9, said)

@@ -14,11 +14,11 @@ from trinorm.program import REPOSITORY
 
 
 class Versions(unittest.TestCase):
-    def test_is_the_project_s(self):
+    def test_is_the_project_s(self) -> None:
         project = (REPOSITORY / "python" / "pyproject.toml").read_text(encoding="utf8")
         self.assertIn(f'\nversion = "{trinorm.__version__}"\n', project)
 
-    def test_what_the_build_wrote(self):
+    def test_what_the_build_wrote(self) -> None:
         with tempfile.TemporaryDirectory() as folder, mock.patch("trinorm.versions.REPOSITORY", Path(folder)):
             self.assertEqual(versions.build(), "")
             out = Path(folder) / "crates" / "trinorm" / "out"
@@ -28,7 +28,7 @@ class Versions(unittest.TestCase):
                 main(["--version"])
         self.assertEqual((caught.exception.code, said.getvalue()), (0, f"trinorm {trinorm.__version__}\ncommit abc\nkit made-up\n"))
 
-    def test_without_metadata(self):
+    def test_without_metadata(self) -> None:
         """The tarball and the Debian package: the version is that of the file beside the program."""
         with tempfile.TemporaryDirectory() as folder:
             package = Path(folder, "share", "trinorm", "python", "trinorm", "versions.py")

@@ -6,6 +6,7 @@ import sys
 import tempfile
 import unittest
 from pathlib import Path
+from typing import Tuple
 
 from trinorm.program import REPOSITORY
 
@@ -17,11 +18,11 @@ TABLE = '{\n  "about": "Words.",\n  "words": {\n    "b": "The second.",\n    "A"
 
 
 class Form(unittest.TestCase):
-    def test_right(self):
+    def test_right(self) -> None:
         self.assertEqual(list(words.faults(TABLE)), [])
         self.assertEqual(list(words.faults(words.TABLE.read_text("utf8"))), [])
 
-    def test_wrong(self):
+    def test_wrong(self) -> None:
         for text, fault in (
             ("{", "it is not JSON"), (TABLE.replace("    ", "  "), "one line"), (TABLE[:-1], "one line"), (TABLE.replace("χ", "\\u03c7"), "without escapes"),
             (TABLE.replace("second", 'sec\\"ond'), "without escapes"), (TABLE.replace('"about"', '"what"'), "it must have `about`"), (TABLE.replace('"The second."', "2"), "with a text for each"),
@@ -29,7 +30,7 @@ class Form(unittest.TestCase):
         ):
             self.assertIn(fault, "\n".join(words.faults(text)), text)
 
-    def test_the_launcher_reads_the_same(self):
+    def test_the_launcher_reads_the_same(self) -> None:
         known = json.loads(words.TABLE.read_text("utf8"))["words"]
         for word in known:
             done = subprocess.run(["awk", "-f", REPOSITORY / "launcher" / "words.awk", words.TABLE], env={"asked": word, "PATH": "/usr/bin:/bin"}, capture_output=True, text=True, check=False)
@@ -37,7 +38,7 @@ class Form(unittest.TestCase):
 
 
 class Page(unittest.TestCase):
-    def test_list(self):
+    def test_list(self) -> None:
         page = f"# A\n\n{words.MARKS[0]}\nold\n{words.MARKS[1]}\n\nmore\n"
         known = json.loads(TABLE)["words"]
         wanted = f"# A\n\n{words.MARKS[0]}\n\n- **A**: The first, χ.\n- **b**: The second.\n\n{words.MARKS[1]}\n\nmore\n"
@@ -47,15 +48,15 @@ class Page(unittest.TestCase):
             with self.assertRaises(SystemExit):
                 words.with_section(f"# A\n{lacking}\n", known)
 
-    def test_the_page_of_the_repository(self):
+    def test_the_page_of_the_repository(self) -> None:
         self.assertEqual(self.run_in(REPOSITORY, "--check"), (0, ""))
 
-    def run_in(self, top, *arguments):
+    def run_in(self, top: Path, *arguments: str) -> Tuple[int, str]:
         done = subprocess.run([sys.executable, str(top / "tools" / "words.py"), *arguments], capture_output=True, text=True, check=False)
         self.assertEqual(done.stderr, "")
         return done.returncode, done.stdout
 
-    def test_written_and_checked(self):
+    def test_written_and_checked(self) -> None:
         with tempfile.TemporaryDirectory() as folder:
             top = Path(folder)
             for name in ("tools", "docs", "python/trinorm"):
