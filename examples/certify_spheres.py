@@ -41,6 +41,6 @@ def main(path: str, folder: str, most: int = 1000) -> int:
 
 
 if __name__ == "__main__":
-    if len(sys.argv) not in (3, 4):
+    if len(sys.argv) not in (3, 4) or not all(map(str.isdecimal, sys.argv[3:])):
         sys.exit(__doc__)
     sys.exit(main(sys.argv[1], sys.argv[2], *map(int, sys.argv[3:])))

@@ -51,8 +51,11 @@ def name(t: regina.Triangulation3) -> str:
 
 def parts(signature: str) -> Tuple[List[str], List[str]]:
     """The names of the summands that are left, and of those that were lost."""
-    whole = regina.Triangulation3.fromIsoSig(signature)
-    if whole is None or not (whole.isClosed() and whole.isOrientable() and whole.isConnected()):
+    try:
+        whole = regina.Triangulation3.fromIsoSig(signature)
+    except RuntimeError as fault:
+        raise SystemExit(f"{signature}: Regina does not read this as a signature: {fault}") from None
+    if not (whole.isClosed() and whole.isOrientable() and whole.isConnected()):
         raise SystemExit(f"{signature}: this is not a closed connected orientable triangulation")
     left = [trinorm.to_regina(it) for it in summands(signature)]
     lost = [what for what, prime in LOST for _ in range(rank(whole, prime) - sum(rank(it, prime) for it in left))]

@@ -47,6 +47,6 @@ def main(path: str, most: int = 1000) -> None:
 
 
 if __name__ == "__main__":
-    if len(sys.argv) not in (2, 3):
+    if len(sys.argv) not in (2, 3) or not all(map(str.isdecimal, sys.argv[2:])):
         sys.exit(__doc__)
     main(sys.argv[1], *map(int, sys.argv[2:]))

@@ -17,7 +17,10 @@ COORDS = {"standard": regina.NS_STANDARD, "quad": regina.NS_QUAD, "octagon": reg
 
 
 def main(signature, coords="standard"):
-    theirs = regina.Triangulation3.fromIsoSig(signature)
+    try:
+        theirs = regina.Triangulation3.fromIsoSig(signature)
+    except RuntimeError as fault:
+        raise SystemExit(f"{signature}: Regina does not read this as a signature: {fault}") from None
     table = trinorm.from_regina(theirs)
     if table.to_regina() != theirs:
         raise ValueError(table)

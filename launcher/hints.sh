@@ -238,7 +238,8 @@ run() {
     rm -f "$file"
     input=/dev/fd/3
     [ ! -t 0 ] || say "$1 reads $(in_words "$document") from the terminal; end it with Ctrl-D on a line of its own"
-    tee "$input" | "$program" "$@" 3<&-
+    # no more than the program reads: at a closed pipe `tee` would end, before the file has what the program has read of a block
+    head -c 1048577 | tee "$input" | "$program" "$@" 3<&-
   else
     "$program" "$@"
   fi
