@@ -6,11 +6,11 @@
 parameters: the comment of a function names at least one parameter in backticks; a sole parameter may be named as a word
 errors: the comment of a function that may fail, other than by running out of memory, says when or with what
 words: a comment uses the words of the subject, none of those in HOUSE
-width: a comment line has at most 120 columns
+width: a line of a comment, and one of a contract of code, has at most 120 columns
 names: the parts of an identifier are words of the subject too, none of those in HOUSE or HOUSE_IN_NAMES; those in
     tools/names_kept.txt stay, each for its reason
 
-The comments of proofs are held to the words, as those of public items are. Each identifier of a file of src or specs is held
+The comments of proofs are held to the words, as those of public items are, and all contracts to the width. Each identifier of a file of src or specs is held
 to the names, and counts once, with its first line; those of proofs are counted, and not held.
 
 Printed are, for each crate that breaks a rule, how often its public items break each rule, and then its private ones. --list
@@ -24,7 +24,7 @@ import re
 import sys
 from collections import Counter
 from pathlib import Path
-from typing import Dict, Iterator, List, NamedTuple, Sequence, Set
+from typing import Dict, Iterator, List, NamedTuple, Sequence, Set, Tuple
 
 from refusals import end_of_block
 from repository import TOP, files_of_crate
@@ -46,6 +46,7 @@ FAILS = re.compile(r"\b[Ff]ail|\b[Ee]rror|`[A-Z]\w*`|\bwhy\b|\bWhy\b")
 COMMENT = re.compile(r"\s*(?:///|//!|//|--)(?:\s|$)")
 # what has no names of the crate: comments and texts
 NO_NAMES = re.compile(r'"(?:\\.|[^"\\])*"|(?://|--)[^\n]*')
+CLAUSE = re.compile(r"\s*(?:requires|ensures|decreases)\b[^{]*\{")
 NAME = re.compile(r"[A-Za-z_][A-Za-z0-9_]*")
 PART = re.compile(r"[A-Z]+(?![a-z])|[A-Z]?[a-z]+|[0-9]+")
 PUBLIC = re.compile(r"\s*(?:(?:abbrev|unfoldable|opaque) )*pub(?:\([a-z]+\))?\s")
@@ -131,6 +132,21 @@ def broken_by(comment: Comment) -> Iterator[Sequence[str]]:
         yield "errors", f"{head[1]} does not say when it fails with {error}"
 
 
+def lines_of_contracts(text: str) -> Iterator[int]:
+    """The numbers of the lines of a source that belong to clauses of contracts."""
+    opened = 0
+    for number, line in enumerate(text.split("\n"), 1):
+        if opened > 0 or CLAUSE.match(line):
+            yield number
+            opened += line.count("{") - line.count("}")
+
+
+def wide_contracts(text: str) -> Iterator[Tuple[int, str]]:
+    """The lines of contracts that are too long, each with its length."""
+    lines = text.split("\n")
+    yield from ((number, f"{len(lines[number - 1])} columns") for number in lines_of_contracts(text) if len(lines[number - 1]) > WIDTH)
+
+
 def names_in(text: str) -> Dict[str, int]:
     """The identifiers of a source, each with the line where it is first."""
     found: Dict[str, int] = {}
@@ -162,6 +178,8 @@ def places_of(top: Path, crate: str, kept: Sequence[str] = ()) -> Iterator[Place
             for name, line in names_in(path.read_text("utf8")).items() if {"src", "specs", "proofs"} & set(parts) else ():
                 if name not in kept and is_house_name(name):
                     yield Place("names", path.relative_to(top).as_posix(), line, not in_proofs, name)
+            for line, what in wide_contracts(path.read_text("utf8")) if "src" in parts else ():
+                yield Place("width", path.relative_to(top).as_posix(), line, True, what)
             for comment in comments_of(path.read_text("utf8")):
                 for rule, what in broken_by(comment):
                     is_held = rule == "words" if in_proofs else comment.is_public()

@@ -52,6 +52,14 @@ class Language(unittest.TestCase):
         self.assertEqual(self.found("-- so many rows\npub size : ℕ\nsize = 1\n", "specs/Size.antt"), [("words", 1, True)])
         self.assertEqual(self.found("-- so many rows\n", "proofs/Size.antt"), [("words", 1, True)] * 2)
 
+    def test_width_of_contracts(self) -> None:
+        wide = "x" * 100
+        text = f"fn size()\n    ensures some {{ IfSome result (λ {wide}.\n        {wide + wide}) }}\n    requires {{ {wide} }}\n{{\n    {wide + wide};\n}}\n"
+        self.assertEqual([(rule, line) for rule, line, _ in self.found(text)], [("width", 2), ("width", 3)])
+        self.found("")
+        self.assertEqual(self.found(text, "proofs/Size.antt"), [])
+        self.assertEqual(self.found(f"fn size()\n    ensures {{ {'→' * 100} }}\n{{\n}}\n"), [])
+
     def test_names(self) -> None:
         def named(text: str, name: str = "src/lib.rt", kept: Sequence[str] = ()) -> List[Tuple[str, int, bool]]:
             return [(place.what, place.line, place.public) for place in self.places(text, name, kept) if place.rule == "names"]
