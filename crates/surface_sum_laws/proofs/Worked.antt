@@ -2,6 +2,7 @@
 use Rattle.std.proofs.Common.{◌≡◌, ◌≢◌, ℕ, zero, suc, ◌*◌, List, [], ◌∷◌, Some, length, slice_index, All, AllPairs, refl, arith, lit<, lit≤}
 use Rattle.cone_definitions.specs.Enumeration.{unit_vectors}
 use Rattle.cone_definitions.proofs.First.{unit_vectors_list}
+use Rattle.cone_ray_laws.proofs.Faces.{face_list}
 use Rattle.table_definitions.specs.Table.{Gluing, Row, glue, IsTable}
 use Rattle.surface_definitions.specs.Coordinates.{clash_list}
 use Rattle.surface_definitions.specs.declared.Coords.TheVariants.{Standard}
@@ -16,7 +17,7 @@ use Rattle.sum_definitions.specs.Sums.{Term}
 use Rattle.surface_sum_laws.specs.Laws.{AreListed, AreCounted, IsSumOfListed}
 use Rattle.surface_sum_laws.proofs.Compatible.{inside_united}
 use Rattle.surface_sum_laws.proofs.Solutions.{supports_inside}
-use Rattle.surface_sum_laws.specs.WorkedSum.{alone, AloneHasList, AloneIsSum, three_discs}
+use Rattle.surface_sum_laws.specs.WorkedSum.{alone, AloneHasList, AloneIsSum, AloneHasPart, three_discs}
 
 no_equations : [] ≡ matching_rows Standard alone
 unfolding computed
@@ -46,6 +47,9 @@ is_table = record {
 
 pub alone_list : AloneHasList
 alone_list = record { table = is_table; are_equations = no_equations; is_list = unit_vectors_list 7 (clash_list Standard 1) (clashes_apart Standard 1) }
+
+pub alone_part : AloneHasPart
+alone_part = face_list 7 [] (5 ∷ 6 ∷ []) (clash_list Standard 1) (unit_vectors 7) (unit_vectors_list 7 (clash_list Standard 1) (clashes_apart Standard 1))
 
 -- ---- two triangles and two quads
 
