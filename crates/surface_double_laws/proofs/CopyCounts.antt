@@ -58,11 +58,11 @@ module _ (rows : List Row) (coords : Coords) (xs : List ℕ) (w : IsSurface rows
   abbrev pub first : NormalDisc
   first = slice_index_or (discs_of xs) (one.none_empty 0 (omega arith)).0 no_piece
 
-  first_piece : IsPieceOf xs first
+  pub first_piece : IsPieceOf xs first
   first_piece = listed_piece xs (one.none_empty 0 (omega arith)).0 no_piece (one.none_empty 0 (omega arith)).1
 
   -- any two discs of the surface are joined
-  chain_between : (p q : NormalDisc) → IsPieceOf xs p → IsPieceOf xs q → (arcs : List Arc) × (b : Bool) × Leads rows coords xs p arcs q b
+  pub chain_between : (p q : NormalDisc) → IsPieceOf xs p → IsPieceOf xs q → (arcs : List Arc) × (b : Bool) × Leads rows coords xs p arcs q b
   chain_between p q hp hq =
       let f : IsFound xs p = piece_found xs p hp in
       let g : IsFound xs q = piece_found xs q hq in
@@ -87,29 +87,29 @@ module _ (rows : List Row) (coords : Coords) (xs : List ℕ) (w : IsSurface rows
         ∙ ap (λ x. if c then x else not x) (sides.1 a g h (omega arith) ∙ ap (λ d. if keeps_sides coords xs a g then sign d else not (sign d)) e)
         ∙ signs_both (keeps_sides coords xs a g) c (sign p) ∙ sym (ap (λ t. if t then sign p else not (sign p)) z)
 
-    loop_keeps : (arcs : List Arc) (b : Bool) → Leads rows coords xs first arcs first b → b ≡ true
+    pub loop_keeps : (arcs : List Arc) (b : Bool) → Leads rows coords xs first arcs first b → b ≡ true
     loop_keeps arcs b c = kept_by_sign b (sign first) (sign_along first first arcs b c)
 
   module _ (m : ℕ) (some : 1 ≤ m) (classes : List ℕ) (count : ℕ) (are : AreComponents rows coords (multiple m xs) classes count) where
     abbrev ys : List ℕ
     ys = multiple m xs
 
-    abbrev class_of : NormalDisc → ℕ
+    abbrev pub class_of : NormalDisc → ℕ
     class_of p = slice_index classes (disc_number (multiple m xs) p)
 
     -- the component of the copy of the first disc on a sheet
-    sheet_class : ℕ → ℕ
+    pub sheet_class : ℕ → ℕ
     sheet_class r = class_of (copy m first r)
 
     first_copy : (r : ℕ) → r < m → IsPieceOf (multiple m xs) (copy m first r)
     first_copy r l = copy_piece m some rows coords xs w first r l first_piece
 
-    within : (r : ℕ) → r < m → sheet_class r < count
+    pub within : (r : ℕ) → r < m → sheet_class r < count
     unfolding sheet_class
     within r l = are.in_range (disc_number ys (copy m first r)) (piece_found ys (copy m first r) (first_copy r l)).in_range
 
     -- a chain from p to the first disc leads from a copy of p to a copy of the first disc
-    joined : (p : NormalDisc) (k : ℕ) → k < m → IsPieceOf xs p → (arcs : List Arc) (b : Bool) → Leads rows coords xs p arcs first b → class_of (copy m p k) ≡ sheet_class (from_end m b k)
+    pub joined : (p : NormalDisc) (k : ℕ) → k < m → IsPieceOf xs p → (arcs : List Arc) (b : Bool) → Leads rows coords xs p arcs first b → class_of (copy m p k) ≡ sheet_class (from_end m b k)
     unfolding sheet_class
     joined p k l h arcs b c =
         let r = copied_chain m some rows coords xs w p first arcs b k l c in
@@ -119,7 +119,7 @@ module _ (rows : List Row) (coords : Coords) (xs : List ℕ) (w : IsSurface rows
         (r.0, subst₂ (λ a d. ArcsLead rows coords ys a r.0 d) (sym f.there) (sym g.there) r.1)
 
     -- each component contains a copy of the first disc
-    each : (c : ℕ) → c < count → (r : ℕ) × (r < m) × (sheet_class r ≡ c)
+    pub each : (c : ℕ) → c < count → (r : ℕ) × (r < m) × (sheet_class r ≡ c)
     each c l =
         let a = are.none_empty c l in
         let q : NormalDisc = slice_index_or (discs_of ys) a.0 no_piece in
@@ -133,7 +133,7 @@ module _ (rows : List Row) (coords : Coords) (xs : List ℕ) (w : IsSurface rows
         )
 
     -- two copies of the first disc in one component are joined by a chain of the surface
-    loop : (r t : ℕ) → r < m → t < m → sheet_class r ≡ sheet_class t → (arcs : List Arc) × (b : Bool) × Leads rows coords xs first arcs first b × (t ≡ from_end m b r)
+    pub loop : (r t : ℕ) → r < m → t < m → sheet_class r ≡ sheet_class t → (arcs : List Arc) × (b : Bool) × Leads rows coords xs first arcs first b × (t ≡ from_end m b r)
     unfolding sheet_class
     loop r t lr lt e =
         let f : IsFound ys (copy m first r) = piece_found ys (copy m first r) (first_copy r lr) in
@@ -153,7 +153,7 @@ module _ (rows : List Row) (coords : Coords) (xs : List ℕ) (w : IsSurface rows
 
     -- a chain that exchanges sides joins each sheet to the one from the other end
     module _ (arcs : List Arc) (odd : Leads rows coords xs first arcs first false) where
-      other_end : (r : ℕ) → r < m → sheet_class r ≡ sheet_class (m - 1 - r)
+      pub other_end : (r : ℕ) → r < m → sheet_class r ≡ sheet_class (m - 1 - r)
       unfolding sheet_class
       other_end r l = joined first r l first_piece arcs false odd
 
@@ -172,7 +172,7 @@ module _ (rows : List Row) (coords : Coords) (xs : List ℕ) (w : IsSurface rows
           ]
 
   -- if the double is connected, some chain exchanges sides
-  exchange : (double : List ℕ) → AreComponents rows coords (multiple 2 xs) double 1 → (arcs : List Arc) × Leads rows coords xs first arcs first false
+  pub exchange : (double : List ℕ) → AreComponents rows coords (multiple 2 xs) double 1 → (arcs : List Arc) × Leads rows coords xs first arcs first false
   exchange double h =
       let a : sheet_class 2 some_of_two double 1 h 0 < 1 = within 2 some_of_two double 1 h 0 (omega arith) in
       let b : sheet_class 2 some_of_two double 1 h 1 < 1 = within 2 some_of_two double 1 h 1 (omega arith) in
@@ -184,7 +184,7 @@ module _ (rows : List Row) (coords : Coords) (xs : List ℕ) (w : IsSurface rows
       exchanged false e = refl
 
 -- no copy of a surface has no component
-none_of_none : (rows : List Row) (coords : Coords) (xs classes : List ℕ) (count : ℕ) → AreComponents rows coords (multiple 0 xs) classes count → count ≡ 0
+pub none_of_none : (rows : List Row) (coords : Coords) (xs classes : List ℕ) (count : ℕ) → AreComponents rows coords (multiple 0 xs) classes count → count ≡ 0
 none_of_none rows coords xs classes count are = elim (cases_lt 0 count) [
   | inr none ↦ omega arith
   | inl some ↦ absurd (

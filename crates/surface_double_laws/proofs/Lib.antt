@@ -24,5 +24,7 @@ pub mod TwoCopies
 pub mod CopiedDiscs
 pub mod CopyChains
 pub mod CopyCounts
+pub mod SheetSums
+pub mod CopyVectors
 pub mod Worked
 pub mod WorkedSphere

@@ -9,7 +9,7 @@
 #![tactic(auto)]
 
 ghost use Rattle.surface_double_laws.specs.Laws.{DoublesAreSurfaces, DoublesAreConnected, DoublesAreTwoCopies, OrientableSurfacesAreEven, OrientableComponentsAreEven, OrientablePartsAreEven, OneIsOneSided, TwoSidedSurfacesAreEven, TwoSidedComponentsAreEven, TwoSidedPartsAreEven, SpheresDecideEfficiency, SpheresDecideLinks, ListDecidesSpheres, PlanesAndSpheresDecide};
-ghost use Rattle.surface_double_laws.specs.Copies.{CopiesAreSurfaces, TwoSidedCopiesAreCounted, OneSidedCopiesAreCounted};
+ghost use Rattle.surface_double_laws.specs.Copies.{CopiesAreSurfaces, TwoSidedCopiesAreCounted, OneSidedCopiesAreCounted, CharacteristicsAreMultiplied, TwoSidedCopiesAreTheSurface, EvenCopiesAreDoubles, OddCopiesHaveOneCopy};
 ghost use Rattle.surface_double_laws.specs.Orientable.{OrientableTwoSidedAreEven, OrientableTwoSidedComponentsAreEven, OrientableTwoSidedPartsAreEven, OrientableOneIsOneSided, OrientableSpheresDecideEfficiency, OrientableSpheresDecideLinks, OrientableListDecidesSpheres, OrientableListedSpheresDecide};
 ghost use Rattle.surface_double_laws.specs.Maps.{OrientedMapsAreEven};
 ghost use Rattle.surface_double_laws.specs.WorkedOctagon.{OctagonIsOrientable};
@@ -39,6 +39,19 @@ pub fn copies_are_counted()
     ensures surfaces { CopiesAreSurfaces }
     ensures two_sided { TwoSidedCopiesAreCounted }
     ensures one_sided { OneSidedCopiesAreCounted }
+{}
+
+/// Theorem: let x be a connected surface in standard or octagon coordinates, and m a natural number.
+///
+/// 1. The Euler characteristic of mx is m times that of x.
+/// 2. If x is two-sided, the vector of each component of mx is x.
+/// 3. If x is one-sided and m is even, the vector of each component of mx is 2x.
+/// 4. If x is one-sided and m is odd, the vector of one component of mx is x, and that of each other one is 2x.
+pub fn multiples_are_copies_and_doubles()
+    ensures characteristic { CharacteristicsAreMultiplied }
+    ensures two_sided { TwoSidedCopiesAreTheSurface }
+    ensures even { EvenCopiesAreDoubles }
+    ensures odd { OddCopiesHaveOneCopy }
 {}
 
 /// Example: let T be the triangulation `cMcabbgqw` of projective space, with two tetrahedra, and let x be two triangles
