@@ -150,7 +150,7 @@ class Order(unittest.TestCase):
     def test_numbers_of_pages(self) -> None:
         counted = numbers(REPOSITORY)
         self.assertGreater(counted["crates"], counted["built-crates"])
-        self.assertGreater(counted["edits"], 400)
+        self.assertGreater(counted["edits"], 300)
         self.assertEqual(with_numbers("all <!--crates-->7<!--/--> of <!--x-->8<!--/-->, <!-- a note -->", {"crates": 113}),
                          "all <!--crates-->113<!--/--> of <!--x-->?<!--/-->, <!-- a note -->")
         for path in ("README.md", *(f"docs/{it.name}" for it in (REPOSITORY / "docs").glob("*.md"))):
