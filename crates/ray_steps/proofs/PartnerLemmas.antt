@@ -1,8 +1,7 @@
 -- The columns that clash with one of a support, from those that clash with each column.
 use Rattle.std.proofs.Common.{◌≡◌, ◌≢◌, ℕ, ◌+◌, ◌<◌, ◌||◌, ◌⊎◌, ◌↔◌, ◌∷◌, ◌++◌, inl, inr, ⊎_elim, Bool, true, false, IsTrue, List, [], Contains, length, replicate, get_or, set, length-set, get_or-set_same, get_or-set_other, length-append, ap, subst, subst₂, sym, ◌∙◌, arith}
 use Rattle.std.proofs.lemmas.Bool.{cases_lt, cases_eq, false≢true}
-use Rattle.std.specs.List.{All}
-use Rattle.std.proofs.lemmas.List.{get_or_default, get_or_past, get_or_push, get_or_append_left, get_or-replicate, length-replicate}
+use Rattle.std.proofs.lemmas.List.{get_or_past, get_or_push, get_or_append_left, get_or-replicate, length-replicate}
 use Rattle.std.proofs.lemmas.List.Elements.{Contains-push, Contains-push_cases, Contains-append_left}
 use Rattle.cone_definitions.specs.Surfaces.{Clash}
 use Rattle.support_bits.specs.Columns.{HasColumn, IsUnion}
@@ -158,7 +157,3 @@ partners_push columns pairs partners partner column count each last k within = �
     (λ new. let n = length-append partners (partner ∷ []) in let e : column ≡ k = omega (arith, n, count, within, new) in
     subst₂ (λ i p. IsClashSetOf columns pairs i p) e (sym (get_or_push partners partner [] k (count ∙ e))) last)
     (cases_lt k (length partners))
-
--- the sets are as wide as there are columns
-pub partner_widths : (columns n : ℕ) (pairs : List Clash) (partners : List (List Bool)) → AreClashSets columns pairs partners → columns ≡ n → All (λ partner. length partner ≡ n) partners
-partner_widths columns n pairs partners h same k d less = ap length (get_or_default partners k d [] less) ∙ (h.each k less).count ∙ same

@@ -1,5 +1,5 @@
 -- Lemmas on the rays of a list.
-use Rattle.std.proofs.Common.{◌≡◌, ℕ, ◌+◌, ◌<◌, List, [], ◌∷◌, ◌++◌, length, get_or, ap, subst₂, sym, ◌∙◌, ◌≤◌, is_lt, ltb, false, nat_cmp, IsSorted, arith}
+use Rattle.std.proofs.Common.{◌≡◌, ℕ, ◌+◌, ◌<◌, List, [], ◌∷◌, ◌++◌, length, get_or, ap, subst₂, sym, ◌∙◌, ◌≤◌, is_lt, false, nat_cmp, IsSorted, arith}
 use Rattle.std.specs.Cmp.Lexicographic.{slice_cmp}
 use Rattle.std.proofs.lemmas.List.{length-map, get_or-map, map-append}
 use Rattle.cone_definitions.specs.Vectors.{ray_at}
@@ -23,11 +23,6 @@ rays_of-push ray_list kept = map-append (λ x. x.ray) ray_list (kept ∷ [])
 pub ray_width : (ray_list : List RayWithSupport) (k columns : ℕ) → k < length ray_list → AreOfWidth columns ray_list → length (ray_at (rays_of ray_list) k) ≡ columns
 ray_width [] k columns h widths = absurd (omega arith)
 ray_width (kept ∷ ray_list) k columns h widths = ap length (ray_at-rays_of (kept ∷ ray_list) k kept h) ∙ widths k kept h
-
--- the width of a support
-pub support_width : (ray_list : List RayWithSupport) (k columns : ℕ) (d : RayWithSupport) → k < length ray_list → AreOfWidth columns ray_list → length (get_or ray_list k d).support ≡ columns
-support_width ray_list k columns d h widths =
-    ap length (get_or ray_list k d).matches ∙ length-map (get_or ray_list k d).ray (λ entry. ltb 0 entry) ∙ widths k d h
 
 -- rays are sorted if their list is
 pub sorted_rays : (ray_list : List RayWithSupport) → ((k : ℕ) (d : RayWithSupport) → 0 ≤ k → k + 1 < length ray_list → is_lt (slice_cmp nat_cmp (get_or ray_list (k + 1) d).ray (get_or ray_list k d).ray) ≡ false) →

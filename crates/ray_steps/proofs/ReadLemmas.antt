@@ -1,14 +1,10 @@
 -- What holds at the indices that a step reads, for plain values: the prover need not search for it in long functions.
-use Rattle.std.proofs.Common.{◌≡◌, ℕ, ◌+◌, ◌-◌, ◌<◌, ◌≤◌, List, length, get_or, slice_index_or, subst, sym, ◌∙◌, ap, arith}
+use Rattle.std.proofs.Common.{◌≡◌, ℕ, ◌+◌, ◌-◌, ◌<◌, ◌≤◌, List, length, get_or, subst, sym, ◌∙◌, ap, arith}
 use Rattle.std.specs.List.{All}
-use Rattle.support_table.specs.Tables.{Table}
 use Rattle.ray_steps.specs.declared.rays.RayWithSupport.{RayWithSupport}
 use Rattle.ray_steps.specs.declared.signs.Sign.{Sign}
-use Rattle.ray_steps.specs.declared.signs.Sign.TheVariants.{Zero}
 use Rattle.ray_steps.specs.Rays.{AreOfWidth}
-use Rattle.ray_steps.specs.Signs.{AreNegativePlaces, IsBoundedSign}
-use Rattle.ray_steps.specs.CompatibleLists.{HasSupportsOf}
-use Rattle.ray_steps.proofs.RivalLemmas.{count_of_rivals}
+use Rattle.ray_steps.specs.Signs.{AreNegativePlaces}
 
 -- an index from the list of the negative rays is in range
 pub place_within : (signs : List Sign) (places read : List ℕ) (m : ℕ) → AreNegativePlaces signs (length signs) places → read ≡ places → m < length read → get_or read m 0 < length signs
@@ -19,20 +15,9 @@ pub place_of_kept : (signs : List Sign) (ray_list : List RayWithSupport) (places
     get_or read m 0 < length ray_list
 place_of_kept signs ray_list places read m count h same less = subst (λ n. get_or read m 0 < n) count (place_within signs places read m h same less)
 
--- the table has a support for each index
-pub place_next : (rays : List (List ℕ)) (columns : ℕ) (places read : List ℕ) (table : Table) (m : ℕ) → HasSupportsOf rays columns places table → read ≡ places → m < length read → m + 1 ≤ length table.supports
-place_next rays columns places read table m h same less =
-    let n = ap length same in
-    let k = count_of_rivals rays columns places table h in
-    omega arith
-
 -- fewer indices are left
 pub fewer_left : (places read : List ℕ) (m n : ℕ) → read ≡ places → m < length read → m + 1 ≤ n → length places - n < length places - m
 fewer_left places read m n same less more = let k = ap length same in omega arith
-
--- the value of a sign that was read
-pub sign_bounds : (limit : ℕ) (signs : List Sign) (k : ℕ) (sign : Sign) → All (IsBoundedSign limit) signs → k < length signs → slice_index_or signs k Zero ≡ sign → IsBoundedSign limit sign
-sign_bounds limit signs k sign h within is = subst (IsBoundedSign limit) is (h k Zero within)
 
 -- the width of a ray that was read
 pub read_width : (ray_list : List RayWithSupport) (k columns : ℕ) (kept : RayWithSupport) → k < length ray_list → kept ≡ get_or ray_list k kept → AreOfWidth columns ray_list → length kept.ray ≡ columns

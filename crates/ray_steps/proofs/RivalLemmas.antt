@@ -1,6 +1,5 @@
 -- Lemmas on the rays that can lie in the union of two rays.
 use Rattle.std.proofs.Common.{◌≡◌, ◌≢◌, ℕ, ◌+◌, ◌<◌, ◌↔◌, inl, inr, ⊎_elim, Bool, true, IsTrue, List, [], ◌∷◌, ◌++◌, Contains, length, get_or, ltb, subst, subst₂, sym, ◌∙◌, ap, arith}
-use Rattle.std.specs.Prelude.{Result, Ok, Err, IfOk}
 use Rattle.std.proofs.lemmas.Bool.{cases_lt, cases_eq}
 use Rattle.std.proofs.lemmas.List.Elements.{All-push, Contains-push, Contains-append_left}
 use Rattle.cone_definitions.specs.Vectors.{IsInsideUnion, ray_at}
@@ -13,8 +12,7 @@ use Rattle.support_table.specs.Joins.{AreClashingColumns}
 use Rattle.ray_steps.specs.declared.rays.RayWithSupport.{RayWithSupport}
 use Rattle.ray_steps.specs.Signs.{IsAdjacentPair}
 use Rattle.ray_steps.specs.declared.compatible_list.CompatibleRays.{CompatibleRays}
-use Rattle.ray_steps.specs.Rays.{rays_of}
-use Rattle.ray_steps.specs.CompatibleLists.{IsCompatible, AreCompatible, HasSupportsOf, HaveCompatible, AreCompatibleWith, IsThirdInside}
+use Rattle.ray_steps.specs.CompatibleLists.{IsCompatible, AreCompatible, HasSupportsOf, AreCompatibleWith, IsThirdInside}
 use Rattle.ray_steps.proofs.SupportLemmas.{inside_iff, clash_free_iff}
 use Rattle.ray_steps.specs.Clashes.{IsClashFree}
 use Rattle.support_table.proofs.JoinLemmas.{nonzero_from_column}
@@ -134,16 +132,3 @@ face_from_rivals pairs rays i j columns compatible_list a b h a_is b_is none adm
           (inside_rival rays i j columns occurs.0 compatible_list.places.items compatible_list.table a b h.listed.table occurs.1 a_is b_is).1
               (subst (λ n. IsInsideUnion (ray_at rays n) (ray_at rays i) (ray_at rays j)) (sym at) inside),
         )
-
--- if the same columns clash with ray i, its compatible rays are those in memory
-pub rivals_kept : (pairs : List Clash) (ray_list : List RayWithSupport) (i columns : ℕ) (before : CompatibleRays) (v : RayWithSupport) (joined : List Bool) → ray_at (rays_of ray_list) i ≡ v.ray → AreClashingColumns pairs v.support joined → joined ≡ before.joined →
-    HaveCompatible (rays_of ray_list) columns before → AreCompatibleWith pairs (rays_of ray_list) i columns before
-rivals_kept pairs ray_list i columns before v joined read joins same listed = record {
-  joined = subst₂ (AreClashingColumns pairs) (support_read v (ray_at (rays_of ray_list) i) read) same joins;
-  listed = listed;
-}
-
-pub rivals_made : {E : Type 0} (pairs : List Clash) (ray_list : List RayWithSupport) (i columns : ℕ) (v : RayWithSupport) (joined : List Bool) (made : Result CompatibleRays E) → ray_at (rays_of ray_list) i ≡ v.ray → AreClashingColumns pairs v.support joined →
-    IfOk made (λ compatible_list. compatible_list.joined ≡ joined) → IfOk made (HaveCompatible (rays_of ray_list) columns) → IfOk made (AreCompatibleWith pairs (rays_of ray_list) i columns)
-rivals_made pairs ray_list i columns v joined (Ok compatible_list) read joins same listed = rivals_kept pairs ray_list i columns compatible_list v joined read joins (sym same) listed
-rivals_made pairs ray_list i columns v joined (Err fault) read joins same listed = tt

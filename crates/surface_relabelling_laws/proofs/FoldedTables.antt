@@ -14,9 +14,6 @@ use Rattle.surface_relabelling_laws.specs.WorkedTable.{folded, renamed, refolded
 
 -- ---- a table
 
-folded_perm : List ℕ
-folded_perm = 0 ∷ 1 ∷ 3 ∷ 2 ∷ []
-
 is_permutation_here : IsPermutationOfFour (0 ∷ 1 ∷ 3 ∷ 2 ∷ [])
 unfolding computed
 is_permutation_here = refl
