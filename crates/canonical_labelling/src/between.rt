@@ -55,7 +55,8 @@ fn perms_of(
 /// other.
 pub fn between(alloc: Global, pair: RelabellingPair<'_>) -> Result<Relabelling, NoMemory>
     requires { IsRelabelling (length pair.first.now.images) pair.first.now }
-    ensures { IfOk result (λ by. by ≡ relabellings.between (length pair.entry.first.now.images) pair.entry.first.now pair.entry.second.now) }
+    ensures { IfOk result (λ by. by
+        ≡ relabellings.between (length pair.entry.first.now.images) pair.entry.first.now pair.entry.second.now) }
 {
     let olds = pair.second.old_numbers(alloc)?;
     let images = images_of(alloc, pair, &olds)?;

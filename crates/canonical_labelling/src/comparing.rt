@@ -71,7 +71,9 @@ fn compare_head(text: &[u8], bound: &[u8]) -> Option<bool>
 fn assign_number(comparison: &mut Comparison, from: Start, glue: Glue) -> Result<(), AllocError>
     requires in_range { glue.tet < length comparison.old.numbers.items }
     requires limited { length comparison.old.walking.order.items < 2 ^ 32 }
-    ensures { OnOk result (comparison_view comparison.new ≡ comparisons.numbered (slice_index_or comparison.old.walking.visited.items glue.tet false) from glue (comparison_view comparison.old)) }
+    ensures { OnOk result (comparison_view comparison.new
+        ≡ comparisons.numbered (slice_index_or comparison.old.walking.visited.items glue.tet false) from glue
+        (comparison_view comparison.old)) }
 {
     if !comparison.walking.visited[glue.tet as usize] {
         comparison.numbers[glue.tet as usize] = comparison.walking.order.len() as u32;
@@ -103,7 +105,8 @@ fn record_crossing(
     visited: bool,
 ) -> Result<(), AllocError>
     requires { glue.tet < length comparison.old.numbers.items }
-    ensures crossed { OnOk result (comparison_view comparison.new ≡ comparisons.crossed visited place glue (comparison_view comparison.old)) }
+    ensures crossed { OnOk result (comparison_view comparison.new
+        ≡ comparisons.crossed visited place glue (comparison_view comparison.old)) }
     ensures other { face_number (other_side (face_of place) glue) < 4 * glue.tet + 4 }
 {
     let other = glue.other_side(Face {
@@ -129,7 +132,8 @@ fn take_glued(
 ) -> Result<(), AllocError>
     requires comparison { IsComparison place (comparison_view comparison.old) }
     requires in_range { glue.tet < length comparison.old.numbers.items }
-    ensures takes { OnOk result (comparison_view comparison.new ≡ comparisons.take_glued place from glue (comparison_view comparison.old)) }
+    ensures takes { OnOk result (comparison_view comparison.new
+        ≡ comparisons.take_glued place from glue (comparison_view comparison.old)) }
     ensures comparison { OnOk result (IsComparison (place + 1) (comparison_view comparison.new)) }
     ensures size { OnOk result (length comparison.new.numbers.items ≡ length comparison.old.numbers.items) }
 {
@@ -147,11 +151,13 @@ fn take(comparison: &mut Comparison, probe: &mut Probe<'_>, place: u32) -> Resul
     requires in_range { place < 4 * length probe.old.rows }
     requires comparison { IsComparison place (comparison_view comparison.old) }
     requires size { length comparison.old.numbers.items ≡ length probe.old.rows }
-    ensures takes { OnOk result (comparison_view comparison.new ≡ comparisons.take_place probe.old.rows place (comparison_view comparison.old)) }
+    ensures takes { OnOk result (comparison_view comparison.new
+        ≡ comparisons.take_place probe.old.rows place (comparison_view comparison.old)) }
     ensures comparison { OnOk result (IsComparison (place + 1) (comparison_view comparison.new)) }
     ensures size { OnOk result (length comparison.new.numbers.items ≡ length comparison.old.numbers.items) }
     ensures rows { probe.new.rows ≡ probe.old.rows }
-    ensures reads { OnOk result (probe.new.taken + length comparison.old.types.items ≤ probe.old.taken + length comparison.new.types.items) }
+    ensures reads { OnOk result (probe.new.taken + length comparison.old.types.items
+        ≤ probe.old.taken + length comparison.new.types.items) }
 {
     if comparison.crossed[place as usize] {
         return Ok(());
@@ -172,7 +178,8 @@ fn take(comparison: &mut Comparison, probe: &mut Probe<'_>, place: u32) -> Resul
 /// Compares the character that packs the three types from index `i` on with `found.bound`; `None` if they are equal.
 fn compare_character(found: FoundTypes<'_>, i: usize) -> Option<bool>
     requires { i < length found.types.now }
-    ensures { result ≡ compare_by (slice_get found.entry.bound.now (found.entry.head + i / 3)) (comparisons.type_character found.entry.types.now i) }
+    ensures { result ≡ compare_by (slice_get found.entry.bound.now (found.entry.head + i / 3))
+        (comparisons.type_character found.entry.types.now i) }
 {
     compare_at(
         found.bound,
@@ -266,8 +273,10 @@ fn compare_types(
     requires in_range { start.tet < length probe.old.rows }
     requires space { IsWorkSpace (length probe.old.rows) space.old }
     requires agreed { comparisons.reported (head_text (length probe.old.rows)) bound.now ≡ None }
-    ensures reported { IfOk result (λ r. IfSome r (IsDecided probe.old.rows start bound.now (probe.new.taken - probe.old.taken))) }
-    ensures untold { IfOk result (λ r. IfNone r (IsUndecided probe.old.rows start bound.now (comparison_view space.new.comparison))) }
+    ensures reported { IfOk result (λ r.
+        IfSome r (IsDecided probe.old.rows start bound.now (probe.new.taken - probe.old.taken))) }
+    ensures untold { IfOk result (λ r.
+        IfNone r (IsUndecided probe.old.rows start bound.now (comparison_view space.new.comparison))) }
     ensures comparison { OnOk result (IsComparison (4 * length probe.old.rows) (comparison_view space.new.comparison)) }
     ensures size { OnOk result (length space.new.comparison.numbers.items ≡ length probe.old.rows) }
     ensures head { space.new.head.items ≡ space.old.head.items }
@@ -320,7 +329,10 @@ fn clean(comparison: &mut Comparison)
 /// The text of a traversal of a table of `count` tetrahedra, all of whose types and gluings are found.
 fn whole_text(alloc: Global, count: u32, comparison: &Comparison) -> Result<Vec<u8>, NoMemory>
     requires { length comparison.now.types.items ≤ 4000 }
-    ensures { IfOk result (λ text. text.items ≡ ((head_text count ++ map character (packed comparison.now.types.items)) ++ destinations_text (spellings.width count) comparison.now.gluings.items) ++ indices_text comparison.now.gluings.items) }
+    ensures { IfOk result (λ text. text.items
+        ≡ ((head_text count ++ map character (packed comparison.now.types.items))
+        ++ destinations_text (spellings.width count) comparison.now.gluings.items)
+        ++ indices_text comparison.now.gluings.items) }
 {
     let mut text = Vec::new(alloc);
     append_head(&mut text, count)?;
@@ -357,9 +369,13 @@ pub fn compare(
     requires table { IsTable probe.old.rows }
     requires in_range { start.tet < length probe.old.rows }
     requires space { IsWorkSpace (length probe.old.rows) space.old }
-    ensures value { IfOk result (λ r. IfSome r (λ before. (text : List ℕ) → IsTextFrom probe.old.rows start text → before ≡ is_list_before text bound.now)) }
-    ensures equal { IfOk result (λ r. IfNone r ((text : List ℕ) → IsTextFrom probe.old.rows start text → text ≡ bound.now)) }
-    ensures limited { IfOk result (λ r. r ≢ Some true → ReadsAtMost probe.old.rows start bound.now (probe.new.taken - probe.old.taken)) }
+    ensures value { IfOk result (λ r.
+        IfSome r (λ before. (text : List ℕ) → IsTextFrom probe.old.rows start text
+        → before ≡ is_list_before text bound.now)) }
+    ensures equal { IfOk result (λ r.
+        IfNone r ((text : List ℕ) → IsTextFrom probe.old.rows start text → text ≡ bound.now)) }
+    ensures limited { IfOk result (λ r.
+        r ≢ Some true → ReadsAtMost probe.old.rows start bound.now (probe.new.taken - probe.old.taken)) }
     ensures space { OnOk result (IsWorkSpace (length probe.old.rows) space.new) }
     ensures rows { probe.new.rows ≡ probe.old.rows }
 {
@@ -386,8 +402,10 @@ pub fn lesser(
 ) -> Result<bool, NoMemory>
     requires table { IsTable probe.old.rows }
     requires in_range { start.tet < length probe.old.rows }
-    ensures value { IfOk result (λ before. (text : List ℕ) → IsTextFrom probe.old.rows start text → before ≡ is_list_before text bound.now) }
-    ensures limited { IfOk result (λ before. before ≡ false → ReadsAtMost probe.old.rows start bound.now (probe.new.taken - probe.old.taken)) }
+    ensures value { IfOk result (λ before.
+        (text : List ℕ) → IsTextFrom probe.old.rows start text → before ≡ is_list_before text bound.now) }
+    ensures limited { IfOk result (λ before.
+        before ≡ false → ReadsAtMost probe.old.rows start bound.now (probe.new.taken - probe.old.taken)) }
     ensures rows { probe.new.rows ≡ probe.old.rows }
 {
     let size = TableSize { count: probe.len() };

@@ -65,7 +65,8 @@ fn mark(orbits: &mut Orbits, number: u32) -> Result<(), AllocError>
 /// Marks the starts to which the automorphisms carry the marked start of index `i`.
 fn mark_images(orbits: &mut Orbits, i: usize) -> Result<(), AllocError>
     requires { i < length orbits.old.numbers.items }
-    ensures marked { OnOk result (MarksFollow orbits.old.automorphisms.items orbits.old.marked.items orbits.new.marked.items) }
+    ensures marked { OnOk result (MarksFollow orbits.old.automorphisms.items orbits.old.marked.items
+        orbits.new.marked.items) }
     ensures size { OnOk result (length orbits.new.marked.items ≡ length orbits.old.marked.items) }
     ensures automorphisms { OnOk result (orbits.new.automorphisms.items ≡ orbits.old.automorphisms.items) }
 {
@@ -79,7 +80,8 @@ fn mark_images(orbits: &mut Orbits, i: usize) -> Result<(), AllocError>
 
 /// Marks the starts to which products of the automorphisms carry the marked starts of index `first` and above.
 fn close(orbits: &mut Orbits, first: usize) -> Result<(), AllocError>
-    ensures marked { OnOk result (MarksFollow orbits.old.automorphisms.items orbits.old.marked.items orbits.new.marked.items) }
+    ensures marked { OnOk result (MarksFollow orbits.old.automorphisms.items orbits.old.marked.items
+        orbits.new.marked.items) }
     ensures size { OnOk result (length orbits.new.marked.items ≡ length orbits.old.marked.items) }
     ensures automorphisms { OnOk result (orbits.new.automorphisms.items ≡ orbits.old.automorphisms.items) }
 {
@@ -96,7 +98,8 @@ fn close(orbits: &mut Orbits, first: usize) -> Result<(), AllocError>
 /// Marks the start with number `number` and the starts to which products of the automorphisms carry it.
 pub fn mark_orbit(orbits: &mut Orbits, number: u32) -> Result<(), AllocError>
     requires { number < length orbits.old.marked.items }
-    ensures marked { OnOk result (MarksFollow orbits.old.automorphisms.items (slice_set orbits.old.marked.items number true) orbits.new.marked.items) }
+    ensures marked { OnOk result (MarksFollow orbits.old.automorphisms.items
+        (slice_set orbits.old.marked.items number true) orbits.new.marked.items) }
     ensures size { OnOk result (length orbits.new.marked.items ≡ length orbits.old.marked.items) }
     ensures automorphisms { OnOk result (orbits.new.automorphisms.items ≡ orbits.old.automorphisms.items) }
 {
@@ -108,7 +111,8 @@ pub fn mark_orbit(orbits: &mut Orbits, number: u32) -> Result<(), AllocError>
 /// Adds the automorphism `by`, and marks the starts to which products of the automorphisms carry the marked ones.
 pub fn add_automorphism(orbits: &mut Orbits, by: Relabelling) -> Result<(), AllocError>
     requires { 24 * length by.images ≡ length orbits.old.marked.items }
-    ensures marked { OnOk result (MarksFollow orbits.new.automorphisms.items orbits.old.marked.items orbits.new.marked.items) }
+    ensures marked { OnOk result (MarksFollow orbits.new.automorphisms.items orbits.old.marked.items
+        orbits.new.marked.items) }
     ensures size { OnOk result (length orbits.new.marked.items ≡ length orbits.old.marked.items) }
     ensures automorphisms { OnOk result (orbits.new.automorphisms.items ≡ orbits.old.automorphisms.items ++ by ∷ []) }
 {

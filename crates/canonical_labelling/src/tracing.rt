@@ -50,7 +50,8 @@ fn is_visited(trace: &Trace, tet: u32) -> bool
 /// Whether the gluing `glue` of the tetrahedron of `from` is mapped to `expected`, which reaches the tetrahedron of
 /// `there`.
 fn maps_to(from: Start, there: Start, glue: Glue, expected: Glue) -> bool
-    ensures { glue.tet ≡ there.tet → permutations.compose there.perm (permutations.compose glue.perm (permutations.inverse from.perm)) ≡ expected.perm → result ≡ true }
+    ensures { glue.tet ≡ there.tet → permutations.compose there.perm
+        (permutations.compose glue.perm (permutations.inverse from.perm)) ≡ expected.perm → result ≡ true }
 {
     if there.tet != glue.tet {
         return false;
@@ -68,7 +69,8 @@ fn agrees_glued(
 ) -> Result<bool, AllocError>
     requires { glue.tet < length trace.old.numbers.items }
     ensures size { length trace.new.numbers.items ≡ length trace.old.numbers.items }
-    ensures agrees { IfOk result (AgreesGlued (length trace.old.numbers.items) trace.old.order.items trace.new.order.items from glue expected) }
+    ensures agrees { IfOk result (AgreesGlued (length trace.old.numbers.items) trace.old.order.items
+        trace.new.order.items from glue expected) }
 {
     let number = expected.tet as usize;
     if number < trace.order.len() {
@@ -127,7 +129,8 @@ pub fn may_reach(
 ) -> Result<bool, AllocError>
     requires { length trace.old.numbers.items ≡ length traversal.now.table.now }
     ensures size { length trace.new.numbers.items ≡ length trace.old.numbers.items }
-    ensures may { IfOk result (λ may. (by : Relabelling) → IsWalked traversal.now.table.now traversal.now.start by target.now → may ≡ true) }
+    ensures may { IfOk result (λ may.
+        (by : Relabelling) → IsWalked traversal.now.table.now traversal.now.start by target.now → may ≡ true) }
 {
     trace.order.clear();
     trace.order.push(traversal.start)?;

@@ -41,7 +41,9 @@ fn append_head(
 /// The text of `descent`.
 #[tactic(auto, unfolding(outcome_definitions::specs::Certificates::moves_text))]
 fn descent_text(alloc: Global, descent: &Descent) -> Result<Vec<u8>, NoMemory>
-    ensures { IfOk result (λ text. text.items ≡ certificates.descent_text (record { reached = descent.now.reached; moves = descent.now.moves.items; table = descent.now.table })) }
+    ensures { IfOk result (λ text. text.items
+        ≡ certificates.descent_text (record
+        { reached = descent.now.reached; moves = descent.now.moves.items; table = descent.now.table })) }
 {
     let mut text = Vec::new(alloc);
     append_head(alloc, &mut text, descent.reached, descent.moves.len())?;
@@ -52,7 +54,8 @@ fn descent_text(alloc: Global, descent: &Descent) -> Result<Vec<u8>, NoMemory>
 
 /// The outcome of `descent`.
 fn outcome_of_descent(alloc: Global, descent: &Descent) -> Result<Outcome, NoMemory>
-    ensures { IfOk result (λ o. o ≡ certificates.descend_outcome (Ok (record { reached = descent.now.reached; moves = descent.now.moves.items; table = descent.now.table }))) }
+    ensures { IfOk result (λ o. o ≡ certificates.descend_outcome
+        (Ok (record { reached = descent.now.reached; moves = descent.now.moves.items; table = descent.now.table }))) }
 {
     let text = descent_text(alloc, descent)?;
     Ok(Outcome::with_text(Status::Done, text))

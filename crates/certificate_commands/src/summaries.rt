@@ -70,7 +70,8 @@ impl Model for MadeNumbers {
 
 /// The text of `bulk`: the numbers of the table, and the counts of its surfaces `list`.
 fn summary_text(alloc: Global, numbers: MadeNumbers, list: &[Ray]) -> Result<Vec<u8>, NoMemory>
-    ensures { IfOk result (λ text. (greatest : ℕ) × IsGreatestEntry list.now greatest × (text.items ≡ summary_text numbers list.now greatest)) }
+    ensures { IfOk result (λ text. (greatest : ℕ) × IsGreatestEntry list.now greatest
+        × (text.items ≡ summary_text numbers list.now greatest)) }
 {
     let moves = u128::from(numbers.moves);
     let mut text = Vec::new(alloc);
@@ -100,7 +101,8 @@ pub fn summary_outcome(
     numbers: MadeNumbers,
     list: &[Ray],
 ) -> Result<Outcome, NoMemory>
-    ensures { IfOk result (λ o. (greatest : ℕ) × IsGreatestEntry list.now greatest × (o ≡ summary_outcome numbers list.now greatest)) }
+    ensures { IfOk result (λ o. (greatest : ℕ) × IsGreatestEntry list.now greatest
+        × (o ≡ summary_outcome numbers list.now greatest)) }
 {
     let text = summary_text(alloc, numbers, list)?;
     Ok(Outcome::with_text(Status::Done, text))

@@ -38,7 +38,8 @@ pub fn read_vector(alloc: Global, lexer: &mut Lexer<'_>) -> Result<Vec<u128>, Te
 
 /// Reads a vector from each line that `lexer` has left. Fails at the first line on which `read_vector` does.
 pub fn read_vectors(alloc: Global, lexer: &mut Lexer<'_>) -> Result<Vec<Vec<u128>>, TextFault>
-    ensures { ReadsFrom TextFault.NoMemory entries_of result lexer.new (lexed (each_line_from vector_at lexer.old.later lexer.old)) }
+    ensures { ReadsFrom TextFault.NoMemory entries_of result lexer.new
+        (lexed (each_line_from vector_at lexer.old.later lexer.old)) }
 {
     let mut vectors = Vec::new(alloc);
     while lexer.next_line() {

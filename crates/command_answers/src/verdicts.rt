@@ -11,7 +11,8 @@ use text_io::{append, append_decimal};
 
 /// Appends the line of a clash of the columns `first` and `second`.
 fn append_clash(alloc: Global, out: &mut Vec<u8>, first: u32, second: u32) -> Result<(), NoMemory>
-    ensures { OnOk result (out.new.items ≡ out.old.items ++ line (codes "clash " ++ decimal first ++ codes " " ++ decimal second)) }
+    ensures { OnOk result (out.new.items
+        ≡ out.old.items ++ line (codes "clash " ++ decimal first ++ codes " " ++ decimal second)) }
 {
     append(out, b"clash ")?;
     append_decimal(alloc, out, u128::from(first))?;

@@ -100,7 +100,8 @@ fn add<'a>(
     name: &'static str,
     options: &'static [&'static str],
 ) -> Result<Command<'a>, AllocError>
-    ensures { IfOk result (λ c. app_of c ≡ with_subcommand (app_of program.entry) (subcommand_with name.entry.now (texts options.entry.now))) }
+    ensures { IfOk result (λ c. app_of c
+        ≡ with_subcommand (app_of program.entry) (subcommand_with name.entry.now (texts options.entry.now))) }
 {
     program.subcommand(command(alloc, name, options)?)
 }

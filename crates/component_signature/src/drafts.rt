@@ -46,7 +46,8 @@ pub fn write_part(draft: &mut Draft, part: &Part, other: &Part, by: &Relabelling
     requires one_each { length by.now.images ≡ length part.now.numbers }
     requires there { (k : ℕ) → k < length part.now.numbers → slice_index by.now.images k < length other.now.numbers }
     ensures goes { GoesBy draft.new part.now other.now by.now }
-    ensures others { (t : ℕ) → (Contains part.now.numbers t → ⊥) → relabelled_place draft.new t ≡ relabelled_place draft.old t }
+    ensures others { (t : ℕ) → (Contains part.now.numbers t → ⊥)
+        → relabelled_place draft.new t ≡ relabelled_place draft.old t }
     ensures images { length draft.new.images ≡ length draft.old.images }
     ensures perms { length draft.new.perms ≡ length draft.old.perms }
 {
@@ -61,7 +62,10 @@ impl Draft {
     fn write(&mut self, tet: u32, image: u32, perm: Perm4)
         requires images { tet < length self.old.images }
         requires perms { tet < length self.old.perms }
-        ensures { self.new ≡ record { images = slice_set self.old.images tet image; perms = slice_set self.old.perms tet perm } }
+        ensures { self.new ≡ record {
+          images = slice_set self.old.images tet image;
+          perms = slice_set self.old.perms tet perm;
+        } }
     {
         self.images[tet as usize] = image;
         self.perms[tet as usize] = perm;

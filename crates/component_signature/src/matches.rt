@@ -56,11 +56,14 @@ fn write_place(
     second: &OrderedParts,
     place: usize,
 ) -> Result<(), NoMemory>
-    requires matched { AreMatched (length draft.old.images) first.now.parts.items (entries_of first.now.signed.items) second.now.parts.items (entries_of second.now.signed.items) }
+    requires matched { AreMatched (length draft.old.images) first.now.parts.items (entries_of first.now.signed.items)
+        second.now.parts.items (entries_of second.now.signed.items) }
     requires in_range { place < length first.now.signed.items }
     requires perms { length draft.old.perms ≡ length draft.old.images }
-    requires written { AreWritten first.now.parts.items (numbers_of (entries_of first.now.signed.items)) second.now.parts.items (numbers_of (entries_of second.now.signed.items)) place draft.old }
-    ensures written { OnOk result (AreWritten first.now.parts.items (numbers_of (entries_of first.now.signed.items)) second.now.parts.items (numbers_of (entries_of second.now.signed.items)) (place + 1) draft.new) }
+    requires written { AreWritten first.now.parts.items (numbers_of (entries_of first.now.signed.items))
+        second.now.parts.items (numbers_of (entries_of second.now.signed.items)) place draft.old }
+    ensures written { OnOk result (AreWritten first.now.parts.items (numbers_of (entries_of first.now.signed.items))
+        second.now.parts.items (numbers_of (entries_of second.now.signed.items)) (place + 1) draft.new) }
     ensures images { OnOk result (length draft.new.images ≡ length draft.old.images) }
     ensures perms { OnOk result (length draft.new.perms ≡ length draft.old.perms) }
 {
@@ -78,8 +81,10 @@ fn draft_of_parts(
     first: &OrderedParts,
     second: &OrderedParts,
 ) -> Result<Draft, NoMemory>
-    requires { AreMatched tets first.now.parts.items (entries_of first.now.signed.items) second.now.parts.items (entries_of second.now.signed.items) }
-    ensures written { IfOk result (AreWritten first.now.parts.items (numbers_of (entries_of first.now.signed.items)) second.now.parts.items (numbers_of (entries_of second.now.signed.items)) (length first.now.signed.items)) }
+    requires { AreMatched tets first.now.parts.items (entries_of first.now.signed.items) second.now.parts.items
+        (entries_of second.now.signed.items) }
+    ensures written { IfOk result (AreWritten first.now.parts.items (numbers_of (entries_of first.now.signed.items))
+        second.now.parts.items (numbers_of (entries_of second.now.signed.items)) (length first.now.signed.items)) }
     ensures images { IfOk result (λ draft. length draft.images ≡ tets) }
     ensures perms { IfOk result (λ draft. length draft.perms ≡ tets) }
 {

@@ -13,8 +13,12 @@ use std::alloc::Global;
 /// or does not fit in 64 bits.
 fn fill_word(sums: &mut Vec<u64>, k: usize, combination: SmallCombination, limit: u128) -> bool
     requires in_range { k < length combination.words.now }
-    requires filled { AreFilled limit (sum_of (multiple combination.a combination.w.now) (multiple combination.b combination.u.now)) (64 * k) sums.old.items }
-    ensures { IsTrue result → AreFilled limit (sum_of (multiple combination.entry.a combination.entry.w.now) (multiple combination.entry.b combination.entry.u.now)) (64 * k + 64) sums.new.items }
+    requires filled { AreFilled limit
+        (sum_of (multiple combination.a combination.w.now) (multiple combination.b combination.u.now)) (64 * k)
+        sums.old.items }
+    ensures { IsTrue result → AreFilled limit
+        (sum_of (multiple combination.entry.a combination.entry.w.now)
+        (multiple combination.entry.b combination.entry.u.now)) (64 * k + 64) sums.new.items }
 {
     let SmallCombination { a, w, b, u, words } = combination;
     let mut rest = words[k];
@@ -39,8 +43,14 @@ pub(crate) fn sums_at(
     combination: SmallCombination,
     limit: u128,
 ) -> Result<Option<Vec<u64>>, NoMemory>
-    ensures sums { IfOk result (λ answer. IfSome answer (λ sums. sums.items ≡ sum_of (multiple combination.entry.a combination.entry.w.now) (multiple combination.entry.b combination.entry.u.now))) }
-    ensures within { IfOk result (λ answer. IfSome answer (λ _. (column : ℕ) → slice_index (sum_of (multiple combination.entry.a combination.entry.w.now) (multiple combination.entry.b combination.entry.u.now)) column ≤ limit)) }
+    ensures sums { IfOk result (λ answer.
+        IfSome answer (λ sums. sums.items
+        ≡ sum_of (multiple combination.entry.a combination.entry.w.now)
+        (multiple combination.entry.b combination.entry.u.now))) }
+    ensures within { IfOk result (λ answer.
+        IfSome answer (λ _. (column : ℕ)
+        → slice_index (sum_of (multiple combination.entry.a combination.entry.w.now)
+        (multiple combination.entry.b combination.entry.u.now)) column ≤ limit)) }
 {
     let mut sums = vec![in alloc; 0u64; combination.w.len()]?;
     for k in 0..combination.words.len() {

@@ -70,7 +70,8 @@ fn add_term(sums: PartsSoFar, coefficient: i32, entry: u128) -> Result<PartsSoFa
     ensures plus { IfOk result (λ after. after.plus ≡ sums.plus + positive_coefficient coefficient * entry) }
     ensures minus { IfOk result (λ after. after.minus ≡ sums.minus + negative_coefficient coefficient * entry) }
     ensures limit { IfOk result (λ after. after.limit ≡ sums.limit) }
-    ensures passed { OnErr result ((sums.limit < sums.plus + positive_coefficient coefficient * entry) ⊎ (sums.limit < sums.minus + negative_coefficient coefficient * entry)) }
+    ensures passed { OnErr result ((sums.limit < sums.plus + positive_coefficient coefficient * entry)
+        ⊎ (sums.limit < sums.minus + negative_coefficient coefficient * entry)) }
 {
     if entry == 0 {
         return Ok(sums);

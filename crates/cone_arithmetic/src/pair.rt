@@ -45,9 +45,13 @@ fn small_sums(
     b: u128,
     limit: u128,
 ) -> Result<Option<Vec<u64>>, NoMemory>
-    ensures sums { IfOk result (λ answer. IfSome answer (λ sums. sums.items ≡ sum_of (multiple a pair.entry.w.now) (multiple b pair.entry.u.now))) }
-    ensures within { IfOk result (λ answer. IfSome answer (λ _. (column : ℕ) → slice_index (sum_of (multiple a pair.entry.w.now) (multiple b pair.entry.u.now)) column ≤ limit)) }
-    ensures reduced { IfOk result (λ answer. IfSome answer (λ _. IsReduced MAX_ENTRY pair.entry.w.now × IsReduced MAX_ENTRY pair.entry.u.now)) }
+    ensures sums { IfOk result (λ answer.
+        IfSome answer (λ sums. sums.items ≡ sum_of (multiple a pair.entry.w.now) (multiple b pair.entry.u.now))) }
+    ensures within { IfOk result (λ answer.
+        IfSome answer (λ _. (column : ℕ)
+        → slice_index (sum_of (multiple a pair.entry.w.now) (multiple b pair.entry.u.now)) column ≤ limit)) }
+    ensures reduced { IfOk result (λ answer.
+        IfSome answer (λ _. IsReduced MAX_ENTRY pair.entry.w.now × IsReduced MAX_ENTRY pair.entry.u.now)) }
 {
     if a > MAX_SMALL || b > MAX_SMALL {
         return Ok(None);
@@ -72,9 +76,11 @@ fn small_sums(
 
 /// As `combine`, with the same errors, for the rays and values of `pair`.
 fn combine_wide(alloc: Global, pair: RayPair, limit: Limit) -> Result<PackedRay, CombineFault>
-    ensures ok { IfOk result (IsReducedBy limit.number pair.entry.at_u pair.entry.at_w pair.entry.u.now pair.entry.w.now) }
+    ensures ok { IfOk result (IsReducedBy limit.number pair.entry.at_u pair.entry.at_w pair.entry.u.now
+        pair.entry.w.now) }
     ensures columns { IfOk result (λ ray. length ray ≡ length pair.entry.u.now) }
-    ensures err { IfErr result (CombineFails limit.number pair.entry.at_u pair.entry.at_w pair.entry.u.now pair.entry.w.now) }
+    ensures err { IfErr result (CombineFails limit.number pair.entry.at_u pair.entry.at_w pair.entry.u.now
+        pair.entry.w.now) }
 {
     let first = pair.u.to_ray(alloc)?;
     let second = pair.w.to_ray(alloc)?;
@@ -85,9 +91,11 @@ fn combine_wide(alloc: Global, pair: RayPair, limit: Limit) -> Result<PackedRay,
 /// As `combine`, for the rays and values of `pair`; only the columns of its support are computed. Fails with `Passed`,
 /// which names the first column whose entry exceeds `limit`.
 pub fn combine_inside(alloc: Global, pair: RayPair, limit: Limit) -> Result<PackedRay, CombineFault>
-    ensures ok { IfOk result (IsReducedBy limit.number pair.entry.at_u pair.entry.at_w pair.entry.u.now pair.entry.w.now) }
+    ensures ok { IfOk result (IsReducedBy limit.number pair.entry.at_u pair.entry.at_w pair.entry.u.now
+        pair.entry.w.now) }
     ensures columns { IfOk result (λ ray. length ray ≡ length pair.entry.u.now) }
-    ensures err { IfErr result (CombineFails limit.number pair.entry.at_u pair.entry.at_w pair.entry.u.now pair.entry.w.now) }
+    ensures err { IfErr result (CombineFails limit.number pair.entry.at_u pair.entry.at_w pair.entry.u.now
+        pair.entry.w.now) }
 {
     let greatest = gcd(pair.at_u, pair.at_w);
     let a = quotient(pair.at_u, greatest);

@@ -172,9 +172,15 @@ fn sums_within(
     combination: Combination,
     limit: u128,
 ) -> Result<Vec<u128>, CombineFault>
-    ensures ok { IfOk result (λ sums. sums.items ≡ sum_of (multiple combination.entry.a combination.entry.w.now) (multiple combination.entry.b combination.entry.u.now)) }
-    ensures within { OnOk result ((column : ℕ) → slice_index (sum_of (multiple combination.entry.a combination.entry.w.now) (multiple combination.entry.b combination.entry.u.now)) column ≤ limit) }
-    ensures err { IfErr result (PassesAt limit (sum_of (multiple combination.entry.a combination.entry.w.now) (multiple combination.entry.b combination.entry.u.now))) }
+    ensures ok { IfOk result (λ sums.
+        sums.items ≡ sum_of (multiple combination.entry.a combination.entry.w.now)
+        (multiple combination.entry.b combination.entry.u.now)) }
+    ensures within { OnOk result ((column : ℕ)
+        → slice_index (sum_of (multiple combination.entry.a combination.entry.w.now)
+        (multiple combination.entry.b combination.entry.u.now)) column ≤ limit) }
+    ensures err { IfErr result (PassesAt limit
+        (sum_of (multiple combination.entry.a combination.entry.w.now)
+        (multiple combination.entry.b combination.entry.u.now))) }
 {
     let Combination { a, w, b, u } = combination;
     let mut sums = Vec::with_capacity(alloc, w.len())?;

@@ -17,7 +17,8 @@ impl StandardSurface<'_> {
     fn pass(&self, start: Face, glue: Glue, kind: u8) -> Option<Glue>
         requires reached { glue.tet < length self.now.table.now }
         requires one_of_three { kind < 3 }
-        ensures { (xs : List ℕ) → kind ≡ position_or_len (has_quad xs glue.tet) three → result ≡ passed self.now.table.now xs start glue }
+        ensures { (xs : List ℕ) → kind ≡ position_or_len (has_quad xs glue.tet) three
+            → result ≡ passed self.now.table.now xs start glue }
     {
         let into = glue.perm.image(start.face);
         let out = partner(kind, into);
@@ -38,7 +39,8 @@ impl StandardSurface<'_> {
         requires in_range { start.tet < length self.now.table.now }
         requires kept { is_removed self.now.entries.now start.tet ≡ false }
         ensures end { CrushesTo self.now.table.now self.now.entries.now start result }
-        ensures only { (other : Option Gluing) → CrushesTo self.now.table.now self.now.entries.now start other → other ≡ result }
+        ensures only { (other : Option Gluing) → CrushesTo self.now.table.now self.now.entries.now start other
+            → other ≡ result }
         ensures in_range { IfSome result (λ g. g.tet < length self.now.table.now) }
     {
         let mut reached = self.table.glue(start);

@@ -17,7 +17,8 @@ impl StandardSurface<'_> {
     /// For each tetrahedron the number of retained ones before it, which is its number in the crushed table if it is
     /// retained.
     fn new_numbers(&self, alloc: Global) -> Result<Vec<u32>, AllocError>
-        ensures { IfOk result (λ numbers. AreNewNumbers self.now.entries.now numbers.items (length self.now.table.now)) }
+        ensures { IfOk result (λ numbers.
+            AreNewNumbers self.now.entries.now numbers.items (length self.now.table.now)) }
     {
         let mut numbers = Vec::with_capacity(alloc, self.table.len() as usize)?;
         let mut kept = 0;
@@ -36,7 +37,8 @@ impl NumberedSurface<'_> {
     fn crushed_glue(&self, face: Face) -> Option<Glue>
         requires in_range { face.tet < length self.now.surface.table.now }
         requires kept { is_taken self.now.surface.entries.now face.tet ≡ false }
-        ensures { (end : Option Gluing) → CrushesTo self.now.surface.table.now self.now.surface.entries.now face end → result ≡ option_map (renumbered self.now.surface.entries.now) end }
+        ensures { (end : Option Gluing) → CrushesTo self.now.surface.table.now self.now.surface.entries.now face end
+            → result ≡ option_map (renumbered self.now.surface.entries.now) end }
     {
         let end = self.surface.follow(face)?;
         Some(Glue {
@@ -61,7 +63,9 @@ impl NumberedSurface<'_> {
 
     /// The rows of the crushed table.
     fn crushed_rows(&self, alloc: Global) -> Result<Vec<Row>, AllocError>
-        ensures rows { IfOk result (λ rows. AreCrushedBefore self.now.surface.table.now self.now.surface.entries.now (length self.now.surface.table.now) rows.items) }
+        ensures rows { IfOk result (λ rows.
+            AreCrushedBefore self.now.surface.table.now self.now.surface.entries.now (length self.now.surface.table.now)
+            rows.items) }
         ensures is_table { IsTable self.now.surface.table.now }
     {
         let mut rows = Vec::with_capacity(alloc, self.surface.table.len() as usize)?;

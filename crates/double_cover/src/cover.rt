@@ -134,7 +134,8 @@ impl Cover {
     pub fn split(&self, alloc: Global) -> Result<Option<Relabelling>, NoMemory>
         ensures size { IfOk result (λ by. IfSome by (λ r. length r.images ≡ 2 * length self.now)) }
         ensures split { IfOk result (λ by. definition.IsSplit self.now by) }
-        ensures carries { IfOk result (λ by. IfSome by (λ r. Carries r (definition.cover self.now) (definition.two_copies self.now))) }
+        ensures carries { IfOk result (λ by.
+            IfSome by (λ r. Carries r (definition.cover self.now) (definition.two_copies self.now))) }
     {
         let Some(signs) = &self.signs else {
             return Ok(None);

@@ -13,7 +13,9 @@ use std::alloc::{AllocError, Global};
 
 /// The image of each tetrahedron of the cover under the deck transformation, by the numbering `sheets`.
 pub fn exchange_images(alloc: Global, sheets: Sheets) -> Result<Vec<u32>, AllocError>
-    ensures { IfOk result (λ images. images.items ≡ map (λ u. definition.above sheets.tets (definition.over sheets.tets u) (definition.other_sheet (definition.sheet sheets.tets u))) (below (2 * sheets.tets))) }
+    ensures { IfOk result (λ images.
+        images.items ≡ map (λ u. definition.above sheets.tets (definition.over sheets.tets u)
+        (definition.other_sheet (definition.sheet sheets.tets u))) (below (2 * sheets.tets))) }
 {
     let mut images = Vec::with_capacity(alloc, 2 * sheets.tets as usize)?;
     for tet in 0..2 * sheets.tets {
@@ -41,7 +43,9 @@ fn copy_of(sheets: Sheets, signs: &[bool], tet: u32) -> Sheet
 /// `sheets`.
 pub fn split_images(alloc: Global, sheets: Sheets, signs: &[bool]) -> Result<Vec<u32>, AllocError>
     requires { length signs.now ≡ sheets.tets }
-    ensures { IfOk result (λ images. images.items ≡ map (λ u. definition.above sheets.tets (definition.over sheets.tets u) (definition.copy_of sheets.tets signs.now u)) (below (2 * sheets.tets))) }
+    ensures { IfOk result (λ images.
+        images.items ≡ map (λ u. definition.above sheets.tets (definition.over sheets.tets u)
+        (definition.copy_of sheets.tets signs.now u)) (below (2 * sheets.tets))) }
 {
     let mut images = Vec::with_capacity(alloc, 2 * sheets.tets as usize)?;
     for tet in 0..2 * sheets.tets {
@@ -53,8 +57,10 @@ pub fn split_images(alloc: Global, sheets: Sheets, signs: &[bool]) -> Result<Vec
 
 /// The relabelling with the images `images` that fixes all vertex numbers.
 pub fn by_images(alloc: Global, images: Vec<u32>) -> Result<Relabelling, AllocError>
-    requires { IsRelabelling (length images.items) (record { images = images.items; perms = replicate (length images.items) identity }) }
-    ensures { IfOk result (λ by. by ≡ record { images = images.items; perms = replicate (length images.items) identity }) }
+    requires { IsRelabelling (length images.items)
+        (record { images = images.items; perms = replicate (length images.items) identity }) }
+    ensures { IfOk result (λ by. by
+        ≡ record { images = images.items; perms = replicate (length images.items) identity }) }
 {
     let perms = vec![in alloc; Perm4::identity(); images.len()]?;
     Ok(Relabelling::from_sound(images, perms))

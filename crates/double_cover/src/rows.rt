@@ -35,7 +35,9 @@ fn lift_glue(sheets: Sheets, sheet: Sheet, glue: Glue) -> Glue
 /// The gluing of `face` of the cover.
 fn cover_glue(table: &Table, face: Face) -> Option<Glue>
     requires { face.tet < 2 * length table.now }
-    ensures value { result ≡ option_map (definition.lifted (length table.now) (definition.sheet (length table.now) face.tet)) (gluings.glue table.now (definition.face_below (length table.now) face)) }
+    ensures value { result ≡ option_map
+        (definition.lifted (length table.now) (definition.sheet (length table.now) face.tet))
+        (gluings.glue table.now (definition.face_below (length table.now) face)) }
     ensures is_table { IsTable table.now }
 {
     let sheets = Sheets { tets: table.len() };

@@ -17,7 +17,8 @@ fn cross_face(
     next: &mut Vec<u32>,
 ) -> Result<(), AllocError>
     requires { length marks.old ≡ length at.table.now }
-    ensures grown { OnOk result (HasGrown at.entry.table.now (IsFace at.entry.face) distance marks.old marks.new next.old.items next.new.items) }
+    ensures grown { OnOk result (HasGrown at.entry.table.now (IsFace at.entry.face) distance marks.old marks.new
+        next.old.items next.new.items) }
     ensures is_table { IsTable at.entry.table.now }
 {
     let Some(glue) = at.table.glue(at.face) else {
@@ -39,7 +40,8 @@ fn mark_neighbours(
     next: &mut Vec<u32>,
 ) -> Result<(), AllocError>
     requires { length marks.old ≡ length at.table.now }
-    ensures { OnOk result (HasGrown at.entry.table.now (IsFaceOf at.entry.tet) distance marks.old marks.new next.old.items next.new.items) }
+    ensures { OnOk result (HasGrown at.entry.table.now (IsFaceOf at.entry.tet) distance marks.old marks.new
+        next.old.items next.new.items) }
 {
     for face in 0..4 {
         let face = FaceOfTable {
@@ -59,7 +61,8 @@ fn next_level(
     marks: &mut [Option<u32>],
 ) -> Result<Vec<u32>, AllocError>
     requires { length marks.old ≡ length level.table.now }
-    ensures { IfOk result (λ next. IsGrown level.entry.table.now (IsFaceOfSome level.entry.tets.now) distance marks.old marks.new next.items) }
+    ensures { IfOk result (λ next. IsGrown level.entry.table.now (IsFaceOfSome level.entry.tets.now) distance marks.old
+        marks.new next.items) }
 {
     let mut next = Vec::new(alloc);
     for tet in level.tets {

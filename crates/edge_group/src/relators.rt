@@ -18,7 +18,8 @@ use std::alloc::{AllocError, Global};
 
 /// The internal edge classes of `skeleton`, ascending.
 pub fn internal_edge_classes(alloc: Global, skeleton: &Skeleton) -> Result<Vec<u32>, AllocError>
-    ensures edges { IfOk result (λ edges. edges.items ≡ definition.internal_edges skeleton.now.rows skeleton.now.edges.classes skeleton.now.edges.count) }
+    ensures edges { IfOk result (λ edges.
+        edges.items ≡ definition.internal_edges skeleton.now.rows skeleton.now.edges.classes skeleton.now.edges.count) }
     ensures in_range { IfOk result (λ edges. All (λ c. c < skeleton.now.edges.count) edges.items) }
     ensures limited { IfOk result (λ edges. length edges.items < 2 ^ 32) }
 {
@@ -50,7 +51,9 @@ impl Generators<'_> {
     /// The letters of the faces through which a tour of `corners` leaves them.
     fn relator(&self, alloc: Global, corners: &[Corner]) -> Result<Vec<Letter>, AllocError>
         requires { All (LeavesInRange self.now.skeleton.rows) corners.now }
-        ensures { IfOk result (λ letters. letters.items ≡ filter_map (λ k. letter_of self.now.skeleton self.now.classes (face_number (left_through k))) corners.now) }
+        ensures { IfOk result (λ letters.
+            letters.items ≡ filter_map (λ k.
+            letter_of self.now.skeleton self.now.classes (face_number (left_through k))) corners.now) }
     {
         let mut letters = Vec::new(alloc);
         for corner in corners {
@@ -68,7 +71,8 @@ impl Generators<'_> {
     /// The relator around each of the edge classes `edges`.
     pub fn relators(&self, alloc: Global, edges: &[u32]) -> Result<Vec<Vec<Letter>>, NoMemory>
         requires { All (λ c. c < self.now.skeleton.edges.count) edges.now }
-        ensures { IfOk result (λ relators. AllZip (IsRelator self.now.skeleton self.now.classes) edges.now (map letters_of relators.items)) }
+        ensures { IfOk result (λ relators.
+            AllZip (IsRelator self.now.skeleton self.now.classes) edges.now (map letters_of relators.items)) }
     {
         let skeleton = self.skeleton;
         let mut relators = Vec::with_capacity(alloc, edges.len())?;

@@ -56,7 +56,8 @@ pub fn rays(alloc: Global, order: Order, limit: u128, bytes: &[u8]) -> Result<Ou
     requires size { length bytes.now ≤ max_text }
     requires named { order ≢ Order.Free }
     requires most_limit { limit ≤ MAX_ENTRY }
-    ensures { IfOk result (IsReadOutcome (worded (cone_document bytes.now)) (λ cone. IsEnumerationAnswer (codes "rays") (ray_enumeration order limit cone))) }
+    ensures { IfOk result (IsReadOutcome (worded (cone_document bytes.now))
+        (λ cone. IsEnumerationAnswer (codes "rays") (ray_enumeration order limit cone))) }
 {
     match read_cone_document(alloc, bytes) {
         Ok(system) => {

@@ -28,7 +28,8 @@ fn append_verdict(
     vector: &[u128],
 ) -> Result<(), NoMemory>
     requires { system.now.columns ≡ coordinates.columns coords (length table.now) }
-    ensures { OnOk result (out.new.items ≡ out.old.items ++ verdict_text (verdict_in coords table.now system.now.rows vector.now)) }
+    ensures { OnOk result (out.new.items
+        ≡ out.old.items ++ verdict_text (verdict_in coords table.now system.now.rows vector.now)) }
 {
     let checked = check_vector(coords, table.len(), system, vector);
     append_checked(alloc, out, checked)
@@ -43,7 +44,8 @@ fn verdicts(
     vectors: &[Vec<u128>],
 ) -> Result<Vec<u8>, NoMemory>
     requires { system.now.columns ≡ coordinates.columns coords (length table.now) }
-    ensures { IfOk result (λ text. text.items ≡ verdicts_text (map (verdict_in coords table.now system.now.rows) (all_entries vectors.now))) }
+    ensures { IfOk result (λ text. text.items
+        ≡ verdicts_text (map (verdict_in coords table.now system.now.rows) (all_entries vectors.now))) }
 {
     let mut text = Vec::new(alloc);
     for vector in vectors {

@@ -89,7 +89,8 @@ fn opened_row(gone: &[(u32, Row)], place: u32) -> u32
 
 /// The row of `fresh` with the number `number`, or `None`.
 fn fresh_row(fresh: &[(u32, Row)], number: u32) -> Option<Row>
-    ensures { result ≡ (if has (numbers_of fresh.now) number then Some (exchange.fresh_row (record { removed = []; fresh = fresh.now }) number) else None) }
+    ensures { result ≡ (if has (numbers_of fresh.now) number then Some
+        (exchange.fresh_row (record { removed = []; fresh = fresh.now }) number) else None) }
 {
     for row in fresh {
         if row.0 == number {
@@ -141,7 +142,8 @@ fn back_to_fresh(fresh: &[(u32, Row)], target: Face) -> Option<Glue>
 /// The gluing of `face` in the new table, in a retained row whose old number is `tet`.
 fn retained_glue(swap: &ReplacingRows<'_>, tet: u32, face: Face) -> Option<Glue>
     requires { tet < length swap.now.rows }
-    ensures { result ≡ exchange.kept_gluing swap.now.rows swap.now.by face (gluings.glue swap.now.rows (record { tet = tet; face = face.face })) }
+    ensures { result ≡ exchange.kept_gluing swap.now.rows swap.now.by face
+        (gluings.glue swap.now.rows (record { tet = tet; face = face.face })) }
 {
     let face_before = Face {
         tet,

@@ -39,7 +39,8 @@ fn next_column(columns: &[u32], from: u32, end: u32) -> u32
     requires { from ≤ end }
     ensures least { from ≤ result }
     ensures within { result ≤ end }
-    ensures none_before { (i : ℕ) → i < length columns.now → from ≤ slice_index columns.now i → result ≤ slice_index columns.now i }
+    ensures none_before { (i : ℕ) → i < length columns.now → from ≤ slice_index columns.now i
+        → result ≤ slice_index columns.now i }
 {
     let mut next = end;
     for column in columns {
@@ -56,7 +57,9 @@ fn push_term(
     sides: Sides<'_>,
     column: u32,
 ) -> Result<(), NoMemory>
-    ensures { OnOk result (terms.new.items ≡ terms.old.items ++ option_to_list (equations.term_of (record { left = sides.entry.left.now; right = sides.entry.right.now }) column)) }
+    ensures { OnOk result (terms.new.items
+        ≡ terms.old.items ++ option_to_list
+        (equations.term_of (record { left = sides.entry.left.now; right = sides.entry.right.now }) column)) }
 {
     let plus = times_in(sides.left, column) as i32;
     let minus = times_in(sides.right, column) as i32;
@@ -68,7 +71,8 @@ fn push_term(
 
 /// The row of `columns` columns of the equation of `sides`: the sum of the left columns less that of the right ones.
 pub fn row_of(alloc: Global, columns: u32, sides: Sides<'_>) -> Result<SparseRow, NoMemory>
-    ensures value { IfOk result (λ row. row ≡ equations.row_of columns (record { left = sides.entry.left.now; right = sides.entry.right.now })) }
+    ensures value { IfOk result (λ row.
+        row ≡ equations.row_of columns (record { left = sides.entry.left.now; right = sides.entry.right.now })) }
     ensures in_range { IfOk result (IsInRange columns) }
 {
     let left = sides.left;

@@ -35,7 +35,9 @@ fn push_equation(
     requires separate { vertex ≢ pair.now.face.face }
     requires room { length system.old.rows + 1 < 2 ^ 32 }
     ensures columns { OnOk result (system.new.columns ≡ system.old.columns) }
-    ensures rows { OnOk result (system.new.rows ≡ system.old.rows ++ equations.row_of system.old.columns (matching coords.system pair.now.face pair.now.glue vertex) ∷ []) }
+    ensures rows { OnOk result (system.new.rows
+        ≡ system.old.rows ++ equations.row_of system.old.columns
+        (matching coords.system pair.now.face pair.now.glue vertex) ∷ []) }
     ensures one_more { OnOk result (length system.new.rows ≡ length system.old.rows + 1) }
 {
     let face = pair.face;
@@ -62,7 +64,8 @@ fn push_glued(
 ) -> Result<(), NoMemory>
     requires room { length system.old.rows + 4 < 2 ^ 32 }
     ensures columns { OnOk result (system.new.columns ≡ system.old.columns) }
-    ensures rows { OnOk result (system.new.rows ≡ system.old.rows ++ glued_rows coords.system system.old.columns pair.now.face pair.now.glue) }
+    ensures rows { OnOk result (system.new.rows
+        ≡ system.old.rows ++ glued_rows coords.system system.old.columns pair.now.face pair.now.glue) }
     ensures limited { OnOk result (length system.new.rows ≤ length system.old.rows + 4) }
 {
     let face = pair.face;
@@ -86,7 +89,8 @@ fn push_face(
     requires in_range { face.tet < length table.now }
     requires room { length system.old.rows + 4 < 2 ^ 32 }
     ensures columns { OnOk result (system.new.columns ≡ system.old.columns) }
-    ensures rows { OnOk result (system.new.rows ≡ system.old.rows ++ face_rows coords.system table.now system.old.columns face) }
+    ensures rows { OnOk result (system.new.rows
+        ≡ system.old.rows ++ face_rows coords.system table.now system.old.columns face) }
     ensures limited { OnOk result (length system.new.rows ≤ length system.old.rows + 4) }
 {
     if let Some(glue) = table.glue(face) {
@@ -108,7 +112,8 @@ fn push_tet(
     requires in_range { tet < length table.now }
     requires room { length system.old.rows + 16 < 2 ^ 32 }
     ensures columns { OnOk result (system.new.columns ≡ system.old.columns) }
-    ensures rows { OnOk result (system.new.rows ≡ system.old.rows ++ tet_rows coords.system table.now system.old.columns tet) }
+    ensures rows { OnOk result (system.new.rows
+        ≡ system.old.rows ++ tet_rows coords.system table.now system.old.columns tet) }
     ensures limited { OnOk result (length system.new.rows ≤ length system.old.rows + 16) }
 {
     for face in 0..4 {

@@ -58,7 +58,8 @@ fn push_around(alloc: Global, corners: &[Corner], system: &mut System) -> Result
     requires limited { length corners.now ≤ 1000000 }
     requires room { length system.old.rows + 1 < 2 ^ 32 }
     ensures columns { OnOk result (system.new.columns ≡ system.old.columns) }
-    ensures rows { OnOk result (system.new.rows ≡ system.old.rows ++ equations.row_of system.old.columns (quad_equation corners.now) ∷ []) }
+    ensures rows { OnOk result (system.new.rows
+        ≡ system.old.rows ++ equations.row_of system.old.columns (quad_equation corners.now) ∷ []) }
 {
     let left = first_columns(alloc, corners)?;
     let right = second_columns(alloc, corners)?;
@@ -83,7 +84,8 @@ fn push_edge(
     requires columns { system.old.columns ≡ coordinates.columns Coords.Quad (length skeleton.now.rows) }
     requires room { length system.old.rows + 1 < 2 ^ 32 }
     ensures columns { OnOk result (system.new.columns ≡ system.old.columns) }
-    ensures rows { OnOk result (IsRowAppended skeleton.now.rows skeleton.now.edges.classes class system.old.rows system.new.rows) }
+    ensures rows { OnOk result (IsRowAppended skeleton.now.rows skeleton.now.edges.classes class system.old.rows
+        system.new.rows) }
 {
     if skeleton.is_boundary_edge(class) {
         return Ok(());
@@ -96,7 +98,8 @@ fn push_edge(
 /// along the edge as fall (Tollefson 1998).
 pub fn quad_system(alloc: Global, skeleton: &Skeleton) -> Result<System, NoMemory>
     ensures columns { IfOk result (λ s. s.columns ≡ coordinates.columns Coords.Quad (length skeleton.now.rows)) }
-    ensures rows { IfOk result (λ s. AreQuadRows skeleton.now.rows skeleton.now.edges.classes skeleton.now.edges.count s.rows) }
+    ensures rows { IfOk result (λ s.
+        AreQuadRows skeleton.now.rows skeleton.now.edges.classes skeleton.now.edges.count s.rows) }
     ensures skeleton { IsSkeleton skeleton.now }
 {
     let tets = skeleton.table().rows().len() as u32;

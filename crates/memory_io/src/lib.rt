@@ -64,10 +64,12 @@ impl Source for MemorySource {
     fn read(&mut self, buf: &mut [u8]) -> Result<usize, Failed>
         requires { 0 < length buf.old }
         ensures fails { IsErr result ↔ Contains self.old.failing (next_count self.old.calls) }
-        ensures fault { OnErr result (self.new ≡ record self.old { calls = next_count self.old.calls; faults = next_count self.old.faults }) }
+        ensures fault { OnErr result (self.new
+            ≡ record self.old { calls = next_count self.old.calls; faults = next_count self.old.faults }) }
         ensures gives { IfOk result (λ n. n ≡ min (min (length buf.old) self.old.most) (length self.old.left)) }
         ensures bytes { IfOk result (λ n. take n buf.new ≡ take n self.old.left) }
-        ensures rest { IfOk result (λ n. self.new ≡ record self.old { left = drop n self.old.left; calls = next_count self.old.calls }) }
+        ensures rest { IfOk result (λ n.
+            self.new ≡ record self.old { left = drop n self.old.left; calls = next_count self.old.calls }) }
         ensures end { IfOk result (λ n. (n ≡ 0) ↔ (self.old.left ≡ [])) }
         ensures later { self.old.faults ≤ self.new.faults }
     {
@@ -115,7 +117,8 @@ impl MemorySink {
         most: usize,
     ) -> Result<MemorySink, NoMemory>
         requires { 0 < most }
-        ensures { IfOk result (λ s. s ≡ record { held = []; room = room; failing = failing.items; most = most; calls = 0; faults = 0 }) }
+        ensures { IfOk result (λ s.
+            s ≡ record { held = []; room = room; failing = failing.items; most = most; calls = 0; faults = 0 }) }
     {
         Ok(MemorySink {
             held: Vec::with_capacity(alloc, room)?,
@@ -142,10 +145,17 @@ impl Sink for MemorySink {
 
     fn write(&mut self, piece: &[u8]) -> Result<usize, Failed>
         requires { 0 < length piece.now }
-        ensures fails { IsErr result ↔ (Contains self.old.failing (next_count self.old.calls) ⊎ (self.old.room ≤ length self.old.held)) }
-        ensures fault { OnErr result (self.new ≡ record self.old { calls = next_count self.old.calls; faults = next_count self.old.faults }) }
-        ensures takes { IfOk result (λ n. n ≡ min (min (length piece.now) self.old.most) (self.old.room - length self.old.held)) }
-        ensures bytes { IfOk result (λ n. self.new ≡ record self.old { held = self.old.held ++ take n piece.now; calls = next_count self.old.calls }) }
+        ensures fails { IsErr result ↔ (Contains self.old.failing (next_count self.old.calls)
+            ⊎ (self.old.room ≤ length self.old.held)) }
+        ensures fault { OnErr result (self.new
+            ≡ record self.old { calls = next_count self.old.calls; faults = next_count self.old.faults }) }
+        ensures takes { IfOk result (λ n.
+            n ≡ min (min (length piece.now) self.old.most) (self.old.room - length self.old.held)) }
+        ensures bytes { IfOk result (λ n.
+            self.new ≡ record self.old {
+              held = self.old.held ++ take n piece.now;
+              calls = next_count self.old.calls;
+            }) }
         ensures count { IfOk result (λ n. (0 < n) × (n ≤ length piece.now)) }
         ensures later { self.old.faults ≤ self.new.faults }
     {

@@ -12,7 +12,8 @@ use text_io::Lexer;
 
 /// Reads a step from each line that `lexer` has left. Fails at the first line on which `read_step` does.
 pub fn read_steps(alloc: Global, lexer: &mut Lexer<'_>) -> Result<Vec<Step>, TextFault>
-    ensures { ReadsFrom TextFault.NoMemory steps_of result lexer.new (lexed (each_line_from step_at lexer.old.later lexer.old)) }
+    ensures { ReadsFrom TextFault.NoMemory steps_of result lexer.new
+        (lexed (each_line_from step_at lexer.old.later lexer.old)) }
 {
     let mut steps = Vec::new(alloc);
     while lexer.next_line() {

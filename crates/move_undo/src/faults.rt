@@ -10,7 +10,8 @@ use text_io::{append, append_decimal};
 
 /// Appends `not-matched` and the labels `first` and `second`.
 fn append_labels(alloc: Global, out: &mut Vec<u8>, first: u8, second: u8) -> Result<(), NoMemory>
-    ensures { OnOk result (out.new.items ≡ out.old.items ++ codes "not-matched " ++ decimal first ++ codes " " ++ decimal second) }
+    ensures { OnOk result (out.new.items
+        ≡ out.old.items ++ codes "not-matched " ++ decimal first ++ codes " " ++ decimal second) }
 {
     append(out, b"not-matched ")?;
     append_decimal(alloc, out, u128::from(first))?;

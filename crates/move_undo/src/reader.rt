@@ -165,7 +165,8 @@ pub fn read_move(lexer: &mut Lexer<'_>) -> Result<Move, LexFault>
 
 /// Reads a move from each line that `lexer` has left. Fails at the first line on which `read_move` does.
 pub fn read_moves(alloc: Global, lexer: &mut Lexer<'_>) -> Result<Vec<Move>, TextFault>
-    ensures { ReadsFrom TextFault.NoMemory (λ moves. moves.items) result lexer.new (lexed (each_line_from text.move_at lexer.old.later lexer.old)) }
+    ensures { ReadsFrom TextFault.NoMemory (λ moves. moves.items) result lexer.new
+        (lexed (each_line_from text.move_at lexer.old.later lexer.old)) }
 {
     let mut moves = Vec::new(alloc);
     while lexer.next_line() {

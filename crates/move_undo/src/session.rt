@@ -148,7 +148,8 @@ impl Session {
 
     /// Plays again the last move taken back, and returns whether there is one.
     pub fn redo(&mut self) -> bool
-        ensures redone { OnTrue result ((self.old.played < length self.old.moves) × (self.new ≡ sessions.one_more self.old)) }
+        ensures redone { OnTrue result ((self.old.played < length self.old.moves)
+            × (self.new ≡ sessions.one_more self.old)) }
         ensures nothing { OnFalse result ((self.old.played ≡ length self.old.moves) × (self.new ≡ self.old)) }
     {
         let next = self.undos.len();

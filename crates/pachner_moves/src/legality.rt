@@ -44,7 +44,8 @@ fn find_facet(table: &Table, m: &Move, label: u8, found: &[Facet]) -> Result<Fac
     requires found { found.now ≡ facets_below table.now m.now label }
     ensures facet { IfOk result (λ f. Some f ≡ moves.facet table.now m.now label) }
     ensures none { OnOk result (moves.facet_fault table.now m.now label (moves.facet table.now m.now label) ≡ None) }
-    ensures fault { IfErr result (λ e. moves.facet_fault table.now m.now label (moves.facet table.now m.now label) ≡ Some e) }
+    ensures fault { IfErr result (λ e.
+        moves.facet_fault table.now m.now label (moves.facet table.now m.now label) ≡ Some e) }
 {
     let Some(facet) = facet_at(table, *m, label) else {
         return Err(MoveFault::Boundary { label });

@@ -32,8 +32,10 @@ pub fn check_vector(
 ) -> Result<(), VectorFault>
     requires tets { tets ≤ max_tets }
     requires columns { system.now.columns ≡ coordinates.columns coords tets }
-    ensures verdict { result ≡ verdict MAX_ENTRY system.now.columns system.now.rows (coordinates.clash_list coords tets) x.now }
-    ensures accepts { IsOk result ↔ IsAcceptedVector MAX_ENTRY system.now.columns system.now.rows (coordinates.clash_list coords tets) x.now }
+    ensures verdict { result ≡ verdict MAX_ENTRY system.now.columns system.now.rows (coordinates.clash_list coords tets)
+        x.now }
+    ensures accepts { IsOk result ↔ IsAcceptedVector MAX_ENTRY system.now.columns system.now.rows
+        (coordinates.clash_list coords tets) x.now }
 {
     if x.len() != system.columns() as usize {
         return Err(VectorFault::Length { got: x.len() });

@@ -31,7 +31,8 @@ fn partners_end(space: Space, first: u32) -> u32
     requires { first < coordinates.columns space.coords space.tets }
     ensures above { first + 1 ≤ result }
     ensures within { result ≤ coordinates.columns space.coords space.tets }
-    ensures beyond { (k : ℕ) → result ≤ k → k < coordinates.columns space.coords space.tets → coordinates.clash_test space.coords first k ≡ false }
+    ensures beyond { (k : ℕ) → result ≤ k → k < coordinates.columns space.coords space.tets
+        → coordinates.clash_test space.coords first k ≡ false }
 {
     if is_octagon(space.coords, first) {
         columns(space.coords, space.tets)
@@ -72,7 +73,8 @@ pub fn clash_list(alloc: Global, coords: Coords, tets: u32) -> Result<Vec<(u32, 
 fn first_clashing(space: Space, x: &[u128], first: u32) -> Option<u32>
     requires width { length x.now ≡ coordinates.columns space.coords space.tets }
     requires in_range { first < length x.now }
-    ensures { option_map (λ second. (first, second)) result ≡ find (both_nonzero x.now) (partners space.coords space.tets first) }
+    ensures { option_map (λ second. (first, second)) result
+        ≡ find (both_nonzero x.now) (partners space.coords space.tets first) }
 {
     if x[first as usize] == 0 {
         return None;

@@ -80,7 +80,8 @@ fn distance_masks(alloc: Global, space: Space) -> Result<Vec<Vec<u64>>, NoMemory
 /// Whether, for a mask, a column of it and the one at its distance ahead both are in the union of `a` and `b`.
 fn has_pair_at_distance(near: &[Vec<u64>], a: &[u64], b: &[u64]) -> bool
     requires limited { length near.now ≤ 10 }
-    requires first { (k : ℕ) (d : Vec ℕ Global) → k < length near.now → length (slice_index_or near.now k d).items ≡ length a.now }
+    requires first { (k : ℕ) (d : Vec ℕ Global) → k < length near.now
+        → length (slice_index_or near.now k d).items ≡ length a.now }
     requires second { length b.now ≡ length a.now }
     ensures { IsTrue result ↔ HasPairAtDistance near.now a.now b.now }
 {

@@ -10,8 +10,10 @@ impl Heights<'_> {
     /// Whether height plus quads at the vertex `at` are equal on both sides of its face.
     fn agrees(&self, at: VertexWithFace) -> bool
         requires { at.vertex < 4 * length self.now.vector.skeleton.now.rows }
-        ensures agrees { IsTrue result → Agrees self.now.vector.skeleton.now self.now.vector.entries.now self.now.values.now at.vertex at.face }
-        ensures wrong { result ≡ false → Agrees self.now.vector.skeleton.now self.now.vector.entries.now self.now.values.now at.vertex at.face → ⊥ }
+        ensures agrees { IsTrue result → Agrees self.now.vector.skeleton.now self.now.vector.entries.now
+            self.now.values.now at.vertex at.face }
+        ensures wrong { result ≡ false → Agrees self.now.vector.skeleton.now self.now.vector.entries.now
+            self.now.values.now at.vertex at.face → ⊥ }
     {
         match self.vector.across(at) {
             None => true,
@@ -25,8 +27,10 @@ impl Heights<'_> {
     /// Whether height plus quads at `vertex` are equal on both sides of each face.
     fn agrees_around(&self, vertex: u32) -> bool
         requires { vertex < 4 * length self.now.vector.skeleton.now.rows }
-        ensures agrees { IsTrue result → AgreesAround self.now.vector.skeleton.now self.now.vector.entries.now self.now.values.now vertex }
-        ensures wrong { result ≡ false → AgreesAround self.now.vector.skeleton.now self.now.vector.entries.now self.now.values.now vertex → ⊥ }
+        ensures agrees { IsTrue result → AgreesAround self.now.vector.skeleton.now self.now.vector.entries.now
+            self.now.values.now vertex }
+        ensures wrong { result ≡ false → AgreesAround self.now.vector.skeleton.now self.now.vector.entries.now
+            self.now.values.now vertex → ⊥ }
     {
         for face in 0..4 {
             if !self.agrees(VertexWithFace { vertex, face }) {

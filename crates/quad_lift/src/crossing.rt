@@ -42,7 +42,8 @@ impl QuadVector<'_> {
     /// The number of quads with an arc of type `arc`.
     fn quads_along(&self, arc: ArcType) -> u128
         requires { arc.face.tet < length self.now.skeleton.now.rows }
-        ensures { result ≡ slice_index self.now.entries.now (coordinates.quad_column QuadCoords arc.face.tet (coordinates.keeping arc.vertex arc.face.face)) }
+        ensures { result ≡ slice_index self.now.entries.now
+            (coordinates.quad_column QuadCoords arc.face.tet (coordinates.keeping arc.vertex arc.face.face)) }
     {
         let kind = keeping(arc.vertex, arc.face.face);
         self.entries[quad_column(Coords::Quad, arc.face.tet, kind) as usize]
@@ -52,8 +53,10 @@ impl QuadVector<'_> {
     /// is opposite the vertex or a boundary face.
     pub fn across(&self, at: VertexWithFace) -> Option<Crossing>
         requires { at.vertex < 4 * length self.now.skeleton.now.rows }
-        ensures some { IfSome result (λ c. IsCrossing self.now.skeleton.now self.now.entries.now at.vertex at.face c.other c.up c.down) }
-        ensures none { IfNone result (at.vertex % 4 ≢ at.face → gluings.glue self.now.skeleton.now.rows (record { tet = at.vertex / 4; face = at.face }) ≡ None) }
+        ensures some { IfSome result (λ c.
+            IsCrossing self.now.skeleton.now self.now.entries.now at.vertex at.face c.other c.up c.down) }
+        ensures none { IfNone result (at.vertex % 4 ≢ at.face
+            → gluings.glue self.now.skeleton.now.rows (record { tet = at.vertex / 4; face = at.face }) ≡ None) }
         ensures skeleton { IsSkeleton self.now.skeleton.now }
     {
         let table = self.skeleton.table();

@@ -23,7 +23,11 @@ impl QuadVector<'_> {
         requires marked { IsMarked marked.old at.vertex }
         ensures spread { OnOk result (AreSpread self.now.skeleton.now self.now.entries.now marked.new heights.new) }
         ensures kept { OnOk result ((i : ℕ) → IsMarked marked.old i → IsMarked marked.new i) }
-        ensures turn { OnOk result ((first : List Bool) → IsSearchStep (vertices_around self.now.skeleton.now.rows) first at.vertex (neighbours_before self.now.skeleton.now.rows at.vertex at.face) marked.old pending.old.items → IsSearchStep (vertices_around self.now.skeleton.now.rows) first at.vertex (neighbours_before self.now.skeleton.now.rows at.vertex (at.face + 1)) marked.new pending.new.items) }
+        ensures turn { OnOk result ((first : List Bool)
+            → IsSearchStep (vertices_around self.now.skeleton.now.rows) first at.vertex
+            (neighbours_before self.now.skeleton.now.rows at.vertex at.face) marked.old pending.old.items
+            → IsSearchStep (vertices_around self.now.skeleton.now.rows) first at.vertex
+            (neighbours_before self.now.skeleton.now.rows at.vertex (at.face + 1)) marked.new pending.new.items) }
         ensures work { OnOk result (work_left marked.new pending.new.items ≡ work_left marked.old pending.old.items) }
     {
         let Some(step) = self.across(at) else {
@@ -50,7 +54,9 @@ impl QuadVector<'_> {
         requires spread { AreSpread self.now.skeleton.now self.now.entries.now marked.old heights.old }
         requires marked { IsMarked marked.old vertex }
         ensures spread { OnOk result (AreSpread self.now.skeleton.now self.now.entries.now marked.new heights.new) }
-        ensures turn { OnOk result ((first : List Bool) → IsSearchStep (vertices_around self.now.skeleton.now.rows) first vertex [] marked.old pending.old.items → IsSearch (vertices_around self.now.skeleton.now.rows) first marked.new pending.new.items) }
+        ensures turn { OnOk result ((first : List Bool)
+            → IsSearchStep (vertices_around self.now.skeleton.now.rows) first vertex [] marked.old pending.old.items
+            → IsSearch (vertices_around self.now.skeleton.now.rows) first marked.new pending.new.items) }
         ensures work { OnOk result (work_left marked.new pending.new.items ≡ work_left marked.old pending.old.items) }
     {
         for face in 0..4 {

@@ -26,7 +26,8 @@ impl Heights<'_> {
     fn entry(&self, lows: &[u128], column: u32) -> u128
         requires lows { AreLeastHeights self.now.vector.skeleton.now self.now.values.now lows.now }
         requires in_range { column < 7 * length self.now.vector.skeleton.now.rows }
-        ensures { result ≡ lifted_entry self.now.vector.skeleton.now self.now.vector.entries.now self.now.values.now lows.now column }
+        ensures { result ≡ lifted_entry self.now.vector.skeleton.now self.now.vector.entries.now self.now.values.now
+            lows.now column }
     {
         let tet = tet_of(Coords::Standard, column);
         let place = place_of(Coords::Standard, column);
@@ -43,7 +44,10 @@ impl Heights<'_> {
     fn entries(&self, alloc: Global, lows: &[u128]) -> Result<Vec<u128>, AllocError>
         requires { AreLeastHeights self.now.vector.skeleton.now self.now.values.now lows.now }
         ensures length { IfOk result (λ ys. length ys.items ≡ 7 * length self.now.vector.skeleton.now.rows) }
-        ensures entries { IfOk result (λ ys. (i : ℕ) → i < 7 * length self.now.vector.skeleton.now.rows → slice_index ys.items i ≡ lifted_entry self.now.vector.skeleton.now self.now.vector.entries.now self.now.values.now lows.now i) }
+        ensures entries { IfOk result (λ ys.
+            (i : ℕ) → i < 7 * length self.now.vector.skeleton.now.rows
+            → slice_index ys.items i ≡ lifted_entry self.now.vector.skeleton.now self.now.vector.entries.now
+            self.now.values.now lows.now i) }
     {
         let columns = columns(Coords::Standard, self.vector.skeleton.table().len());
         let mut entries = Vec::with_capacity(alloc, columns as usize)?;

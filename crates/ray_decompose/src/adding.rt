@@ -46,7 +46,8 @@ fn are_equal(sum: u128, column: Column) -> bool
 
 /// The error at `column`, if there is one.
 fn fault_at(column: Column) -> Option<AddFault>
-    ensures { result ≡ column_fault MAX_ENTRY column.entry.x.now column.entry.times (terms_of column.entry.terms.now) column.entry.index }
+    ensures { result ≡ column_fault MAX_ENTRY column.entry.x.now column.entry.times (terms_of column.entry.terms.now)
+        column.entry.index }
 {
     match product_within(column.times, column.x[column.index], MAX_ENTRY) {
         Some(sum) if are_equal(sum, column) => None,

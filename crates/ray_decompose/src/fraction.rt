@@ -110,7 +110,8 @@ pub fn least_fraction(division: Division) -> Fraction
 /// As `least_fraction`, or `None` if the support of the ray of `division` does not lie in that of `rest`.
 pub fn fraction_inside(division: Division) -> Option<Fraction>
     ensures inside { IfSome result (λ _. IsInside division.entry.ray.now division.entry.rest.now) }
-    ensures least { IfSome result (λ fraction. IsLeastFraction division.entry.rest.now division.entry.ray.now fraction.numerator fraction.denominator) }
+    ensures least { IfSome result (λ fraction.
+        IsLeastFraction division.entry.rest.now division.entry.ray.now fraction.numerator fraction.denominator) }
     ensures none { IfNone result (IsInside division.entry.ray.now division.entry.rest.now → ⊥) }
 {
     if is_inside(division) {

@@ -36,7 +36,8 @@ pub struct Subtraction<'a> {
 
 /// What `taking` leaves of its remainder.
 fn take_out(taking: Subtraction) -> Vec<u128>
-    ensures { result.items ≡ difference (multiple taking.entry.fraction.denominator taking.entry.rest.items) (multiple taking.entry.fraction.numerator taking.entry.ray.now) }
+    ensures { result.items ≡ difference (multiple taking.entry.fraction.denominator taking.entry.rest.items)
+        (multiple taking.entry.fraction.numerator taking.entry.ray.now) }
 {
     let fraction = taking.fraction;
     let ray = taking.ray.entries();
@@ -55,8 +56,12 @@ pub fn take_ray(
     taking: Subtraction,
 ) -> Result<Vec<u128>, NoMemory>
     requires { All (λ (term : Taken). taking.fraction.denominator * term.count < 2 ^ 128) terms.old.items }
-    ensures terms { OnOk result (terms.new.items ≡ map (repeated taking.entry.fraction.denominator) terms.old.items ++ record { count = taking.entry.fraction.numerator; vector = taking.entry.ray.now } ∷ []) }
-    ensures rest { IfOk result (λ left. left.items ≡ difference (multiple taking.entry.fraction.denominator taking.entry.rest.items) (multiple taking.entry.fraction.numerator taking.entry.ray.now)) }
+    ensures terms { OnOk result (terms.new.items
+        ≡ map (repeated taking.entry.fraction.denominator) terms.old.items
+        ++ record { count = taking.entry.fraction.numerator; vector = taking.entry.ray.now } ∷ []) }
+    ensures rest { IfOk result (λ left.
+        left.items ≡ difference (multiple taking.entry.fraction.denominator taking.entry.rest.items)
+        (multiple taking.entry.fraction.numerator taking.entry.ray.now)) }
 {
     let fraction = taking.fraction;
     repeat(terms, fraction.denominator);

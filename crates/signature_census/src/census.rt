@@ -35,7 +35,8 @@ impl Model for Census {
 
 /// The index of `text` in `texts`, to which it is appended if it does not occur there.
 fn place(texts: &mut IndexSet<Vec<u8>>, text: Vec<u8>) -> Result<usize, NoMemory>
-    ensures placed { IfOk result (λ class. IsClassed (texts_of texts.old.keys) text.items class (texts_of texts.new.keys)) }
+    ensures placed { IfOk result (λ class.
+        IsClassed (texts_of texts.old.keys) text.items class (texts_of texts.new.keys)) }
     ensures kept { OnErr result (texts.new.keys ≡ texts.old.keys) }
 {
     let (class, _) = texts.insert_full(text)?;
@@ -74,7 +75,8 @@ impl Census {
     /// after any error the census is unchanged.
     pub fn add(&mut self, table: &Table) -> Result<u32, WalkFault>
         requires { length self.old + 1 < 2 ^ 32 }
-        ensures class { IfOk result (λ class. (text : List ℕ) × IsSignature table.now text × IsClassed self.old text class self.new) }
+        ensures class { IfOk result (λ class.
+            (text : List ℕ) × IsSignature table.now text × IsClassed self.old text class self.new) }
         ensures in_range { IfOk result (λ class. class < length self.new) }
         ensures signature { IfOk result (λ class. IsSignature table.now (signature_in self.new class)) }
         ensures connected { OnOk result (IsConnected table.now) }

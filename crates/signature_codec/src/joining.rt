@@ -92,7 +92,8 @@ impl<'a> Joining<'a> {
     /// Glues all faces in order. Fails at the first face in a tetrahedron not yet seen (`Unreached`), with a
     /// destination not yet seen (`Destination`), or glued to itself or to a face already read (`FaceTaken`).
     pub fn join_faces(&mut self) -> Result<(), SigFault>
-        ensures { Leaves (slots_view self.new) result (slots.slot_faces (4 * self.old.parts.now.count) 0 (slots_view self.old)) }
+        ensures { Leaves (slots_view self.new) result
+            (slots.slot_faces (4 * self.old.parts.now.count) 0 (slots_view self.old)) }
     {
         let places = 4 * self.parts.count;
         for place in 0..places {

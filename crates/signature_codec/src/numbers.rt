@@ -85,7 +85,9 @@ pub fn numbers_in(
     at: usize,
 ) -> Result<Vec<(u32, usize)>, SigFault>
     requires { at ≤ length text.now }
-    ensures reads { Reads (λ v. v.items) result (signatures.numbers_in numbers.many text.now numbers.width numbers.bound (fault_of_segment numbers.segment) at) }
+    ensures reads { Reads (λ v. v.items) result
+        (signatures.numbers_in numbers.many text.now numbers.width numbers.bound (fault_of_segment numbers.segment)
+        at) }
     ensures in_text { OnOk result (at + numbers.width * numbers.many ≤ length text.now) }
 {
     let mut read = Vec::new(alloc);

@@ -28,7 +28,8 @@ fn is_wrong_type(count: u32, kind: u8, left: u32, ones: u32) -> bool
 /// Reads one of the three types of the character at position `at`. Fails with `Leftover` if no face is left and `kind`
 /// is not 0, or with `BadType` if the type is impossible.
 fn take_type(types: &mut Types, head: Head, at: usize, kind: u8) -> Result<(), SigFault>
-    ensures reads { Leaves (types_view types.new) result (signatures.type_at head.count at kind (types_view types.old)) }
+    ensures reads { Leaves (types_view types.new) result
+        (signatures.type_at head.count at kind (types_view types.old)) }
     ensures less { OnOk result (types.new.left ≤ types.old.left - 1) }
 {
     if types.left == 0 {
@@ -50,7 +51,8 @@ fn take_type(types: &mut Types, head: Head, at: usize, kind: u8) -> Result<(), S
 
 /// Reads the three types of the character with value `value`. Fails at the first type at which `take_type` does.
 fn take_character(types: &mut Types, head: Head, at: usize, value: u8) -> Result<(), SigFault>
-    ensures reads { Leaves (types_view types.new) result (signatures.character_types head.count at value (types_view types.old)) }
+    ensures reads { Leaves (types_view types.new) result
+        (signatures.character_types head.count at value (types_view types.old)) }
     ensures less { OnOk result (types.new.left ≤ types.old.left - 1) }
 {
     take_type(types, head, at, value % 4)?;
@@ -63,7 +65,8 @@ fn take_character(types: &mut Types, head: Head, at: usize, value: u8) -> Result
 /// character, impossible type (`BadType`), or type after the last face that is not 0 (`Leftover`).
 pub fn read_types(alloc: Global, text: &[u8], head: Head) -> Result<TypesRead, SigFault>
     requires { head.next ≤ length text.now }
-    ensures reads { Reads read_after result (signatures.types_from (4 * head.count) text.now head.count head.next (types_begun head.count)) }
+    ensures reads { Reads read_after result
+        (signatures.types_from (4 * head.count) text.now head.count head.next (types_begun head.count)) }
     ensures in_text { IfOk result (λ t. t.next ≤ length text.now) }
 {
     let mut types = Types {

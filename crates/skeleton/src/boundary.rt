@@ -15,7 +15,8 @@ use std::alloc::Global;
 /// Whether the face `exit.face` of the tetrahedron of `edge` is a boundary face that contains `edge`.
 fn is_bounded_by(exit: Exit<'_>, edge: u32) -> bool
     requires { edge < 6 * length exit.table.now }
-    ensures { result ≡ (not (has (places.ends (edge % 6)) exit.entry.face) && places.is_boundary exit.entry.table.now (record { tet = edge / 6; face = exit.entry.face })) }
+    ensures { result ≡ (not (has (places.ends (edge % 6)) exit.entry.face)
+        && places.is_boundary exit.entry.table.now (record { tet = edge / 6; face = exit.entry.face })) }
 {
     let (lower, higher) = edge_ends((edge % 6) as u8);
     if lower == exit.face {
@@ -45,7 +46,8 @@ pub fn boundary_marks(
     edges: &Numbering,
 ) -> Result<Vec<bool>, NoMemory>
     requires { length edges.now.classes.items ≡ 6 * length table.now }
-    ensures { IfOk result (λ marks. AreBoundaryMarks table.now edges.now.classes.items (length edges.now.firsts.items) marks.items) }
+    ensures { IfOk result (λ marks.
+        AreBoundaryMarks table.now edges.now.classes.items (length edges.now.firsts.items) marks.items) }
 {
     let classes = edges.classes.as_slice();
     let mut marks = vec![in alloc; false; edges.firsts.len()]?;
@@ -72,7 +74,8 @@ pub fn is_closed(table: &Table) -> bool
 /// Whether tetrahedron `tet` has a boundary face.
 fn is_open(table: &Table, tet: u32) -> bool
     requires { tet < length table.now }
-    ensures { result ≡ (is_open_at table.now tet 0 || is_open_at table.now tet 1 || is_open_at table.now tet 2 || is_open_at table.now tet 3) }
+    ensures { result ≡ (is_open_at table.now tet 0 || is_open_at table.now tet 1 || is_open_at table.now tet 2
+        || is_open_at table.now tet 3) }
 {
     across(table, Face { tet, face: 0 }).is_none()
         || across(table, Face { tet, face: 1 }).is_none()

@@ -9,7 +9,8 @@ use std::alloc::Global;
 
 /// The number of members of each class of `numbering`.
 pub fn degrees_of(alloc: Global, numbering: &Numbering) -> Result<Vec<u32>, NoMemory>
-    ensures { IfOk result (λ degrees. AreDegrees numbering.now.classes.items (length numbering.now.firsts.items) degrees.items) }
+    ensures { IfOk result (λ degrees.
+        AreDegrees numbering.now.classes.items (length numbering.now.firsts.items) degrees.items) }
 {
     let mut degrees = vec![in alloc; 0; numbering.firsts.len()]?;
     for class in &numbering.classes {

@@ -37,11 +37,15 @@ pub fn marks_of(
 ) -> Result<Marks, NoMemory>
     requires vertices { AreClassesOf Vertices table.now vertices.now.classes.items vertices.now.firsts.items }
     requires edges { AreClassesOf Edges table.now edges.now.classes.items edges.now.firsts.items }
-    ensures vertex_degrees { IfOk result (λ m. AreDegrees vertices.now.classes.items (length vertices.now.firsts.items) m.vertex_degrees.items) }
-    ensures edge_degrees { IfOk result (λ m. AreDegrees edges.now.classes.items (length edges.now.firsts.items) m.edge_degrees.items) }
-    ensures boundary { IfOk result (λ m. AreBoundaryMarks table.now edges.now.classes.items (length edges.now.firsts.items) m.boundary.items) }
+    ensures vertex_degrees { IfOk result
+        (λ m. AreDegrees vertices.now.classes.items (length vertices.now.firsts.items) m.vertex_degrees.items) }
+    ensures edge_degrees { IfOk result
+        (λ m. AreDegrees edges.now.classes.items (length edges.now.firsts.items) m.edge_degrees.items) }
+    ensures boundary { IfOk result (λ m.
+        AreBoundaryMarks table.now edges.now.classes.items (length edges.now.firsts.items) m.boundary.items) }
     ensures orientation { IfOk result (λ m. IsOrientation table.now (option_map items_of m.signs)) }
-    ensures walks { IfOk result (λ m. AreRounds table.now edges.now.firsts.items m.boundary.items (length edges.now.firsts.items) m.walks.items) }
+    ensures walks { IfOk result (λ m.
+        AreRounds table.now edges.now.firsts.items m.boundary.items (length edges.now.firsts.items) m.walks.items) }
 {
     let vertex_degrees = degrees_of(alloc, vertices)?;
     let edge_degrees = degrees_of(alloc, edges)?;

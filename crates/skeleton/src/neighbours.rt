@@ -59,7 +59,8 @@ pub fn neighbours(
     table: &Table,
     kind: Kind,
 ) -> Result<Vec<[Option<u32>; 4]>, NoMemory>
-    ensures rows { IfOk result (λ rows. AreNeighbours (per_tet kind * length table.now) (crossing kind table.now) rows.items) }
+    ensures rows { IfOk result (λ rows.
+        AreNeighbours (per_tet kind * length table.now) (crossing kind table.now) rows.items) }
     ensures is_table { IsTable table.now }
 {
     let count = count_of(table, kind);

@@ -60,10 +60,12 @@ pub fn classes_of(alloc: Global, table: &Table, kind: Kind) -> Result<Numbering,
 
 /// The vertex, edge, face and directed edge classes of `table`, each numbered by their least members.
 pub fn all_classes(alloc: Global, table: &Table) -> Result<Classes, NoMemory>
-    ensures vertices { IfOk result (λ c. AreClassesOf Vertices table.now c.vertices.classes.items c.vertices.firsts.items) }
+    ensures vertices { IfOk result (λ c.
+        AreClassesOf Vertices table.now c.vertices.classes.items c.vertices.firsts.items) }
     ensures edges { IfOk result (λ c. AreClassesOf Edges table.now c.edges.classes.items c.edges.firsts.items) }
     ensures faces { IfOk result (λ c. AreClassesOf Faces table.now c.faces.classes.items c.faces.firsts.items) }
-    ensures directions { IfOk result (λ c. AreClassesOf Directions table.now c.directions.classes.items c.directions.firsts.items) }
+    ensures directions { IfOk result
+        (λ c. AreClassesOf Directions table.now c.directions.classes.items c.directions.firsts.items) }
 {
     let vertices = classes_of(alloc, table, Kind::Vertices)?;
     let edges = classes_of(alloc, table, Kind::Edges)?;

@@ -55,8 +55,10 @@ pub fn vertex_sign_across(exit: Exit<'_>, place: u32) -> Option<u32>
 /// Whether each of the first `count` tetrahedra has different classes for its two signs.
 fn is_consistent(classes: &[u32], count: u32) -> bool
     requires { 2 * count ≤ length classes.now }
-    ensures separate { IsTrue result → (t : ℕ) → t < count → slice_index classes.now (2 * t) ≢ slice_index classes.now (2 * t + 1) }
-    ensures joined { result ≡ false → (t : ℕ) × (t < count) × (slice_index classes.now (2 * t) ≡ slice_index classes.now (2 * t + 1)) }
+    ensures separate { IsTrue result → (t : ℕ) → t < count
+        → slice_index classes.now (2 * t) ≢ slice_index classes.now (2 * t + 1) }
+    ensures joined { result ≡ false → (t : ℕ) × (t < count)
+        × (slice_index classes.now (2 * t) ≡ slice_index classes.now (2 * t + 1)) }
 {
     for tet in 0..count {
         if classes[2 * tet as usize] == classes[2 * tet as usize + 1] {

@@ -239,7 +239,8 @@ impl Skeleton {
     pub fn is_valid_edge(&self, class: u32) -> bool
         requires { class < self.now.edges.count }
         ensures valid { IsTrue result ↔ IsValidClass self.now class }
-        ensures invalid { result ≡ false → places.IsInvalidEdge self.now.rows (numbers.least self.now.edges.classes class) }
+        ensures invalid { result ≡ false
+            → places.IsInvalidEdge self.now.rows (numbers.least self.now.edges.classes class) }
     {
         let first = self.first_edge(class);
         !self.joins_reverse(first, first)

@@ -64,7 +64,8 @@ pub fn is_accepted(table: &Table, m: Move) -> bool
 
 /// The first accepted move at tetrahedron `tet` with one of `cores`.
 fn first_at(table: &Table, tet: u32, cores: &[Core]) -> Option<AcceptedMove>
-    ensures first { option_map (λ a. a.played) result ≡ find (certificates.is_accepted table.now) (moves_at tet cores.now) }
+    ensures first { option_map (λ a. a.played) result
+        ≡ find (certificates.is_accepted table.now) (moves_at tet cores.now) }
     ensures pattern { IfSome result (λ a. IsPattern table.now a.played a.pattern.facets.items) }
 {
     for core in cores {
@@ -78,7 +79,8 @@ fn first_at(table: &Table, tet: u32, cores: &[Core]) -> Option<AcceptedMove>
 
 /// The first accepted move of `table` with one of `cores`, by tetrahedron and then by core.
 pub fn first_accepted(table: &Table, cores: &[Core]) -> Option<AcceptedMove>
-    ensures first { option_map (λ a. a.played) result ≡ find (certificates.is_accepted table.now) (moves_with cores.now (length table.now)) }
+    ensures first { option_map (λ a. a.played) result
+        ≡ find (certificates.is_accepted table.now) (moves_with cores.now (length table.now)) }
     ensures pattern { IfSome result (λ a. IsPattern table.now a.played a.pattern.facets.items) }
 {
     for tet in 0..table.len() {

@@ -52,7 +52,8 @@ fn descent_move(table: &Table) -> Option<AcceptedMove>
 /// The next move of a descent at `table`, or `None` if it is `standard` or has none.
 fn next_move(table: &Table, standard: bool) -> Option<AcceptedMove>
     requires { IsTrue standard ↔ IsStandard table.now }
-    ensures next { MatchOption result (IsStandard table.now ⊎ (certificates.descent_move table.now ≡ None)) (λ a. (IsStandard table.now → ⊥) × (certificates.descent_move table.now ≡ Some a.played)) }
+    ensures next { MatchOption result (IsStandard table.now ⊎ (certificates.descent_move table.now ≡ None))
+        (λ a. (IsStandard table.now → ⊥) × (certificates.descent_move table.now ≡ Some a.played)) }
     ensures pattern { IfSome result (λ a. IsPattern table.now a.played a.pattern.facets.items) }
 {
     if standard {
@@ -63,7 +64,8 @@ fn next_move(table: &Table, standard: bool) -> Option<AcceptedMove>
 
 /// Simplifies a copy of `table`.
 fn descent_of(alloc: Global, table: &Table) -> Result<Descent, NoMemory>
-    ensures descent { IfOk result (λ d. IsDescended table.now (record { reached = d.reached; moves = d.moves.items; table = d.table })) }
+    ensures descent { IfOk result (λ d.
+        IsDescended table.now (record { reached = d.reached; moves = d.moves.items; table = d.table })) }
     ensures certificate { IfOk result (λ d. d.reached ≡ true → IsCertificate table.now d.moves.items) }
     ensures fewer { IfOk result (λ d. length d.table + length d.moves.items ≤ length table.now) }
 {
@@ -86,7 +88,8 @@ fn descent_of(alloc: Global, table: &Table) -> Result<Descent, NoMemory>
 /// first accepted 4-1 move, by tetrahedron and vertex, otherwise the first accepted 3-2 move, by tetrahedron and edge.
 /// Fails with `NotConnected`, which names the least tetrahedron of `table` not reached from tetrahedron 0.
 pub fn descend(alloc: Global, table: &Table) -> Result<Descent, WalkFault>
-    ensures descent { IfOk result (λ d. IsDescended table.now (record { reached = d.reached; moves = d.moves.items; table = d.table })) }
+    ensures descent { IfOk result (λ d.
+        IsDescended table.now (record { reached = d.reached; moves = d.moves.items; table = d.table })) }
     ensures certificate { IfOk result (λ d. d.reached ≡ true → IsCertificate table.now d.moves.items) }
     ensures fewer { IfOk result (λ d. length d.table + length d.moves.items ≤ length table.now) }
     ensures connected { OnOk result (IsConnected table.now) }

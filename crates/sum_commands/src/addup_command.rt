@@ -24,7 +24,8 @@ use surface_refusals::check;
 /// Checks `block`. Fails with what is wrong first: its vector or a term is no admissible solution, or the terms do not
 /// add up.
 fn check_block(equations: TableEquations<'_>, block: &Block) -> Result<(), SumRefusal>
-    ensures { IsAddedUp equations.entry.coords equations.entry.table.now equations.entry.system.now.rows (block_of block.now) result }
+    ensures { IsAddedUp equations.entry.coords equations.entry.table.now equations.entry.system.now.rows
+        (block_of block.now) result }
 {
     if let Err(fault) = check(
         equations.coords,
@@ -51,7 +52,8 @@ fn check_blocks(
     equations: TableEquations<'_>,
     blocks: &[Block],
 ) -> Result<(), FirstFault<SumRefusal>>
-    ensures { AreAllAnswered (IsAddedUp equations.entry.coords equations.entry.table.now equations.entry.system.now.rows) (all_blocks blocks.now) result }
+    ensures { AreAllAnswered (IsAddedUp equations.entry.coords equations.entry.table.now
+        equations.entry.system.now.rows) (all_blocks blocks.now) result }
 {
     for (number, block) in blocks.iter().enumerate() {
         match check_block(equations, block) {

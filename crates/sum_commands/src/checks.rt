@@ -22,7 +22,8 @@ pub fn check_vectors(
     equations: TableEquations<'_>,
     vectors: &[Vec<u128>],
 ) -> Result<(), FirstFault<VectorFault>>
-    ensures { AreAllAnswered (IsVerdict equations.entry.coords equations.entry.table.now equations.entry.system.now.rows) (all_entries vectors.now) result }
+    ensures { AreAllAnswered (IsVerdict equations.entry.coords equations.entry.table.now
+        equations.entry.system.now.rows) (all_entries vectors.now) result }
 {
     let TableEquations {
         coords,
@@ -44,7 +45,8 @@ pub fn check_terms(
     equations: TableEquations<'_>,
     terms: &[Given],
 ) -> Result<(), FirstFault<VectorFault>>
-    ensures { AreAllAnswered (IsTermVerdict equations.entry.coords equations.entry.table.now equations.entry.system.now.rows) (terms_of terms.now) result }
+    ensures { AreAllAnswered (IsTermVerdict equations.entry.coords equations.entry.table.now
+        equations.entry.system.now.rows) (terms_of terms.now) result }
 {
     let TableEquations {
         coords,

@@ -104,7 +104,8 @@ fn run_decompose_with_system(
 ) -> Result<Outcome, NoMemory>
     requires equations { AreEquations equations.coords equations.table.now equations.system.now.rows }
     requires entries { AreInRange (all_entries vectors.now) }
-    ensures { IfOk result (IsDecomposeAnswer equations.entry.coords limit.number (equations.entry.table.now, all_entries vectors.now)) }
+    ensures { IfOk result (IsDecomposeAnswer equations.entry.coords limit.number
+        (equations.entry.table.now, all_entries vectors.now)) }
 {
     let TableEquations {
         coords,

@@ -33,7 +33,8 @@ fn append_large_times(
     turn: u128,
     column: u128,
 ) -> Result<(), NoMemory>
-    ensures { OnOk result (out.new.items ≡ out.old.items ++ line (codes "large-times " ++ decimal turn ++ codes " " ++ decimal column)) }
+    ensures { OnOk result (out.new.items
+        ≡ out.old.items ++ line (codes "large-times " ++ decimal turn ++ codes " " ++ decimal column)) }
 {
     append(out, b"large-times ")?;
     append_decimal(alloc, out, turn)?;

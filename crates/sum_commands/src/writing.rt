@@ -44,7 +44,9 @@ fn append_terms(alloc: Global, out: &mut Vec<u8>, terms: &[Term]) -> Result<(), 
 
 /// Appends the block of the vector `x` and its sum `sum` to `out`.
 pub fn append_block(alloc: Global, out: &mut Vec<u8>, x: &[u128], sum: &Sum) -> Result<(), NoMemory>
-    ensures { OnOk result (out.new.items ≡ out.old.items ++ blocks.block_text (record { vector = x.now; times = sum.now.times; terms = sum.now.terms.items })) }
+    ensures { OnOk result (out.new.items
+        ≡ out.old.items ++ blocks.block_text
+        (record { vector = x.now; times = sum.now.times; terms = sum.now.terms.items })) }
 {
     write_vector(alloc, x, out)?;
     append_times(alloc, out, sum.times, sum.terms.len())?;

@@ -31,7 +31,8 @@ fn number_from_end(entry: u32, place: u32, by_zero: bool) -> u32
 impl<'a> ArcInSurface<'a> {
     /// The number of triangles around the vertex of the arc.
     fn triangles(&self) -> u32
-        ensures { result ≡ pieces.triangles_around self.now.surface.coords.system self.now.surface.entries.now self.now.arc }
+        ensures { result ≡ pieces.triangles_around self.now.surface.coords.system self.now.surface.entries.now
+            self.now.arc }
     {
         let arc = self.arc;
         self.surface.entries[triangle_column(self.surface.coords, arc.tet, arc.vertex) as usize]
@@ -39,9 +40,11 @@ impl<'a> ArcInSurface<'a> {
 
     /// The column of the arcs after those of the triangles around the vertex of the arc.
     fn across(&self) -> Further
-        ensures column { result.column ≡ pieces.further_column self.now.surface.coords.system self.now.surface.entries.now self.now.arc }
+        ensures column { result.column ≡ pieces.further_column self.now.surface.coords.system
+            self.now.surface.entries.now self.now.arc }
         ensures in_range { result.column < length self.now.surface.entries.now }
-        ensures side { result.by_zero ≡ pieces.keeps_by_zero (pieces.type_in self.now.surface.coords.system result.column) self.now.arc.vertex }
+        ensures side { result.by_zero ≡ pieces.keeps_by_zero
+            (pieces.type_in self.now.surface.coords.system result.column) self.now.arc.vertex }
     {
         let arc = self.arc;
         let surface = self.surface;
@@ -78,7 +81,8 @@ impl<'a> ArcInSurface<'a> {
 
     /// Whether the disc of the arc faces the vertex of the arc with its positive side.
     pub fn looks_positive(&self) -> bool
-        ensures { result ≡ pieces.looks_positive self.now.surface.coords.system self.now.surface.entries.now self.now.arc }
+        ensures { result ≡ pieces.looks_positive self.now.surface.coords.system self.now.surface.entries.now
+            self.now.arc }
     {
         if self.arc.place < self.triangles() {
             return true;
@@ -90,8 +94,10 @@ impl<'a> ArcInSurface<'a> {
 impl<'a> ListedDisc<'a> {
     /// The arc of the disc around the vertex of `corner`, in its face, or `None` if the disc has none there.
     pub fn arc_of(&self, corner: FaceCorner) -> Option<SurfaceArc>
-        ensures some { IfSome result (IsOnlyArcOf self.now.pieces.surface.coords.system self.now.pieces.surface.entries.now self.now.piece corner.face corner.vertex) }
-        ensures none { IfNone result (HasNoArc self.now.pieces.surface.coords.system self.now.pieces.surface.entries.now self.now.piece corner.face corner.vertex) }
+        ensures some { IfSome result (IsOnlyArcOf self.now.pieces.surface.coords.system
+            self.now.pieces.surface.entries.now self.now.piece corner.face corner.vertex) }
+        ensures none { IfNone result (HasNoArc self.now.pieces.surface.coords.system self.now.pieces.surface.entries.now
+            self.now.piece corner.face corner.vertex) }
     {
         let surface = self.pieces.surface;
         let piece = self.piece;

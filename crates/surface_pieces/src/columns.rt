@@ -49,7 +49,8 @@ fn slot_vertex(of: DiscSlot) -> u8
 
 /// The face and the vertex of the arc that a disc has for a slot, or `None` if it has no such arc.
 pub fn corner_at(of: DiscSlot) -> Option<FaceCorner>
-    ensures some { IfSome result (λ corner. corner.face ≡ of.slot % 4 × corner.vertex ≡ slots.slot_vertex of.place of.slot) }
+    ensures some { IfSome result (λ corner.
+        corner.face ≡ of.slot % 4 × corner.vertex ≡ slots.slot_vertex of.place of.slot) }
     ensures none { IfNone result (slots.slot_vertex of.place of.slot ≡ of.slot % 4) }
 {
     let face = (of.slot % 4) as u8;

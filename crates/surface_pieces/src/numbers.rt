@@ -11,7 +11,8 @@ use std::alloc::{AllocError, Global};
 
 /// Appends the `entry` discs of `column`.
 fn append_column(listed: &mut Vec<NumberedDisc>, column: u32, entry: u32) -> Result<(), AllocError>
-    ensures { OnOk result (listed.new.items ≡ listed.old.items ++ map (λ i. record { column = column; number = i }) (below entry)) }
+    ensures { OnOk result (listed.new.items
+        ≡ listed.old.items ++ map (λ i. record { column = column; number = i }) (below entry)) }
 {
     for number in 0..entry {
         listed.push(NumberedDisc { column, number })?;

@@ -58,7 +58,8 @@ fn find_components<const N: usize>(
     surface: &SmallSurface,
 ) -> Result<Pieces, AllocError>
     requires { N ≡ slots_each surface.now.coords.system }
-    ensures { IfOk result (AreListedComponents surface.now.table.now surface.now.coords.system surface.now.entries.now) }
+    ensures { IfOk result (AreListedComponents surface.now.table.now surface.now.coords.system
+        surface.now.entries.now) }
 {
     let starts = starts_of(alloc, surface)?;
     let listed = all_pieces(alloc, surface)?;
@@ -90,7 +91,8 @@ fn find_components<const N: usize>(
 
 /// The components of a surface, by rows that are as short as its coordinates allow.
 fn components_of(alloc: Global, surface: &SmallSurface) -> Result<Pieces, AllocError>
-    ensures { IfOk result (AreListedComponents surface.now.table.now surface.now.coords.system surface.now.entries.now) }
+    ensures { IfOk result (AreListedComponents surface.now.table.now surface.now.coords.system
+        surface.now.entries.now) }
 {
     if has_octagons(surface.coords.system) {
         find_components::<8>(alloc, surface)

@@ -11,7 +11,8 @@ use std::alloc::{AllocError, Global};
 /// The neighbours of `disc` across its arcs, by slot.
 fn joined_row<const N: usize>(disc: &ListedDisc) -> [Option<Adjacent>; N]
     requires { N ≡ slots_each disc.now.pieces.surface.coords.system }
-    ensures { IsJoinedRow disc.now.pieces.surface.table.now disc.now.pieces.surface.coords.system disc.now.pieces.surface.entries.now disc.now.piece result }
+    ensures { IsJoinedRow disc.now.pieces.surface.table.now disc.now.pieces.surface.coords.system
+        disc.now.pieces.surface.entries.now disc.now.piece result }
 {
     let mut row = [None; N];
     for slot in 0..N {
@@ -26,7 +27,9 @@ pub fn joined_rows<const N: usize>(
     pieces: &NumberedDiscs,
 ) -> Result<Vec<[Option<Adjacent>; N]>, AllocError>
     requires { N ≡ slots_each pieces.now.surface.coords.system }
-    ensures { IfOk result (λ joined. AreJoined pieces.now.surface.table.now pieces.now.surface.coords.system pieces.now.surface.entries.now joined.items) }
+    ensures { IfOk result (λ joined.
+        AreJoined pieces.now.surface.table.now pieces.now.surface.coords.system pieces.now.surface.entries.now
+        joined.items) }
 {
     let mut joined = Vec::with_capacity(alloc, pieces.listed.len())?;
     for piece in pieces.listed {

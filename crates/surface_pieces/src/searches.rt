@@ -98,8 +98,10 @@ impl<'a, const N: usize> AdjacentDiscs<'a, N> {
 
     /// The classes of connected numbers in a search of kind `kind`.
     pub fn classes_of(&self, alloc: Global, kind: SearchKind) -> Result<Numbering, AllocError>
-        requires { AreJoined self.now.surface.table.now self.now.surface.coords.system self.now.surface.entries.now self.now.rows.now }
-        ensures { IfOk result (λ r. HasClasses kind self.now.surface.table.now self.now.surface.coords.system self.now.surface.entries.now r.classes.items r.count) }
+        requires { AreJoined self.now.surface.table.now self.now.surface.coords.system self.now.surface.entries.now
+            self.now.rows.now }
+        ensures { IfOk result (λ r. HasClasses kind self.now.surface.table.now self.now.surface.coords.system
+            self.now.surface.entries.now r.classes.items r.count) }
     {
         let rows = self.rows_of(alloc, kind)?;
         let found = classes(alloc, &rows)?;

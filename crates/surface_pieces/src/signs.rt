@@ -34,7 +34,9 @@ struct SignedComponents<'a> {
 /// For each component whether none of its discs is connected to itself with the other sign.
 fn free_components(alloc: Global, by: SignedComponents) -> Result<Vec<bool>, AllocError>
     ensures size { IfOk result (λ free. length free.items ≡ by.entry.components.now.count) }
-    ensures each { IfOk result (λ free. (i : ℕ) → i < by.entry.components.now.count → (slice_index_or free.items i true ≡ true) ↔ IsFree by.entry.signed.now by.entry.components.now.classes.items i) }
+    ensures each { IfOk result (λ free.
+        (i : ℕ) → i < by.entry.components.now.count → (slice_index_or free.items i true ≡ true)
+        ↔ IsFree by.entry.signed.now by.entry.components.now.classes.items i) }
 {
     let SignedComponents { components, signed } = by;
     let mut free = vec![in alloc; true; components.count as usize]?;
@@ -52,9 +54,12 @@ pub fn signs_of<const N: usize>(
     components: &Numbering,
     signs: SignKind,
 ) -> Result<Vec<bool>, AllocError>
-    requires joined { AreJoined joined.now.surface.table.now joined.now.surface.coords.system joined.now.surface.entries.now joined.now.rows.now }
-    requires components { pieces.AreComponents joined.now.surface.table.now joined.now.surface.coords.system joined.now.surface.entries.now components.now.classes.items components.now.count }
-    ensures { IfOk result (λ free. AreSigned signs joined.now.surface.table.now joined.now.surface.coords.system joined.now.surface.entries.now components.now.classes.items components.now.count free.items) }
+    requires joined { AreJoined joined.now.surface.table.now joined.now.surface.coords.system
+        joined.now.surface.entries.now joined.now.rows.now }
+    requires components { pieces.AreComponents joined.now.surface.table.now joined.now.surface.coords.system
+        joined.now.surface.entries.now components.now.classes.items components.now.count }
+    ensures { IfOk result (λ free. AreSigned signs joined.now.surface.table.now joined.now.surface.coords.system
+        joined.now.surface.entries.now components.now.classes.items components.now.count free.items) }
 {
     let signed = joined.classes_of(alloc, SearchKind::Signed(signs))?;
     let by = SignedComponents {

@@ -35,8 +35,12 @@ pub struct Meeting {
 impl<'a> ListedDisc<'a> {
     /// The arc of the disc around the vertex of `corner`, if it has one there and the face is glued.
     fn meeting_at(&self, corner: FaceCorner) -> Option<Meeting>
-        ensures some { IfSome result (λ m. IsMeetingAt self.now.pieces.surface.table.now self.now.pieces.surface.coords.system self.now.pieces.surface.entries.now self.now.piece corner.face corner.vertex m.arc m.other m.odd) }
-        ensures none { IfNone result (HasNoMeeting self.now.pieces.surface.table.now self.now.pieces.surface.coords.system self.now.pieces.surface.entries.now self.now.piece corner.face corner.vertex) }
+        ensures some { IfSome result (λ m.
+            IsMeetingAt self.now.pieces.surface.table.now self.now.pieces.surface.coords.system
+            self.now.pieces.surface.entries.now self.now.piece corner.face corner.vertex m.arc m.other m.odd) }
+        ensures none { IfNone result (HasNoMeeting self.now.pieces.surface.table.now
+            self.now.pieces.surface.coords.system self.now.pieces.surface.entries.now self.now.piece corner.face
+            corner.vertex) }
     {
         let arc = self.arc_of(corner)?;
         let glue = self.pieces.surface.table.glue(Face {
@@ -54,8 +58,12 @@ impl<'a> ListedDisc<'a> {
     /// face.
     pub fn joined_at(&self, slot: u32) -> Option<Adjacent>
         requires { slot < 8 }
-        ensures some { IfSome result (IsJoinedAt self.now.pieces.surface.table.now self.now.pieces.surface.coords.system self.now.pieces.surface.entries.now self.now.piece (slot % 4) (vertex_of_slot self.now.pieces.surface.coords.system self.now.piece slot)) }
-        ensures none { IfNone result (HasNoMeeting self.now.pieces.surface.table.now self.now.pieces.surface.coords.system self.now.pieces.surface.entries.now self.now.piece (slot % 4) (vertex_of_slot self.now.pieces.surface.coords.system self.now.piece slot)) }
+        ensures some { IfSome result (IsJoinedAt self.now.pieces.surface.table.now self.now.pieces.surface.coords.system
+            self.now.pieces.surface.entries.now self.now.piece (slot % 4)
+            (vertex_of_slot self.now.pieces.surface.coords.system self.now.piece slot)) }
+        ensures none { IfNone result (HasNoMeeting self.now.pieces.surface.table.now
+            self.now.pieces.surface.coords.system self.now.pieces.surface.entries.now self.now.piece (slot % 4)
+            (vertex_of_slot self.now.pieces.surface.coords.system self.now.piece slot)) }
     {
         let piece = self.piece;
         let pieces = self.pieces;

@@ -29,7 +29,9 @@ fn count_piece(vector: &mut [u128], column: u32)
 
 /// For each component its number of discs in each column.
 pub fn vectors_of(alloc: Global, of: DiscComponents) -> Result<Vec<Vec<u128>>, AllocError>
-    ensures { IfOk result (λ vectors. AreVectors of.entry.pieces.surface.entries.now of.entry.components.now of.entry.count (all_entries vectors.items)) }
+    ensures { IfOk result (λ vectors.
+        AreVectors of.entry.pieces.surface.entries.now of.entry.components.now of.entry.count
+        (all_entries vectors.items)) }
 {
     let DiscComponents {
         pieces,

@@ -44,7 +44,9 @@ impl<'a> VectorFace<'a> {
     fn arcs_around_vertex(&self, number: usize) -> u128
         requires { number < 3 }
         ensures a_face { self.now.face.face < 4 }
-        ensures value { result ≡ capped (pieces.arcs_around self.now.vector.coords.system self.now.vector.entries.now self.now.face.tet self.now.face.face (slice_index (others self.now.face.face) number)) }
+        ensures value { result ≡ capped
+            (pieces.arcs_around self.now.vector.coords.system self.now.vector.entries.now self.now.face.tet
+            self.now.face.face (slice_index (others self.now.face.face) number)) }
     {
         let vector = self.vector;
         let face = self.face;
@@ -54,7 +56,8 @@ impl<'a> VectorFace<'a> {
 
     /// The number of arcs in the face.
     pub fn arcs_in(&self) -> u128
-        ensures { result ≡ capped (characteristic.arcs_in self.now.vector.coords.system self.now.vector.entries.now self.now.face) }
+        ensures { result ≡ capped (characteristic.arcs_in self.now.vector.coords.system self.now.vector.entries.now
+            self.now.face) }
     {
         let one = self.arcs_around_vertex(0);
         let two = add(one, self.arcs_around_vertex(1));

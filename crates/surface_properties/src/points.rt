@@ -24,7 +24,8 @@ impl<'a> DiscVector<'a> {
     /// table.
     pub fn points(&self, skeleton: &Skeleton) -> u128
         requires { skeleton.now.rows ≡ self.now.table.now }
-        ensures { result ≡ capped (characteristic.points self.now.coords.system self.now.entries.now skeleton.now.edges.classes skeleton.now.edges.count) }
+        ensures { result ≡ capped (characteristic.points self.now.coords.system self.now.entries.now
+            skeleton.now.edges.classes skeleton.now.edges.count) }
     {
         let mut total = 0;
         for class in 0..skeleton.edges() {

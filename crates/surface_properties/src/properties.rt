@@ -41,8 +41,10 @@ pub fn is_linking(coords: Coords, x: &[u128]) -> bool
 impl<'a> VectorFace<'a> {
     /// Whether the face is a boundary face that the surface meets.
     fn has_free_arcs(&self) -> bool
-        ensures some { IsTrue result → gluings.glue self.now.vector.table.now self.now.face ≡ None × (0 < characteristic.arcs_in self.now.vector.coords.system self.now.vector.entries.now self.now.face) }
-        ensures none { result ≡ false → gluings.glue self.now.vector.table.now self.now.face ≡ None → characteristic.arcs_in self.now.vector.coords.system self.now.vector.entries.now self.now.face ≡ 0 }
+        ensures some { IsTrue result → gluings.glue self.now.vector.table.now self.now.face ≡ None
+            × (0 < characteristic.arcs_in self.now.vector.coords.system self.now.vector.entries.now self.now.face) }
+        ensures none { result ≡ false → gluings.glue self.now.vector.table.now self.now.face ≡ None
+            → characteristic.arcs_in self.now.vector.coords.system self.now.vector.entries.now self.now.face ≡ 0 }
     {
         match self.vector.table.glue(self.face) {
             None => self.arcs_in() > 0,
@@ -54,7 +56,8 @@ impl<'a> VectorFace<'a> {
 impl<'a> DiscVector<'a> {
     /// Whether the surface meets a boundary face.
     fn meets_boundary(&self) -> bool
-        ensures { result ≡ characteristic.meets_boundary self.now.table.now self.now.coords.system self.now.entries.now }
+        ensures { result ≡ characteristic.meets_boundary self.now.table.now self.now.coords.system
+            self.now.entries.now }
     {
         for place in 0..4 * self.table.len() {
             let face = Face {

@@ -49,7 +49,9 @@ fn append_signature(
 
 /// Appends the class of each table, by `classes`.
 fn append_classes(alloc: Global, text: &mut Vec<u8>, classes: &[u32]) -> Result<(), NoMemory>
-    ensures { OnOk result (text.new.items ≡ text.old.items ++ classes_text (λ k. canonical.class_line k (slice_index classes.now k)) (length classes.now)) }
+    ensures { OnOk result (text.new.items
+        ≡ text.old.items ++ classes_text (λ k. canonical.class_line k (slice_index classes.now k))
+        (length classes.now)) }
 {
     for table in 0..classes.len() {
         append_class(alloc, text, table, classes[table])?;
@@ -59,7 +61,9 @@ fn append_classes(alloc: Global, text: &mut Vec<u8>, classes: &[u32]) -> Result<
 
 /// Appends the signature of each class of `census`.
 fn append_signatures(alloc: Global, text: &mut Vec<u8>, census: &Census) -> Result<(), NoMemory>
-    ensures { OnOk result (text.new.items ≡ text.old.items ++ classes_text (λ c. canonical.class_signature_line c (signature_in census.now c)) (length census.now)) }
+    ensures { OnOk result (text.new.items
+        ≡ text.old.items ++ classes_text (λ c. canonical.class_signature_line c (signature_in census.now c))
+        (length census.now)) }
 {
     for class in 0..census.len() {
         append_signature(alloc, text, class, census.signature_of(class))?;

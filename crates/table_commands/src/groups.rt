@@ -45,7 +45,8 @@ fn classify(groups: &mut Groups, table: &Table) -> Result<(), NoMemory>
     requires bounded_classes { length groups.old.classes.items + 1 < 2 ^ 32 }
     requires bounded_signatures { length groups.old.census + 1 < 2 ^ 32 }
     requires none_found { groups.old.found ≡ None }
-    ensures { OnOk result (gluings.IsTable table.now → (tables : List (List gluings.Row)) → AreGrouped tables groups.old → AreGrouped (tables ++ table.now ∷ []) groups.new) }
+    ensures { OnOk result (gluings.IsTable table.now → (tables : List (List gluings.Row)) → AreGrouped tables groups.old
+        → AreGrouped (tables ++ table.now ∷ []) groups.new) }
 {
     match groups.census.add(table) {
         Ok(class) => {
@@ -66,7 +67,8 @@ fn classify(groups: &mut Groups, table: &Table) -> Result<(), NoMemory>
 fn add(groups: &mut Groups, table: &Table) -> Result<(), NoMemory>
     requires bounded_classes { length groups.old.classes.items + 1 < 2 ^ 32 }
     requires bounded_signatures { length groups.old.census + 1 < 2 ^ 32 }
-    ensures { OnOk result (gluings.IsTable table.now → (tables : List (List gluings.Row)) → AreGrouped tables groups.old → AreGrouped (tables ++ table.now ∷ []) groups.new) }
+    ensures { OnOk result (gluings.IsTable table.now → (tables : List (List gluings.Row)) → AreGrouped tables groups.old
+        → AreGrouped (tables ++ table.now ∷ []) groups.new) }
 {
     match groups.found {
         Some(_) => Ok(()),

@@ -91,7 +91,8 @@ fn append_flags(
     connected: bool,
     orientable: bool,
 ) -> Result<(), NoMemory>
-    ensures { OnOk result (text.new.items ≡ text.old.items ++ information.flags_text skeleton.now connected orientable) }
+    ensures { OnOk result (text.new.items
+        ≡ text.old.items ++ information.flags_text skeleton.now connected orientable) }
 {
     append_number_line(
         alloc,
@@ -150,7 +151,9 @@ pub struct Information<'a> {
 impl<'a> Information<'a> {
     /// Appends the lines of the vertex classes.
     fn append_vertices(&self, alloc: Global, text: &mut Vec<u8>) -> Result<(), NoMemory>
-        ensures { OnOk result (text.new.items ≡ text.old.items ++ classes_text (information.vertex_text self.now.skeleton.now self.now.links.now) self.now.skeleton.now.vertices.count) }
+        ensures { OnOk result (text.new.items
+            ≡ text.old.items ++ classes_text (information.vertex_text self.now.skeleton.now self.now.links.now)
+            self.now.skeleton.now.vertices.count) }
     {
         for class in 0..self.skeleton.vertices() {
             append_vertex(
@@ -166,7 +169,9 @@ impl<'a> Information<'a> {
 
     /// Appends the lines of the edge classes.
     fn append_edges(&self, alloc: Global, text: &mut Vec<u8>) -> Result<(), NoMemory>
-        ensures { OnOk result (text.new.items ≡ text.old.items ++ classes_text (information.edge_text self.now.skeleton.now self.now.valid.now) self.now.skeleton.now.edges.count) }
+        ensures { OnOk result (text.new.items
+            ≡ text.old.items ++ classes_text (information.edge_text self.now.skeleton.now self.now.valid.now)
+            self.now.skeleton.now.edges.count) }
     {
         for class in 0..self.skeleton.edges() {
             append_edge(
@@ -183,7 +188,14 @@ impl<'a> Information<'a> {
 
     /// The text of `info`.
     pub fn text(&self, alloc: Global) -> Result<Vec<u8>, NoMemory>
-        ensures { IfOk result (λ text. text.items ≡ information.information_text (record { skeleton = self.now.skeleton.now; links = self.now.links.now; valid = self.now.valid.now; connected = self.now.connected; orientable = self.now.orientable })) }
+        ensures { IfOk result (λ text. text.items
+            ≡ information.information_text (record {
+              skeleton = self.now.skeleton.now;
+              links = self.now.links.now;
+              valid = self.now.valid.now;
+              connected = self.now.connected;
+              orientable = self.now.orientable;
+            })) }
     {
         let mut text = Vec::new(alloc);
         append_flags(

@@ -25,7 +25,8 @@ fn append_image(
     image: u32,
     perm: Perm4,
 ) -> Result<(), NoMemory>
-    ensures { OnOk result (text.new.items ≡ text.old.items ++ canonical.image_line tet (record { tet = image; perm = perm })) }
+    ensures { OnOk result (text.new.items
+        ≡ text.old.items ++ canonical.image_line tet (record { tet = image; perm = perm })) }
 {
     append_decimal(alloc, text, u128::from(tet))?;
     append(text, b" ")?;
@@ -44,7 +45,9 @@ fn append_images(
     by: &Relabelling,
 ) -> Result<(), NoMemory>
     requires { tets ≡ length by.now.images }
-    ensures { OnOk result (text.new.items ≡ text.old.items ++ classes_text (λ tet. canonical.image_line tet (relabelled_place by.now tet)) (length by.now.images)) }
+    ensures { OnOk result (text.new.items
+        ≡ text.old.items ++ classes_text (λ tet. canonical.image_line tet (relabelled_place by.now tet))
+        (length by.now.images)) }
 {
     for tet in 0..tets {
         append_image(alloc, text, tet, by.image(tet), by.perm(tet))?;

@@ -68,7 +68,8 @@ pub fn read_all<S: Source>(alloc: Global, source: &mut S, limit: u64) -> Result<
         × (length taken ≤ limit + 1) × (IsErrOf result ReadEnd.TooLong ↔ (limit < length taken)) }
 
     // Fails with `Failed` if and only if the count of `source` grew.
-    ensures failed { S.faults source.old < 2 ^ 64 - 1 → (IsErrOf result ReadEnd.Failed ↔ (S.faults source.old < S.faults source.new)) }
+    ensures failed { S.faults source.old < 2 ^ 64 - 1
+        → (IsErrOf result ReadEnd.Failed ↔ (S.faults source.old < S.faults source.new)) }
     ensures later { S.faults source.old ≤ S.faults source.new }
     ensures no_memory { IsErrOf result ReadEnd.NoMemory → source.new ≡ source.old }
 {
@@ -91,7 +92,8 @@ pub fn read_all<S: Source>(alloc: Global, source: &mut S, limit: u64) -> Result<
 /// proper prefix of `bytes` is written.
 pub fn write_all<K: Sink>(sink: &mut K, bytes: &[u8]) -> Result<(), Failed>
     ensures all { OnOk result (Grows (K.held sink.old) (K.held sink.new) bytes.now) }
-    ensures prefix { OnErr result ((n : ℕ) × (n < length bytes.now) × Grows (K.held sink.old) (K.held sink.new) (take n bytes.now)) }
+    ensures prefix { OnErr result ((n : ℕ) × (n < length bytes.now)
+        × Grows (K.held sink.old) (K.held sink.new) (take n bytes.now)) }
 
     // Fails if and only if the count of `sink` grew.
     ensures failed { K.faults sink.old < 2 ^ 64 - 1 → (IsErr result ↔ (K.faults sink.old < K.faults sink.new)) }

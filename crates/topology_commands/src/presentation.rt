@@ -40,7 +40,9 @@ fn append_generator(
 
 /// Appends the lines of the generators of `group`.
 fn append_generators(alloc: Global, text: &mut Vec<u8>, group: &Group) -> Result<(), NoMemory>
-    ensures { OnOk result (text.new.items ≡ text.old.items ++ classes_text (generator_text group.now.presentation) (length group.now.presentation.generators)) }
+    ensures { OnOk result (text.new.items
+        ≡ text.old.items ++ classes_text (generator_text group.now.presentation)
+        (length group.now.presentation.generators)) }
 {
     for before in 0..group.generators() {
         let generator = before + 1;
@@ -92,7 +94,9 @@ fn append_relator(
 
 /// Appends the lines of the relators of `group`.
 fn append_relators(alloc: Global, text: &mut Vec<u8>, group: &Group) -> Result<(), NoMemory>
-    ensures { OnOk result (text.new.items ≡ text.old.items ++ classes_text (relator_text group.now.presentation) (length group.now.presentation.relators)) }
+    ensures { OnOk result (text.new.items
+        ≡ text.old.items ++ classes_text (relator_text group.now.presentation)
+        (length group.now.presentation.relators)) }
 {
     for relator in 0..group.relators() {
         append_relator(alloc, text, group.edge_of(relator), group.relator(relator))?;

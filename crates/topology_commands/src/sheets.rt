@@ -29,7 +29,8 @@ fn append_sheet(alloc: Global, text: &mut Vec<u8>, cover: &Cover, tet: u32) -> R
 
 /// Appends the lines of the tetrahedra of `cover`.
 fn append_sheets(alloc: Global, text: &mut Vec<u8>, cover: &Cover) -> Result<(), NoMemory>
-    ensures { OnOk result (text.new.items ≡ text.old.items ++ classes_text (sheet_line (length cover.now)) (2 * length cover.now)) }
+    ensures { OnOk result (text.new.items
+        ≡ text.old.items ++ classes_text (sheet_line (length cover.now)) (2 * length cover.now)) }
 {
     for tet in 0..cover.table().len() {
         append_sheet(alloc, text, cover, tet)?;

@@ -25,7 +25,8 @@ fn faces() -> [Core; 4]
 
 /// Appends the accepted moves at tetrahedron `tet` with one of `cores`.
 fn append_at(moves: &mut Vec<Move>, table: &Table, tet: u32, cores: &[Core]) -> Result<(), NoMemory>
-    ensures { OnOk result (moves.new.items ≡ moves.old.items ++ filter (certificates.is_accepted table.now) (moves_at tet cores.now)) }
+    ensures { OnOk result (moves.new.items
+        ≡ moves.old.items ++ filter (certificates.is_accepted table.now) (moves_at tet cores.now)) }
 {
     for core in cores {
         let m = Move { tet, core: *core };
@@ -38,7 +39,8 @@ fn append_at(moves: &mut Vec<Move>, table: &Table, tet: u32, cores: &[Core]) -> 
 
 /// Appends the accepted moves with one of `cores`, by tetrahedron and then by core.
 fn append_accepted(moves: &mut Vec<Move>, table: &Table, cores: &[Core]) -> Result<(), NoMemory>
-    ensures { OnOk result (moves.new.items ≡ moves.old.items ++ filter (certificates.is_accepted table.now) (moves_with cores.now (length table.now))) }
+    ensures { OnOk result (moves.new.items
+        ≡ moves.old.items ++ filter (certificates.is_accepted table.now) (moves_with cores.now (length table.now))) }
 {
     for tet in 0..table.len() {
         append_at(moves, table, tet, cores)?;

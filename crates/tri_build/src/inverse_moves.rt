@@ -70,7 +70,9 @@ impl InverseMoves {
     /// Plays the inverse move of `step`.
     fn go_back(&mut self, alloc: Global, step: &PlayedMove) -> Result<(), NoMemory>
         requires { CanGoBack step.now self.old.now self.old.on }
-        ensures { OnOk result ((old : List Row) → CarriesToNow old step.now self.old.now self.old.on → GoesBack old step.now self.old.now self.old.on self.old.moves.items self.new.moves.items self.new.now self.new.on) }
+        ensures { OnOk result ((old : List Row) → CarriesToNow old step.now self.old.now self.old.on
+            → GoesBack old step.now self.old.now self.old.on self.old.moves.items self.new.moves.items self.new.now
+            self.new.on) }
     {
         let back = back_of(step, &self.now, &self.on);
         let by = carry_back(alloc, step, &back, &self.on)?;
@@ -106,7 +108,9 @@ pub fn inverse_moves(
     mut steps: Vec<PlayedMove>,
 ) -> Result<Vec<Move>, NoMemory>
     requires { (first : List Row) × AreSteps first steps.items table.now }
-    ensures { IfOk result (λ moves. (first : List Row) → AreSteps first steps.items table.now → (end : List Row) × (by : labels.Relabelling) × AreCarriedBack first (moves_of steps.items) table.now moves.items end by) }
+    ensures { IfOk result (λ moves.
+        (first : List Row) → AreSteps first steps.items table.now → (end : List Row) × (by : labels.Relabelling)
+        × AreCarriedBack first (moves_of steps.items) table.now moves.items end by) }
 {
     let mut way = InverseMoves {
         now: table.copy(alloc)?,

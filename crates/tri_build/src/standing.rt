@@ -69,7 +69,8 @@ fn retained_image(step: &PlayedMove, back: &InverseMove, on: &Relabelling, tet: 
 
 /// The image of the vertex with label `label` in the facet that the inverse move adds for `missing`.
 fn vertex_back(back: &InverseMove, missing: Label, label: Label) -> u8
-    ensures { result ≡ preimage (put_in 0 (slice_index back.now.labels missing.number)).labels (slice_index back.now.labels label.number) }
+    ensures { result ≡ preimage (put_in 0 (slice_index back.now.labels missing.number)).labels
+        (slice_index back.now.labels label.number) }
 {
     vertex_without(back.label_of(missing), back.label_of(label))
 }

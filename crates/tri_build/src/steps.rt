@@ -73,7 +73,8 @@ pub fn draw_step(
     table: &mut Table,
     state: u64,
 ) -> Result<Option<PlayedMove>, NoMemory>
-    ensures drawn { IfOk result (λ r. IfSome r (λ s. certificates.drawn state (certificates.candidates table.old) ≡ Some s.played)) }
+    ensures drawn { IfOk result (λ r.
+        IfSome r (λ s. certificates.drawn state (certificates.candidates table.old) ≡ Some s.played)) }
     ensures is_step { IfOk result (λ r. IfSome r (λ s. IsPlayedStep table.old s table.new)) }
     ensures none { IfOk result (λ r. IfNone r (certificates.candidates table.old ≡ [])) }
     ensures left { IfOk result (λ r. IfNone r (table.new ≡ table.old)) }

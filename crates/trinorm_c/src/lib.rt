@@ -50,7 +50,8 @@ pub extern "C" fn trinorm_answer(
     ensures statuses { IsCallStatus result }
 
     // A status below 6 is that of the outcome for the words and the input, whose text is in the first `needed` bytes.
-    ensures answered { result < 6 → IsCallAnswer (words_of words.now) input.now result (take needed.new answer.new) needed.new }
+    ensures answered { result < 6 → IsCallAnswer (words_of words.now) input.now result (take needed.new answer.new)
+        needed.new }
 
     // With status 7 that text is longer than the room, and `needed` is its length.
     ensures longer { result ≡ 7 → IsLonger (words_of words.now) input.now (length answer.old) needed.new }

@@ -53,8 +53,10 @@ pub struct Matching<'a> {
 impl<'a> Matching<'a> {
     /// The description of the admissible solution `x`, or why it is refused.
     fn describe_solution(&self, alloc: Global, x: &[u128]) -> Result<Description, Failure<Refusal>>
-        requires { verdict_in self.now.coords.system self.now.skeleton.now.rows self.now.system.now.rows x.now ≡ solution }
-        ensures { IsDescriptionResult self.now.skeleton.now self.now.coords.system self.now.system.now.rows x.now result }
+        requires { verdict_in self.now.coords.system self.now.skeleton.now.rows self.now.system.now.rows x.now
+            ≡ solution }
+        ensures { IsDescriptionResult self.now.skeleton.now self.now.coords.system self.now.system.now.rows x.now
+            result }
     {
         let properties = match properties_of(self.skeleton, self.coords.system, x) {
             Ok(properties) => properties,
@@ -73,7 +75,8 @@ impl<'a> Matching<'a> {
 
     /// The description of the vector `x`, or why it is refused.
     fn describe_vector(&self, alloc: Global, x: &[u128]) -> Result<Description, Failure<Refusal>>
-        ensures { IsDescriptionResult self.now.skeleton.now self.now.coords.system self.now.system.now.rows x.now result }
+        ensures { IsDescriptionResult self.now.skeleton.now self.now.coords.system self.now.system.now.rows x.now
+            result }
     {
         match check(self.coords.system, self.skeleton.table(), self.system, x) {
             Ok(()) => self.describe_solution(alloc, x),
@@ -88,7 +91,8 @@ impl<'a> Matching<'a> {
         x: &[u128],
         text: &mut Vec<u8>,
     ) -> Result<(), Failure<Refusal>>
-        ensures { AppendsAnswer (IsDescription self.now.skeleton.now self.now.coords.system self.now.system.now.rows) (description_text self.now.skeleton.now self.now.coords.system) x.now text.old.items text.new.items result }
+        ensures { AppendsAnswer (IsDescription self.now.skeleton.now self.now.coords.system self.now.system.now.rows)
+            (description_text self.now.skeleton.now self.now.coords.system) x.now text.old.items text.new.items result }
     {
         let description = self.describe_vector(alloc, x)?;
         let described = Described {
@@ -108,7 +112,8 @@ impl<'a> Matching<'a> {
         alloc: Global,
         vectors: &[Vec<u128>],
     ) -> Result<Vec<u8>, Failure<FirstRefusal>>
-        ensures { WritesAnswers (IsDescription self.now.skeleton.now self.now.coords.system self.now.system.now.rows) (description_text self.now.skeleton.now self.now.coords.system) (all_entries vectors.now) result }
+        ensures { WritesAnswers (IsDescription self.now.skeleton.now self.now.coords.system self.now.system.now.rows)
+            (description_text self.now.skeleton.now self.now.coords.system) (all_entries vectors.now) result }
     {
         let mut text = Vec::new(alloc);
         for v in 0..vectors.len() {

@@ -86,7 +86,8 @@ impl<'a> Described<'a> {
     /// The Euler characteristic of component `component`.
     fn euler_of(&self, component: u32) -> i128
         requires { component < length self.now.pieces.now }
-        ensures { result ≡ definitions.characteristic self.now.skeleton.now self.now.coords.system (slice_index_or self.now.pieces.now component no_component).vector }
+        ensures { result ≡ definitions.characteristic self.now.skeleton.now self.now.coords.system
+            (slice_index_or self.now.pieces.now component no_component).vector }
     {
         // the only component is the surface itself
         let count = self.pieces.components();
@@ -104,7 +105,9 @@ impl<'a> Described<'a> {
         component: u32,
     ) -> Result<(), NoMemory>
         requires { component < length self.now.pieces.now }
-        ensures { OnOk result (out.new.items ≡ out.old.items ++ texts.component_line self.now.skeleton.now self.now.coords.system (slice_index_or self.now.pieces.now component no_component)) }
+        ensures { OnOk result (out.new.items
+            ≡ out.old.items ++ texts.component_line self.now.skeleton.now self.now.coords.system
+            (slice_index_or self.now.pieces.now component no_component)) }
     {
         append_euler(alloc, out, b"component euler ", self.euler_of(component))?;
         append(out, b" sides ")?;
@@ -118,7 +121,9 @@ impl<'a> Described<'a> {
 
     /// Appends the lines of all components.
     fn append_components(&self, alloc: Global, out: &mut Vec<u8>) -> Result<(), NoMemory>
-        ensures { OnOk result (out.new.items ≡ out.old.items ++ flat_map (texts.component_line self.now.skeleton.now self.now.coords.system) self.now.pieces.now) }
+        ensures { OnOk result (out.new.items
+            ≡ out.old.items ++ flat_map (texts.component_line self.now.skeleton.now self.now.coords.system)
+            self.now.pieces.now) }
     {
         for component in 0..self.pieces.components() {
             self.append_component(alloc, out, component)?;
@@ -129,7 +134,13 @@ impl<'a> Described<'a> {
     /// Appends the description to `out`: the vector, its properties, and a line for each component.
     #[tactic(auto, unfolding(surface_vector_definitions::specs::Texts::description_text))]
     pub fn append(&self, alloc: Global, out: &mut Vec<u8>) -> Result<(), NoMemory>
-        ensures { OnOk result (out.new.items ≡ out.old.items ++ texts.description_text self.now.skeleton.now self.now.coords.system (record { vector = self.now.vector.now; properties = self.now.properties.now; components = self.now.pieces.now })) }
+        ensures { OnOk result (out.new.items
+            ≡ out.old.items ++ texts.description_text self.now.skeleton.now self.now.coords.system
+            (record {
+              vector = self.now.vector.now;
+              properties = self.now.properties.now;
+              components = self.now.pieces.now;
+            })) }
     {
         write_vector(alloc, self.vector, out)?;
         append_properties(alloc, out, self.properties, self.pieces.components())?;

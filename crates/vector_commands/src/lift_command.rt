@@ -67,7 +67,8 @@ impl<'a> QuadMatching<'a> {
         x: &[u128],
         text: &mut Vec<u8>,
     ) -> Result<(), Failure<Refusal>>
-        ensures { AppendsAnswer (IsLifted self.now.skeleton.now self.now.system.now.rows) vector_text x.now text.old.items text.new.items result }
+        ensures { AppendsAnswer (IsLifted self.now.skeleton.now self.now.system.now.rows) vector_text x.now
+            text.old.items text.new.items result }
     {
         let lifted = self.lift_vector(alloc, x)?;
         write_vector(alloc, &lifted, text)?;
@@ -76,7 +77,8 @@ impl<'a> QuadMatching<'a> {
 
     /// The lines of the lifts of `vectors`. Fails at the first vector that is refused.
     fn lifts(&self, alloc: Global, vectors: &[Vec<u128>]) -> Result<Vec<u8>, Failure<FirstRefusal>>
-        ensures { WritesAnswers (IsLifted self.now.skeleton.now self.now.system.now.rows) vector_text (all_entries vectors.now) result }
+        ensures { WritesAnswers (IsLifted self.now.skeleton.now self.now.system.now.rows) vector_text
+            (all_entries vectors.now) result }
     {
         let mut text = Vec::new(alloc);
         for v in 0..vectors.len() {

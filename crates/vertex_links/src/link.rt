@@ -52,7 +52,9 @@ fn link_of(triangles: u32, edges: u32, vertices: u32, closed: bool, orientable: 
 /// if and only if the link is orientable.
 fn reversed_tally(alloc: Global, skeleton: &Skeleton) -> Result<Vec<u32>, NoMemory>
     ensures size { IfOk result (λ t. length t.items ≡ skeleton.now.vertices.count) }
-    ensures orientable { IfOk result (λ t. (c : ℕ) → c < skeleton.now.vertices.count → IsTrue (slice_index t.items c == 0) ↔ definition.IsOrientableLink skeleton.now.rows skeleton.now.vertices.classes c) }
+    ensures orientable { IfOk result
+        (λ t. (c : ℕ) → c < skeleton.now.vertices.count → IsTrue (slice_index t.items c == 0)
+        ↔ definition.IsOrientableLink skeleton.now.rows skeleton.now.vertices.classes c) }
 {
     let table = skeleton.table();
     let members = owners(alloc, skeleton, 1)?;
@@ -89,7 +91,10 @@ struct Corners<'a> {
 /// The number of edges of the link of each vertex class, by `corners`.
 fn edge_tally(alloc: Global, corners: Corners<'_>) -> Result<Vec<u32>, NoMemory>
     ensures size { IfOk result (λ t. length t.items ≡ corners.entry.skeleton.now.vertices.count) }
-    ensures edges { IfOk result (λ t. (c : ℕ) → c < corners.entry.skeleton.now.vertices.count → slice_index t.items c ≡ definition.link_edges corners.entry.skeleton.now.rows corners.entry.skeleton.now.vertices.classes c) }
+    ensures edges { IfOk result (λ t.
+        (c : ℕ) → c < corners.entry.skeleton.now.vertices.count
+        → slice_index t.items c ≡ definition.link_edges corners.entry.skeleton.now.rows
+        corners.entry.skeleton.now.vertices.classes c) }
 {
     let skeleton = corners.skeleton;
     let passes = first_sides(alloc, skeleton.table())?;
@@ -100,7 +105,10 @@ fn edge_tally(alloc: Global, corners: Corners<'_>) -> Result<Vec<u32>, NoMemory>
 /// The number of sides of link triangles in boundary faces, for each vertex class, by `corners`.
 fn open_tally(alloc: Global, corners: Corners<'_>) -> Result<Vec<u32>, NoMemory>
     ensures size { IfOk result (λ t. length t.items ≡ corners.entry.skeleton.now.vertices.count) }
-    ensures closed { IfOk result (λ t. (c : ℕ) → c < corners.entry.skeleton.now.vertices.count → (slice_index t.items c == 0) ≡ definition.is_closed_link corners.entry.skeleton.now.rows corners.entry.skeleton.now.vertices.classes c) }
+    ensures closed { IfOk result (λ t.
+        (c : ℕ) → c < corners.entry.skeleton.now.vertices.count
+        → (slice_index t.items c == 0) ≡ definition.is_closed_link corners.entry.skeleton.now.rows
+        corners.entry.skeleton.now.vertices.classes c) }
 {
     let skeleton = corners.skeleton;
     let passes = boundary_sides(alloc, skeleton.table())?;
@@ -114,9 +122,11 @@ fn corner_tally(
     corners: Corners<'_>,
     directions: &Numbering,
 ) -> Result<Vec<u32>, NoMemory>
-    requires { AreClassesOf Kind.Directions corners.skeleton.now.rows directions.now.classes.items directions.now.firsts.items }
+    requires { AreClassesOf Kind.Directions corners.skeleton.now.rows directions.now.classes.items
+        directions.now.firsts.items }
     ensures size { IfOk result (λ t. length t.items ≡ corners.entry.skeleton.now.vertices.count) }
-    ensures vertices { IfOk result (λ t. CountsCorners corners.entry.skeleton.now directions.now.classes.items t.items) }
+    ensures vertices { IfOk result (λ t.
+        CountsCorners corners.entry.skeleton.now directions.now.classes.items t.items) }
 {
     let skeleton = corners.skeleton;
     let passes = least_corners(alloc, directions)?;
@@ -129,11 +139,19 @@ fn tallies_of(alloc: Global, skeleton: &Skeleton) -> Result<Tallies, NoMemory>
     ensures corners { IfOk result (λ t. length t.corners.items ≡ skeleton.now.vertices.count) }
     ensures unglued { IfOk result (λ t. length t.unglued.items ≡ skeleton.now.vertices.count) }
     ensures backwards { IfOk result (λ t. length t.backwards.items ≡ skeleton.now.vertices.count) }
-    ensures edges { IfOk result (λ t. (c : ℕ) → c < skeleton.now.vertices.count → slice_index t.sides.items c ≡ definition.link_edges skeleton.now.rows skeleton.now.vertices.classes c) }
-    ensures closed { IfOk result (λ t. (c : ℕ) → c < skeleton.now.vertices.count → (slice_index t.unglued.items c == 0) ≡ definition.is_closed_link skeleton.now.rows skeleton.now.vertices.classes c) }
-    ensures directions { IfOk result (λ t. AreClassesOf Kind.Directions skeleton.now.rows t.directions.classes.items t.directions.firsts.items) }
+    ensures edges { IfOk result (λ t.
+        (c : ℕ) → c < skeleton.now.vertices.count
+        → slice_index t.sides.items c ≡ definition.link_edges skeleton.now.rows skeleton.now.vertices.classes c) }
+    ensures closed { IfOk result (λ t.
+        (c : ℕ) → c < skeleton.now.vertices.count
+        → (slice_index t.unglued.items c == 0)
+        ≡ definition.is_closed_link skeleton.now.rows skeleton.now.vertices.classes c) }
+    ensures directions { IfOk result
+        (λ t. AreClassesOf Kind.Directions skeleton.now.rows t.directions.classes.items t.directions.firsts.items) }
     ensures vertices { IfOk result (λ t. CountsCorners skeleton.now t.directions.classes.items t.corners.items) }
-    ensures orientable { IfOk result (λ t. (c : ℕ) → c < skeleton.now.vertices.count → IsTrue (slice_index t.backwards.items c == 0) ↔ definition.IsOrientableLink skeleton.now.rows skeleton.now.vertices.classes c) }
+    ensures orientable { IfOk result
+        (λ t. (c : ℕ) → c < skeleton.now.vertices.count → IsTrue (slice_index t.backwards.items c == 0)
+        ↔ definition.IsOrientableLink skeleton.now.rows skeleton.now.vertices.classes c) }
 {
     let table = skeleton.table();
     let owners = owners(alloc, skeleton, 3)?;

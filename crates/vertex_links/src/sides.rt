@@ -20,7 +20,9 @@ pub fn owners(alloc: Global, skeleton: &Skeleton, each: u32) -> Result<Vec<u32>,
     requires some { 0 < each }
     requires limited { each ≤ 3 }
     ensures size { IfOk result (λ owners. length owners.items ≡ 4 * each * length skeleton.now.rows) }
-    ensures owners { IfOk result (λ owners. (j : ℕ) → j < 4 * each * length skeleton.now.rows → slice_index owners.items j ≡ slice_index skeleton.now.vertices.classes (j / each)) }
+    ensures owners { IfOk result (λ owners.
+        (j : ℕ) → j < 4 * each * length skeleton.now.rows
+        → slice_index owners.items j ≡ slice_index skeleton.now.vertices.classes (j / each)) }
 {
     let count = 4 * each * skeleton.table().len();
     let mut owners = Vec::with_capacity(alloc, count as usize)?;
@@ -71,7 +73,9 @@ fn is_first(table: &Table, face: Face) -> bool
 /// faces that are glued.
 pub fn first_sides(alloc: Global, table: &Table) -> Result<Vec<bool>, NoMemory>
     ensures size { IfOk result (λ passes. length passes.items ≡ 12 * length table.now) }
-    ensures passes { IfOk result (λ passes. (j : ℕ) → j < 12 * length table.now → slice_index_or passes.items j false ≡ is_first_side (side_at j) (gluings.glue table.now (side_at j))) }
+    ensures passes { IfOk result (λ passes.
+        (j : ℕ) → j < 12 * length table.now
+        → slice_index_or passes.items j false ≡ is_first_side (side_at j) (gluings.glue table.now (side_at j))) }
 {
     let count = 12 * table.len();
     let mut passes = Vec::with_capacity(alloc, count as usize)?;
@@ -84,7 +88,8 @@ pub fn first_sides(alloc: Global, table: &Table) -> Result<Vec<bool>, NoMemory>
 /// For each of the 12n sides of link triangles, whether it lies in a boundary face of `table`.
 pub fn boundary_sides(alloc: Global, table: &Table) -> Result<Vec<bool>, NoMemory>
     ensures size { IfOk result (λ passes. length passes.items ≡ 12 * length table.now) }
-    ensures passes { IfOk result (λ passes. (j : ℕ) → j < 12 * length table.now → slice_index_or passes.items j false ≡ is_boundary table.now (side_at j)) }
+    ensures passes { IfOk result (λ passes.
+        (j : ℕ) → j < 12 * length table.now → slice_index_or passes.items j false ≡ is_boundary table.now (side_at j)) }
 {
     let count = 12 * table.len();
     let mut passes = Vec::with_capacity(alloc, count as usize)?;
@@ -97,7 +102,10 @@ pub fn boundary_sides(alloc: Global, table: &Table) -> Result<Vec<bool>, NoMemor
 /// For each corner of a link triangle, whether its directed edge is the least of its class in `directions`.
 pub fn least_corners(alloc: Global, directions: &Numbering) -> Result<Vec<bool>, NoMemory>
     ensures size { IfOk result (λ passes. length passes.items ≡ length directions.now.classes.items) }
-    ensures passes { IfOk result (λ passes. (j : ℕ) → j < length directions.now.classes.items → slice_index_or passes.items j false ≡ (slice_index directions.now.firsts.items (slice_index directions.now.classes.items j) == j)) }
+    ensures passes { IfOk result (λ passes.
+        (j : ℕ) → j < length directions.now.classes.items
+        → slice_index_or passes.items j false
+        ≡ (slice_index directions.now.firsts.items (slice_index directions.now.classes.items j) == j)) }
 {
     let mut passes = Vec::with_capacity(alloc, directions.classes.len())?;
     for place in 0..directions.classes.len() as u32 {
@@ -111,7 +119,9 @@ pub fn least_corners(alloc: Global, directions: &Numbering) -> Result<Vec<bool>,
 pub fn reversed_vertices(alloc: Global, classes: &[u32], count: u32) -> Result<Vec<bool>, NoMemory>
     requires { 2 * count ≤ length classes.now }
     ensures size { IfOk result (λ passes. length passes.items ≡ count) }
-    ensures passes { IfOk result (λ passes. (j : ℕ) → j < count → slice_index_or passes.items j false ≡ (slice_index classes.now (2 * j) == slice_index classes.now (2 * j + 1))) }
+    ensures passes { IfOk result (λ passes.
+        (j : ℕ) → j < count → slice_index_or passes.items j false
+        ≡ (slice_index classes.now (2 * j) == slice_index classes.now (2 * j + 1))) }
 {
     let mut passes = Vec::with_capacity(alloc, count as usize)?;
     for vertex in 0..count {

@@ -98,8 +98,10 @@ fn outcome_of_bytes<S: Source>(
 ) -> Result<Outcome, NoMemory>
     requires in_range { HoldsRange request }
     requires reads { reads_input request ≡ true }
-    ensures response { IfOk result (IsResponse request (S.left source.old) (S.left source.new) (S.faults source.old) (S.faults source.new)) }
-    ensures no_memory { OnErr result (RunsOutOfMemory (S.left source.old) (S.left source.new) (S.faults source.old) (S.faults source.new)) }
+    ensures response { IfOk result (IsResponse request (S.left source.old) (S.left source.new) (S.faults source.old)
+        (S.faults source.new)) }
+    ensures no_memory { OnErr result
+        (RunsOutOfMemory (S.left source.old) (S.left source.new) (S.faults source.old) (S.faults source.new)) }
 {
     match read_all(alloc, source, MOST_BYTES) {
         Ok(bytes) => outcome_of_request(alloc, request, &bytes),
@@ -116,8 +118,10 @@ fn outcome_of_source<S: Source>(
     source: &mut S,
 ) -> Result<Outcome, NoMemory>
     requires { HoldsRange request }
-    ensures response { IfOk result (IsResponse request (S.left source.old) (S.left source.new) (S.faults source.old) (S.faults source.new)) }
-    ensures no_memory { OnErr result (RunsOutOfMemory (S.left source.old) (S.left source.new) (S.faults source.old) (S.faults source.new)) }
+    ensures response { IfOk result (IsResponse request (S.left source.old) (S.left source.new) (S.faults source.old)
+        (S.faults source.new)) }
+    ensures no_memory { OnErr result
+        (RunsOutOfMemory (S.left source.old) (S.left source.new) (S.faults source.old) (S.faults source.new)) }
     ensures untouched { reads_input request ≡ false → source.new ≡ source.old }
 {
     if reads_input(request) {
@@ -128,7 +132,8 @@ fn outcome_of_source<S: Source>(
 
 /// Writes `outcome` to `sink`, and returns the status.
 fn write_outcome<K: Sink>(outcome: &Outcome, sink: &mut K) -> Status
-    ensures { IsDelivered outcome.now result (K.held sink.old) (K.held sink.new) (K.faults sink.old) (K.faults sink.new) }
+    ensures { IsDelivered outcome.now result (K.held sink.old) (K.held sink.new) (K.faults sink.old)
+        (K.faults sink.new) }
 {
     match write_all(sink, outcome.text()) {
         Ok(()) => outcome.status(),
@@ -143,7 +148,8 @@ fn run_request<S: Source, K: Sink>(
     source: &mut S,
     sink: &mut K,
 ) -> Status
-    ensures { IsRun words.now result source.old source.new (S.left source.old) (S.left source.new) (S.faults source.old) (S.faults source.new)
+    ensures { IsRun words.now result source.old source.new (S.left source.old) (S.left source.new) (S.faults source.old)
+        (S.faults source.new)
         sink.old sink.new (K.held sink.old) (K.held sink.new) (K.faults sink.old) (K.faults sink.new) }
 {
     match read_words(alloc, words) {
@@ -167,15 +173,18 @@ pub fn run<S: Source, K: Sink>(alloc: Global, words: &Words, source: &mut S, sin
 
     // The status is `ReadFault` only if the source's count grew, and if it grew the status is `ReadFault` or
     // `WriteFault`.
-    ensures read_fault { S.faults source.old < 2 ^ 64 - 1 → S.faults source.old < S.faults source.new → (result ≡ Status.ReadFault) ⊎ (result ≡ Status.WriteFault) }
+    ensures read_fault { S.faults source.old < 2 ^ 64 - 1 → S.faults source.old < S.faults source.new
+        → (result ≡ Status.ReadFault) ⊎ (result ≡ Status.WriteFault) }
     ensures read_fault_alone { result ≡ Status.ReadFault → Rose (S.faults source.old) (S.faults source.new) }
     ensures read_fault_line { result ≡ Status.ReadFault → Grows (K.held sink.old) (K.held sink.new) read_line }
 
     // The status is `WriteFault` if and only if the sink's count grew. Then a proper prefix of the text to be written
     // was appended: the line of a failed read or of usage, or the text of the outcome.
-    ensures write_fault { K.faults sink.old < 2 ^ 64 - 1 → ((result ≡ Status.WriteFault) ↔ (K.faults sink.old < K.faults sink.new)) }
+    ensures write_fault { K.faults sink.old < 2 ^ 64 - 1
+        → ((result ≡ Status.WriteFault) ↔ (K.faults sink.old < K.faults sink.new)) }
     ensures prefix { result ≡ Status.WriteFault → (o : outcomes.Outcome)
-        × IsToBeWritten words.now (S.left source.old) (S.faults source.old) (S.faults source.new) o × IsCutOff (K.held sink.old) (K.held sink.new) o.text }
+        × IsToBeWritten words.now (S.left source.old) (S.faults source.old) (S.faults source.new) o
+        × IsCutOff (K.held sink.old) (K.held sink.new) o.text }
 
     // If memory ran out nothing was written, the source did not fail, and it did not return more bytes than an input
     // may have.
@@ -186,12 +195,15 @@ pub fn run<S: Source, K: Sink>(alloc: Global, words: &Words, source: &mut S, sin
     // Every other status is that of the outcome for the words and the input, whose text was appended.
     ensures outcome { IsAnswered result → IfSome (S.left source.old) (λ bytes. (o : outcomes.Outcome)
         × IsOutcome words.now bytes o × (result ≡ o.status) × Grows (K.held sink.old) (K.held sink.new) o.text) }
-    ensures end { (request : Request) → accepted_request words.now ≡ Some request → reads_input request ≡ true → result ≡ Status.Done → IsEnded (S.left source.new) }
+    ensures end { (request : Request) → accepted_request words.now ≡ Some request → reads_input request ≡ true
+        → result ≡ Status.Done → IsEnded (S.left source.new) }
 
     // A command that reads no input leaves the source unchanged, and its outcome depends on the words alone.
-    ensures untouched { (request : Request) → accepted_request words.now ≡ Some request → reads_input request ≡ false → source.new ≡ source.old }
+    ensures untouched { (request : Request) → accepted_request words.now ≡ Some request → reads_input request ≡ false
+        → source.new ≡ source.old }
     ensures words_alone { (request : Request) → accepted_request words.now ≡ Some request → reads_input request ≡ false
-        → IsAnswered result → (o : outcomes.Outcome) × IsAnswerTo request [] o × (result ≡ o.status) × Grows (K.held sink.old) (K.held sink.new) o.text }
+        → IsAnswered result → (o : outcomes.Outcome) × IsAnswerTo request [] o × (result ≡ o.status)
+        × Grows (K.held sink.old) (K.held sink.new) o.text }
 
     // For every input that is a gluing table, `surfaces` prints exactly the primitive integer vectors on extreme rays
     // of its solution cone, in the coordinates of the request, that satisfy the quadrilateral condition: each once, in
@@ -203,35 +215,47 @@ pub fn run<S: Source, K: Sink>(alloc: Global, words: &Words, source: &mut S, sin
     // In one clause: if the words of `surfaces` are accepted and the input is a table, that list was printed, or the
     // first number of a step that exceeds the limit was named; the only other outcomes are a failed source, a failed
     // sink, and out of memory, each by its own clause. Likewise for `rays`.
-    ensures all_surfaces { (coords : Coords) → (order : Order) → (most : ℕ) → accepted_request words.now ≡ Some (Request.Surfaces coords order most)
-        → IfSome (S.left source.old) (λ bytes. (rows : List Row) → length bytes ≤ most_bytes → table_document bytes ≡ Ok rows
+    ensures all_surfaces { (coords : Coords) → (order : Order) → (most : ℕ)
+        → accepted_request words.now ≡ Some (Request.Surfaces coords order most)
+        → IfSome (S.left source.old) (λ bytes.
+        (rows : List Row) → length bytes ≤ most_bytes → table_document bytes ≡ Ok rows
         → AnswersSurfaces coords order most rows result (K.held sink.old) (K.held sink.new)) }
     ensures all_rays { (order : Order) → (most : ℕ) → accepted_request words.now ≡ Some (Request.Rays order most)
-        → IfSome (S.left source.old) (λ bytes. (cone : ConeText) → length bytes ≤ most_bytes → worded (cone_document bytes) ≡ Ok cone
+        → IfSome (S.left source.old) (λ bytes.
+        (cone : ConeText) → length bytes ≤ most_bytes → worded (cone_document bytes) ≡ Ok cone
         → AnswersRays order most cone result (K.held sink.old) (K.held sink.new)) }
 
     // With the default limit, and at most 31 tetrahedra in standard coordinates or 29 in quad and octagon coordinates,
     // no number exceeds the limit in any order of the equations: that list was printed, or the run was cut short.
-    ensures few_surfaces { (coords : Coords) → (order : Order) → accepted_request words.now ≡ Some (Request.Surfaces coords order limit)
-        → IfSome (S.left source.old) (λ bytes. (rows : List Row) → length bytes ≤ most_bytes → table_document bytes ≡ Ok rows
-        → length rows ≤ most_tetrahedra coords → ListsSurfaces coords rows result (K.held sink.old) (K.held sink.new) ⊎ IsCutShort result) }
+    ensures few_surfaces { (coords : Coords) → (order : Order)
+        → accepted_request words.now ≡ Some (Request.Surfaces coords order limit)
+        → IfSome (S.left source.old) (λ bytes.
+        (rows : List Row) → length bytes ≤ most_bytes → table_document bytes ≡ Ok rows
+        → length rows ≤ most_tetrahedra coords → ListsSurfaces coords rows result (K.held sink.old) (K.held sink.new)
+        ⊎ IsCutShort result) }
 
     // `rays` prints exactly the primitive extreme rays of a cone, and `verify` a verdict on each vector.
-    ensures rays { result ≡ Status.Done → (order : Order) → (most : ℕ) → accepted_request words.now ≡ Some (Request.Rays order most)
+    ensures rays { result ≡ Status.Done → (order : Order) → (most : ℕ)
+        → accepted_request words.now ≡ Some (Request.Rays order most)
         → IfSome (S.left source.old) (λ bytes. PrintsRays bytes (K.held sink.old) (K.held sink.new)) }
-    ensures verify { result ≡ Status.Done → (coords : Coords) → accepted_request words.now ≡ Some (Request.Verify coords)
+    ensures verify { result ≡ Status.Done → (coords : Coords)
+        → accepted_request words.now ≡ Some (Request.Verify coords)
         → IfSome (S.left source.old) (λ bytes. PrintsVerdicts coords bytes (K.held sink.old) (K.held sink.new)) }
 
     // If each vertex link is a sphere or a disc, `lift` writes the lift of every admissible solution of the quad
     // equations with small sums. `make` writes, and `bulk` checks, a certificate of exactly as many moves as the
     // request names, up to 333. `check` ends with `Done` if and only if the moves are a certificate.
     ensures lifts { accepted_request words.now ≡ Some Request.Lift
-        → IfSome (S.left source.old) (λ bytes. (rows : List Row) → (vectors : List (List ℕ)) → (equations : List EquationRow) → length bytes ≤ most_bytes
-        → vectors_document bytes ≡ Ok (rows, vectors) → HasSphereAndDiscVertices rows → AreEquations Coords.Quad rows equations
-        → All (IsSmallSolution rows equations) vectors → Writes (AreLifted rows vectors) result (K.held sink.old) (K.held sink.new)) }
+        → IfSome (S.left source.old) (λ bytes.
+        (rows : List Row) → (vectors : List (List ℕ)) → (equations : List EquationRow) → length bytes ≤ most_bytes
+        → vectors_document bytes ≡ Ok (rows, vectors) → HasSphereAndDiscVertices rows
+        → AreEquations Coords.Quad rows equations
+        → All (IsSmallSolution rows equations) vectors
+        → Writes (AreLifted rows vectors) result (K.held sink.old) (K.held sink.new)) }
     ensures makes { (seed : ℕ) → (moves : ℕ) → accepted_request words.now ≡ Some (Request.Make seed moves) → moves ≤ 333
         → Writes (IsTableWithMoves moves) result (K.held sink.old) (K.held sink.new) }
-    ensures sums_up { (seed : ℕ) → (moves : ℕ) → accepted_request words.now ≡ Some (Request.Bulk seed moves) → moves ≤ 333
+    ensures sums_up { (seed : ℕ) → (moves : ℕ) → accepted_request words.now ≡ Some (Request.Bulk seed moves)
+        → moves ≤ 333
         → Writes (IsSummaryWithMoves seed moves) result (K.held sink.old) (K.held sink.new) }
     ensures checks { IsAnswered result → accepted_request words.now ≡ Some Request.Check
         → IfSome (S.left source.old) (λ bytes. (rows : List Row) → (moves : List Move) → length bytes ≤ most_bytes
@@ -243,7 +267,8 @@ pub fn run<S: Source, K: Sink>(alloc: Global, words: &Words, source: &mut S, sin
     ensures same { accepted_request words.now ≡ Some Request.Same
         → WritesOf two_tables_document IsComparison (S.left source.old) result (K.held sink.old) (K.held sink.new) }
     ensures csame { accepted_request words.now ≡ Some Request.Csame
-        → WritesOf two_tables_document IsComponentComparison (S.left source.old) result (K.held sink.old) (K.held sink.new) }
+        → WritesOf two_tables_document IsComponentComparison (S.left source.old) result (K.held sink.old)
+        (K.held sink.new) }
     ensures group { accepted_request words.now ≡ Some Request.Group
         → WritesOf tables_document IsGrouping (S.left source.old) result (K.held sink.old) (K.held sink.new) }
 
@@ -251,8 +276,10 @@ pub fn run<S: Source, K: Sink>(alloc: Global, words: &Words, source: &mut S, sin
     // of vertex surfaces; otherwise it names the first vector that is not fit, or the first number that exceeds the
     // limit. `addup` accepts sums of fit terms to fit vectors if and only if they are true. `cover` writes the
     // orientable double cover, and `play` the table after the moves.
-    ensures decompose { (coords : Coords) → (most : ℕ) → accepted_request words.now ≡ Some (Request.Decompose coords most)
-        → WritesOf vectors_document (IsDecomposition coords most) (S.left source.old) result (K.held sink.old) (K.held sink.new) }
+    ensures decompose { (coords : Coords) → (most : ℕ)
+        → accepted_request words.now ≡ Some (Request.Decompose coords most)
+        → WritesOf vectors_document (IsDecomposition coords most) (S.left source.old) result (K.held sink.old)
+        (K.held sink.new) }
     ensures addup { (coords : Coords) → accepted_request words.now ≡ Some (Request.Addup coords)
         → WritesOf blocks_document (IsAddition coords) (S.left source.old) result (K.held sink.old) (K.held sink.new) }
     ensures cover { accepted_request words.now ≡ Some Request.Cover
@@ -261,7 +288,8 @@ pub fn run<S: Source, K: Sink>(alloc: Global, words: &Words, source: &mut S, sin
         → WritesOf steps_document IsPlayed (S.left source.old) result (K.held sink.old) (K.held sink.new) }
 
     // If neither count grew, the outcome was written, or memory ran out.
-    ensures answered { S.faults source.old < 2 ^ 64 - 1 → K.faults sink.old < 2 ^ 64 - 1 → S.faults source.new ≡ S.faults source.old
+    ensures answered { S.faults source.old < 2 ^ 64 - 1 → K.faults sink.old < 2 ^ 64 - 1
+        → S.faults source.new ≡ S.faults source.old
         → K.faults sink.new ≡ K.faults sink.old → IsAnswered result ⊎ (result ≡ Status.NoMemory) }
 {
     run_request(alloc, words, source, sink)

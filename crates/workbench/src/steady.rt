@@ -12,7 +12,8 @@ use text_io::{NullSink, SteadySource, Words};
 /// Runs `words` on the input `bytes`, with a sink that discards the answer. Returns the status of the outcome, or
 /// `NoMemory`; never `ReadFault` or `WriteFault`.
 pub fn run_steadily(alloc: Global, words: &Words, bytes: Vec<u8>) -> Status
-    ensures outcome { IsAnswered result → (o : outcomes.Outcome) × IsOutcome words.now bytes.items o × (result ≡ o.status) }
+    ensures outcome { IsAnswered result → (o : outcomes.Outcome) × IsOutcome words.now bytes.items o
+        × (result ≡ o.status) }
     ensures answered { IsAnswered result ⊎ (result ≡ Status.NoMemory) }
     ensures reads { result ≢ Status.ReadFault }
     ensures writes { result ≢ Status.WriteFault }
