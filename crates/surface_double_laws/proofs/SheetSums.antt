@@ -1,26 +1,14 @@
 -- Sums over the m sheets of a multiple of a surface.
-use Rattle.std.proofs.Common.{◌≡◌, ◌≢◌, ℕ, zero, suc, ◌+◌, ◌-◌, ◌*◌, ◌<◌, Bool, true, false, cond, refl, sym, ap, ◌∙◌, arith}
+use Rattle.std.proofs.Common.{◌≡◌, ◌≢◌, ℕ, zero, suc, ◌*◌, ◌<◌, Bool, true, false, cond, refl, ap, ◌∙◌, arith}
 use Rattle.std.specs.Prelude.{◌==◌, sum_by}
 use Rattle.std.proofs.lemmas.Bool.{eq-eqb, ne_eqb}
 use Rattle.table_definitions.specs.Lists.{below}
 use Rattle.surface_laws.proofs.ArcPieces.{from_end}
-use Rattle.surface_laws.proofs.Counting.{sum_by_same, below_sum, last_term, one_term}
-
--- a sum in the reverse order
-reversed_sum : (f : ℕ → ℕ) (m : ℕ) → sum_by (λ k. f (m - 1 - k)) (below m) ≡ sum_by f (below m)
-reversed_sum f zero = refl
-reversed_sum f (suc m) =
-    let up : 1 + m ≡ suc m = omega arith in
-    let all : sum_by (λ k. f (suc m - 1 - k)) (below (1 + m)) ≡ sum_by (λ k. f (suc m - 1 - k)) (below 1) + sum_by (λ j. f (suc m - 1 - (1 + j))) (below m) = below_sum (λ k. f (suc m - 1 - k)) 1 m in
-    let one : sum_by (λ k. f (suc m - 1 - k)) (below 1) ≡ sum_by (λ k. f (suc m - 1 - k)) (below 0) + f (suc m - 1 - 0) = last_term (λ k. f (suc m - 1 - k)) 0 in
-    let head : f (suc m - 1 - 0) ≡ f m = ap f (omega arith) in
-    let rest : sum_by (λ j. f (suc m - 1 - (1 + j))) (below m) ≡ sum_by f (below m) = sum_by_same (λ j. f (suc m - 1 - (1 + j))) (λ j. f (m - 1 - j)) (below m) (λ j a. ap f (omega arith)) ∙ reversed_sum f m in
-    let none : sum_by (λ k. f (suc m - 1 - k)) (below 0) ≡ 0 = refl in
-    ap (λ n. sum_by (λ k. f (suc m - 1 - k)) (below n)) (sym up) ∙ all ∙ omega (arith, one, head, rest, none, last_term f m)
+use Rattle.surface_laws.proofs.Counting.{sum_back, last_term, one_term}
 
 pub sum_from_end : (f : ℕ → ℕ) (m : ℕ) (b : Bool) → sum_by (λ k. f (from_end m b k)) (below m) ≡ sum_by f (below m)
 sum_from_end f m true = refl
-sum_from_end f m false = reversed_sum f m
+sum_from_end f m false = sum_back f m
 
 pub constant_sum : (k n : ℕ) → sum_by (λ (t : ℕ). k) (below n) ≡ k * n
 constant_sum k zero = omega arith
