@@ -244,8 +244,8 @@ OTHERS = (
     explained("Request Surfaces accepted_request", "`accepted_request words ≡ Some (Request.Surfaces coords order most)`: the arguments are "
               "`surfaces` and options that ask for these coordinates, this order of the equations, and this limit for numbers"),
     explained("most_bytes", "`most_bytes`: 1,048,576"),
-    explained("table_document", "`table_document bytes ≡ Ok rows`: the bytes are the text of the gluing table `rows`; [FORMATS](FORMATS.md) "
-              "has the grammar"),
+    explained("table_document", "`table_document bytes ≡ Ok rows`: the bytes give the gluing table `rows`, by its rows or by a signature; "
+              "[FORMATS](FORMATS.md) has the grammar"),
     explained("Coords Standard Quad Octagon", "`Coords`: `Standard`, `Quad` or `Octagon`"),
     explained("Order", "`Order`: `given`, `short` or `zeros`, the values of `--order`"),
     explained("Status Done ReadFault WriteFault NoMemory", "`Status`: `Done` (0), `Large` (5), `ReadFault` (6), `WriteFault` (7), `NoMemory` (8), "
@@ -391,8 +391,8 @@ def page() -> str:
 
 INTRODUCTION = """# The theorem on `surfaces`, in full
 
-This page has the clause of `run` that is the theorem, and each definition that its table, its equations, its clashing pairs and its \
-list rest on: {lines} lines in {files} files. `tools/reading.py` writes it from the sources, and refuses a word or sign that is \
+This page has the clause of `run` that is the theorem, and each definition on which its table, its equations, its clashing pairs and its \
+list rest: {lines} lines in {files} files. `tools/reading.py` writes it from the sources, and refuses a word or sign that is \
 neither defined here nor explained. Reading it takes some forty minutes. [CLAIMS](CLAIMS.md) says what else is proved, and what is trusted.
 
 ## The clause
@@ -402,8 +402,8 @@ neither defined here nor explained. Reading it takes some forty minutes. [CLAIMS
 ```
 
 In words: let the command line ask for `surfaces` in the coordinates `coords`, with the order `order` of the equations and the limit \
-`most`. Let a contract see the bytes of the input, the *source*. Let these be at most 1,048,576, and be the text of the gluing table \
-`rows`. Then one of three things holds (`AnswersSurfaces`, at the end of part 4):
+`most`. Let a contract see the bytes of the input, the *source*. Let these be at most 1,048,576, and give the gluing table \
+`rows`, by its rows or by a signature. Then one of three things holds (`AnswersSurfaces`, at the end of part 4):
 
 - the list of vertex surfaces was written to the output, the *sink*, and the status is 0
 - the first number of a stated elimination step that exceeds the limit `most` was named, and the status is 5

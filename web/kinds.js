@@ -35,7 +35,7 @@ function ideal_links({ideal, count, links}) {
 export function kind_sentence(kind) {
     if (kind.name === 'closed') return 'Closed: each vertex link is a sphere.';
     if (kind.name === 'ideal') return `Ideal: there is no boundary face, and ${ideal_links(kind)}.`;
-    return `With boundary faces${kind.ideal ? `, and ideal besides: of its vertex links that are closed, ${kind.ideal} ${kind.ideal === 1 ? 'is not a sphere' : 'are not spheres'} (${kind.links})` : ''}.`;
+    return `With boundary faces${kind.ideal ? `, and with ideal vertices: of its closed vertex links, ${kind.ideal} ${kind.ideal === 1 ? 'is not a sphere' : 'are not spheres'} (${kind.links})` : ''}.`;
 }
 
 /** A sentence on invalid edges. */

@@ -77,7 +77,7 @@ export class SeveralList {
         this.table = new LongTable('Triangulations', columns_of_several(columns), (record) => this.cells(record));
         this.progress = make('progress', {max: tables.length, value: 0, ariaLabel: 'Triangulations done'});
         this.part = make('p', {className: 'soft', id: 'part'});
-        this.more = make('button', {type: 'button', id: 'more', hidden: true, onclick: () => context.busy(() => this.describe_rest())}, 'Go on');
+        this.more = make('button', {type: 'button', id: 'more', hidden: true, onclick: () => context.busy(() => this.describe_rest())}, 'Continue');
     }
 
     cells(record) {

@@ -91,7 +91,7 @@ function verdict_of(kind, contrary) {
 /** The verdict on 0-efficiency. */
 export function efficiency_view({info, count, contrary}, context) {
     const kind = kind_of(info);
-    const about = `${plural(count, 'vertex normal surface')} in standard coordinates; ${contrary ? 'this one has positive Euler characteristic.' : 'each one of positive Euler characteristic is a vertex link.'}`;
+    const about = `${plural(count, 'vertex normal surface')} in standard coordinates; ${contrary ? `surface ${contrary.index} has positive Euler characteristic.` : 'each one of positive Euler characteristic is a vertex link.'}`;
     const parts = [make('p', {className: 'verdict'}, verdict_of(kind, contrary)), make('p', {}, about), make('p', {}, LAW), make('p', {}, meaning_of(kind, contrary)), make('p', {}, OCTAGONS)];
     if (contrary) parts.push(surface_picture(contrary.line, 'standard', `Surface ${contrary.index}: ${name_of(contrary)}`, context));
     return parts;

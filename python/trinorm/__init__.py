@@ -4,9 +4,9 @@
     >>> trinorm.surfaces("cPcbbbiht")
     [(1, 1, 1, 1, 0, 0, 0, 1, 1, 1, 1, 0, 0, 0)]
 
-This package calls the program, as a library in this process or as a process of its own, and reads what it writes; what is proved is
-said of the program and not of the package. A triangulation is a signature, the text of a gluing table, a list of rows, a `Table`, or one
-of Regina or SnapPy; `help(trinorm.surfaces)` describes the arguments that all functions take.
+This package calls the program, as a library in this process or as a process of its own, and reads what it prints. The program is proved;
+the package is tested. A triangulation is a signature, the text of a gluing table, a list of rows, a `Table`, or one of Regina or SnapPy.
+`help(trinorm.surfaces)` describes the arguments that all functions take.
 """
 from . import commands
 from .batch import Answered, many

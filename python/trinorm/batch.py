@@ -56,6 +56,7 @@ class Answered:
         triangulation: the triangulation as it was given
         answer: what the command returned; None if it failed
         failure: the exception; None if the command returned
+        value: the answer; if the command failed, reading it raises the exception
 
     >>> import trinorm
     >>> [answered.index for answered in trinorm.many(["bkaagj", "no signature"], "sig") if answered.failure]
@@ -281,8 +282,7 @@ def many(triangulations: Iterable[Triangulation], command: Command = "surfaces",
          program: Program = None, **options: Any) -> Iterator[Answered]:
     """Runs a command on each of many triangulations, and yields an `Answered` for each.
 
-    A failure is a value: an `Answered` with `failure`. The triangulations are taken as they are needed, so that there may be any
-    number of them.
+    A failure is a value: an `Answered` with `failure`. Triangulations are read as they are needed, so there may be any number of them.
 
     Args:
         triangulations: a list, or any other iterable

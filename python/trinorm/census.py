@@ -1,7 +1,7 @@
 """Runs one command on many triangulations, on all processors or on many machines, and writes one JSON line for each.
 
 A line of the input is `SIGNATURE` or `SIGNATURE NAME`, with `sig` before it or not; blank lines and those that begin with
-`#` are passed over. A line of the output has `name`, `signature`, `command`, `seconds`, and one of `answer`, `refused`,
+`#` are ignored. A line of the output has `name`, `signature`, `command`, `seconds`, and one of `answer`, `refused`,
 `failed`. Both are read some lines at a time, and what was done is kept as digests, so that a file may have many millions.
 """
 from __future__ import annotations

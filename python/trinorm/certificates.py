@@ -1,8 +1,8 @@
 """Certificates that a triangulation is a 3-sphere: Pachner moves to the standard sphere of one tetrahedron.
 
-The search is tested, not proved. It plays moves down (4-1 and 3-2) while there are any, then a few up (2-3 and 1-4) and down
-again, and keeps what isn't larger than before. From three tetrahedra on it knows the way (endings.txt). What it returns was
-accepted by `check`, which is proved.
+The search is tested, not proved. It plays simplifying moves (4-1 and 3-2) while there are any, then a few others (2-3 and 1-4),
+simplifies again, and keeps what is not larger than before. At three tetrahedra or fewer it uses stored moves (endings.txt).
+What it returns was accepted by `check`, which is proved.
 """
 from __future__ import annotations
 
@@ -191,7 +191,7 @@ def may_be_sphere(info: Info) -> bool:
 def certify(t: Given, seed: int = 0, timeout: Optional[float] = None, *, program: Program = None) -> Optional[Certificate]:
     """Moves that show that a triangulation is a 3-sphere, accepted by `check`; None if none were found.
 
-    None says nothing of the manifold, unless `info` or the first homology rules a 3-sphere out: then it is returned at once.
+    None does not mean that the manifold is not a 3-sphere. It is returned at once if `info` or the first homology excludes a 3-sphere.
 
     Args:
         t: the triangulation

@@ -3,8 +3,8 @@
 A triangulation is a signature, the text of a gluing table, a list of rows, a Table, or one of Regina's or SnapPy's (see
 `tables.document`); it has n tetrahedra below. A vector that is returned is a tuple of whole numbers; one that is passed may
 be a list, an array or a `regina.NormalSurface` too. Its width is 7n in standard, 3n in quad and 10n in octagon coordinates.
-A refusal is `Refused`, an argument that is none `BadArgument`, and anything else that goes wrong `Failed`. Each takes two
-more arguments by name:
+A refusal raises `Refused`, an invalid argument `BadArgument`, and anything else that goes wrong `Failed`. Each function takes
+two more arguments by name:
 
 timeout: seconds after which the run is ended with `TimedOut`
 program: the program to run, or what runs in its place (a `server.Server`)
@@ -187,7 +187,7 @@ def surfaces(t: Triangulation, coords: Coords = "standard", order: Optional[Orde
             the name of an integer type, such as `int8`
 
     Returns:
-        A list of vectors, which are tuples of whole numbers, with 7, 3 or 10 entries for each tetrahedron; or an array.
+        A list of tuples of whole numbers, with 7, 3 or 10 entries for each tetrahedron; or an array.
 
     Raises:
         Refused: the triangulation is not a gluing table, or a number exceeds `max_entry`
@@ -280,14 +280,14 @@ def info(t: Triangulation, *, timeout: Optional[float] = None, program: Program 
 
 
 def sig(t: Triangulation, *, timeout: Optional[float] = None, program: Program = None) -> str:
-    """The isomorphism signature of a connected triangulation.
+    """The isomorphism signature of a connected triangulation: connected triangulations have the same if and only if they are isomorphic.
 
     Args:
         t: the triangulation
         timeout, program: as for `surfaces`
 
     Returns:
-        A string. Connected triangulations have the same if and only if they are isomorphic.
+        A string.
 
     Raises:
         Refused: the triangulation is not connected, or not a gluing table
@@ -429,12 +429,14 @@ def cover(t: Triangulation, *, timeout: Optional[float] = None, program: Program
 def pi1(t: Triangulation, *, timeout: Optional[float] = None, program: Program = None) -> Presentation:
     """A presentation of the fundamental group of a connected triangulation, by its dual 2-complex.
 
+    It has a generator for each pair of glued faces outside a maximal tree, and a relator for each internal edge.
+
     Args:
         t: the triangulation
         timeout, program: as for `surfaces`
 
     Returns:
-        A `Presentation`, with a generator for each pair of glued faces outside a maximal tree, and a relator for each internal edge.
+        A `Presentation`.
 
     Raises:
         Refused: the triangulation is not connected, has an edge that is identified with itself in reverse, or is not a gluing table
@@ -588,7 +590,7 @@ def addup(t: Triangulation, sums: Iterable[Sum], coords: Coords = "standard", *,
         timeout, program: as for `surfaces`
 
     Returns:
-        An `Accepted`, which is true or false. If it is false it says what fails first; `.required()` raises that.
+        An `Accepted`, which is true or false.
 
     Raises:
         Refused: the triangulation is not a gluing table
@@ -602,7 +604,7 @@ def addup(t: Triangulation, sums: Iterable[Sum], coords: Coords = "standard", *,
 
 
 def play(t: Triangulation, steps: Iterable[str] = (), *, timeout: Optional[float] = None, program: Program = None) -> Played:
-    """The triangulation after Pachner moves.
+    """The triangulation after Pachner moves. A move that is not legal changes nothing.
 
     Args:
         t: the triangulation
@@ -610,7 +612,7 @@ def play(t: Triangulation, steps: Iterable[str] = (), *, timeout: Optional[float
         timeout, program: as for `surfaces`
 
     Returns:
-        A `Played` with what each step did, and the last table. A move that is not legal changes nothing.
+        A `Played` with what each step did, and the last table.
 
     Raises:
         Refused: the triangulation is not a gluing table, or a line is not a step
@@ -635,8 +637,7 @@ def check(t: Triangulation, moves: Iterable[str], *, timeout: Optional[float] = 
         timeout, program: as for `surfaces`
 
     Returns:
-        An `Accepted`, which is true or false. If it is false it says which move is illegal, or where they lead; `.required()` raises
-        that.
+        An `Accepted`, which is true or false.
 
     Raises:
         Refused: the triangulation is not a gluing table, or a line is not a move

@@ -57,7 +57,7 @@ class Refused(Error):
     """The program refused the command line or the input.
 
     Attributes:
-        status: 2 command line, 3 input, 4 checks, 5 a number that exceeds the limit
+        status: 2 invalid command line, 3 invalid input, 4 the command cannot answer it, 5 a number exceeds the limit
         line: the line that the program printed
         kind: the line without `refused:` and the places, such as `input bad-word`, `vector clash`, `large pair`
         places: the numbers of the line in their order; after `large` the step, the row and the rays; after `check not-standard` the

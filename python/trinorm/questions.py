@@ -1,8 +1,8 @@
 """Questions that are asked of all vertex surfaces of a triangulation at once: spheres, tori, 0-efficiency, and counts.
 
-They go by numbers alone: a sphere is a connected surface without boundary and of Euler characteristic 2. Lists may have any
-length: `describe` is asked in parts (see `parts`). Each function takes `timeout`, in seconds for all of its runs together,
-and `program` as those of `commands` do.
+They use numbers alone: a sphere is a connected surface without boundary and of Euler characteristic 2. Lists may have any
+length: `describe` reads them in several inputs (see `parts`). Each function takes `timeout`, in seconds for all of its runs
+together, and `program` as those of `commands` do.
 """
 from __future__ import annotations
 
@@ -35,10 +35,10 @@ class ZeroEfficiency:
     """The verdict of `zero_efficient`, which is true or false, and equal to True or False.
 
     Attributes:
-        witness: None if it is true. A listed surface by which a triangulation is not 0-efficient. It is a sphere, a projective plane or a
-            disc, in standard coordinates
-        kind: `invalid` if an edge is identified with itself in reverse; else `bounded` if there is a boundary face; else `closed` if
-            all vertex links are spheres; else `ideal`. What may be concluded depends on it
+        witness: None if it is true. Otherwise a listed surface of positive Euler characteristic that is not a vertex link: a sphere, a
+            projective plane or a disc, in standard coordinates
+        kind: `bounded` if there is a boundary face; else `closed` if all vertex links are spheres; else `ideal`. What may be concluded
+            depends on it
         orientable: whether the triangulation is orientable
 
     >>> import trinorm
@@ -222,7 +222,7 @@ def count(t: Triangulation, coords: WithTriangles = ..., *, timeout: Optional[fl
 
 def count(t: Triangulation, coords: WithTriangles = "standard", *, timeout: Optional[float] = None, program: Program = None,
           progress: Optional[Progress] = None, arrays: bool = False) -> Union[Count, CountArrays]:
-    """The vertex surfaces counted. None of them is kept in memory.
+    """Counts the vertex surfaces, without keeping them in memory.
 
     In octagon coordinates the list has vectors without octagons, vectors with one octagon, and vectors with several of one type:
     only those with one are octagonal almost normal surfaces.
@@ -340,14 +340,14 @@ def _kind_of(info: Info) -> Kind:
 
 def zero_efficient(t: Triangulation, *, timeout: Optional[float] = None, program: Program = None,
                    progress: Optional[Progress] = None) -> ZeroEfficiency:
-    """True if each connected normal surface of positive Euler characteristic is a vertex link; else false, with a vertex
-    surface that is none: a sphere, a projective plane or a disc.
+    """True if each connected normal surface of positive Euler characteristic is a vertex link; else false, with a listed surface that
+    is not one: a sphere, a projective plane or a disc.
 
-    That lists decide this is proved: the quad list with its lifts, which is far shorter, if all vertex links are spheres or discs and
-    all edges valid; else the list in standard coordinates. For a closed orientable triangulation it is the 0-efficiency of Jaco and
-    Rubinstein: each normal sphere is a vertex link. In a non-orientable one a projective plane with two sides counts too, though its
-    double is not a sphere. For a triangulation with boundary they ask it of each normal disc, and Regina's `isZeroEfficient()` also
-    says no if a boundary component is a sphere; here it is asked of spheres, projective planes and discs. A list in octagon
+    That lists decide this is proved. If all vertex links are spheres or discs and all edges are valid, the far shorter quad list is
+    used, with its lifts; otherwise the list in standard coordinates. For a closed orientable triangulation it is the 0-efficiency of
+    Jaco and Rubinstein: each normal sphere is a vertex link. In a non-orientable one, a two-sided projective plane counts too, though
+    its double is not a sphere. With boundary, Jaco and Rubinstein ask this of normal discs alone, and Regina's `isZeroEfficient()`
+    also returns false if a boundary component is a sphere; here spheres, projective planes and discs count. A list in octagon
     coordinates decides another property: a sphere with an octagon is not a vertex link, and 0-efficient triangulations of the 3-sphere
     have one.
 
@@ -356,7 +356,7 @@ def zero_efficient(t: Triangulation, *, timeout: Optional[float] = None, program
         timeout, program, progress: as for `described`
 
     Returns:
-        A `ZeroEfficiency`, which is true or false, with a `witness` if it is false, and the `kind` of the triangulation.
+        A `ZeroEfficiency`, which is true or false.
 
     Raises:
         Refused: as for `described`

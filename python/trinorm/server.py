@@ -1,5 +1,5 @@
-"""Processes that answer many requests over pipes: as quick as the library, and processes of their own, which are ended at a
-time limit and take nothing with them when they die."""
+"""Processes that answer many requests over pipes: as fast as the library. A process can be ended at a time limit, and
+its caller survives if it dies."""
 from __future__ import annotations
 
 import os

@@ -66,7 +66,7 @@ class TableMethods:
                 the name of an integer type, such as `int8`
 
         Returns:
-            A list of vectors, which are tuples of whole numbers, with 7, 3 or 10 entries for each tetrahedron; or an array.
+            A list of tuples of whole numbers, with 7, 3 or 10 entries for each tetrahedron; or an array.
 
         Raises:
             Refused: the triangulation is not a gluing table, or a number exceeds `max_entry`
@@ -124,13 +124,13 @@ class TableMethods:
         return cast("Info", _functions["info"](self, timeout=timeout, program=program))
 
     def sig(self, *, timeout: Optional[float] = None, program: Program = None) -> str:
-        """The isomorphism signature of a connected triangulation.
+        """The isomorphism signature of a connected triangulation: connected triangulations have the same if and only if they are isomorphic.
 
         Args:
             timeout, program: as for `surfaces`
 
         Returns:
-            A string. Connected triangulations have the same if and only if they are isomorphic.
+            A string.
 
         Raises:
             Refused: the triangulation is not connected, or not a gluing table
@@ -206,11 +206,13 @@ class TableMethods:
     def pi1(self, *, timeout: Optional[float] = None, program: Program = None) -> Presentation:
         """A presentation of the fundamental group of a connected triangulation, by its dual 2-complex.
 
+        It has a generator for each pair of glued faces outside a maximal tree, and a relator for each internal edge.
+
         Args:
             timeout, program: as for `surfaces`
 
         Returns:
-            A `Presentation`, with a generator for each pair of glued faces outside a maximal tree, and a relator for each internal edge.
+            A `Presentation`.
 
         Raises:
             Refused: the triangulation is not connected, has an edge that is identified with itself in reverse, or is not a gluing table
@@ -321,14 +323,14 @@ class TableMethods:
         return cast("List[Sum]", _functions["decompose"](self, vectors, coords, max_entry, timeout=timeout, program=program))
 
     def play(self, steps: Iterable[str] = (), *, timeout: Optional[float] = None, program: Program = None) -> Played:
-        """The triangulation after Pachner moves.
+        """The triangulation after Pachner moves. A move that is not legal changes nothing.
 
         Args:
             steps: a list of moves, such as `14 0`, `23 1 0`, `32 0 01`, `41 2 3`, and of `undo` and `redo`
             timeout, program: as for `surfaces`
 
         Returns:
-            A `Played` with what each step did, and the last table. A move that is not legal changes nothing.
+            A `Played` with what each step did, and the last table.
 
         Raises:
             Refused: the triangulation is not a gluing table, or a line is not a step
@@ -349,8 +351,7 @@ class TableMethods:
             timeout, program: as for `surfaces`
 
         Returns:
-            An `Accepted`, which is true or false. If it is false it says which move is illegal, or where they lead; `.required()` raises
-            that.
+            An `Accepted`, which is true or false.
 
         Raises:
             Refused: the triangulation is not a gluing table, or a line is not a move
@@ -426,7 +427,7 @@ class TableMethods:
 
     def count(self, coords: WithTriangles = "standard", *, timeout: Optional[float] = None,
               program: Program = None, progress: Optional[Progress] = None, arrays: bool = False) -> Union[Count, CountArrays]:
-        """The vertex surfaces counted. None of them is kept in memory.
+        """Counts the vertex surfaces, without keeping them in memory.
 
         In octagon coordinates the list has vectors without octagons, vectors with one octagon, and vectors with several of one type:
         only those with one are octagonal almost normal surfaces.
@@ -491,14 +492,14 @@ class TableMethods:
 
     def zero_efficient(self, *, timeout: Optional[float] = None, program: Program = None,
                        progress: Optional[Progress] = None) -> ZeroEfficiency:
-        """True if each connected normal surface of positive Euler characteristic is a vertex link; else false, with a vertex
-        surface that is none: a sphere, a projective plane or a disc.
+        """True if each connected normal surface of positive Euler characteristic is a vertex link; else false, with a listed surface that
+        is not one: a sphere, a projective plane or a disc.
 
-        That lists decide this is proved: the quad list with its lifts, which is far shorter, if all vertex links are spheres or discs and
-        all edges valid; else the list in standard coordinates. For a closed orientable triangulation it is the 0-efficiency of Jaco and
-        Rubinstein: each normal sphere is a vertex link. In a non-orientable one a projective plane with two sides counts too, though its
-        double is not a sphere. For a triangulation with boundary they ask it of each normal disc, and Regina's `isZeroEfficient()` also
-        says no if a boundary component is a sphere; here it is asked of spheres, projective planes and discs. A list in octagon
+        That lists decide this is proved. If all vertex links are spheres or discs and all edges are valid, the far shorter quad list is
+        used, with its lifts; otherwise the list in standard coordinates. For a closed orientable triangulation it is the 0-efficiency of
+        Jaco and Rubinstein: each normal sphere is a vertex link. In a non-orientable one, a two-sided projective plane counts too, though
+        its double is not a sphere. With boundary, Jaco and Rubinstein ask this of normal discs alone, and Regina's `isZeroEfficient()`
+        also returns false if a boundary component is a sphere; here spheres, projective planes and discs count. A list in octagon
         coordinates decides another property: a sphere with an octagon is not a vertex link, and 0-efficient triangulations of the 3-sphere
         have one.
 
@@ -506,7 +507,7 @@ class TableMethods:
             timeout, program, progress: as for `described`
 
         Returns:
-            A `ZeroEfficiency`, which is true or false, with a `witness` if it is false, and the `kind` of the triangulation.
+            A `ZeroEfficiency`, which is true or false.
 
         Raises:
             Refused: as for `described`
@@ -522,7 +523,7 @@ class TableMethods:
     def certify(self, seed: int = 0, timeout: Optional[float] = None, *, program: Program = None) -> Optional[Certificate]:
         """Moves that show that a triangulation is a 3-sphere, accepted by `check`; None if none were found.
 
-        None says nothing of the manifold, unless `info` or the first homology rules a 3-sphere out: then it is returned at once.
+        None does not mean that the manifold is not a 3-sphere. It is returned at once if `info` or the first homology excludes a 3-sphere.
 
         Args:
             seed: a whole number, from which the random numbers of the search are drawn; the moves depend on it alone
