@@ -1,5 +1,5 @@
-//! Extreme rays of a cone in the usual terms: solutions that are no sums of solutions off their ray. Extreme rays of
-//! the faces of a cone.
+//! Extreme rays of a cone in the usual terms: solutions that are not sums of solutions outside their ray. Extreme
+//! rays of the faces of a cone.
 //!
 //! Words: rows, solutions, supports, extreme solutions and vertex surfaces are those of `cone_definitions`. The *face*
 //! of a system on which a list of columns is 0 has the rows of the system and, for each of these columns, the row whose

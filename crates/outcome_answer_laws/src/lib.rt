@@ -73,7 +73,7 @@ pub fn signatures_determine_tables()
 ///
 /// 1. Let a run of `same` read T and T'. It is done if and only if both are connected. If they are, it prints `same`
 ///    and an isomorphism if T and T' are isomorphic, and `different` otherwise.
-/// 2. A run of `csame` prints so for any T and T'. It prints `same` if and only if the components of T and T'
+/// 2. A run of `csame` does this for any T and T'. It prints `same` if and only if the components of T and T'
 ///    correspond one to one such that corresponding ones are isomorphic.
 /// 3. Let a run of `group` read a list of triangulations. It is done if and only if each is connected. If each is, it
 ///    prints classes, none empty, with their signatures; two triangulations are in one class if and only if they are
@@ -86,11 +86,11 @@ pub fn tables_are_compared()
 
 /// Theorem:
 ///
-/// 1. Let a run of `decompose`, in any coordinates and with any limit, read T and vectors. If a vector is no admissible
-///    solution within 2^127 - 1, it names the first one, and why. Otherwise it prints a positive multiple of each as a
-///    sum of vertex surfaces of T, or names the first vector whose multiple exceeds the limit, or the first number of
-///    the enumeration that does. The enumeration stays within a limit of at least 2^127 - 1 if T has at most 31
-///    tetrahedra in standard, or 29 in quad or octagon coordinates.
+/// 1. Let a run of `decompose`, in any coordinates and with any limit, read T and vectors. If a vector is not an
+///    admissible solution within 2^127 - 1, it names the first one, and why. Otherwise it prints a positive multiple of
+///    each as a sum of vertex surfaces of T, or names the first vector whose multiple exceeds the limit, or the first
+///    number of the enumeration that does. The enumeration stays within a limit of at least 2^127 - 1 if T has at most
+///    31 tetrahedra in standard, or 29 in quad or octagon coordinates.
 /// 2. A run of `addup` on T and sums prints `accepted`, and is done, if and only if each vector and term is such a
 ///    solution and each sum is correct.
 pub fn sums_are_answered()
@@ -101,8 +101,8 @@ pub fn sums_are_answered()
 /// Theorem: let a run of `cover` read a triangulation T with n tetrahedra. It prints `refused: cover too-many` if and
 /// only if 2n > 1000. Otherwise it prints an orientable triangulation T' of 2n tetrahedra, two over each tetrahedron of
 /// T, and whether T' is connected. Each face of T' is glued over the gluing of the face of T below it, or is a boundary
-/// face as that is. T' is closed if and only if T is, and the exchange of the two sheets carries T' to itself. If T is
-/// connected and not empty, T' is connected if and only if T is not orientable.
+/// face if that face is one. T' is closed if and only if T is, and the exchange of the two sheets carries T' to itself.
+/// If T is connected and not empty, T' is connected if and only if T is not orientable.
 pub fn covers_are_answered()
     ensures { CoversAreAnswered }
 {}

@@ -8,7 +8,7 @@
 //! asks for such an input reads it so: T by gluings or a signature, with any comments and spacing. A *file* of T is
 //! read as T, and its last byte is a line feed. A text *after T* is the text of T as trinorm writes it, followed by
 //! this text. `surfaces` *lists* L for T if a run of it, on an input that is read as T, is done, and its text after T
-//! is read as T and L. A run of `lift` *prints* the vectors as which its text after T is read.
+//! is read as T and L. A run of `lift` *prints* vectors if its text after T is read as T and these vectors.
 //!
 //! A *surface* is an admissible solution of the matching equations in standard or octagon coordinates. T is
 //! *0-efficient by its numbers* if each connected surface of positive Euler characteristic, in standard coordinates, is

@@ -48,11 +48,12 @@ pub fn vertex_surfaces_are_connected()
 ///
 /// 1. Each connected surface of positive Euler characteristic is a vertex link if and only if each surface of L of
 ///    positive Euler characteristic is one.
-/// 2. A connected surface of positive Euler characteristic that is no vertex link exists if and only if L contains one.
+/// 2. A connected surface of positive Euler characteristic that is not a vertex link exists if and only if L contains
+///    one.
 /// 3. Each connected surface of positive Euler characteristic is a vertex link, or one exists that is not.
 ///
-/// In standard coordinates this is 0-efficiency by the numbers of T: that of Jaco and Rubinstein if T is closed and
-/// orientable, with sphere links and no invalid edge. In octagon coordinates a 0-efficient T may fail it.
+/// In standard coordinates this is 0-efficiency by the numbers of T: that of Jaco and Rubinstein if T is connected,
+/// closed and orientable, with sphere links. In octagon coordinates a 0-efficient T may fail it.
 pub fn list_decides_efficiency()
     ensures all { ListDecidesEfficiency }
     ensures some { PositiveNonLinkIsListed }

@@ -1,5 +1,5 @@
-//! Connected normal surfaces have Euler characteristic at most 2, as all polygons have that are glued along sides to
-//! one part. The functions here have no code: their contracts are laws over the definitions.
+//! Connected normal surfaces have Euler characteristic at most 2, as has each connected complex of polygons that are
+//! glued along sides. The functions here have no code: their contracts are laws over the definitions.
 //!
 //! A *surface* is an admissible solution of the matching equations of T in standard or octagon coordinates; 0 is one.
 //! It is *connected* if it has exactly one component. T is *0-efficient by its numbers* if each connected surface of

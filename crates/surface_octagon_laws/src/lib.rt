@@ -1,5 +1,5 @@
 //! Octagon coordinates by their quads and octagons: Tollefson's theorem for surfaces with octagons (Tollefson 1998;
-//! Burton 2010). The functions have empty bodies: their contracts are theorems.
+//! Burton 2010b). The functions have empty bodies: their contracts are theorems.
 //!
 //! An *octagon solution* is a solution of the matching equations in octagon coordinates, a *standard solution* one in
 //! standard coordinates. The *quad-octagon part* of a vector in octagon coordinates, of 6n entries for n tetrahedra,
