@@ -1,3 +1,5 @@
 pub mod Carrying
 pub mod Ties
 pub mod Marks
+pub mod Group
+pub mod Unique

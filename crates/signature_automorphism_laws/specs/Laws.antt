@@ -4,11 +4,59 @@ use Rattle.std.specs.List.{slice_index_or}
 use Rattle.table_definitions.specs.Lists.{is_list_before}
 use Rattle.table_definitions.specs.Table.{Row, IsTable}
 use Rattle.table_definitions.specs.Permutation.{IsPermutationOfFour}
-use Rattle.table_definitions.specs.Relabelling.{Relabelling}
+use Rattle.table_definitions.specs.Places.{IsConnected}
+use Rattle.table_definitions.specs.Relabelling.{Relabelling, IsRelabelling}
 use Rattle.signature_definitions.specs.Spelling.{IsSignature}
 use Rattle.signature_definitions.specs.Labellings.{Start}
+use Rattle.signature_laws.specs.Between.{unchanged, inverted, after}
 use Rattle.signature_laws.specs.Starts.{numbered_start, IsTextFrom, IsLeastText}
 use Rattle.signature_automorphism_laws.specs.Automorphisms.{IsAutomorphism, carried_start, carried_number, HasNoSmallerText, MarkedHaveNoSmallerText}
+
+-- Theorem: the identity is an automorphism, and so are compositions and inverses of automorphisms
+abbrev pub IdentityIsAutomorphism : Type 0
+IdentityIsAutomorphism = (rows : List Row) → IsTable rows → IsAutomorphism rows (unchanged (length rows))
+
+abbrev pub AutomorphismsCompose : Type 0
+AutomorphismsCompose =
+    (rows : List Row) (second first : Relabelling) → IsTable rows → IsAutomorphism rows second → IsAutomorphism rows first
+    → IsAutomorphism rows (after (length rows) second first)
+
+abbrev pub AutomorphismsHaveInverses : Type 0
+AutomorphismsHaveInverses = (rows : List Row) (by : Relabelling) → IsTable rows → IsAutomorphism rows by → IsAutomorphism rows (inverted (length rows) by)
+
+-- Theorem: composition of relabellings is associative, has the identity as neutral element, and the inverses
+abbrev pub RelabellingsAssociate : Type 0
+RelabellingsAssociate =
+    (n : ℕ) (third second first : Relabelling) → IsRelabelling n third → IsRelabelling n second → IsRelabelling n first
+    → after n (after n third second) first ≡ after n third (after n second first)
+
+abbrev pub IdentityIsNeutral : Type 0
+IdentityIsNeutral = (n : ℕ) (by : Relabelling) → IsRelabelling n by → (after n by (unchanged n) ≡ by) × (after n (unchanged n) by ≡ by)
+
+abbrev pub InversesCancel : Type 0
+InversesCancel =
+    (n : ℕ) (by : Relabelling) → IsRelabelling n by → (after n by (inverted n by) ≡ unchanged n) × (after n (inverted n by) by ≡ unchanged n)
+
+-- Theorem: the identity carries each start to itself, and a composition carries it as its parts do in turn
+abbrev pub IdentityCarriesStarts : Type 0
+IdentityCarriesStarts = (n : ℕ) (start : Start) → start.tet < n → IsPermutationOfFour start.perm → carried_start (unchanged n) start ≡ start
+
+abbrev pub CompositionsCarryStarts : Type 0
+CompositionsCarryStarts =
+    (n : ℕ) (second first : Relabelling) (start : Start) → IsRelabelling n second → IsRelabelling n first → start.tet < n → IsPermutationOfFour start.perm
+    → carried_start (after n second first) start ≡ carried_start second (carried_start first start)
+
+-- Theorem: an automorphism of a connected table carries one start to another if and only if one text belongs to both
+abbrev pub TextsDecideAutomorphisms : Type 0
+TextsDecideAutomorphisms =
+    (rows : List Row) (start other : Start) → IsTable rows → IsConnected rows → start.tet < length rows → IsPermutationOfFour start.perm → other.tet < length rows
+    → ((text : List ℕ) × IsTextFrom rows start text × IsTextFrom rows other text) ↔ ((by : Relabelling) × IsAutomorphism rows by × (carried_start by start ≡ other))
+
+-- Theorem: automorphisms of a connected table that carry one start to the same start are equal
+abbrev pub StartsDetermineAutomorphisms : Type 0
+StartsDetermineAutomorphisms =
+    (rows : List Row) (start : Start) (by other : Relabelling) → IsTable rows → IsConnected rows → start.tet < length rows → IsPermutationOfFour start.perm
+    → IsAutomorphism rows by → IsAutomorphism rows other → carried_start by start ≡ carried_start other start → by ≡ other
 
 -- Theorem: a text belongs to a start if and only if it belongs to the start to which an automorphism carries it
 abbrev pub StartsCarriedHaveOneText : Type 0

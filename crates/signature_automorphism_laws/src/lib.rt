@@ -1,12 +1,45 @@
-//! What the automorphisms of a table say of the texts of its walks, whatever the code.
+//! The automorphisms of a table are a group, and what they say of the texts of its walks, whatever the code.
 //!
-//! Words: an *automorphism* of T is a relabelling that carries T to itself. The 24n *starts* of a table of n tetrahedra
-//! are its tetrahedra with the 24 permutations, numbered in this order. A text *belongs* to a start if it spells the
-//! table to which the canonical traversal from the start leads. A *triangulation* is a gluing table as at
-//! `table_definitions`; it has at most 1,000 tetrahedra.
+//! Words: an *automorphism* of T is a relabelling that carries T to itself. The *identity* relabelling maps each
+//! tetrahedron to itself, by the identity; for relabellings f and g of n tetrahedra, fg applies g first. The 24n
+//! *starts* of a table of n tetrahedra are its tetrahedra with the 24 permutations, numbered in this order. A text
+//! *belongs* to a start if it spells the table to which the canonical traversal from the start leads. A *triangulation*
+//! is a gluing table as at `table_definitions`; it has at most 1,000 tetrahedra.
 #![tactic(auto)]
 
+ghost use Rattle.signature_automorphism_laws.specs.Laws.{IdentityIsAutomorphism, AutomorphismsCompose, AutomorphismsHaveInverses, RelabellingsAssociate, IdentityIsNeutral, InversesCancel, IdentityCarriesStarts, CompositionsCarryStarts, TextsDecideAutomorphisms, StartsDetermineAutomorphisms};
 ghost use Rattle.signature_automorphism_laws.specs.Laws.{StartsCarriedHaveOneText, EqualTextsGiveAutomorphisms, MarksKeepNoSmallerText, MarkedStartsNeedNoWalk, SmallerTextsKeepNoSmallerText, LeastTextsAreSignatures};
+
+/// Theorem: the automorphisms of a triangulation are a group, which acts on the starts. Let T be a triangulation of n
+/// tetrahedra.
+///
+/// 1. The identity is an automorphism of T.
+/// 2. If f and g are automorphisms of T, so is fg.
+/// 3. The inverse of an automorphism of T is one.
+/// 4. For relabellings of n tetrahedra, (fg)h = f(gh).
+/// 5. The identity is neutral on both sides.
+/// 6. The composition of f and its inverse, in either order, is the identity.
+/// 7. The identity carries each start to itself.
+/// 8. fg carries a start to the start to which f carries the image of the start under g.
+pub fn automorphisms_are_a_group()
+    ensures identity { IdentityIsAutomorphism }
+    ensures compositions { AutomorphismsCompose }
+    ensures inverses { AutomorphismsHaveInverses }
+    ensures associative { RelabellingsAssociate }
+    ensures neutral { IdentityIsNeutral }
+    ensures cancels { InversesCancel }
+    ensures fixes { IdentityCarriesStarts }
+    ensures acts { CompositionsCarryStarts }
+{}
+
+/// Theorem: let T be a connected triangulation, and s and s' starts: tetrahedra of T with permutations of four.
+///
+/// 1. An automorphism of T carries s to s' if and only if one text belongs to both.
+/// 2. Two automorphisms of T that carry s to the same start are equal.
+pub fn starts_determine_automorphisms()
+    ensures texts { TextsDecideAutomorphisms }
+    ensures one { StartsDetermineAutomorphisms }
+{}
 
 /// Lemma: let T be a triangulation, f an automorphism of T, and s a start: a tetrahedron of T with a permutation of
 /// four. A text belongs to s if and only if it belongs to the start to which f carries s.

@@ -1,14 +1,19 @@
--- Relabellings by the image of each tetrahedron: inverses, compositions, and one followed by the inverse of another.
+-- Relabellings by the image of each tetrahedron: the identity, inverses, compositions, and one followed by the inverse
+-- of another.
 use Rattle.std.specs.Prelude.{◌==◌, ℕ, List, [], length, map, slice_index}
 use Rattle.std.specs.List.{slice_index_or, position_or_len}
 use Rattle.table_definitions.specs.Lists.{below}
-use Rattle.table_definitions.specs.Permutation.{inverse, compose}
+use Rattle.table_definitions.specs.Permutation.{identity, inverse, compose}
 use Rattle.table_definitions.specs.Table.{Gluing}
 use Rattle.table_definitions.specs.Relabelling.{Relabelling}
 
 -- the relabelling that maps tetrahedron t to f t
 unfoldable pub made : ℕ → (ℕ → Gluing) → Relabelling
 made n f = record { images = map (λ t. (f t).tet) (below n); perms = map (λ t. (f t).perm) (below n) }
+
+-- the relabelling of n tetrahedra that maps each to itself by the identity
+abbrev pub unchanged : ℕ → Relabelling
+unchanged n = made n (λ t. record { tet = t; perm = identity })
 
 -- the tetrahedron that is mapped to u
 unfoldable pub place_of : Relabelling → ℕ → ℕ

@@ -16,7 +16,7 @@ use Rattle.surface_quad_laws.proofs.Lifted.{lifted_are_quads}
 use Rattle.surface_quad_lift_laws.specs.Laws.{HasSphereAndDiscLinks}
 use Rattle.surface_quad_lift_laws.proofs.Correspondence.{correspond}
 use Rattle.surface_octagon_laws.specs.QuadOctagons.{quads_and_octagons, quads_for_octagons, HasQuadsForOctagons, SolvesQuadEquations, IsAdmissibleQuadOctagon}
-use Rattle.surface_octagon_laws.specs.Laws.{IsOctagonSolution, IsOfOctagonSolution, IsOneOctagonSurfaceOver}
+use Rattle.surface_octagon_laws.specs.Laws.{IsOctagonSolution, IsOfOctagonSolution, IsOneOctagonSolutionOver, IsOneOctagonSurfaceOver}
 use Rattle.surface_octagon_laws.proofs.Entries.{length-quads, same_quads, standard_of, standard_is, joined, length-joined, triangle-joined, joined-entries, same_vector}
 use Rattle.surface_octagon_laws.proofs.AsQuads.{entries_solve}
 use Rattle.surface_octagon_laws.proofs.Clashes.{entries_decide}
@@ -55,6 +55,14 @@ module _ (s : Skeleton) (k : IsSkeleton s) where
           (λ t v lt lv. sym (form.triangles t v lt lv) ∙ ap (λ us. slice_index us (tri_column Standard t v)) same ∙ sym (triangle-joined n lift xs t v lt lv))
           (e ∙ sym (joined-entries n lift xs wide))
 
+      one_solution_over : IsOneOctagonSolutionOver s xs (joined n lift xs)
+      one_solution_over = record {
+        solves = over_solves s k xs lift wide is_lift;
+        is_canonical = over_canonical s k xs lift wide is_lift;
+        over = joined-entries n lift xs wide;
+        only = only_one;
+      }
+
       over_admissible : IsAdmissibleQuadOctagon n xs → IsAdmissible (clash_list Octagon n) (joined n lift xs)
       over_admissible a = (entries_decide n (joined n lift xs)).1 (subst (IsAdmissibleQuadOctagon n) (sym (joined-entries n lift xs wide)) a)
 
@@ -65,6 +73,9 @@ module _ (s : Skeleton) (k : IsSkeleton s) where
         over = joined-entries n lift xs wide;
         only = only_one;
       }
+
+    pub one_octagon_solution : (xs : List ℕ) → SolvesQuadEquations n quad_rows xs → (ys : List ℕ) × IsOneOctagonSolutionOver s xs ys
+    one_octagon_solution xs solution = let l = has_lift xs solution in (joined n l.0 xs, one_solution_over xs solution.width l.0 l.1)
 
     pub one_octagon_surface : (xs : List ℕ) → SolvesQuadEquations n quad_rows xs → IsAdmissibleQuadOctagon n xs → (ys : List ℕ) × IsOneOctagonSurfaceOver s xs ys
     one_octagon_surface xs solution a = let l = has_lift xs solution in (joined n l.0 xs, one_over xs solution.width l.0 l.1 a)

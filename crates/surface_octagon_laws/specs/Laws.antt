@@ -69,6 +69,18 @@ OctagonSolutionsCorrespond =
     (s : Skeleton) (links : List Link) (quad_rows : List EquationRow) (xs : List ℕ) → IsSkeleton s → HasSphereAndDiscLinks s links → AreEquations Quad s.rows quad_rows
     → SolvesQuadEquations (length s.rows) quad_rows xs ↔ IsOfOctagonSolution s xs
 
+-- and each is that of exactly one canonical solution
+pub record IsOneOctagonSolutionOver (s : Skeleton) (xs ys : List ℕ) : Type 0 where
+  pub solves : IsOctagonSolution s ys
+  pub is_canonical : IsCanonical s Octagon ys
+  pub over : quads_and_octagons (length s.rows) ys ≡ xs
+  pub only : (other : List ℕ) → IsOctagonSolution s other → IsCanonical s Octagon other → quads_and_octagons (length s.rows) other ≡ xs → other ≡ ys
+
+abbrev pub OneCanonicalOctagonSolution : Type 0
+OneCanonicalOctagonSolution =
+    (s : Skeleton) (links : List Link) (quad_rows : List EquationRow) (xs : List ℕ) → IsSkeleton s → HasSphereAndDiscLinks s links → AreEquations Quad s.rows quad_rows
+    → SolvesQuadEquations (length s.rows) quad_rows xs → (ys : List ℕ) × IsOneOctagonSolutionOver s xs ys
+
 -- and each admissible one is that of exactly one canonical solution, which is a surface
 pub record IsOneOctagonSurfaceOver (s : Skeleton) (xs ys : List ℕ) : Type 0 where
   pub surface : IsSurface s.rows Octagon ys

@@ -10,7 +10,7 @@
 //! which it has no triangle.
 #![tactic(auto)]
 
-ghost use Rattle.surface_octagon_laws.specs.Laws.{OctagonsMatchAsQuads, QuadsAndOctagonsSolve, QuadsAndOctagonsDecideAdmissibility, OctagonSolutionsAreCanonicalAndLinks, LiftedAreOfOctagonSolutions, OctagonSolutionsCorrespond, QuadOctagonSurfacesLift};
+ghost use Rattle.surface_octagon_laws.specs.Laws.{OctagonsMatchAsQuads, QuadsAndOctagonsSolve, QuadsAndOctagonsDecideAdmissibility, OctagonSolutionsAreCanonicalAndLinks, LiftedAreOfOctagonSolutions, OctagonSolutionsCorrespond, OneCanonicalOctagonSolution, QuadOctagonSurfacesLift};
 
 /// Theorem: let y be a vector of T in octagon coordinates, and z the standard vector in which each octagon of y is
 /// replaced by two quads, one of each other type. Then y is an octagon solution if and only if z is a standard
@@ -45,10 +45,13 @@ pub fn lifted_are_of_octagon_solutions()
 {}
 
 /// Theorem: let each vertex link of T be a sphere or a disc. Let x be a vector of 6n entries, where T has n tetrahedra,
-/// and replace each octagon by two quads, one of each other type. This quad vector solves the quad equations of T if
-/// and only if x is the quad-octagon part of an octagon solution.
+/// and replace each octagon by two quads, one of each other type.
+///
+/// 1. This quad vector solves the quad equations of T if and only if x is the quad-octagon part of an octagon solution.
+/// 2. If it solves them, exactly one canonical octagon solution has the quad-octagon part x.
 pub fn octagon_solutions_correspond()
-    ensures { OctagonSolutionsCorrespond }
+    ensures parts { OctagonSolutionsCorrespond }
+    ensures one { OneCanonicalOctagonSolution }
 {}
 
 /// Theorem: let each vertex link of T be a sphere or a disc. Let x be an admissible quad-octagon vector of 6n entries

@@ -18,7 +18,7 @@ use Rattle.surface_laws.proofs.LiftLemmas.{lift_solves, lift_projects, quads_adm
 use Rattle.surface_laws.proofs.Lifts.{one_lift}
 use Rattle.surface_quad_laws.specs.SolutionLaws.{IsStandardSolution, quads_of}
 use Rattle.surface_quad_laws.proofs.QuadRows.{quads_solve}
-use Rattle.surface_quad_lift_laws.specs.Laws.{HasLink, HasSphereAndDiscLinks, IsOneSurfaceOver}
+use Rattle.surface_quad_lift_laws.specs.Laws.{HasLink, HasSphereAndDiscLinks, IsOneSolutionOver, IsOneSurfaceOver}
 use Rattle.surface_quad_lift_laws.proofs.SpheresAndDiscs.{link_lift}
 
 -- any link
@@ -53,16 +53,28 @@ module _ (s : Skeleton) (k : IsSkeleton s) (links : List Link) (h : HasSphereAnd
     (λ y. subst (λ ws. IsSolution (columns Quad n) quad_rows ws) y.2 (quads_solve s.rows y.0 k.table y.1 quad_rows equations)),
   )
 
-  pub one_surface : (xs : List ℕ) → IsSolution (columns Quad n) quad_rows xs → IsAdmissible (clash_list Quad n) xs → (lift : List ℕ) × IsOneSurfaceOver s xs lift
-  one_surface xs solution admissible =
-      let l = lifted xs solution in
-      let over : quads_of s l.0 ≡ xs = projects xs l.0 solution.width l.1 in (
+  pub one_solution : (xs : List ℕ) → IsSolution (columns Quad n) quad_rows xs → (lift : List ℕ) × IsOneSolutionOver s xs lift
+  one_solution xs solution =
+      let l = lifted xs solution in (
         l.0,
         record {
           is_lift = l.1;
-          surface = record { table = k.table; triangles = tt; solves = solves xs l.0 l.1; admissible = quads_admissible n xs l.0 over admissible };
-          over = over;
+          solves = solves xs l.0 l.1;
+          over = projects xs l.0 solution.width l.1;
           only = λ other m. one_lift s.rows k.table s.vertices.classes s.vertices.count k.vertices xs other l.0 m l.1;
+        },
+      )
+
+  pub one_surface : (xs : List ℕ) → IsSolution (columns Quad n) quad_rows xs → IsAdmissible (clash_list Quad n) xs → (lift : List ℕ) × IsOneSurfaceOver s xs lift
+  one_surface xs solution admissible =
+      let o = one_solution xs solution in
+      let l = o.1 in (
+        o.0,
+        record {
+          is_lift = l.is_lift;
+          surface = record { table = k.table; triangles = tt; solves = l.solves; admissible = quads_admissible n xs o.0 l.over admissible };
+          over = l.over;
+          only = l.only;
         },
       )
 

@@ -45,6 +45,19 @@ SolutionsCorrespond =
     (s : Skeleton) (links : List Link) (quad_rows : List EquationRow) (xs : List ℕ) → IsSkeleton s → HasSphereAndDiscLinks s links → AreEquations Quad s.rows quad_rows
     → IsSolution (columns Quad (length s.rows)) quad_rows xs ↔ ((ys : List ℕ) × IsStandardSolution s ys × (quads_of s ys ≡ xs))
 
+-- and each has exactly one lift: one standard solution with these quads in which each class has a vertex with no
+-- triangle
+pub record IsOneSolutionOver (s : Skeleton) (xs lift : List ℕ) : Type 0 where
+  pub is_lift : IsLiftOf s xs lift
+  pub solves : IsStandardSolution s lift
+  pub over : quads_of s lift ≡ xs
+  pub only : (other : List ℕ) → IsLiftOf s xs other → other ≡ lift
+
+abbrev pub SolutionsHaveOneLift : Type 0
+SolutionsHaveOneLift =
+    (s : Skeleton) (links : List Link) (quad_rows : List EquationRow) (xs : List ℕ) → IsSkeleton s → HasSphereAndDiscLinks s links → AreEquations Quad s.rows quad_rows
+    → IsSolution (columns Quad (length s.rows)) quad_rows xs → (lift : List ℕ) × IsOneSolutionOver s xs lift
+
 -- and each admissible one is the quads of exactly one surface in which each class has a vertex with no triangle
 pub record IsOneSurfaceOver (s : Skeleton) (xs lift : List ℕ) : Type 0 where
   pub is_lift : IsLiftOf s xs lift

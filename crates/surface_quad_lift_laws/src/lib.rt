@@ -7,7 +7,7 @@
 //! quads.
 #![tactic(auto)]
 
-ghost use Rattle.surface_quad_lift_laws.specs.Laws.{QuadSolutionsLift, SolutionsCorrespond, QuadSurfacesLift, NoneWithoutLift};
+ghost use Rattle.surface_quad_lift_laws.specs.Laws.{QuadSolutionsLift, SolutionsCorrespond, SolutionsHaveOneLift, QuadSurfacesLift, NoneWithoutLift};
 
 /// Theorem (Tollefson 1998): let the link of a vertex class c be a sphere or a disc. Then each solution of the quad
 /// equations of T has a lift at c.
@@ -15,10 +15,15 @@ pub fn quad_solutions_lift()
     ensures { QuadSolutionsLift }
 {}
 
-/// Theorem (Tollefson 1998): let each vertex link of T be a sphere or a disc. A vector solves the quad equations of T
-/// if and only if it is the quad part of a solution of the matching equations in standard coordinates.
+/// Theorem (Tollefson 1998): let each vertex link of T be a sphere or a disc.
+///
+/// 1. A vector solves the quad equations of T if and only if it is the quad part of a solution of the matching
+///    equations in standard coordinates.
+/// 2. Each solution of the quad equations, admissible or not, has exactly one lift. The lift solves the matching
+///    equations in standard coordinates, and its quad part is the given solution.
 pub fn solutions_correspond()
-    ensures { SolutionsCorrespond }
+    ensures parts { SolutionsCorrespond }
+    ensures one { SolutionsHaveOneLift }
 {}
 
 /// Theorem (Tollefson 1998): let each vertex link of T be a sphere or a disc. Each admissible solution of the quad

@@ -1,5 +1,9 @@
 use Rattle.signature_laws.proofs.Invariance.{relabels_back, relabels_on, relabels_table, relabels_connected}
+use Rattle.signature_laws.proofs.Unchanged.{relabels_unchanged}
 use Rattle.signature_laws.proofs.relabellings_are_an_equivalence.Goals as goal
+
+pub returns-clause-itself : goal.returns-clause-itself
+returns-clause-itself c = λ rows table. relabels_unchanged rows table
 
 pub returns-clause-tables : goal.returns-clause-tables
 returns-clause-tables c = λ rows new table r. relabels_table rows new table r
