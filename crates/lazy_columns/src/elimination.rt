@@ -19,9 +19,13 @@ pub fn next_rays<C: Compatible>(
     input: StepInput<C>,
 ) -> Result<Vec<RayWithSupport>, StepFault>
     requires { AreStepRays input.clashes.now.columns input.most input.clashes.now.pairs input.ray_list.items }
-    ensures ok { IfOk result (λ next. (before : List Row) → HasSurfaces input.entry.clashes.now.columns before input.entry.clashes.now.pairs (rays_of input.entry.ray_list.items)
-        → HasSurfaces input.entry.clashes.now.columns (before ++ input.entry.row.now ∷ []) input.entry.clashes.now.pairs (rays_of next.items)) }
-    ensures err { IfErr result (IfLarge (PassesAt input.entry.clashes.now input.entry.row.now (rays_of input.entry.ray_list.items))) }
+    ensures ok { IfOk result (λ next.
+        (before : List Row) → HasSurfaces input.entry.clashes.now.columns before input.entry.clashes.now.pairs
+        (rays_of input.entry.ray_list.items)
+        → HasSurfaces input.entry.clashes.now.columns (before ++ input.entry.row.now ∷ []) input.entry.clashes.now.pairs
+        (rays_of next.items)) }
+    ensures err { IfErr result (IfLarge
+        (PassesAt input.entry.clashes.now input.entry.row.now (rays_of input.entry.ray_list.items))) }
 {
     let step = Step::of(alloc, input, Limit::MAX)?;
     step.next_by_fewer(alloc)

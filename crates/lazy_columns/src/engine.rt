@@ -27,7 +27,8 @@ use std::alloc::Global;
 /// exceeds `MAX_ENTRY`.
 fn eliminate_row<C: Compatible>(alloc: Global, step: RowStep<C>) -> Result<LateRays, StepFault>
     requires late { AreBoundedLate step.clashes.now.columns step.most step.clashes.now.pairs step.late }
-    ensures ok { IfOk result (AreNextLate step.entry.clashes.now.columns step.entry.clashes.now.pairs step.entry.row.now step.entry.late) }
+    ensures ok { IfOk result (AreNextLate step.entry.clashes.now.columns step.entry.clashes.now.pairs step.entry.row.now
+        step.entry.late) }
     ensures err { IfErr result (IfLarge (PassesNext step.entry.clashes.now step.entry.row.now step.entry.late)) }
 {
     let RowStep {
@@ -64,8 +65,10 @@ fn eliminate_with_fresh<C: Compatible>(
     fresh: NewColumn,
 ) -> Result<LateRays, StepFault>
     requires late { AreBoundedLate step.clashes.now.columns step.most step.clashes.now.pairs step.late }
-    requires fresh { IsFreeColumn step.clashes.now.columns step.row.now step.clashes.now.pairs step.late.seen.items fresh }
-    ensures ok { IfOk result (AreNextLate step.entry.clashes.now.columns step.entry.clashes.now.pairs step.entry.row.now step.entry.late) }
+    requires fresh { IsFreeColumn step.clashes.now.columns step.row.now step.clashes.now.pairs step.late.seen.items
+        fresh }
+    ensures ok { IfOk result (AreNextLate step.entry.clashes.now.columns step.entry.clashes.now.pairs step.entry.row.now
+        step.entry.late) }
     ensures err { IfErr result (IfLarge (PassesNext step.entry.clashes.now step.entry.row.now step.entry.late)) }
 {
     let RowStep {
@@ -98,7 +101,8 @@ fn eliminate_with_fresh<C: Compatible>(
 /// Processes the row of `step`, by a free column if it has one. Fails as `eliminate_row`.
 fn next_late<C: Compatible>(alloc: Global, step: RowStep<C>) -> Result<LateRays, StepFault>
     requires late { AreBoundedLate step.clashes.now.columns step.most step.clashes.now.pairs step.late }
-    ensures ok { IfOk result (AreNextLate step.entry.clashes.now.columns step.entry.clashes.now.pairs step.entry.row.now step.entry.late) }
+    ensures ok { IfOk result (AreNextLate step.entry.clashes.now.columns step.entry.clashes.now.pairs step.entry.row.now
+        step.entry.late) }
     ensures err { IfErr result (IfLarge (PassesNext step.entry.clashes.now step.entry.row.now step.entry.late)) }
 {
     match free_column(&step) {
@@ -115,7 +119,8 @@ fn all_rows<C: Compatible>(
     clashes: &Clashes<C>,
 ) -> Result<Vec<RayWithSupport>, StepFault>
     requires columns { clashes.now.columns ≡ system.now.columns }
-    ensures ok { IfOk result (λ ray_list. HasSurfaces clashes.now.columns system.now.rows clashes.now.pairs (rays_of ray_list.items)) }
+    ensures ok { IfOk result (λ ray_list.
+        HasSurfaces clashes.now.columns system.now.rows clashes.now.pairs (rays_of ray_list.items)) }
     ensures err { IfErr result (IfLarge (λ _. HasPassedStep clashes.now system.now.rows)) }
 {
     let _pairs = clashes.pairs();
@@ -138,7 +143,8 @@ fn all_rows<C: Compatible>(
 
 /// The rays of `ray_list` in lexicographic order, without their supports.
 fn ascending(alloc: Global, mut ray_list: Vec<RayWithSupport>) -> Result<Vec<PackedRay>, NoMemory>
-    ensures { IfOk result (λ rays. (columns : ℕ) (rows : List Row) (pairs : List Clash) → HasSurfaces columns rows pairs (rays_of ray_list.items) → IsSurfaceList columns rows pairs rays.items) }
+    ensures { IfOk result (λ rays. (columns : ℕ) (rows : List Row) (pairs : List Clash)
+        → HasSurfaces columns rows pairs (rays_of ray_list.items) → IsSurfaceList columns rows pairs rays.items) }
 {
     sort_rays(&mut ray_list)?;
     let rays = without_supports(alloc, ray_list)?;
@@ -153,7 +159,8 @@ pub fn vertex_surfaces<C: Compatible>(
     clashes: &Clashes<C>,
 ) -> Result<Option<Vec<PackedRay>>, NoMemory>
     requires columns { clashes.now.columns ≡ system.now.columns }
-    ensures some { IfOk result (λ answer. IfSome answer (λ list. IsSurfaceList system.now.columns system.now.rows clashes.now.pairs list.items)) }
+    ensures some { IfOk result (λ answer.
+        IfSome answer (λ list. IsSurfaceList system.now.columns system.now.rows clashes.now.pairs list.items)) }
     ensures none { IfOk result (λ answer. IfNone answer (HasPassedStep clashes.now system.now.rows)) }
 {
     match all_rows(alloc, system, clashes) {

@@ -46,7 +46,8 @@ fn first_free<C: Compatible>(step: &RowStep<C>) -> Option<(u32, i32)>
 /// A column of the row of `step` that has not entered, has the coefficient 1 or -1 and clashes with no column. May
 /// return `None` although there is one, which affects speed alone.
 pub fn free_column<C: Compatible>(step: &RowStep<C>) -> Option<NewColumn>
-    ensures { IfSome result (IsFreeColumn step.now.clashes.now.columns step.now.row.now step.now.clashes.now.pairs step.now.late.seen.items) }
+    ensures { IfSome result (IsFreeColumn step.now.clashes.now.columns step.now.row.now step.now.clashes.now.pairs
+        step.now.late.seen.items) }
 {
     let (column, coefficient) = first_free(step)?;
     let is_negated = turning(coefficient)?;

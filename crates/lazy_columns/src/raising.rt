@@ -27,8 +27,10 @@ fn oriented_step<'a, C: Compatible>(
     is_negated: bool,
 ) -> Result<Step<'a, C>, StepFault>
     requires { AreStepRays input.clashes.now.columns input.most input.clashes.now.pairs input.ray_list.items }
-    ensures ok { IfOk result (IsStepOf MAX_ENTRY input.entry.clashes.now (oriented is_negated input.entry.row.now) (rays_of input.entry.ray_list.items)) }
-    ensures err { IfErr result (IfLarge (IsFirstLargeValue MAX_ENTRY input.entry.row.now (rays_of input.entry.ray_list.items))) }
+    ensures ok { IfOk result (IsStepOf MAX_ENTRY input.entry.clashes.now (oriented is_negated input.entry.row.now)
+        (rays_of input.entry.ray_list.items)) }
+    ensures err { IfErr result (IfLarge
+        (IsFirstLargeValue MAX_ENTRY input.entry.row.now (rays_of input.entry.ray_list.items))) }
 {
     let step = Step::of(alloc, input, Limit::MAX)?;
     if !is_negated {
@@ -94,7 +96,9 @@ fn raise_all(
     requires count { length signs.now ≡ length ray_list.items }
     requires room { All (HasRoom column) ray_list.items }
     requires bounded { All (IsBoundedSign MAX_ENTRY) signs.now }
-    ensures { OnOk result ((pairs : List Clash) → IsMadeUpTo MAX_ENTRY pairs (rays_of ray_list.items) signs.now (length ray_list.items) 0 (rays_of next.old.items)
+    ensures { OnOk result ((pairs : List Clash)
+        → IsMadeUpTo MAX_ENTRY pairs (rays_of ray_list.items) signs.now (length ray_list.items) 0
+        (rays_of next.old.items)
         → IsRaisedFrom MAX_ENTRY pairs (rays_of ray_list.items) signs.now column 0 (rays_of next.new.items)) }
 {
     while let Some(kept) = ray_list.pop() {
@@ -113,8 +117,11 @@ pub fn raised_rays<C: Compatible>(
 ) -> Result<Vec<RayWithSupport>, StepFault>
     requires rays { AreStepRays input.clashes.now.columns input.most input.clashes.now.pairs input.ray_list.items }
     requires room { All (HasRoom fresh.column) input.ray_list.items }
-    ensures ok { IfOk result (λ next. AreRaised MAX_ENTRY input.entry.clashes.now.pairs (oriented fresh.is_negated input.entry.row.now) fresh.column (rays_of input.entry.ray_list.items) (rays_of next.items)) }
-    ensures err { IfErr result (IfLarge (PassesAt input.entry.clashes.now input.entry.row.now (rays_of input.entry.ray_list.items))) }
+    ensures ok { IfOk result (λ next.
+        AreRaised MAX_ENTRY input.entry.clashes.now.pairs (oriented fresh.is_negated input.entry.row.now) fresh.column
+        (rays_of input.entry.ray_list.items) (rays_of next.items)) }
+    ensures err { IfErr result (IfLarge
+        (PassesAt input.entry.clashes.now input.entry.row.now (rays_of input.entry.ray_list.items))) }
 {
     let step = oriented_step(alloc, input, fresh.is_negated)?;
     let parts = step.combinations_by_fewer(alloc)?;

@@ -21,8 +21,10 @@ fn square_of(coefficient: i32) -> u64
 fn add_row(squares: &mut [u64], row: &[(u32, i32)]) -> bool
     requires in_range { IsInRange (length squares.old) row.now }
     requires sparse { IsSparse row.now }
-    ensures added { IsTrue result → (j : ℕ) → slice_index squares.new j ≡ slice_index squares.old j + row_weight j row.now * row_weight j row.now }
-    ensures exceeded { IsFalse result → (j : ℕ) × (j < length squares.old) × (2 ^ 64 ≤ slice_index squares.old j + row_weight j row.now * row_weight j row.now) }
+    ensures added { IsTrue result → (j : ℕ)
+        → slice_index squares.new j ≡ slice_index squares.old j + row_weight j row.now * row_weight j row.now }
+    ensures exceeded { IsFalse result → (j : ℕ) × (j < length squares.old)
+        × (2 ^ 64 ≤ slice_index squares.old j + row_weight j row.now * row_weight j row.now) }
 {
     for (column, coefficient) in row {
         let place = *column as usize;

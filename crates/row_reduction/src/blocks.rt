@@ -75,9 +75,12 @@ fn rows_of(alloc: Global, system: &System) -> Result<RowList, NoMemory>
 /// column is cleared from all other rows. Fails with `Passed` if a coefficient exceeds 1,000,000.
 fn solve_column(alloc: Global, blocks: &mut Blocks, column: u32) -> Result<(), SolveFault>
     ensures columns { blocks.new.unsolved.columns ≡ blocks.old.unsolved.columns }
-    ensures same { OnOk result (HaveSameZeros (blocks.old.unsolved.rows.items ++ blocks.old.solved.rows.items) (blocks.new.unsolved.rows.items ++ blocks.new.solved.rows.items)) }
-    ensures solves { OnOk result (AreSolvedFor column blocks.old.unsolved.rows.items blocks.old.solved.rows.items blocks.new.unsolved.rows.items blocks.new.solved.rows.items) }
-    ensures passed { IfErr result (IfPassed (PassesFor column blocks.old.unsolved.rows.items blocks.old.solved.rows.items)) }
+    ensures same { OnOk result (HaveSameZeros (blocks.old.unsolved.rows.items ++ blocks.old.solved.rows.items)
+        (blocks.new.unsolved.rows.items ++ blocks.new.solved.rows.items)) }
+    ensures solves { OnOk result (AreSolvedFor column blocks.old.unsolved.rows.items blocks.old.solved.rows.items
+        blocks.new.unsolved.rows.items blocks.new.solved.rows.items) }
+    ensures passed { IfErr result (IfPassed
+        (PassesFor column blocks.old.unsolved.rows.items blocks.old.solved.rows.items)) }
 {
     let Some(place) = pivot_place(&blocks.unsolved.rows, column) else {
         return Ok(());
@@ -95,8 +98,10 @@ fn solve_column(alloc: Global, blocks: &mut Blocks, column: u32) -> Result<(), S
 /// 1,000,000.
 fn solve_columns(alloc: Global, system: &System, pivots: &[u32]) -> Result<Blocks, SolveFault>
     ensures columns { IfOk result (λ blocks. blocks.unsolved.columns ≡ system.now.columns) }
-    ensures same { IfOk result (λ blocks. HaveSameZeros system.now.rows (blocks.unsolved.rows.items ++ blocks.solved.rows.items)) }
-    ensures eliminated { IfOk result (λ blocks. AreEliminated system.now.rows pivots.now blocks.unsolved.rows.items blocks.solved.rows.items) }
+    ensures same { IfOk result (λ blocks.
+        HaveSameZeros system.now.rows (blocks.unsolved.rows.items ++ blocks.solved.rows.items)) }
+    ensures eliminated { IfOk result
+        (λ blocks. AreEliminated system.now.rows pivots.now blocks.unsolved.rows.items blocks.solved.rows.items) }
     ensures passed { IfErr result (IfPassed (PassesAtPivot system.now.rows pivots.now)) }
 {
     let unsolved = rows_of(alloc, system)?;

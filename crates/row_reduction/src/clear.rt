@@ -101,8 +101,10 @@ pub(crate) fn add_at(
     requires place { i < length list.old.rows.items }
     requires other_in_range { IsInRange list.old.columns other.now }
     ensures columns { list.new.columns ≡ list.old.columns }
-    ensures adds { OnOk result (AddsMultipleAt list.old.columns list.old.rows.items i factor other.now list.new.rows.items) }
-    ensures passed { IfErr result (IfPassed (PassesAtColumn (slice_index_or list.old.rows.items i []) factor other.now)) }
+    ensures adds { OnOk result (AddsMultipleAt list.old.columns list.old.rows.items i factor other.now
+        list.new.rows.items) }
+    ensures passed { IfErr result (IfPassed
+        (PassesAtColumn (slice_index_or list.old.rows.items i []) factor other.now)) }
 {
     let pair = RowPair {
         columns: list.columns,

@@ -37,8 +37,10 @@ fn place_from(terms: &[(u32, i32)], from: usize, column: u32) -> usize
 /// `shared` with one more common column, at which the rows have the coefficients `one` and `other`.
 fn with_column(shared: SharedColumns, one: i32, other: i32) -> SharedColumns
     ensures any { result.any ≤ shared.any + 1 }
-    ensures same { (result.same ≤ shared.same) ⊎ ((result.same ≤ shared.same + 1) × IsCoefficientSum one (negsuc 0) other (pos 0)) }
-    ensures opposite { (result.opposite ≤ shared.opposite) ⊎ ((result.opposite ≤ shared.opposite + 1) × IsCoefficientSum one (pos 1) other (pos 0)) }
+    ensures same { (result.same ≤ shared.same)
+        ⊎ ((result.same ≤ shared.same + 1) × IsCoefficientSum one (negsuc 0) other (pos 0)) }
+    ensures opposite { (result.opposite ≤ shared.opposite)
+        ⊎ ((result.opposite ≤ shared.opposite + 1) × IsCoefficientSum one (pos 1) other (pos 0)) }
 {
     SharedColumns {
         same: shared.same.saturating_add(usize::from(one == other)),

@@ -31,7 +31,8 @@ fn list_by_solving<C: Compatible>(
     pivots: &[u32],
 ) -> Result<Option<Vec<PackedRay>>, NoMemory>
     requires columns { clashes.now.columns ≡ system.now.columns }
-    ensures { IfOk result (λ answer. IfSome answer (λ list. IsSurfaceList system.now.columns system.now.rows clashes.now.pairs list.items)) }
+    ensures { IfOk result (λ answer.
+        IfSome answer (λ list. IsSurfaceList system.now.columns system.now.rows clashes.now.pairs list.items)) }
 {
     match solve(alloc, system, each, pivots) {
         Ok(solved) => vertex_surfaces(alloc, &solved, clashes),
@@ -50,7 +51,9 @@ fn list_by_elimination<C: Compatible>(
     limit: Limit,
 ) -> Result<PackedRays, EnumFault>
     requires columns { clashes.now.columns ≡ system.now.columns }
-    ensures ok { IfOk result (λ rays. IsListed (enumeration_of system.now clashes.now.pairs order.rule limit.number) rays.order.items rays.list.items) }
+    ensures ok { IfOk result (λ rays.
+        IsListed (enumeration_of system.now clashes.now.pairs order.rule limit.number) rays.order.items
+        rays.list.items) }
     ensures err { IfErr result (AreRefused (enumeration_of system.now clashes.now.pairs order.rule limit.number)) }
 {
     let rule = order.rule;
@@ -70,8 +73,10 @@ fn quickest_list<C: Compatible>(
 ) -> Result<Vec<PackedRay>, EnumFault>
     requires columns { clashes.now.columns ≡ system.now.columns }
     requires bounded { IsTrue terms.is_bounded → AreAlwaysWithin terms.limit.number system.now clashes.now.pairs }
-    ensures ok { IfOk result (λ list. IsOnlyListing (enumeration_of system.now clashes.now.pairs terms.order.rule terms.limit.number) list.items) }
-    ensures err { IfErr result (AreRefused (enumeration_of system.now clashes.now.pairs terms.order.rule terms.limit.number)) }
+    ensures ok { IfOk result (λ list.
+        IsOnlyListing (enumeration_of system.now clashes.now.pairs terms.order.rule terms.limit.number) list.items) }
+    ensures err { IfErr result (AreRefused
+        (enumeration_of system.now clashes.now.pairs terms.order.rule terms.limit.number)) }
 {
     // if no number can exceed the limit, it does not matter how the list was found
     if terms.is_bounded
@@ -98,8 +103,10 @@ pub fn vertex_list<C: Compatible>(
     requires columns { C.width test ≡ system.now.columns }
     requires decides { C.decides test }
     requires bounded { IsTrue terms.is_bounded → AreAlwaysWithin terms.limit.number system.now (C.clashing test) }
-    ensures ok { IfOk result (λ list. IsOnlyListing (enumeration_of system.now (C.clashing test) terms.order.rule terms.limit.number) list.items) }
-    ensures err { IfErr result (AreRefused (enumeration_of system.now (C.clashing test) terms.order.rule terms.limit.number)) }
+    ensures ok { IfOk result (λ list.
+        IsOnlyListing (enumeration_of system.now (C.clashing test) terms.order.rule terms.limit.number) list.items) }
+    ensures err { IfErr result (AreRefused
+        (enumeration_of system.now (C.clashing test) terms.order.rule terms.limit.number)) }
 {
     let clashes = Clashes::new(alloc, test)?;
     quickest_list(alloc, system, &clashes, each, pivots, terms)
