@@ -27,7 +27,8 @@ fn compatible_indices(
     columns: &Support,
 ) -> Result<Vec<usize>, NoMemory>
     requires widths { AreOfWidth (length columns.now) ray_list.now }
-    ensures { IfOk result (λ places. AreCompatible (rays_of ray_list.now) columns.now (length ray_list.now) places.items) }
+    ensures { IfOk result (λ places.
+        AreCompatible (rays_of ray_list.now) columns.now (length ray_list.now) places.items) }
 {
     let mut places = Vec::new(alloc);
     for (k, kept) in ray_list.iter().enumerate() {

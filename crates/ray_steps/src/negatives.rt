@@ -71,7 +71,8 @@ pub struct NegativeSearch<'a> {
 /// `search.joined`, or its union with `search.support` has more than `search.most` columns.
 fn is_excluded(search: NegativeSearch, place: usize) -> bool
     requires { place < length search.table.now.supports }
-    ensures { IsTrue result ↔ IsRuledOut search.entry.support.now search.entry.joined.now search.entry.most (slice_index_or search.entry.table.now.supports place []) }
+    ensures { IsTrue result ↔ IsRuledOut search.entry.support.now search.entry.joined.now search.entry.most
+        (slice_index_or search.entry.table.now.supports place []) }
 {
     let NegativeSearch {
         table,
@@ -88,7 +89,8 @@ fn is_excluded(search: NegativeSearch, place: usize) -> bool
 /// are.
 pub fn first_not_excluded(search: NegativeSearch, start: usize) -> usize
     requires { start ≤ length search.table.now.supports }
-    ensures { IsFirstNotRuledOut search.entry.support.now search.entry.joined.now search.entry.most search.entry.table.now.supports start result }
+    ensures { IsFirstNotRuledOut search.entry.support.now search.entry.joined.now search.entry.most
+        search.entry.table.now.supports start result }
 {
     let table = search.table;
     let mut place = start;

@@ -29,8 +29,10 @@ pub fn combine_pair(
     pair: SignedPair,
     limit: Limit,
 ) -> Result<RayWithSupport, StepFault>
-    ensures ok { IfOk result (λ kept. IsReducedBy limit.number pair.entry.at_u pair.entry.at_w pair.entry.u.now.ray pair.entry.w.now.ray kept.ray) }
-    ensures err { IfErr result (IfLarge (IsLargeSumOf limit.number pair.entry.at_u pair.entry.at_w pair.entry.u.now.ray pair.entry.w.now.ray)) }
+    ensures ok { IfOk result (λ kept.
+        IsReducedBy limit.number pair.entry.at_u pair.entry.at_w pair.entry.u.now.ray pair.entry.w.now.ray kept.ray) }
+    ensures err { IfErr result (IfLarge
+        (IsLargeSumOf limit.number pair.entry.at_u pair.entry.at_w pair.entry.u.now.ray pair.entry.w.now.ray)) }
 {
     let SignedPair { u, w, at_u, at_w } = pair;
     let _columns = u.ray.columns();

@@ -64,8 +64,10 @@ pub struct RowAndRays<'a> {
 /// The sign of the row of `input` at each of its rays. Fails with `Large` and the first ray at which a part of the row
 /// exceeds `limit`.
 pub fn signs_at(alloc: Global, input: RowAndRays, limit: u128) -> Result<Vec<Sign>, StepFault>
-    ensures ok { IfOk result (λ signs. AreSigns limit input.entry.row.now (rays_of input.entry.ray_list.now) signs.items) }
-    ensures err { IfErr result (IfLarge (IsFirstLargeValue limit input.entry.row.now (rays_of input.entry.ray_list.now))) }
+    ensures ok { IfOk result (λ signs.
+        AreSigns limit input.entry.row.now (rays_of input.entry.ray_list.now) signs.items) }
+    ensures err { IfErr result (IfLarge
+        (IsFirstLargeValue limit input.entry.row.now (rays_of input.entry.ray_list.now))) }
 {
     let RowAndRays { row, ray_list } = input;
     let mut signs = Vec::with_capacity(alloc, ray_list.len())?;

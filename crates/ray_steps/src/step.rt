@@ -49,8 +49,10 @@ impl<'a, C: Compatible> Step<'a, C> {
         limit: Limit,
     ) -> Result<Step<'a, C>, StepFault>
         requires { AreStepRays input.clashes.now.columns input.most input.clashes.now.pairs input.ray_list.items }
-        ensures ok { IfOk result (IsStepOf limit.number input.entry.clashes.now input.entry.row.now (rays_of input.entry.ray_list.items)) }
-        ensures err { IfErr result (IfLarge (IsFirstLargeValue limit.number input.entry.row.now (rays_of input.entry.ray_list.items))) }
+        ensures ok { IfOk result (IsStepOf limit.number input.entry.clashes.now input.entry.row.now
+            (rays_of input.entry.ray_list.items)) }
+        ensures err { IfErr result (IfLarge
+            (IsFirstLargeValue limit.number input.entry.row.now (rays_of input.entry.ray_list.items))) }
     {
         let row_and_rays = RowAndRays {
             row: input.row,
@@ -109,7 +111,8 @@ impl<'a, C: Compatible> Step<'a, C> {
     /// The rays after this step: the combinations of all adjacent pairs, then the rays of sign zero. Fails with `Large`
     /// at the first pair of which an entry exceeds the limit.
     pub fn next(self, alloc: Global) -> Result<Vec<RayWithSupport>, StepFault>
-        ensures ok { IfOk result (λ next. IsNextFrom self.entry.limit self.entry.pairs self.entry.rays self.entry.signs 0 (rays_of next.items)) }
+        ensures ok { IfOk result (λ next.
+            IsNextFrom self.entry.limit self.entry.pairs self.entry.rays self.entry.signs 0 (rays_of next.items)) }
         ensures widths { IfOk result (λ next. AreOfWidth self.entry.columns next.items) }
         ensures err { IfErr result (IfLarge (IsFirstLargeOf self.entry)) }
     {
@@ -121,7 +124,8 @@ impl<'a, C: Compatible> Step<'a, C> {
     /// The rays after this step, in any order. Fails with a pair of which an entry exceeds the limit, not always the
     /// first.
     pub fn next_by_fewer(self, alloc: Global) -> Result<Vec<RayWithSupport>, StepFault>
-        ensures ok { IfOk result (λ next. IsNextFrom self.entry.limit self.entry.pairs self.entry.rays self.entry.signs 0 (rays_of next.items)) }
+        ensures ok { IfOk result (λ next.
+            IsNextFrom self.entry.limit self.entry.pairs self.entry.rays self.entry.signs 0 (rays_of next.items)) }
         ensures widths { IfOk result (λ next. AreOfWidth self.entry.columns next.items) }
         ensures err { IfErr result (IfLarge (IsFirstLargeEitherWay self.entry)) }
     {

@@ -48,8 +48,13 @@ pub struct PairAmong<'a> {
 /// The index in `pair.compatible_list` of a third ray, whose support lies in the union of those of the pair: `hint` if
 /// that is one, or else the first; `None` if there is none.
 pub fn third_inside(pair: PairAmong, hint: usize) -> Option<usize>
-    ensures some { IfSome result (λ m. (m < length pair.entry.compatible_list.now.places.items) × IsThirdInside pair.entry.compatible_list.now.places.items pair.entry.compatible_list.now.table.supports pair.entry.i pair.entry.j pair.entry.a.now pair.entry.b.now m) }
-    ensures none { IfNone result ((m : ℕ) → m < length pair.entry.compatible_list.now.places.items → ¬ IsThirdInside pair.entry.compatible_list.now.places.items pair.entry.compatible_list.now.table.supports pair.entry.i pair.entry.j pair.entry.a.now pair.entry.b.now m) }
+    ensures some { IfSome result (λ m.
+        (m < length pair.entry.compatible_list.now.places.items)
+        × IsThirdInside pair.entry.compatible_list.now.places.items pair.entry.compatible_list.now.table.supports
+        pair.entry.i pair.entry.j pair.entry.a.now pair.entry.b.now m) }
+    ensures none { IfNone result ((m : ℕ) → m < length pair.entry.compatible_list.now.places.items
+        → ¬ IsThirdInside pair.entry.compatible_list.now.places.items pair.entry.compatible_list.now.table.supports
+        pair.entry.i pair.entry.j pair.entry.a.now pair.entry.b.now m) }
 {
     let PairAmong {
         compatible_list,

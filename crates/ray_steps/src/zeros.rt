@@ -32,9 +32,11 @@ pub fn keep_zeros(
     next: &mut Vec<RayWithSupport>,
 ) -> Result<(), StepFault>
     requires { length signs.now ≡ length ray_list.items }
-    ensures keeps { OnOk result ((limit : ℕ) (pairs : List Clash) → IsMadeUpTo limit pairs (rays_of ray_list.items) signs.now (length ray_list.items) 0 (rays_of next.old.items)
+    ensures keeps { OnOk result ((limit : ℕ) (pairs : List Clash)
+        → IsMadeUpTo limit pairs (rays_of ray_list.items) signs.now (length ray_list.items) 0 (rays_of next.old.items)
         → IsNextFrom limit pairs (rays_of ray_list.items) signs.now 0 (rays_of next.new.items)) }
-    ensures widths { OnOk result ((columns : ℕ) → AreOfWidth columns ray_list.items → AreOfWidth columns next.old.items → AreOfWidth columns next.new.items) }
+    ensures widths { OnOk result ((columns : ℕ) → AreOfWidth columns ray_list.items → AreOfWidth columns next.old.items
+        → AreOfWidth columns next.new.items) }
     ensures err { IfErr result (λ fault. fault ≡ StepFault.NoMemory) }
 {
     while let Some(kept) = ray_list.pop() {

@@ -39,7 +39,8 @@ pub struct BlockOf<'a> {
 
 /// Appends to `blocks` the bits that are set in each support of `block`. If memory runs out `blocks` is unchanged.
 pub fn push_block(block: BlockOf, blocks: &mut Vec<u64>) -> Result<(), NoMemory>
-    ensures pushed { OnOk result (IsBlockPushed block.entry.width block.entry.first block.entry.words.now blocks.old.items blocks.new.items) }
+    ensures pushed { OnOk result (IsBlockPushed block.entry.width block.entry.first block.entry.words.now
+        blocks.old.items blocks.new.items) }
     ensures stays { OnErr result (blocks.new.items ≡ blocks.old.items) }
 {
     let BlockOf {

@@ -27,7 +27,8 @@ fn push_candidate(
     place: usize,
     compatible_list: &mut Vec<Candidate>,
 ) -> Result<(), NoMemory>
-    ensures { OnOk result (IsCandidatePushed outer.entry.rays.now.supports outer.entry.support.now outer.entry.own outer.entry.most place compatible_list.old.items compatible_list.new.items) }
+    ensures { OnOk result (IsCandidatePushed outer.entry.rays.now.supports outer.entry.support.now outer.entry.own
+        outer.entry.most place compatible_list.old.items compatible_list.new.items) }
 {
     let rays = outer.rays;
     let table = rays.table();
@@ -47,7 +48,8 @@ const FEWEST: u32 = 24;
 /// `outer` a union of more than `outer.most` columns; otherwise 0. Also 0 if fewer than `FEWEST` of its bits are not set
 /// in `word`.
 fn far_bits(outer: OuterRay, place: usize, half: u64, word: u64) -> u64
-    ensures { (i : ℕ) → bit_at result i ≡ 1 → (bit_at half i ≡ 1) × IsFarBlock outer.entry.rays.now.supports outer.entry.support.now outer.entry.most place }
+    ensures { (i : ℕ) → bit_at result i ≡ 1 → (bit_at half i ≡ 1)
+        × IsFarBlock outer.entry.rays.now.supports outer.entry.support.now outer.entry.most place }
 {
     let rays = outer.rays;
     let table = rays.table();
@@ -62,7 +64,9 @@ fn far_bits(outer: OuterRay, place: usize, half: u64, word: u64) -> u64
 /// The bits of the 64 rays from `first` on that are not set in `word`, without those of blocks that `far_bits` returns.
 fn near_bits(outer: OuterRay, first: usize, word: u64) -> u64
     requires { first + 64 < 2 ^ 64 }
-    ensures { (joined : List Bool) → MarksMeeting outer.entry.rays.now.supports joined first word → NamesCandidates outer.entry.rays.now.supports outer.entry.support.now joined outer.entry.own outer.entry.most first (first + 64) result }
+    ensures { (joined : List Bool) → MarksMeeting outer.entry.rays.now.supports joined first word
+        → NamesCandidates outer.entry.rays.now.supports outer.entry.support.now joined outer.entry.own outer.entry.most
+        first (first + 64) result }
 {
     let low = 0xFFFF_FFFFu64;
     let far = far_bits(outer, first, low, word) | far_bits(outer, first + BLOCK, !low, word);
@@ -77,7 +81,8 @@ fn push_candidates(
     compatible_list: &mut Vec<Candidate>,
 ) -> Result<(), NoMemory>
     requires { first + 64 < 2 ^ 64 }
-    ensures { OnOk result (AreCandidatesPushed outer.entry.rays.now.supports outer.entry.support.now outer.entry.own outer.entry.most first word compatible_list.old.items compatible_list.new.items) }
+    ensures { OnOk result (AreCandidatesPushed outer.entry.rays.now.supports outer.entry.support.now outer.entry.own
+        outer.entry.most first word compatible_list.old.items compatible_list.new.items) }
 {
     let mut rest = near_bits(outer, first, word);
     let mut place = first;
@@ -93,7 +98,9 @@ fn push_candidates(
 
 /// The candidates for adjacency to `outer`, by index.
 pub fn candidates_of(alloc: Global, outer: OuterRay) -> Result<Vec<Candidate>, NoMemory>
-    ensures { IfOk result (λ compatible_list. ListCandidates outer.entry.rays.now.supports outer.entry.support.now outer.entry.joined.now outer.entry.own outer.entry.most (length outer.entry.rays.now.supports) compatible_list.items) }
+    ensures { IfOk result (λ compatible_list.
+        ListCandidates outer.entry.rays.now.supports outer.entry.support.now outer.entry.joined.now outer.entry.own
+        outer.entry.most (length outer.entry.rays.now.supports) compatible_list.items) }
 {
     let rays = outer.rays;
     let places = rays.meeting(alloc, outer.joined)?;
@@ -115,7 +122,9 @@ fn push_of_part(
     requires copied { AreCopied outer.rays.now part.now.places.items part.now.table }
     requires k { k < length part.now.places.items }
     requires in_range { slice_index_or part.now.places.items k 0 < length outer.rays.now.supports }
-    ensures { OnOk result (IsCandidatePushed outer.entry.rays.now.supports outer.entry.support.now outer.entry.own outer.entry.most (slice_index_or part.now.places.items k 0) compatible_list.old.items compatible_list.new.items) }
+    ensures { OnOk result (IsCandidatePushed outer.entry.rays.now.supports outer.entry.support.now outer.entry.own
+        outer.entry.most (slice_index_or part.now.places.items k 0) compatible_list.old.items
+        compatible_list.new.items) }
 {
     let place = part.places[k];
     if place != outer.own {
@@ -136,7 +145,9 @@ pub fn candidates_among(
 ) -> Result<Vec<Candidate>, NoMemory>
     requires near { AreNear outer.rays.now.supports outer.joined.now part.now.places.items }
     requires copied { AreCopied outer.rays.now part.now.places.items part.now.table }
-    ensures { IfOk result (λ compatible_list. ListCandidates outer.entry.rays.now.supports outer.entry.support.now outer.entry.joined.now outer.entry.own outer.entry.most (length outer.entry.rays.now.supports) compatible_list.items) }
+    ensures { IfOk result (λ compatible_list.
+        ListCandidates outer.entry.rays.now.supports outer.entry.support.now outer.entry.joined.now outer.entry.own
+        outer.entry.most (length outer.entry.rays.now.supports) compatible_list.items) }
 {
     let mut compatible_list = Vec::new(alloc);
     for k in 0..part.places.len() {

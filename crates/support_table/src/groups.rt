@@ -42,7 +42,8 @@ fn group_of(words: &[u64], outer: &[u64]) -> usize
 
 /// The candidates of `found` with their groups, in order.
 fn with_groups(alloc: Global, found: FoundCandidates) -> Result<Vec<Grouped>, NoMemory>
-    ensures { IfOk result (λ list. AreGrouped found.entry.table.now.supports found.entry.outer.now found.entry.list.now (length found.entry.list.now) list.items) }
+    ensures { IfOk result (λ list. AreGrouped found.entry.table.now.supports found.entry.outer.now found.entry.list.now
+        (length found.entry.list.now) list.items) }
 {
     let FoundCandidates { table, outer, list } = found;
     let _columns = outer.columns();
@@ -67,7 +68,8 @@ fn sort_by_group(list: &mut Vec<Grouped>)
 
 /// The candidates of `found`, group after group.
 pub fn in_groups(alloc: Global, found: FoundCandidates) -> Result<Vec<Grouped>, NoMemory>
-    ensures { IfOk result (λ list. AreGrouped found.entry.table.now.supports found.entry.outer.now found.entry.list.now (length found.entry.list.now) list.items) }
+    ensures { IfOk result (λ list. AreGrouped found.entry.table.now.supports found.entry.outer.now found.entry.list.now
+        (length found.entry.list.now) list.items) }
 {
     let mut list = with_groups(alloc, found)?;
     sort_by_group(&mut list);

@@ -26,7 +26,9 @@ pub fn marks_of(
     compatible_list: FoundCandidates,
     single: u64,
 ) -> Result<Vec<u64>, NoMemory>
-    ensures { IfOk result (λ marks. AreMarks compatible_list.entry.table.now.supports compatible_list.entry.outer.now single compatible_list.entry.list.now marks.items) }
+    ensures { IfOk result (λ marks.
+        AreMarks compatible_list.entry.table.now.supports compatible_list.entry.outer.now single
+        compatible_list.entry.list.now marks.items) }
 {
     let FoundCandidates { table, outer, list } = compatible_list;
     let words = outer.words();
@@ -42,7 +44,8 @@ pub fn marks_of(
 /// Whether the residual of `candidate` has more than one column, and a marked one.
 fn is_hit(marked: MarkedCandidates, candidate: Candidate) -> bool
     requires { candidate.place < length marked.table.now.supports }
-    ensures { IsTrue result ↔ IsHit marked.entry.table.now.supports marked.entry.marks.now marked.entry.single candidate }
+    ensures { IsTrue result ↔ IsHit marked.entry.table.now.supports marked.entry.marks.now marked.entry.single
+        candidate }
 {
     let table = marked.table;
     candidate.size > marked.single && have_common(table.words_at(candidate.place), marked.marks)
@@ -50,7 +53,8 @@ fn is_hit(marked: MarkedCandidates, candidate: Candidate) -> bool
 
 /// The candidates of `marked` that are not ruled out by a marked column.
 pub fn unhit(alloc: Global, marked: MarkedCandidates) -> Result<Vec<Candidate>, NoMemory>
-    ensures { IfOk result (λ left. AreUnhit marked.entry.table.now.supports marked.entry.marks.now marked.entry.single marked.entry.list.now left.items) }
+    ensures { IfOk result (λ left. AreUnhit marked.entry.table.now.supports marked.entry.marks.now marked.entry.single
+        marked.entry.list.now left.items) }
 {
     let mut left = Vec::new(alloc);
     for candidate in marked.list {

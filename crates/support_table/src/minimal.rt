@@ -36,8 +36,11 @@ fn candidates(
     outer: OuterRay,
     compatible_list: &[Candidate],
 ) -> Result<Vec<Candidate>, NoMemory>
-    requires { ListCandidates outer.rays.now.supports outer.support.now outer.joined.now outer.own outer.most (length outer.rays.now.supports) compatible_list.now }
-    ensures { IfOk result (λ candidates. AreCandidates outer.entry.rays.now.supports outer.entry.support.now outer.entry.joined.now outer.entry.own outer.entry.most candidates.items) }
+    requires { ListCandidates outer.rays.now.supports outer.support.now outer.joined.now outer.own outer.most
+        (length outer.rays.now.supports) compatible_list.now }
+    ensures { IfOk result (λ candidates.
+        AreCandidates outer.entry.rays.now.supports outer.entry.support.now outer.entry.joined.now outer.entry.own
+        outer.entry.most candidates.items) }
 {
     let rays = outer.rays;
     let table = rays.table();
@@ -61,7 +64,8 @@ fn candidates(
 fn is_selected_alone(family: Family, selected: &[bool], place: usize) -> bool
     requires place { place < length family.table.now.supports }
     requires selected { length selected.now ≡ length family.table.now.supports }
-    ensures { IsTrue result ↔ IsSelectedAlone family.entry.table.now.supports family.entry.outer.now family.entry.list.now selected.now place }
+    ensures { IsTrue result ↔ IsSelectedAlone family.entry.table.now.supports family.entry.outer.now
+        family.entry.list.now selected.now place }
 {
     selected[place] && !has_other(family, place)
 }
@@ -75,7 +79,9 @@ fn selected_alone(
 ) -> Result<Vec<usize>, NoMemory>
     requires found { AreFound family.table.now.supports list.now }
     requires selected { length selected.now ≡ length family.table.now.supports }
-    ensures { IfOk result (λ places. AreSelectedAlone family.entry.table.now.supports family.entry.outer.now family.entry.list.now selected.now list.now (length list.now) places.items) }
+    ensures { IfOk result (λ places.
+        AreSelectedAlone family.entry.table.now.supports family.entry.outer.now family.entry.list.now selected.now
+        list.now (length list.now) places.items) }
 {
     let mut places = Vec::new(alloc);
     for candidate in list {
@@ -109,8 +115,11 @@ fn minimal_of(
     compatible_list: &[Candidate],
 ) -> Result<Vec<usize>, NoMemory>
     requires selected { length selected.now ≡ length ray.rays.now.supports }
-    requires compatible_list { ListCandidates ray.rays.now.supports ray.support.now ray.joined.now ray.own ray.most (length ray.rays.now.supports) compatible_list.now }
-    ensures { IfOk result (λ places. AreMinimalOf ray.entry.rays.now.supports ray.entry.support.now ray.entry.joined.now ray.entry.own ray.entry.most selected.now places.items) }
+    requires compatible_list { ListCandidates ray.rays.now.supports ray.support.now ray.joined.now ray.own ray.most
+        (length ray.rays.now.supports) compatible_list.now }
+    ensures { IfOk result (λ places.
+        AreMinimalOf ray.entry.rays.now.supports ray.entry.support.now ray.entry.joined.now ray.entry.own ray.entry.most
+        selected.now places.items) }
 {
     let list = candidates(alloc, ray, compatible_list)?;
     if !has_selected(&list, selected) {
@@ -149,7 +158,9 @@ pub fn minimal_among(
     requires selected { length selected.now ≡ length ray.rays.now.supports }
     requires near { AreNear ray.rays.now.supports ray.joined.now part.now.places.items }
     requires copied { AreCopied ray.rays.now part.now.places.items part.now.table }
-    ensures { IfOk result (λ places. AreMinimalOf ray.entry.rays.now.supports ray.entry.support.now ray.entry.joined.now ray.entry.own ray.entry.most selected.now places.items) }
+    ensures { IfOk result (λ places.
+        AreMinimalOf ray.entry.rays.now.supports ray.entry.support.now ray.entry.joined.now ray.entry.own ray.entry.most
+        selected.now places.items) }
 {
     let compatible_list = candidates_among(alloc, ray, part)?;
     minimal_of(alloc, ray, selected, &compatible_list)
@@ -171,7 +182,8 @@ pub fn minimal_places(
     requires selected { length selected.now ≡ length rays.now.supports }
     requires outer { length outer.now ≡ rays.now.columns }
     requires joined { length joined.now ≡ rays.now.columns }
-    ensures { IfOk result (λ places. AreMinimalOf rays.now.supports outer.now joined.now own most selected.now places.items) }
+    ensures { IfOk result (λ places.
+        AreMinimalOf rays.now.supports outer.now joined.now own most selected.now places.items) }
 {
     let ray = OuterRay {
         rays,

@@ -11,8 +11,10 @@ use support_bits::are_covered;
 /// May answer `true` if one of another group has.
 fn has_of_group(family: Family, place: usize, group: usize) -> bool
     requires { place < length family.table.now.supports }
-    ensures yes { IsTrue result → HasOtherInside family.entry.table.now.supports family.entry.outer.now family.entry.list.now place }
-    ensures no { IsFalse result → HasNoneOfGroup family.entry.table.now.supports family.entry.outer.now family.entry.list.now place group }
+    ensures yes { IsTrue result → HasOtherInside family.entry.table.now.supports family.entry.outer.now
+        family.entry.list.now place }
+    ensures no { IsFalse result → HasNoneOfGroup family.entry.table.now.supports family.entry.outer.now
+        family.entry.list.now place group }
 {
     let Family {
         table,
@@ -37,8 +39,11 @@ fn has_of_group(family: Family, place: usize, group: usize) -> bool
 fn has_of_word(family: Family, place: usize, first: usize, word: u64) -> bool
     requires place { place < length family.table.now.supports }
     requires first { first + 65 < 2 ^ 64 }
-    ensures yes { IsTrue result → HasOtherInside family.entry.table.now.supports family.entry.outer.now family.entry.list.now place }
-    ensures no { IsFalse result → (i : ℕ) → bit_at word i ≡ 1 → HasNoneOfGroup family.entry.table.now.supports family.entry.outer.now family.entry.list.now place (first + i + 1) }
+    ensures yes { IsTrue result → HasOtherInside family.entry.table.now.supports family.entry.outer.now
+        family.entry.list.now place }
+    ensures no { IsFalse result → (i : ℕ) → bit_at word i ≡ 1
+        → HasNoneOfGroup family.entry.table.now.supports family.entry.outer.now family.entry.list.now place
+        (first + i + 1) }
 {
     let mut rest = word;
     let mut column = first;
@@ -58,7 +63,8 @@ fn has_of_word(family: Family, place: usize, first: usize, word: u64) -> bool
 /// empty, or its last column is one of this ray's.
 pub fn has_other(family: Family, place: usize) -> bool
     requires { place < length family.table.now.supports }
-    ensures { IsTrue result ↔ HasOtherInside family.entry.table.now.supports family.entry.outer.now family.entry.list.now place }
+    ensures { IsTrue result ↔ HasOtherInside family.entry.table.now.supports family.entry.outer.now
+        family.entry.list.now place }
 {
     if has_of_group(family, place, 0) {
         return true;

@@ -38,7 +38,12 @@ impl Part {
         requires from { from < length table.now.supports }
         requires room { length self.old.table.supports + 1 < 2 ^ 64 }
         ensures places { OnOk result (self.new.places.items ≡ self.old.places.items ++ place ∷ []) }
-        ensures table { OnOk result (self.new.table ≡ record { columns = self.old.table.columns; supports = self.old.table.supports ++ support_at table.now.supports from ∷ [] }) }
+        ensures table { OnOk result (self.new.table
+            ≡ record {
+              columns = self.old.table.columns;
+              supports = self.old.table.supports
+                  ++ support_at table.now.supports from ∷ [];
+            }) }
     {
         self.table.push_from(table, from)?;
         self.places.push(place)?;
@@ -67,7 +72,8 @@ impl Part {
     pub fn without(&self, alloc: Global, words: &[u64]) -> Result<Part, NoMemory>
         requires count { length self.now.table.supports ≡ length self.now.places.items }
         requires words { length words.now ≡ (self.now.table.columns + 63) / 64 }
-        ensures { IfOk result (λ left. (rays : Table) → AreCopied rays self.now.places.items self.now.table → IsWithout rays words.now self.now.places.items (length self.now.places.items) left) }
+        ensures { IfOk result (λ left. (rays : Table) → AreCopied rays self.now.places.items self.now.table
+            → IsWithout rays words.now self.now.places.items (length self.now.places.items) left) }
     {
         let mut left = Part::none(alloc, self.table.columns());
         for k in 0..self.places.len() {

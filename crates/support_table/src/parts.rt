@@ -29,7 +29,8 @@ pub struct Found {
 /// The words of the columns that each outer ray of `chosen` clashes with.
 fn common_columns(alloc: Global, search: PartSearch, chosen: &[usize]) -> Result<Vec<u64>, NoMemory>
     requires { All (λ k. k < length search.outers.now) chosen.now }
-    ensures { IfOk result (λ words. AreCommonColumns search.entry.outers.now chosen.now search.entry.rays.now.columns words.items) }
+    ensures { IfOk result (λ words.
+        AreCommonColumns search.entry.outers.now chosen.now search.entry.rays.now.columns words.items) }
 {
     let rays = search.rays;
     let table = rays.table();
@@ -78,7 +79,9 @@ fn find_one(
     requires joined { length outer.now.joined ≡ search.rays.now.columns }
     requires near { AreNear search.rays.now.supports outer.now.joined part.now.places.items }
     requires copied { AreCopied search.rays.now part.now.places.items part.now.table }
-    ensures { IfOk result (λ found. AreMinimalOf search.entry.rays.now.supports outer.now.support outer.now.joined outer.now.place search.entry.most search.entry.selected.now found.items) }
+    ensures { IfOk result (λ found.
+        AreMinimalOf search.entry.rays.now.supports outer.now.support outer.now.joined outer.now.place search.entry.most
+        search.entry.selected.now found.items) }
 {
     let rays = search.rays;
     let table = rays.table();
@@ -112,8 +115,10 @@ fn find_each(
     found: &mut Vec<Found>,
 ) -> Result<(), NoMemory>
     requires part { IsPart search.rays.now search.outers.now chosen.now part.now }
-    requires found { AreFoundFor search.rays.now.supports search.outers.now search.selected.now search.most found.old.items }
-    ensures { OnOk result (AreFoundFor search.entry.rays.now.supports search.entry.outers.now search.entry.selected.now search.entry.most found.new.items) }
+    requires found { AreFoundFor search.rays.now.supports search.outers.now search.selected.now search.most
+        found.old.items }
+    ensures { OnOk result (AreFoundFor search.entry.rays.now.supports search.entry.outers.now search.entry.selected.now
+        search.entry.most found.new.items) }
 {
     for k in chosen {
         let outer = &search.outers[*k];
@@ -133,8 +138,10 @@ fn find_parts(
     found: &mut Vec<Found>,
 ) -> Result<(), NoMemory>
     requires part { IsPart parting.search.rays.now parting.search.outers.now chosen.items part.now }
-    requires found { AreFoundFor parting.search.rays.now.supports parting.search.outers.now parting.search.selected.now parting.search.most found.old.items }
-    ensures { OnOk result (AreFoundFor parting.entry.search.rays.now.supports parting.entry.search.outers.now parting.entry.search.selected.now parting.entry.search.most found.new.items) }
+    requires found { AreFoundFor parting.search.rays.now.supports parting.search.outers.now parting.search.selected.now
+        parting.search.most found.old.items }
+    ensures { OnOk result (AreFoundFor parting.entry.search.rays.now.supports parting.entry.search.outers.now
+        parting.entry.search.selected.now parting.entry.search.most found.new.items) }
 {
     let search = parting.search;
     if depth == 0 || part.is_small() {
@@ -179,7 +186,9 @@ fn none_found(alloc: Global, count: usize) -> Result<Vec<Found>, NoMemory>
 /// For each ray of `search.rays`, if it is one of `search.outers`, the rays adjacent to it that are `true` in
 /// `search.selected`. The contract says only that each list is right, and not which rays have one.
 pub fn find_adjacent(alloc: Global, search: PartSearch) -> Result<Vec<Found>, NoMemory>
-    ensures { IfOk result (λ found. AreFoundFor search.entry.rays.now.supports search.entry.outers.now search.entry.selected.now search.entry.most found.items) }
+    ensures { IfOk result (λ found.
+        AreFoundFor search.entry.rays.now.supports search.entry.outers.now search.entry.selected.now search.entry.most
+        found.items) }
 {
     let rays = search.rays;
     let table = rays.table();
