@@ -52,10 +52,6 @@ TESTS = {
 }
 # the packages that tests take if they are there
 PACKAGES = ("regina", "numpy", "pandas", "distributed", "mpi4py", "selenium", "websocket", "nbconvert")
-# the files of python/tests whose types aren't checked yet; one whose functions all have annotations leaves this list
-UNTYPED = ("browsers", "test_arguments", "test_arrays", "test_batch", "test_census", "test_certificates", "test_docs_site", "test_engines",
-           "test_executors", "test_launcher", "test_native", "test_nonsense", "test_parts", "test_pictures", "test_progress", "test_release",
-           "test_server", "test_sharing", "test_web")
 # what shellcheck doesn't see: files that are read in, their variables, and backquotes that are printed
 NOT_SEEN = "SC1091,SC2016,SC2034,SC2154,SC2185"
 # seconds after which a part is ended; the longest takes some three minutes on an idle machine, and eleven under a load of ten
@@ -199,7 +195,7 @@ def late_parts() -> List[Part]:
         typed("types", TOP / "tools", *files["tools"]),
         typed("types of the package", PYTHON, "trinorm"),
         typed("types of bench", TOP / "bench", *files["bench"]),
-        typed("types of tests", PYTHON, *(f"tests/{path.name}" for path in sorted((PYTHON / "tests").glob("*.py")) if path.stem not in UNTYPED)),
+        typed("types of tests", PYTHON, *(f"tests/{path.name}" for path in sorted((PYTHON / "tests").glob("*.py")))),
         Part("types of the page", ["tsc", "--project", "web"], TOP, "tsc"),
         Part("worked rows", [python_of_tests(), "-m", "trinorm.selfcheck"], PYTHON, str(PYTHON / "trinorm" / "selfcheck")),
         Part("examples", [python_of_tests(), "bench/examples.py"]),

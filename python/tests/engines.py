@@ -26,6 +26,13 @@ def python_with(module: str) -> Optional[str]:
     return None
 
 
+def needed(module: str) -> str:
+    """As `python_with`, for a module that is there."""
+    found = python_with(module)
+    assert found is not None
+    return found
+
+
 def skip_without(name: str, is_there: object) -> "Callable[[Test], Test]":
     """A decorator that skips a test by the name of what is missing."""
     return unittest.skipUnless(is_there, f"{name} isn't installed")

@@ -7,6 +7,8 @@ import threading
 import time
 import unittest
 import unittest.mock
+import warnings
+from typing import Any, Dict, Iterator, List, Tuple
 
 import trinorm
 from trinorm import batch, machine
@@ -16,36 +18,37 @@ from .cases import timed
 SIGNATURES = ["bkaagj", "cPcbbbiht", "bkaajj", "cMcabbgaj", "gLLPQccdfeefqffaqnw", "eLMkabcddbrrag"] * 20
 
 
-def length(text):
+def length(text: str) -> int:
     """A function of one text that other processes can import."""
     return len(text)
 
 
-def raises(_text):
+def raises(_text: str) -> None:
     raise KeyError("not a failure of the program's")
 
 
-def ends_its_process(text):
+def ends_its_process(text: str) -> str:
     if "cPcbbbiht" in text:
         os.kill(os.getpid(), signal.SIGKILL)
     return text
 
 
 class Many(unittest.TestCase):
-    def test_in_order(self):
-        for command, options in (("sig", {}), ("surfaces", {"coords": "quad"}), ("count", {}), ("zero_efficient", {})):
+    def test_in_order(self) -> None:
+        asked: List[Tuple[batch.CommandName, Dict[str, Any]]] = [("sig", {}), ("surfaces", {"coords": "quad"}), ("count", {}), ("zero_efficient", {})]
+        for command, options in asked:
             found = list(trinorm.many(SIGNATURES, command, **options))
             self.assertEqual([it.index for it in found], list(range(len(SIGNATURES))))
             self.assertEqual([it.triangulation for it in found], SIGNATURES)
             self.assertEqual([it.value for it in found], [getattr(trinorm, command)(it, **options) for it in SIGNATURES])
 
-    def test_as_they_are_done(self):
+    def test_as_they_are_done(self) -> None:
         found = list(trinorm.many(SIGNATURES, "sig", in_order=False))
         self.assertEqual(sorted(it.index for it in found), list(range(len(SIGNATURES))))
         self.assertTrue(all(it.answer == trinorm.sig(it.triangulation) for it in found))
 
-    def test_failures_are_values(self):
-        given = ["bkaagj", "bkaagjx", None, "cPcbbbiht", "a.txt", trinorm.table("bkaagj")]
+    def test_failures_are_values(self) -> None:
+        given: List[Any] = ["bkaagj", "bkaagjx", None, "cPcbbbiht", "a.txt", trinorm.table("bkaagj")]
         found = list(trinorm.many(given, "sig"))
         self.assertEqual([it.answer for it in found], ["bkaagj", None, None, "cPcbbbiht", None, "bkaagj"])
         self.assertEqual([type(it.failure) for it in found],
@@ -55,12 +58,13 @@ class Many(unittest.TestCase):
         self.assertIsInstance(next(trinorm.many(["bkaagj"], raises)).failure, KeyError)
         self.assertIsInstance(next(trinorm.many(["bkaagj"], "surfaces", coords="quads")).failure, trinorm.BadArgument)
 
-    def test_bad_arguments(self):
-        for given, command in ((SIGNATURES, "surface"), ("bkaagj", "sig"), (7, "sig"), (None, "sig")):
+    def test_bad_arguments(self) -> None:
+        wrong: List[Tuple[Any, Any]] = [(SIGNATURES, "surface"), ("bkaagj", "sig"), (7, "sig"), (None, "sig")]
+        for given, command in wrong:
             with self.assertRaises(trinorm.BadArgument):
                 trinorm.many(given, command)
 
-    def test_without_a_mask_of_processors(self):
+    def test_without_a_mask_of_processors(self) -> None:
         """macOS and Windows have no `os.sched_getaffinity`."""
         mask = os.__dict__.pop("sched_getaffinity", None)
         try:
@@ -70,13 +74,13 @@ class Many(unittest.TestCase):
             if mask is not None:
                 setattr(os, "sched_getaffinity", mask)
 
-    def test_nothing(self):
+    def test_nothing(self) -> None:
         self.assertEqual(list(trinorm.many([], "sig")), [])
 
-    def test_as_many_as_are_needed(self):
+    def test_as_many_as_are_needed(self) -> None:
         taken = []
 
-        def endless():
+        def endless() -> Iterator[str]:
             for number in itertools.count():
                 taken.append(number)
                 yield SIGNATURES[number % 6]
@@ -85,25 +89,29 @@ class Many(unittest.TestCase):
         self.assertEqual([it.answer for it in found], [trinorm.sig(SIGNATURES[it % 6]) for it in range(500)])
         self.assertLess(len(taken), 500 + 64 * 256 + 1)
 
-    def test_progress(self):
+    def test_progress(self) -> None:
         counts = []
         list(trinorm.many(["bkaagj", "bkaagjx", "cPcbbbiht"], "sig", progress=lambda *it: counts.append(it)))
         self.assertEqual(counts, [(1, 0), (2, 1), (3, 1)])
 
-        def ends(*_):
+        def ends(*_: object) -> None:
             raise InterruptedError
 
         with self.assertRaises(InterruptedError):
             list(trinorm.many(SIGNATURES, "sig", progress=ends))
 
     @timed
-    def test_timeouts(self):
+    def test_timeouts(self) -> None:
+        """The limit is that of each: one that takes hundreds of times longer than the others ends alone, on machines of any speed."""
         long = trinorm.make(6, 24).table
-        found = list(trinorm.many(["bkaagj", long, "cPcbbbiht"], "described", timeout=0.15))
+        for limit in (0.15, 0.3, 0.6, 1.2, 2.4, 4.8):
+            found = list(trinorm.many(["bkaagj", long, "cPcbbbiht"], "described", timeout=limit))
+            if not found[0].failure and not found[2].failure:
+                break
         self.assertIsInstance(found[1].failure, trinorm.TimedOut)
-        self.assertEqual([len(it.answer) for it in (found[0], found[2])], [2, 1])
+        self.assertEqual([len(it.value) for it in (found[0], found[2])], [2, 1])
 
-    def test_processes(self):
+    def test_processes(self) -> None:
         for way in ("fork", "spawn"):
             import multiprocessing
             with concurrent.futures.ProcessPoolExecutor(2, multiprocessing.get_context(way)) as executor:
@@ -112,7 +120,7 @@ class Many(unittest.TestCase):
                 self.assertIsInstance(found[-1].failure, trinorm.Refused)
                 self.assertEqual([it.answer for it in trinorm.many(["bkaagj"], length, executor)], [11])
 
-    def test_a_killed_worker(self):
+    def test_a_killed_worker(self) -> None:
         given = ["bkaagj", "cPcbbbiht", "bkaajj"]
         with concurrent.futures.ProcessPoolExecutor(1) as executor:
             found = list(trinorm.many(given, ends_its_process, executor))
@@ -120,7 +128,7 @@ class Many(unittest.TestCase):
         self.assertIsInstance(found[1].failure, trinorm.Failed)
         self.assertTrue(all(it.answer or isinstance(it.failure, trinorm.Failed) for it in found))
 
-    def test_there_are_no_more_threads_than_processors(self):
+    def test_there_are_no_more_threads_than_processors(self) -> None:
         threads = batch._Threads()
         try:
             done = [threads.submit(time.sleep, 0.001) for _ in range(5 * machine.processors())]
@@ -131,28 +139,28 @@ class Many(unittest.TestCase):
         finally:
             threads.stop()
 
-    def test_interrupts(self):
+    def test_interrupts(self) -> None:
         long = trinorm.make(6, 24).table
         timer = threading.Timer(0.5, os.kill, (os.getpid(), signal.SIGINT))
-        timer.start()
         begun = time.monotonic()
         # a shell ignores the signal for what it starts in the background, and so would this process
         before = signal.signal(signal.SIGINT, signal.default_int_handler)
         try:
             with self.assertRaises(KeyboardInterrupt):
+                timer.start()
                 for _ in trinorm.many(itertools.repeat(long), "described"):
-                    self.assertLess(time.monotonic() - begun, 60)
+                    self.assertLess(time.monotonic() - begun, 120)
         finally:
             timer.cancel()
             signal.signal(signal.SIGINT, before)
-        self.assertLess(time.monotonic() - begun, 30)
+        self.assertLess(time.monotonic() - begun, 120)
 
-    def test_interrupted_early(self):
+    def test_interrupted_early(self) -> None:
         """No lock is left held: it ends at once, with the handler's own exception."""
         class Stop(Exception):
             pass
 
-        def stop(*_):
+        def stop(*_: object) -> None:
             raise Stop
         before = signal.signal(signal.SIGALRM, stop)
         try:
@@ -167,9 +175,9 @@ class Many(unittest.TestCase):
             signal.setitimer(signal.ITIMER_REAL, 0)
             signal.signal(signal.SIGALRM, before)
 
-    def test_threads_that_do_not_start(self):
+    def test_threads_that_do_not_start(self) -> None:
         """As where memory is short: then this thread answers, also if the system says that they were started."""
-        def fails(*_):
+        def fails(*_: object) -> None:
             raise RuntimeError("can't start new thread")
 
         for starts in (fails, lambda *_: 1):
@@ -177,32 +185,44 @@ class Many(unittest.TestCase):
                 found = list(trinorm.many(SIGNATURES, length))
                 self.assertEqual([it.value for it in found], list(map(length, map(trinorm.tables.document, SIGNATURES))))
 
-    def test_an_executor_that_loses_its_calls(self):
+    def test_an_executor_that_loses_its_calls(self) -> None:
         """There is a warning."""
+        warned, warn = threading.Event(), warnings.warn
+
+        def noted(*given: Any, **named: Any) -> None:
+            warn(*given, **named)
+            warned.set()
+
         class Loses(concurrent.futures.ThreadPoolExecutor):
-            def submit(self, *given, **named):
-                future = concurrent.futures.Future()
-                threading.Timer(3, future.set_exception, (RuntimeError("it was lost"),)).start()
+            def submit(self, *given: Any, **named: Any) -> Any:
+                future: "concurrent.futures.Future[object]" = concurrent.futures.Future()
+
+                def give_up() -> None:
+                    warned.wait(60)
+                    future.set_exception(RuntimeError("it was lost"))
+
+                threading.Thread(target=give_up).start()
                 return future
 
-        with Loses(1) as executor, unittest.mock.patch.multiple(batch, LOOK=0.02, SILENCE=0.05):
+        with Loses(1) as executor, unittest.mock.patch.multiple(batch, LOOK=0.02, SILENCE=0.05), unittest.mock.patch.object(warnings, "warn", noted):
             with self.assertWarnsRegex(RuntimeWarning, "Loses has answered nothing for"):
                 found = list(trinorm.many(["bkaagj"], length, executor))
         self.assertIn("it was lost", str(found[0].failure))
 
-    def test_wrong_arguments_at_once(self):
-        for named in ({"executor": concurrent.futures.ThreadPoolExecutor}, {"timeout": 0}, {"timeout": 10 ** 400}, {"program": 5},
-                      {"no_such_option": 1}, {"command": 5}, {"command": None}):
+    def test_wrong_arguments_at_once(self) -> None:
+        wrong: List[Dict[str, Any]] = [{"executor": concurrent.futures.ThreadPoolExecutor}, {"timeout": 0}, {"timeout": 10 ** 400}, {"program": 5},
+                                       {"no_such_option": 1}, {"command": 5}, {"command": None}]
+        for named in wrong:
             with self.subTest(named), self.assertRaises(trinorm.BadArgument):
                 trinorm.many(SIGNATURES, **named)
 
-    def test_what_no_other_process_can_take(self):
+    def test_what_no_other_process_can_take(self) -> None:
         with concurrent.futures.ProcessPoolExecutor(1) as executor:
             failure = next(trinorm.many(["bkaagj"], lambda text: text, executor)).failure
         self.assertRegex(str(failure), "it cannot be sent to another process: .*pickle")
 
-    def test_an_end_in_the_middle(self):
-        answers = trinorm.many(itertools.repeat("cPcbbbiht"), "sig")
+    def test_an_end_in_the_middle(self) -> None:
+        answers: Any = trinorm.many(itertools.repeat("cPcbbbiht"), "sig")
         self.assertEqual(next(answers).answer, "cPcbbbiht")
         answers.close()
         self.assertEqual(list(answers), [])

@@ -9,9 +9,10 @@ import subprocess
 import tempfile
 import time
 import unittest
+from typing import Any, Callable, Dict, List, Sequence, Tuple
 
 from tests import networks, slurm_node
-from tests.engines import environment, python_with, skip_without
+from tests.engines import environment, needed, python_with, skip_without
 from tests.programs import script
 
 # answers at once, but kills what runs it if the signature is `killer`, and is slow for `slow`; tells which process runs it
@@ -28,7 +29,7 @@ echo $signature
 class Engines(unittest.TestCase):
     """Tests with a census of a few hundred lines."""
 
-    def setUp(self):
+    def setUp(self) -> None:
         folder = tempfile.TemporaryDirectory()
         self.addCleanup(folder.cleanup)
         self.folder = folder.name
@@ -36,19 +37,19 @@ class Engines(unittest.TestCase):
         self.out = os.path.join(self.folder, "answers")
         self.around = environment(script(self.folder, PROGRAM), FOLDER=self.folder)
 
-    def put(self, *signatures):
+    def put(self, *signatures: str) -> None:
         with open(self.given, "w", encoding="utf8") as file:
             file.writelines(f"{signature} n{number}\n" for number, signature in enumerate(signatures))
 
-    def words(self, python, *more):
+    def words(self, python: str, *more: str) -> List[str]:
         return [python, *more, "trinorm", "census", self.given, "--command", "sig", "--out", self.out]
 
-    def start(self, words):
+    def start(self, words: Sequence[str]) -> "subprocess.Popen[str]":
         run = subprocess.Popen(words, env=self.around, stderr=subprocess.PIPE, text=True, start_new_session=True)
         self.addCleanup(self.end, run)
         return run
 
-    def begin(self, words):
+    def begin(self, words: Sequence[str]) -> "subprocess.Popen[bytes]":
         """Starts a process that goes on. What it says is in a file: it would stop for ever at a pipe that is full."""
         with open(os.path.join(self.folder, "log"), "ab") as log:
             run = subprocess.Popen(words, env=self.around, stdout=subprocess.DEVNULL, stderr=log, start_new_session=True)
@@ -56,46 +57,46 @@ class Engines(unittest.TestCase):
         return run
 
     @staticmethod
-    def end(run):
+    def end(run: "subprocess.Popen[Any]") -> None:
         with contextlib.suppress(ProcessLookupError):
             os.killpg(run.pid, signal.SIGKILL)
         run.wait()
         if run.stderr is not None:
             run.stderr.close()
 
-    def run_all(self, words, timeout=120):
+    def run_all(self, words: Sequence[str], timeout: float = 120) -> Tuple[int, str]:
         """The status, and what was said on standard error."""
         run = self.start(words)
         _, said = run.communicate(timeout=timeout)
         return run.returncode, said
 
-    def lines(self):
+    def lines(self) -> List[Dict[str, Any]]:
         """The whole lines of the output."""
         if not os.path.exists(self.out):
             return []
         with open(self.out, encoding="utf8") as file:
             return [json.loads(line) for line in file if line.endswith("\n")]
 
-    def until(self, is_so, seconds=60):
+    def until(self, is_so: Callable[[], bool], seconds: float = 60) -> None:
         end = time.monotonic() + seconds
         while not is_so():
             self.assertLess(time.monotonic(), end)
             time.sleep(0.05)
 
-    def processes(self):
+    def processes(self) -> List[int]:
         """Those that ran the program, the last one first."""
         with open(os.path.join(self.folder, "processes"), encoding="utf8") as file:
             return [int(line) for line in file][::-1]
 
-    def assert_each_once(self, count):
+    def assert_each_once(self, count: int) -> None:
         self.assertEqual(sorted(line["name"] for line in self.lines()), sorted(f"n{number}" for number in range(count)))
 
 
 @skip_without("python3-distributed (Dask)", python_with("distributed"))
 class Dask(Engines):
-    def setUp(self):
+    def setUp(self) -> None:
         super().setUp()
-        self.python = python_with("distributed")
+        self.python = needed("distributed")
         with socket.socket() as free:
             free.bind(("127.0.0.1", 0))
             port = free.getsockname()[1]
@@ -105,13 +106,13 @@ class Dask(Engines):
         subprocess.run([self.python, "-c", f"from distributed import Client; Client('{self.address}').wait_for_workers(2)"],
                        env=self.around, stderr=subprocess.DEVNULL, timeout=120, check=True)
 
-    def dask(self, kind, *words):
+    def dask(self, kind: str, *words: str) -> "subprocess.Popen[bytes]":
         return self.begin([self.python, "-m", f"distributed.cli.dask_{kind}", "--no-dashboard", *words])
 
-    def census(self, *more):
+    def census(self, *more: str) -> List[str]:
         return [*self.words(self.python, "-m"), "--dask", self.address, *more]
 
-    def test_a_census_and_on(self):
+    def test_a_census_and_on(self) -> None:
         self.put(*(f"slow{number}" for number in range(100)), *(f"s{number}" for number in range(100, 300)))
         status, said = self.run_all(self.census())
         self.assertEqual(status, 0, said)
@@ -123,7 +124,7 @@ class Dask(Engines):
         self.assertIn("100 done before; 200 answered", self.run_all(self.census())[1])
         self.assert_each_once(300)
 
-    def test_a_killed_worker_loses_nothing(self):
+    def test_a_killed_worker_loses_nothing(self) -> None:
         self.put(*(f"slow{number}" for number in range(200)))
         run = self.start(self.census())
         self.until(lambda: len(self.lines()) > 5)
@@ -132,7 +133,7 @@ class Dask(Engines):
         self.assertIn("200 answered, 0 refused, 0 failed", said)
         self.assert_each_once(200)
 
-    def test_a_triangulation_that_kills_each_worker(self):
+    def test_a_triangulation_that_kills_each_worker(self) -> None:
         self.put(*(f"s{number}" for number in range(30)), "killer", *(f"s{number}" for number in range(30, 60)))
         status, said = self.run_all(self.census(), 300)
         self.assertEqual(status, 1, said)
@@ -142,13 +143,13 @@ class Dask(Engines):
         self.assertEqual(failed["signature"], "killer")
         self.assertIn("KilledWorker", failed["failed"])
 
-    def test_limits(self):
+    def test_limits(self) -> None:
         self.put("s1", "slow", "s2")
         self.assertEqual(self.run_all(self.census("--timeout", "0.02"))[0], 1)
         failed = [line["failed"] for line in self.lines() if line["signature"] == "slow"]
         self.assertEqual(failed, ["sig: no result within 0.02 s"])
 
-    def test_interrupts(self):
+    def test_interrupts(self) -> None:
         """The last line says how to go on, and Dask's client has no errors of calls that were given up."""
         self.put(*(f"slow{number}" for number in range(1000)))
         for number in (signal.SIGINT, signal.SIGTERM) * 3:
@@ -160,7 +161,7 @@ class Dask(Engines):
             self.assertRegex(said.splitlines()[-1], "^stopped: .*if it is started again with the same arguments, it resumes", said)
             self.assertNotIn("Traceback", said)
 
-    def test_a_scheduler_that_ends(self):
+    def test_a_scheduler_that_ends(self) -> None:
         self.put(*(f"slow{number}" for number in range(400)))
         run = self.start([*self.census(), "--jobs", "4"])
         self.until(lambda: len(self.lines()) > 5)
@@ -172,7 +173,7 @@ class Dask(Engines):
         self.assertIn("if it is started again with the same arguments, it resumes", said)
         self.assertEqual([line for line in self.lines() if "failed" in line], [])
 
-    def test_a_scheduler_that_stops_for_a_while(self):
+    def test_a_scheduler_that_stops_for_a_while(self) -> None:
         """It is connected, but says nothing. After a minute there is a line, here sooner; when it goes on, so does the census."""
         self.put(*(f"slow{number}" for number in range(200)))
         soon = os.path.join(self.folder, "soon.py")
@@ -181,6 +182,7 @@ class Dask(Engines):
         run = self.start([self.python, soon, *self.census()[3:]])
         self.until(lambda: len(self.lines()) > 5)
         os.kill(self.scheduler.pid, signal.SIGSTOP)
+        assert run.stderr is not None
         for line in run.stderr:
             if "no result for a minute: the executor does not answer. The run waits for it" in line:
                 break
@@ -190,7 +192,7 @@ class Dask(Engines):
         self.assertIn("200 answered, 0 refused, 0 failed", said)
         self.assert_each_once(200)
 
-    def test_no_scheduler(self):
+    def test_no_scheduler(self) -> None:
         self.put("s")
         status, said = self.run_all([*self.words(self.python, "-m"), "--dask", "nonsense://"])
         self.assertEqual(status, 3)
@@ -201,9 +203,9 @@ class Dask(Engines):
 class Networks(Engines):
     """A scheduler and two workers, each in a network of its own, so that all they know of each other goes through links."""
 
-    def setUp(self):
+    def setUp(self) -> None:
         super().setUp()
-        self.python = python_with("distributed")
+        self.python = needed("distributed")
         self.both = [networks.Network(number) for number in (1, 2)]
         for network in self.both:
             network.__enter__()
@@ -219,10 +221,10 @@ class Networks(Engines):
         subprocess.run([self.python, "-c", f"from distributed import Client; Client('{self.address}').wait_for_workers(2)"],
                        env=self.around, stderr=subprocess.DEVNULL, timeout=120, check=True)
 
-    def dask(self, before, kind, *words):
+    def dask(self, before: Sequence[str], kind: str, *words: str) -> "subprocess.Popen[bytes]":
         return self.begin([*before, self.python, "-m", f"distributed.cli.dask_{kind}", "--no-dashboard", *words])
 
-    def run_with(self, change, count=300):
+    def run_with(self, change: Callable[[], object], count: int = 300) -> None:
         """The lines of a census after whose first answers something is changed. Those of which machine are how many?"""
         self.put(*(f"slow{number}" for number in range(count)))
         run = self.start([*self.words(self.python, "-m"), "--dask", self.address])
@@ -233,14 +235,14 @@ class Networks(Engines):
         self.assertIn(f"{count} answered, 0 refused, 0 failed", said)
         self.assert_each_once(count)
 
-    def test_two_machines(self):
+    def test_two_machines(self) -> None:
         self.run_with(lambda: None)
 
-    def test_a_network_that_is_cut_loses_nothing(self):
+    def test_a_network_that_is_cut_loses_nothing(self) -> None:
         self.run_with(self.both[1].cut)
 
-    def test_a_network_that_is_cut_and_mended_answers_nothing_twice(self):
-        def cut_and_mend():
+    def test_a_network_that_is_cut_and_mended_answers_nothing_twice(self) -> None:
+        def cut_and_mend() -> None:
             self.both[1].cut()
             time.sleep(3)
             self.both[1].mend()
@@ -249,10 +251,10 @@ class Networks(Engines):
 
 @skip_without("python3-mpi4py with mpiexec", python_with("mpi4py.futures") and shutil.which("mpiexec"))
 class Mpi(Engines):
-    def census(self, *more):
-        return ["mpiexec", "-n", "3", *self.words(python_with("mpi4py.futures"), "-m", "mpi4py.futures", "-m"), "--mpi", *more]
+    def census(self, *more: str) -> List[str]:
+        return ["mpiexec", "-n", "3", *self.words(needed("mpi4py.futures"), "-m", "mpi4py.futures", "-m"), "--mpi", *more]
 
-    def test_a_census_and_on(self):
+    def test_a_census_and_on(self) -> None:
         self.put(*(f"s{number}" for number in range(300)))
         status, said = self.run_all(self.census())
         self.assertEqual(status, 0, said)
@@ -261,7 +263,7 @@ class Mpi(Engines):
         self.assertEqual(len(set(self.processes())), 2)
         self.assertIn("300 done before; 0 answered", self.run_all(self.census())[1])
 
-    def test_a_killed_rank_ends_the_job_and_the_next_goes_on(self):
+    def test_a_killed_rank_ends_the_job_and_the_next_goes_on(self) -> None:
         self.put(*(f"slow{number}" for number in range(150)))
         run = self.start(self.census())
         self.until(lambda: len(self.lines()) > 20)
@@ -275,9 +277,9 @@ class Mpi(Engines):
         self.assertIn(f"{before} done before; {150 - before} answered", said)
         self.assert_each_once(150)
 
-    def test_not_by_mpiexec(self):
+    def test_not_by_mpiexec(self) -> None:
         self.put("s")
-        python = python_with("mpi4py.futures")
+        python = needed("mpi4py.futures")
         for words in ([*self.words(python, "-m"), "--mpi"], ["mpiexec", "-n", "2", *self.words(python, "-m"), "--mpi"]):
             status, said = self.run_all(words)
             self.assertEqual(status, 3, said)
@@ -288,7 +290,7 @@ class Mpi(Engines):
 class Slurm(Engines):
     """Each of the ways that the page names, on a cluster of one node."""
 
-    def setUp(self):
+    def setUp(self) -> None:
         super().setUp()
         folder = tempfile.TemporaryDirectory()
         self.addCleanup(folder.cleanup)
@@ -298,7 +300,7 @@ class Slurm(Engines):
         self.addCleanup(node.__exit__)
         self.node = node
 
-    def submit(self, text, *words):
+    def submit(self, text: str, *words: str) -> str:
         """Runs a batch script to its end."""
         path = os.path.join(self.folder, "job")
         with open(path, "w", encoding="utf8") as file:
@@ -309,7 +311,7 @@ class Slurm(Engines):
         self.assertEqual(done.returncode, 0, f"{done} {said}")
         return said
 
-    def test_parts_of_a_file_in_an_array(self):
+    def test_parts_of_a_file_in_an_array(self) -> None:
         self.put(*(f"s{number}" for number in range(100)))
         subprocess.run(["split", "-n", "l/4", "-d", self.given, os.path.join(self.folder, "part.")], check=True)
         self.submit("python3 -m trinorm census part.$(printf %02d $SLURM_ARRAY_TASK_ID) --command sig --jobs 1\n", "--array=0-3")
@@ -318,16 +320,16 @@ class Slurm(Engines):
         self.assert_each_once(100)
 
     @skip_without("python3-mpi4py with mpiexec", python_with("mpi4py.futures") and shutil.which("mpiexec"))
-    def test_mpi(self):
+    def test_mpi(self) -> None:
         self.put(*(f"slow{number}" for number in range(60)))
-        words = " ".join([*self.words(python_with("mpi4py.futures"), "-m", "mpi4py.futures", "-m"), "--mpi"])
+        words = " ".join([*self.words(needed("mpi4py.futures"), "-m", "mpi4py.futures", "-m"), "--mpi"])
         self.assertIn("60 answered, 0 refused, 0 failed", self.submit(f"mpiexec -n 3 {words}\n", "-n", "3"))
         self.assert_each_once(60)
         self.assertEqual(len(set(self.processes())), 2)
 
     @skip_without("python3-distributed (Dask)", python_with("distributed"))
-    def test_dask(self):
-        python = python_with("distributed")
+    def test_dask(self) -> None:
+        python = needed("distributed")
         self.put(*(f"slow{number}" for number in range(60)))
         said = self.submit(f"""{python} -m distributed.cli.dask_scheduler --host 127.0.0.1 --port 0 --no-dashboard --scheduler-file scheduler &
 scheduler=$!
@@ -344,7 +346,7 @@ exit $status
 
 
 class Missing(Engines):
-    def test_what_to_install(self):
+    def test_what_to_install(self) -> None:
         """Without the optional modules a sentence says what to install."""
         self.put("s")
         for module, word, text in (("distributed", "--dask=tcp://localhost:1", "python3-distributed"), ("mpi4py", "--mpi", "python3-mpi4py")):

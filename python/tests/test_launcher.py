@@ -9,7 +9,8 @@ import sys
 import tempfile
 import time
 import unittest
-from typing import List
+from pathlib import Path
+from typing import ClassVar, List, Sequence, Tuple, Union
 
 import trinorm
 from tests import repository
@@ -31,15 +32,19 @@ with open(sys.argv[1], "wb") as file:
 
 
 class Launcher(unittest.TestCase):
+    folder: ClassVar["tempfile.TemporaryDirectory[str]"]
+    program: ClassVar[Path]
+    launcher: ClassVar[str]
+
     @classmethod
-    def setUpClass(cls):
+    def setUpClass(cls) -> None:
         """A folder in which the launcher finds a program that is current."""
         cls.folder = tempfile.TemporaryDirectory()
         cls.addClassCleanup(cls.folder.cleanup)
         cls.program = repository.make(cls.folder.name)
         cls.launcher = os.path.join(cls.folder.name, "trinorm")
 
-    def run_with(self, program, words, text, by_name=False, terminal=True):
+    def run_with(self, program: Union[str, Path], words: Sequence[str], text: bytes, by_name: bool = False, terminal: bool = True) -> Tuple[int, bytes, str]:
         """Status, answer, and what is said on standard error, with a pipe or a file for standard input."""
         ours, theirs = pty.openpty() if terminal else os.pipe()
         try:
@@ -59,7 +64,7 @@ class Launcher(unittest.TestCase):
             os.close(theirs)
         return done.returncode, done.stdout, said.replace("\r\n", "\n")[:-len("<end>\n")]
 
-    def said(self, words, text=b""):
+    def said(self, words: Sequence[str], text: bytes = b"") -> str:
         """What is said; status and answer are the program's, and where standard error is no terminal nothing is said."""
         alone = self.run_with(self.program, words, text)
         self.assertEqual(alone[2], "")
@@ -69,11 +74,12 @@ class Launcher(unittest.TestCase):
         self.assertEqual(through_pipe[:2], alone[:2])
         return through_pipe[2]
 
-    def test_all_commands(self):
+    def test_all_commands(self) -> None:
         """Without words, and where help is asked for: each command with a word on it."""
         with open(os.path.join(self.folder.name, "python", "trinorm", "commands.txt"), encoding="utf8") as file:
             rows = [line.rstrip("\n").split("\t") for line in file if not line.startswith("#")]
-        for words in ([], ["help"], ["--help"], ["-h"]):
+        asked: List[List[str]] = [[], ["help"], ["--help"], ["-h"]]
+        for words in asked:
             said = self.said(words)
             self.assertTrue(said.startswith("trinorm: commands ("), said)
             for name, *_, answers in rows:
@@ -81,7 +87,7 @@ class Launcher(unittest.TestCase):
             self.assertIn("each command except make and bulk reads standard input", said)
             self.assertIn(f"for example: {self.launcher} surfaces < {self.folder.name}/examples/", said)
 
-    def test_words(self):
+    def test_words(self) -> None:
         """What is wrong with the words, and the options that the command has."""
         help_too = f"trinorm: `{self.launcher} --help` lists the commands\n"
         for word, near in (("surface", "; did you mean `surfaces`?"), ("desribe", "; did you mean `describe`?"), ("crsuh", "; did you mean `crush`?"), ("x", ""), ("a&b\\", "")):
@@ -102,7 +108,7 @@ class Launcher(unittest.TestCase):
         self.assertEqual(self.said(["info", "--order", "zeros"]).splitlines()[1], "trinorm: options of info: none")
         self.assertEqual(self.said(["make"]).splitlines()[1], "trinorm: options of make: --seed 0..18446744073709551615 and --moves 0..1000, both required")
 
-    def test_checks_and_limits(self):
+    def test_checks_and_limits(self) -> None:
         """Status 4 and 5."""
         for words, text, said in (
             (["describe"], b"sig bkaagj\nvec 0 0 1\n", "vector 0 has 3 entries; standard coordinates have 7 for each tetrahedron. `lift` converts quad vectors to standard ones"),
@@ -116,7 +122,7 @@ class Launcher(unittest.TestCase):
         ):
             self.assertIn(said, self.said(words, text))
 
-    def test_sentences_are_the_package_s(self):
+    def test_sentences_are_the_package_s(self) -> None:
         """The hints of the package, which reads the same table."""
         for words, text in (
             (["describe"], "sig bkaagj\nvec 0 0 1\n"), (["info"], "cPcbbbiht_BaCB\n"), (["info"], "m004\n"), (["info"], "sig m004\n"), (["info"], "sig cPcbbbiht_BaCB\n"), (["info"], "sig bka\n"), (["info"], "tri 1\n- - -\n"),
@@ -132,7 +138,7 @@ class Launcher(unittest.TestCase):
             self.assertGreater(len(hint), 5)
             self.assertIn(hint, self.said(words, text.encode()), (words, text))
 
-    def test_other_awks(self):
+    def test_other_awks(self) -> None:
         """What plays the part of awk elsewhere says the same."""
         for command in ("mawk", "gawk", "original-awk", "busybox"):
             if not shutil.which(command):
@@ -148,7 +154,7 @@ class Launcher(unittest.TestCase):
                     ours = self.run_with("sh", ["-c", script, self.launcher, *words], text)
                     self.assertEqual(ours, self.run_with(self.launcher, words, text), (command, words))
 
-    def test_help_of_a_command(self):
+    def test_help_of_a_command(self) -> None:
         for words in (["surfaces", "--help"], ["surfaces", "--coords", "quad", "-h"]):
             said = self.said(words)
             for text in ("surfaces prints all vertex normal surfaces", "--order given|short|zeros", "reads a triangulation", "for example: "):
@@ -156,7 +162,7 @@ class Launcher(unittest.TestCase):
         self.assertNotIn("triangulation is", self.said(["rays", "--help"]))
         self.assertNotIn("reads", self.said(["make", "--help"]))
 
-    def test_help_on_a_term(self):
+    def test_help_on_a_term(self) -> None:
         """A term by itself, those that contain it, a command, and all of them; and what has no explanation."""
         with open(os.path.join(self.folder.name, "python", "trinorm", "words.json"), encoding="utf8") as file:
             known = json.load(file)["words"]
@@ -172,25 +178,25 @@ class Launcher(unittest.TestCase):
             self.assertEqual(said.count("\n"), 1)
         self.assertIn(f"trinorm: `{self.launcher} help TERM` explains a term", self.said([]))
 
-    def test_examples_of_help_run(self):
+    def test_examples_of_help_run(self) -> None:
         with open(os.path.join(self.folder.name, "python", "trinorm", "commands.txt"), encoding="utf8") as file:
             names = [line.split("\t")[0] for line in file if not line.startswith("#")]
         for name in names:
             example = self.said([name, "--help"]).rpartition("for example: ")[2]
             self.assertEqual(subprocess.run(["sh", "-c", example], stdout=subprocess.PIPE, check=False).returncode, 0, example)
 
-    def test_other_shells(self):
+    def test_other_shells(self) -> None:
         """What plays the part of sh elsewhere reads the launcher too, and says the same."""
         for shell in filter(shutil.which, ("bash", "dash", "ksh", "busybox")):
-            words = [shutil.which(shell), *(["sh"] if shell == "busybox" else []), self.launcher]
+            words = [shutil.which(shell) or shell, *(["sh"] if shell == "busybox" else []), self.launcher]
             for given, text in ((["surfaces", "--help"], b""), (["info"], b"cPcbbbiht_BaCB"), (["surfaces", "a'b", "cPcbbbiht"], b""), (["verify"], b"tri 0\nvec -1\n")):
                 self.assertEqual(self.run_with(words[0], [*words[1:], *given], text), self.run_with(self.launcher, given, text), (shell, given))
 
-    def test_version(self):
+    def test_version(self) -> None:
         for words in (["--version"], ["version"]):
             self.assertEqual(self.said(words), "trinorm: version 1.2, commit abc, program sha256 34, proved here by made-up\n")
 
-    def test_input_among_the_words(self):
+    def test_input_among_the_words(self) -> None:
         head, me = "trinorm: surfaces reads a triangulation from standard input:", self.launcher
         path = os.path.join(self.folder.name, "a file.txt")
         open(path, "w", encoding="utf8").close()
@@ -199,7 +205,7 @@ class Launcher(unittest.TestCase):
         self.assertEqual(self.said(["surfaces", "sig", "cPcbbbiht_BaCB"]), f"{head} echo sig cPcbbbiht | {me} surfaces\n")
         self.assertEqual(self.said(["surfaces", "-", "--order=zeros"]), f"{head} {me} surfaces --order=zeros < FILE\n")
 
-    def test_options_are_the_program_s(self):
+    def test_options_are_the_program_s(self) -> None:
         commands = [line.split()[1] for line in self.said([]).splitlines() if line.startswith("trinorm:   ")]
         self.assertEqual(len(commands), 21)
         for command in commands:
@@ -211,17 +217,17 @@ class Launcher(unittest.TestCase):
                 status = subprocess.run([self.program, command, *values[:6]], stdin=subprocess.DEVNULL, stdout=subprocess.PIPE, check=False).returncode
                 self.assertNotEqual(status, 2, (command, values))
 
-    def test_a_signature_without_its_word(self):
+    def test_a_signature_without_its_word(self) -> None:
         for text in (b"cPcbbbiht", b"cPcbbbiht\n", b"# a comment\n\n  cPcbbbiht\r\nvec 1\n"):
             self.assertTrue(self.said(["info"], text).endswith("^ write `sig` before cPcbbbiht\n"))
         self.assertEqual(self.said(["surfaces", "--order", "zeros"], b"bkaagj"), "trinorm: line 1: bkaagj\n                 ^ write `sig` before bkaagj\n")
 
-    def test_a_decorated_signature(self):
+    def test_a_decorated_signature(self) -> None:
         self.assertIn("^ write `sig` before cPcbbbiht, and leave out SnapPy's decoration _BaCB\n", self.said(["info"], b"cPcbbbiht_BaCB\n"))
         for text in (b"sig cPcbbbiht_BaCB\n", b"#\n  sig   cPcbbbiht_BaCB"):
             self.assertIn("^ _BaCB is SnapPy's decoration; leave it out: `sig cPcbbbiht`\n", self.said(["info"], text))
 
-    def test_the_line_is_shown(self):
+    def test_the_line_is_shown(self) -> None:
         """For each place of a fault what is wanted there, and a caret under the column that the program names."""
         for words, text, wanted in (
             (["info"], b"trj 1\n", "a triangulation begins with"), (["info"], b"tri\n", "the number of tetrahedra"),
@@ -246,7 +252,7 @@ class Launcher(unittest.TestCase):
             shown = said[0][caret:caret + 1]
             self.assertEqual(shown.strip(), line[column:column + 1].strip() if line[column:column + 1].isascii() else "", said)
 
-    def test_faults_of_tables_and_signatures(self):
+    def test_faults_of_tables_and_signatures(self) -> None:
         for words, text, column, wanted in (
             (["info"], b"tri 1\n- - 0:1032  0:0132\n", 5, "is not glued back by the inverse permutation"), (["info"], b"tri 1\n- - - 4:0123\n", 7, "a tetrahedron that does not exist"),
             (["info"], b"tri 1\n0:0123 - - -\n", 1, "glued to itself"), (["info"], b"sig bkaagjx\n", 11, "complete before this"),
@@ -257,25 +263,25 @@ class Launcher(unittest.TestCase):
             self.assertEqual(said[1].index("^"), len("trinorm: line 1: ") + column - 1, said)
             self.assertIn(wanted, said[1])
 
-    def test_nothing_came_and_too_little_came(self):
+    def test_nothing_came_and_too_little_came(self) -> None:
         self.assertEqual(self.said(["info"], b""), "trinorm: the input is empty; a triangulation begins with `tri N` or `sig SIGNATURE`\n")
         self.assertTrue(self.said(["info"], b"# c\n").startswith("trinorm: the input is empty; "))
         self.assertTrue(self.said(["info"], b"tri 1\n").startswith("trinorm: the input is incomplete: an entry is"))
         self.assertTrue(self.said(["same"], b"tri 0\n").startswith("trinorm: the input is incomplete: a triangulation begins"))
 
-    def test_files_of_others(self):
+    def test_files_of_others(self) -> None:
         for text, wanted in (
             (b"\xef\xbb\xbfsig bkaagj\n", "a byte order mark"), ("sig bkaagj\n".encode("utf-16"), "UTF-16"), (b"\x1f\x8b\x08\x00", "compressed"),
             (b'<?xml version="1.0"?>\n<regina engine="7.3">\n', "a file of Regina"), (b"% Triangulation\nm004\n", "SnapPy"),
         ):
             self.assertIn(wanted, self.said(["info"], text))
 
-    def test_other_refusals(self):
+    def test_other_refusals(self) -> None:
         self.assertIn("the input is longer than 1 MiB", self.said(["info"], b"bkaagj\n" + b"#\n" * 600000))
         self.assertIn("compare the signatures", self.said(["group"], b"sig bkaagj\n" * 100000))
         self.assertEqual(self.said(["group"], b"sig bkaagj\nsig bkaagjx\n"), "trinorm: the signature is complete before this\n")
 
-    def test_more_than_the_program_reads(self):
+    def test_more_than_the_program_reads(self) -> None:
         """The second run reads what the first one has read, also if `tee` writes blocks that are larger than a pipe."""
         with tempfile.TemporaryDirectory() as folder:
             path = os.path.join(folder, "tee")
@@ -287,7 +293,7 @@ class Launcher(unittest.TestCase):
             self.assertEqual(self.run_with("sh", ["-c", script], text), (*self.run_with(self.program, ["info"], text)[:2], self.said(["info"], text)))
             self.assertIn("longer than 1 MiB", self.run_with("sh", ["-c", script], text)[2])
 
-    def test_reading_and_writing_that_fails(self):
+    def test_reading_and_writing_that_fails(self) -> None:
         script = "exec %s info %s; echo $?"
         for given in ("<&-", "</", "<%s/crates.txt" % self.folder.name):
             alone, ours = (self.run_with("sh", ["-c", script % (it, given)], b"") for it in (self.program, self.launcher))
@@ -301,7 +307,7 @@ class Launcher(unittest.TestCase):
         script = f"set -- sig; program={program} commands={self.folder.name}/python/trinorm/commands.txt here={self.folder.name}/launcher; . {self.folder.name}/launcher/hints.sh"
         self.assertEqual(self.run_with("sh", ["-c", script], b"")[2], "trinorm: out of memory\n")
 
-    def test_a_file_that_was_read_in_part(self):
+    def test_a_file_that_was_read_in_part(self) -> None:
         with tempfile.TemporaryFile() as file:
             file.write(b"sig bkaagj\nsig bkaagj x\n")
             file.seek(11)
@@ -311,7 +317,7 @@ class Launcher(unittest.TestCase):
             os.close(theirs)
         self.assertEqual(done.stdout, b"refused: input 1 12 extra-word\n")
 
-    def test_waiting_on_a_terminal(self):
+    def test_waiting_on_a_terminal(self) -> None:
         ours, theirs = pty.openpty()
         run = subprocess.Popen([self.launcher, "sig"], stdin=theirs, stdout=subprocess.PIPE, stderr=theirs)
         said = b""
@@ -323,7 +329,7 @@ class Launcher(unittest.TestCase):
         os.close(ours)
         os.close(theirs)
 
-    def test_a_long_run(self):
+    def test_a_long_run(self) -> None:
         """What is said after ten seconds, which a made-up `sleep` makes shorter; what waits ends with the program."""
         with tempfile.TemporaryDirectory() as folder:
             for name, text in (("sleep", "exec /bin/sleep $wait"), ("slow", "cat; exec /bin/sleep 6"), ("quick", "cat")):
@@ -339,7 +345,7 @@ class Launcher(unittest.TestCase):
                     script = f"wait={wait}; {start}; program={folder}/{name}; set -- sig; . {self.folder.name}/launcher/hints.sh"
                     self.assertEqual(self.run_with(shell, ["-c", script], b"answer\n"), (0, b"answer\n", said))
 
-    def test_what_waits_ends(self):
+    def test_what_waits_ends(self) -> None:
         """After ten short runs no process of them is left, and a reader of the answer doesn't wait for one."""
         mark = f"mark-{os.getpid()}"
         ours, theirs = pty.openpty()
@@ -349,7 +355,7 @@ class Launcher(unittest.TestCase):
         os.close(ours)
         os.close(theirs)
         self.assertEqual(done.stdout, b"bkaagj\n" * 10)
-        until = time.monotonic() + 5
+        until = time.monotonic() + 60
         while self.marked(mark) and time.monotonic() < until:
             time.sleep(0.1)
         self.assertEqual(self.marked(mark), [])
@@ -366,16 +372,16 @@ class Launcher(unittest.TestCase):
                 pass
         return left
 
-    def test_no_place_for_what_was_read(self):
+    def test_no_place_for_what_was_read(self) -> None:
         script = f"TMPDIR=/no/such/folder; export TMPDIR; echo sig bkaagj | {self.launcher} sig"
         self.assertEqual(self.run_with("sh", ["-c", script], b""), (0, b"bkaagj\n", ""))
 
-    def test_answers(self):
+    def test_answers(self) -> None:
         self.assertEqual(self.said(["surfaces"], b"sig bkaagj\n"), "")
         self.assertEqual(self.said(["make", "--seed", "1", "--moves", "3"]), "")
         self.assertEqual(self.said(["group"], b""), "")
 
-    def test_standard_input_is_left_to_others_where_it_is_not_read(self):
+    def test_standard_input_is_left_to_others_where_it_is_not_read(self) -> None:
         ours, theirs = pty.openpty()
         script = f"{self.launcher} make --seed 1 --moves 0 >/dev/null; {self.launcher} help >/dev/null; cat"
         done = subprocess.run(["sh", "-c", script], input=b"kept", stdout=subprocess.PIPE, stderr=theirs, timeout=60, check=False)

@@ -34,9 +34,16 @@ ASKED: List[List[str]] = [
     ["surfaces", "--coords=quad", "--order", "zeros"], ["surfaces", "--coords", "octagon"], ["surfaces", "--max-entry", "1"],
     *([name] for name in reading("table")), ["rays"], ["make", "--seed", "7", "--moves", "20"],
     ["bulk", "--seed", "7", "--moves", "2"], ["play"], ["group"], ["same"], ["verify"], ["check"]]
+
+
+def chain(size: int) -> str:
+    """A ring of so many tetrahedra, each glued to the next by two faces."""
+    return f"tri {size}\n" + "".join(
+        f"{(it + 1) % size}:1023 {(it - 1) % size}:1023 {(it - 1) % size}:0132 {(it + 1) % size}:0132\n" for it in range(size))
+
+
 # a list of 15,129 surfaces, in a good fraction of a second
-LONG = "tri 20\n" + "".join(
-    f"{(it + 1) % 20}:1023 {(it - 1) % 20}:1023 {(it - 1) % 20}:0132 {(it + 1) % 20}:0132\n" for it in range(20))
+LONG = chain(20)
 
 
 def named() -> Optional[str]:
@@ -154,7 +161,7 @@ class Library(unittest.TestCase):
         begun = time.monotonic()
         with self.assertRaises(trinorm.TimedOut):
             self.library.run(["surfaces"], LONG, timeout=0.01)
-        self.assertLess(time.monotonic() - begun, 30)
+        self.assertLess(time.monotonic() - begun, 120)
         self.assertEqual(self.library.run(["sig"], "sig bkaagj\n", timeout=60), "bkaagj\n")
 
     def test_a_limit_of_memory(self) -> None:
@@ -220,10 +227,14 @@ class Library(unittest.TestCase):
     def test_a_handler_may_call_too(self) -> None:
         """Its answer is its own, and the call around it has its limit and its answer."""
         inside: List[object] = []
+        begun: List[None] = []
         small = self.library.answer(["sig"], "sig bkaagj\n")
         long = self.library.answer(["surfaces", "--coords", "quad"], LONG)
 
-        def ask(*_: object) -> None:  # which may be interrupted by itself
+        def ask(*_: object) -> None:  # which may be interrupted by itself, but not without end where it takes longer than the next signal
+            if len(begun) == len(inside) + 3:
+                return
+            begun.append(None)
             one = self.library.answer(["sig"], "sig bkaagj\n", memory=1 << 20, timeout=100)
             inside.append((one, self.library.answer(["surfaces", "--coords", "quad"], LONG)))
 

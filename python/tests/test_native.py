@@ -16,6 +16,7 @@ import tempfile
 import unittest
 import zipfile
 from pathlib import Path
+from typing import Callable, Dict, List, Optional, Sequence, Tuple, Union
 from unittest import mock
 
 from trinorm import selfcheck
@@ -42,14 +43,14 @@ MAGIC, PROCESSORS, KINDS = 0xFEEDFACF, {"macos-arm64": 0x0100000C, "macos-x86_64
 LOADED, SIGNED = 0x0C, 0x1D
 
 
-def temporary_folder():
+def temporary_folder() -> Path:
     """A folder that goes with the tests of this file."""
     folder = tempfile.mkdtemp(prefix="trinorm-native-")
     unittest.addModuleCleanup(shutil.rmtree, folder, ignore_errors=True)
     return Path(folder)
 
 
-def made(name, kit, folder):
+def made(name: str, kit: Path, folder: Path) -> str:
     """Makes library and program of a system. Returns why they can't be made, or nothing."""
     if native.missing(name):
         return f"{native.missing(name)} of Debian is not installed"
@@ -61,7 +62,7 @@ def made(name, kit, folder):
 
 
 @functools.lru_cache(maxsize=None)
-def made_here():
+def made_here() -> Tuple[Optional[Path], Union[str, Dict[str, str]]]:
     """The folder in which library and program of each system are, and why some are not."""
     if os.environ.get("TRINORM_ELSEWHERE"):
         return Path(os.environ["TRINORM_ELSEWHERE"]), {}
@@ -73,51 +74,52 @@ def made_here():
         return folder, dict(zip(native.SYSTEMS, pool.map(lambda name: made(name, kit, folder), native.SYSTEMS)))
 
 
-def path_of(name, part):
+def path_of(name: str, part: str) -> Path:
     """The library or the program of a system, or a skip."""
     folder, why = made_here()
-    if folder is None or (isinstance(why, dict) and why.get(name)):
-        raise unittest.SkipTest(f"{name}: {why if folder is None else why[name]}")
-    path = folder / name / getattr(native.SYSTEMS[name], part)
+    reason = why if isinstance(why, str) else why.get(name)
+    if folder is None or reason:
+        raise unittest.SkipTest(f"{name}: {reason}")
+    path = folder / name / str(getattr(native.SYSTEMS[name], part))
     if not path.is_file():
         raise unittest.SkipTest(f"{name}: there is no {path.name}")
     return path
 
 
 @functools.lru_cache(maxsize=None)
-def environment():
+def environment() -> Dict[str, str]:
     """What Wine needs: a folder of its own, whose server is ended with the tests."""
     around = {**os.environ, "WINEDEBUG": "-all", "WINEPREFIX": str(temporary_folder() / "wine")}
     server = Path(WINE).with_name("wineserver")
     if server.is_file():
-        unittest.addModuleCleanup(subprocess.run, [str(server), "-k"], env=around, check=False, stderr=subprocess.DEVNULL)
+        unittest.addModuleCleanup(functools.partial(subprocess.run, [str(server), "-k"], env=around, check=False, stderr=subprocess.DEVNULL))
     return around
 
 
 class Emulated(unittest.TestCase):
     """The program over the library of each system that can be run here."""
 
-    def words(self, name):
+    def words(self, name: str) -> Tuple[List[str], int]:
         emulator, step = EMULATORS[name]
         if shutil.which(emulator[0]) is None:
             self.skipTest(f"{name}: {Path(emulator[0]).name} is not installed")
         return [*emulator, str(path_of(name, "program"))], step
 
-    def answer(self, words):
-        def answer(row):
+    def answer(self, words: Sequence[str]) -> Callable[[selfcheck.Row], Tuple[int, bytes]]:
+        def answer(row: selfcheck.Row) -> Tuple[int, bytes]:
             done = subprocess.run([*words, *row.words], input=row.input, stdout=subprocess.PIPE, stderr=subprocess.DEVNULL,
                                   check=False, env=environment())
             return done.returncode, done.stdout
         return answer
 
-    def test_worked_rows(self):
+    def test_worked_rows(self) -> None:
         for name in EMULATORS:
             with self.subTest(system=name):
                 words, step = self.words(name)
                 outcome = selfcheck.check_rows(self.answer(words), selfcheck.read_rows()[::step])
                 self.assertEqual(outcome.differences, [])
 
-    def test_a_failed_sink_is_told(self):
+    def test_a_failed_sink_is_told(self) -> None:
         for name in ("linux-x86_64", "linux-aarch64"):
             with self.subTest(system=name), open("/dev/full", "wb") as full:
                 words, _ = self.words(name)
@@ -128,14 +130,14 @@ class Emulated(unittest.TestCase):
 class OnArm(unittest.TestCase):
     """The wheel for arm64 in the Python of Debian for arm64, by an emulator."""
 
-    def setUp(self):
+    def setUp(self) -> None:
         if not ARM64_ROOT:
             self.skipTest("TRINORM_ARM64_ROOT names no folder with Debian's Python for arm64")
         if shutil.which("qemu-aarch64") is None:
             self.skipTest("qemu-aarch64 is not installed")
         self.words = ["qemu-aarch64", "-L", ARM64_ROOT]
 
-    def installed(self):
+    def installed(self) -> Path:
         """A folder in which pip has put the wheel."""
         files = {path.name: path.read_bytes() for path in (path_of("linux-aarch64", part) for part in ("library", "program"))}
         name, data = elsewhere.wheel(packages.Made(packages.fields()["version"], {}, ""), "linux-aarch64", files)
@@ -146,10 +148,10 @@ class OnArm(unittest.TestCase):
         subprocess.run(pip, env=around, check=True, stderr=subprocess.PIPE)
         return folder / "site"
 
-    def python(self):
+    def python(self) -> List[str]:
         return [*self.words, f"{ARM64_ROOT}/usr/bin/python3.11"]
 
-    def test_selfcheck(self):
+    def test_selfcheck(self) -> None:
         site = self.installed()
         program, emulated = site / "libexec" / "trinorm" / "trinorm", site / "emulated"
         # without the system's help no process of another processor starts by itself
@@ -167,7 +169,7 @@ class OnArm(unittest.TestCase):
 class Mac(unittest.TestCase):
     """What is made for macOS can't be run here, so its headers are read."""
 
-    def commands(self, name, part):
+    def commands(self, name: str, part: str) -> List[Tuple[int, bytes]]:
         """The numbers and the bytes of the load commands of a file, whose head says for what it is."""
         data = path_of(name, part).read_bytes()
         magic, processor, _, kind, count = struct.unpack_from("<5I", data)
@@ -179,7 +181,7 @@ class Mac(unittest.TestCase):
             at += size
         return found
 
-    def test_they_are_signed_and_load_what_every_mac_has(self):
+    def test_they_are_signed_and_load_what_every_mac_has(self) -> None:
         for name in PROCESSORS:
             for part in KINDS:
                 with self.subTest(name=name, part=part):
@@ -188,7 +190,7 @@ class Mac(unittest.TestCase):
                     self.assertEqual(sorted(loaded), [b"/usr/lib/libSystem.B.dylib"] + [b"@rpath/libtrinorm.dylib"] * (part == "program"))
                     self.assertIn(SIGNED, [number for number, _ in commands])
 
-    def test_the_calls_of_the_header_are_exported(self):
+    def test_the_calls_of_the_header_are_exported(self) -> None:
         calls = set(re.findall(r"\b(trinorm_\w+)\(", (REPOSITORY / "library" / "trinorm.h").read_text("utf8")))
         self.assertIn("trinorm_run", calls)
         for name in PROCESSORS:
@@ -210,7 +212,7 @@ declare void @llvm.trap() #1
 attributes #0 = { nounwind "probe-stack"="inline-asm" "stack-probe-size"="3072" "target-cpu"="x86-64-v2" }
 '''
 
-    def test_two_lines_and_two_attributes_change(self):
+    def test_two_lines_and_two_attributes_change(self) -> None:
         target = modules.TARGETS["wasm"]
         changed = modules.retargeted(self.TEXT, target).splitlines()
         self.assertEqual(changed[0], f'target datalayout = "{target.layout}"')
@@ -218,14 +220,14 @@ attributes #0 = { nounwind "probe-stack"="inline-asm" "stack-probe-size"="3072" 
         self.assertEqual(changed[2], "define noundef zeroext i8 @trinorm_answer(ptr %a0) #0 {")
         self.assertEqual(changed[-1], "attributes #0 = { nounwind }")
 
-    def test_other_modules_are_refused(self):
+    def test_other_modules_are_refused(self) -> None:
         target = modules.TARGETS["wasm"]
         for wrong in (self.TEXT.replace("rattle_dealloc", "free"), self.TEXT + "declare i32 @puts(ptr)\n",
                       self.TEXT.replace("trinorm_answer", "another"), self.TEXT + self.TEXT, self.TEXT.replace("target triple", "triple")):
             with self.assertRaises(modules.NotCompiled):
                 modules.retargeted(wrong, target)
 
-    def test_the_toolchain_keeps_the_module_and_compiles_as_before(self):
+    def test_the_toolchain_keeps_the_module_and_compiles_as_before(self) -> None:
         with tempfile.TemporaryDirectory() as folder:
             kit, to = Path(folder, "kit"), Path(folder, "a b's", "kept.bc")
             (kit / "toolchain" / "bin").mkdir(parents=True)
@@ -245,10 +247,10 @@ attributes #0 = { nounwind "probe-stack"="inline-asm" "stack-probe-size"="3072" 
 class Release(unittest.TestCase):
     """The files of a release for other systems, of contents that are made up."""
 
-    def made(self, **files):
+    def made(self, **files: bytes) -> packages.Made:
         return packages.Made("1.2.3", files, "proved elsewhere\nversion 1.2.3\nprogram 12\nlibrary 34\n")
 
-    def test_a_wheel_holds_library_and_program_where_the_package_looks(self):
+    def test_a_wheel_holds_library_and_program_where_the_package_looks(self) -> None:
         system = native.SYSTEMS["windows-x86_64"]
         name, data = elsewhere.wheel(self.made(program=b"p", library=b"l"), "windows-x86_64", {system.library: b"dll", system.program: b"exe"})
         self.assertTrue(name.endswith("-py3-none-win_amd64.whl"))
@@ -267,20 +269,20 @@ class Release(unittest.TestCase):
         for needed in ("trinorm/selfcheck.py", "trinorm/worked_rows.json", "trinorm/examples.txt", "trinorm/hints.txt"):
             self.assertIn(needed, names)
 
-    def test_a_release_without_tools_says_what_it_lacks(self):
+    def test_a_release_without_tools_says_what_it_lacks(self) -> None:
         said = io.StringIO()
         with mock.patch("sys.stderr", said):
             self.assertEqual(elsewhere.files(self.made(program=b"p"), Path("/nonexistent")), [])
         self.assertIn("the release lacks trinorm.html", said.getvalue())
         self.assertIn("the release lacks wheels for other systems", said.getvalue())
 
-    def test_a_system_without_its_compiler_is_named(self):
+    def test_a_system_without_its_compiler_is_named(self) -> None:
         said = io.StringIO()
         with mock.patch("shutil.which", return_value=None), mock.patch("sys.stderr", said):
             self.assertEqual(list(native.build_all(Path("/kit"), Path("/module"), ["linux-aarch64"])), [])
         self.assertIn("gcc-aarch64-linux-gnu of Debian is not installed", said.getvalue())
 
-    def test_the_page_is_in_a_release(self):
+    def test_the_page_is_in_a_release(self) -> None:
         names = [name for name, _ in elsewhere.page(self.made(wasm=b"\0asm"))]
         self.assertEqual(names, ["trinorm.html", "trinorm-1.2.3-web.tar.gz", "trinorm.wasm", "trinorm.wasm.NOTICES"])
 

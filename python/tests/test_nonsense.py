@@ -4,6 +4,8 @@ import collections
 import contextlib
 import decimal
 import fractions
+import functools
+import importlib
 import inspect
 import io
 import itertools
@@ -12,22 +14,25 @@ import subprocess
 import sys
 import tempfile
 import unittest
+from typing import Any, Callable, ClassVar, Dict, Iterator, List, Optional, Sequence, Tuple, Type
 
 import trinorm
 from trinorm import commands, comparisons, library, pictures, program, regina_surfaces, server, tables
 from trinorm.arguments import shown
 from trinorm.program import REPOSITORY
 
+from .test_arguments import as_given
+
 try:
-    import numpy
+    numpy: Any = importlib.import_module("numpy")
 except ImportError:
     numpy = None
 try:
-    import pandas
+    pandas: Any = importlib.import_module("pandas")
 except ImportError:
     pandas = None
 try:
-    import regina
+    regina: Any = importlib.import_module("regina")
 except ImportError:
     regina = None
 
@@ -35,13 +40,14 @@ SPHERE, TORUS, LINK = "bkaagj", (1, 1, 0, 0, 1, 0, 0), (1, 1, 1, 1, 0, 0, 0)
 TABLE = trinorm.Table.parse("tri 1\n0:1023 0:1023 0:1230 0:3012\n")
 SUM = trinorm.Sum(TORUS, 1, (trinorm.Term(1, TORUS),))
 # a right value of each parameter, by its name
-RIGHT = {"t": SPHERE, "one": SPHERE, "other": SPHERE, "tables": [SPHERE], "vectors": [TORUS], "vector": TORUS, "coords": None, "order": None, "max_entry": None,
-         "rows": [[1, -1]], "columns": None, "sums": [SUM], "steps": [], "moves": [], "seed": 1, "timeout": None, "program": None, "triangulation": SPHERE,
-         "arrays": None, "progress": None, "surface": None, "triangulations": None, "command": None, "executor": None, "in_order": None, "words": ["sig"], "text": "sig bkaagj\n", "word": "0:0123", "memory": None}
+RIGHT: Dict[str, Any] = {
+    "t": SPHERE, "one": SPHERE, "other": SPHERE, "tables": [SPHERE], "vectors": [TORUS], "vector": TORUS, "coords": None, "order": None, "max_entry": None,
+    "rows": [[1, -1]], "columns": None, "sums": [SUM], "steps": [], "moves": [], "seed": 1, "timeout": None, "program": None, "triangulation": SPHERE,
+    "arrays": None, "progress": None, "surface": None, "triangulations": None, "command": None, "executor": None, "in_order": None, "words": ["sig"], "text": "sig bkaagj\n", "word": "0:0123", "memory": None}
 RIGHT.update({"table": TABLE, "points": [(1, 2.0)], "lines": [], "vertex": 0, "path": "/no/such/library", "out": None, "jobs": 1, "signatures": ["bkaagj"],
               "retry_failed": False, "skip_bad": False, "own_group": True})
 # where a parameter has another meaning
-OTHERS = {("make", "moves"): 1, ("bulk", "moves"): 1, ("parse", "text"): str(TABLE)}
+OTHERS: Dict[Tuple[str, str], Any] = {("make", "moves"): 1, ("bulk", "moves"): 1, ("parse", "text"): str(TABLE)}
 
 
 class Own(Exception):
@@ -51,48 +57,49 @@ class Own(Exception):
 class Raises:
     """Raises its own exception wherever it is looked at, in one of some ways."""
 
-    def __init__(self, *ways):
+    def __init__(self, *ways: str) -> None:
         self.ways = ways
 
-    def _own(self, way, otherwise=None):
+    def _own(self, way: str, otherwise: Any) -> Any:
         if way in self.ways:
             raise Own("an exception of the value itself")
         return otherwise
 
-    def __iter__(self):
+    def __iter__(self) -> Iterator[Any]:
         return iter([self._own("iter", 1)])
 
-    def __index__(self):
-        return self._own("index", 1)
+    def __index__(self) -> int:
+        return int(self._own("index", 1))
 
-    def __repr__(self):
-        return self._own("repr", "Raises()")
+    def __repr__(self) -> str:
+        return str(self._own("repr", "Raises()"))
 
-    def __bool__(self):
-        return self._own("bool", True)
+    def __bool__(self) -> bool:
+        return bool(self._own("bool", True))
 
-    def __eq__(self, other):
-        return self._own("eq", self is other)
+    def __eq__(self, other: object) -> bool:
+        return bool(self._own("eq", self is other))
 
-    __hash__ = None
+    __hash__ = None  # type: ignore[assignment]
 
 
-class NoPath(pathlib.PurePath().__class__):
+class NoPath(type(pathlib.PurePath())):  # type: ignore[misc]
     """A path that has no text."""
 
-    def __fspath__(self):
+    def __fspath__(self) -> Any:
         return 5
 
 
-def values():
+def values() -> List[Any]:
     """Values of all kinds, made anew for each call, since some are used up."""
-    found = [
+    nothing: List[object] = []
+    found: List[Any] = [
         None, True, False, 0, 1, -1, 7, 2 ** 70, -2 ** 70, 1.0, 0.5, float("nan"), float("inf"), 1j, fractions.Fraction(1, 2),
         "", "x", SPHERE, "bkaagjx", "tri 0", "tri 1\n- - - -", "a\0b", "\ud800", "é", "standard", "a/b.txt", "\n", b"", b"bkaagj", bytearray(b"1"),
         [], (), {}, set(), frozenset([1]), [1], (1, 2), [[1]], [[]], [None], ["x"], [b"x"], [[1, 2], [3]], range(3), {"a": 1}, {1: (1, 2)}, iter([]), iter([1]),
-        (it for it in ()), (it for it in (TORUS,)), itertools.repeat(0, 3), zip([1], [2]), object(), object, int, len, lambda: None, NotImplemented, Ellipsis,
-        ValueError("x"), pathlib.Path("x"), memoryview(b"12"), TORUS, [TORUS], [LINK, TORUS], TABLE, [TABLE], SUM, [SUM], trinorm.Term(1, TORUS), trinorm.Table(5),
-        trinorm.Table(((1,),)), trinorm.Sum(1, 2, 3), [trinorm.Sum(1, 2, 3)], trinorm.Gluing("x", 5), [[trinorm.Gluing("x", 5)] * 4], [float("nan")] * 7,
+        (it for it in nothing), (it for it in (TORUS,)), itertools.repeat(0, 3), zip([1], [2]), object(), object, int, len, lambda: None, NotImplemented, Ellipsis,
+        ValueError("x"), pathlib.Path("x"), memoryview(b"12"), TORUS, [TORUS], [LINK, TORUS], TABLE, [TABLE], SUM, [SUM], trinorm.Term(1, TORUS), as_given(trinorm.Table)(5),
+        as_given(trinorm.Table)(((1,),)), as_given(trinorm.Sum)(1, 2, 3), [as_given(trinorm.Sum)(1, 2, 3)], as_given(trinorm.Gluing)("x", 5), [[as_given(trinorm.Gluing)("x", 5)] * 4], [float("nan")] * 7,
         [True] * 7, [2 ** 200] * 7, [-1] * 7, [["0:1023"] * 4], [[(0, 1)] * 4], [[(0, "0123"), None, "-", 5]], trinorm, unittest,
         10 ** 400, 10 ** 5000, -10 ** 5000, "9" * 5000, "9" * 5000 + ":0123", [10 ** 5000] * 7, [[10 ** 5000] * 7], [["9" * 5000 + ":0132"] * 4],
         [[(10 ** 5000, "0132")] * 4], [[trinorm.Gluing(10 ** 5000, (0, 1, 2, 3))] * 4], [trinorm.Sum(TORUS, 10 ** 5000, ())], [trinorm.Sum(TORUS, True, ())],
@@ -120,30 +127,32 @@ def values():
 class Surface:
     """Answers as a surface of Regina's does."""
 
-    def triangulation(self):
+    def triangulation(self) -> "Surface":
         return self
 
-    def size(self):
+    def size(self) -> int:
         return 1
 
-    def triangles(self, tet, vertex):
+    def triangles(self, tet: int, vertex: int) -> int:
         return TORUS[vertex]
 
-    def quads(self, tet, kind):
+    def quads(self, tet: int, kind: int) -> int:
         return TORUS[4 + kind]
 
-    def octs(self, tet, kind):
+    def octs(self, tet: int, kind: int) -> int:
         return 0
 
 
 class Nonsense(unittest.TestCase):
+    server: ClassVar[Optional[server.Server]]
+
     @classmethod
-    def setUpClass(cls):
+    def setUpClass(cls) -> None:
         cls.server = server.Server() if server.Server.find() else None
         if cls.server:
             cls.addClassCleanup(cls.server.close)
 
-    def right(self, name, parameter):
+    def right(self, name: str, parameter: str) -> Any:
         if parameter == "program":
             return self.server
         if parameter == "surface" and regina is None:
@@ -154,9 +163,11 @@ class Nonsense(unittest.TestCase):
             return regina.Triangulation3.fromIsoSig(SPHERE)
         return OTHERS.get((name, parameter), RIGHT[parameter])
 
-    def try_all(self, name, call, parameters, allowed=()):
+    def try_all(self, name: str, call: Callable[..., object], parameters: Sequence[str], allowed: Tuple[Type[Exception], ...] = ()) -> int:
         """Tries each value for each parameter, the others being right. Returns how often it was called."""
-        calls, wrong = 0, []
+        calls = 0
+        wrong: List[str] = []
+        expected: Tuple[Type[Exception], ...] = (trinorm.Refused, trinorm.BadArgument, trinorm.TimedOut, *allowed)
         for parameter in parameters:
             # what all functions take in one way is tried in full with some of them
             step = 5 if parameter in ("timeout", "program", "max_entry") and name not in ("surfaces", "group", "certify", "run") else 1
@@ -167,7 +178,7 @@ class Nonsense(unittest.TestCase):
                 named = {other: right for other, right in named.items() if right is not None}
                 try:
                     call(**named, **{parameter: value})
-                except (trinorm.Refused, trinorm.BadArgument, trinorm.TimedOut, *allowed) as fault:
+                except expected as fault:
                     self.assertGreater(len(str(fault)), 10)
                 except Own:
                     pass
@@ -182,36 +193,36 @@ class Nonsense(unittest.TestCase):
         self.assertEqual("\n".join(wrong), "")
         return calls
 
-    def functions(self):
+    def functions(self) -> Iterator[Tuple[str, Callable[..., object], List[str]]]:
         """The public functions with their parameters, of those whose names are known here."""
         for name in trinorm.__all__:
             call = getattr(trinorm, name)
-            parameters = inspect.signature(call).parameters if inspect.isfunction(call) else {}
+            parameters = dict(inspect.signature(call).parameters) if inspect.isfunction(call) else {}
             needed = [it for it, kind in parameters.items() if kind.default is inspect.Parameter.empty]
             if parameters and name != "census" and set(needed) <= set(RIGHT):
                 yield name, call, [it for it in parameters if it in RIGHT]
 
-    def test_public_functions(self):
+    def test_public_functions(self) -> None:
         calls = 0
         for name, call, parameters in self.functions():
             with self.subTest(name):
                 calls += self.try_all(name, call, parameters)
         self.assertGreater(calls, 4951)
 
-    def test_others(self):
+    def test_others(self) -> None:
         self.try_all("parse", trinorm.Table.parse, ["text"])
         self.try_all("parse", trinorm.Gluing.parse, ["word"])
         self.try_all("document", tables.document, ["triangulation"])
         self.try_all("vertex_surfaces", regina_surfaces.vertex_surfaces, ["t", "coords"])
         if self.server:
             self.try_all("run", self.server.run, ["words", "text", "timeout"])
-            self.try_all("run", lambda **named: program.run(**{"program": self.server, **named}), ["words", "text", "timeout", "program"])
+            self.try_all("run", functools.partial(as_given(program.run), program=self.server), ["words", "text", "timeout", "program"])
         self.try_all("find", program.find, ["program"])
         self.try_all("listing", commands.listing, ["t", "coords", "order", "max_entry", "timeout", "program"])
         if regina is not None:
             self.try_all("compare", comparisons.compare, ["t", "coords", "timeout", "program"])
 
-    def test_pictures(self):
+    def test_pictures(self) -> None:
         for name in ("face_pairs", "face_pairing_svg", "face_pairing_dot"):
             self.try_all(name, getattr(pictures, name), ["table"])
         self.try_all("surface_svg", pictures.surface_svg, ["t", "vector"])
@@ -220,24 +231,25 @@ class Nonsense(unittest.TestCase):
         self.try_all("growth_svg", pictures.growth_svg, ["points"])
         self.try_all("growth_points", lambda lines: list(pictures.growth_points(lines)), ["lines"])
 
-    def test_a_census(self):
+    def test_a_census(self) -> None:
         """Wrong arguments are refused before anything is run; what is taken for lines or a file is another test's."""
         with tempfile.TemporaryDirectory() as folder:
-            def census(**named):
-                given = {"signatures": [], "out": f"{folder}/out", "command": "sig", "jobs": 1, "program": program.find(), **named}
+            def census(**named: Any) -> object:
+                given: Dict[str, Any] = {"signatures": [], "out": f"{folder}/out", "command": "sig", "jobs": 1, "program": program.find(), **named}
                 with contextlib.redirect_stderr(io.StringIO()):
                     return trinorm.census(**given)
 
             self.try_all("census", census, ["command", "coords", "timeout", "jobs", "retry_failed", "skip_bad", "executor"])
 
-    def test_many(self):
-        def many(**named):
-            return list(trinorm.many(**{"triangulations": [SPHERE], "command": "sig", "program": self.server, **named}))
+    def test_many(self) -> None:
+        def many(**named: Any) -> List[Any]:
+            given: Dict[str, Any] = {"triangulations": [SPHERE], "command": "sig", "program": self.server, **named}
+            return list(trinorm.many(**given))
 
         self.try_all("many", many, ["triangulations", "command", "executor", "timeout", "in_order", "program", "progress"], (trinorm.Failed,))
         self.try_all("many", lambda **named: many(command="surfaces", **named), ["coords", "order", "max_entry", "arrays"], (trinorm.Failed,))
 
-    def test_the_library(self):
+    def test_the_library(self) -> None:
         found = program.find_library()
         if found is None:
             self.skipTest("the library isn't built")
@@ -250,7 +262,7 @@ class Nonsense(unittest.TestCase):
 class Arrays(unittest.TestCase):
     """Vectors and lists of vectors by NumPy and pandas."""
 
-    def test_vectors(self):
+    def test_vectors(self) -> None:
         for kind in ("int64", "int32", "uint8", "object"):
             one, two = numpy.array(TORUS, kind), numpy.array([TORUS, LINK], kind)
             self.assertEqual(trinorm.sig(trinorm.crush(SPHERE, one)), trinorm.sig(trinorm.crush(SPHERE, TORUS)))
@@ -261,17 +273,17 @@ class Arrays(unittest.TestCase):
         self.assertEqual(trinorm.describe(SPHERE, two[::-1].astype("int16", order="F")), trinorm.describe(SPHERE, [LINK, TORUS]))
         self.assertEqual(trinorm.verify(SPHERE, numpy.zeros((0, 7), int)), [])
 
-    def test_rows(self):
+    def test_rows(self) -> None:
         rows = numpy.array([[1, -2, 0], [0, 1, -2]])
         self.assertEqual(trinorm.rays(rows), [(4, 2, 1)])
         self.assertEqual(trinorm.rays(rows, columns=numpy.int64(3), max_entry=numpy.uint8(200)), [(4, 2, 1)])
         self.assertEqual(trinorm.rays(numpy.zeros((0, 2), int), 2), [(0, 1), (1, 0)])
 
-    def test_tables(self):
+    def test_tables(self) -> None:
         self.assertEqual(trinorm.sig([[(numpy.int64(0), numpy.array([1, 0, 2, 3])), (0, "1023"), "0:1230", "0:3012"]]), SPHERE)
         self.assertEqual(trinorm.sig(numpy.array([["0:1023", "0:1023", "0:1230", "0:3012"]])), SPHERE)
 
-    def test_those_that_are_none(self):
+    def test_those_that_are_none(self) -> None:
         for value in (numpy.array(TORUS), numpy.array(3), numpy.array([[[1]]]), numpy.array([[0.5] * 7]), numpy.array([[1.0] * 7]), numpy.array(["x"]), numpy.array([[True] * 7])):
             with self.assertRaises(trinorm.BadArgument):
                 trinorm.describe(SPHERE, value)
@@ -281,7 +293,7 @@ class Arrays(unittest.TestCase):
             trinorm.surfaces(SPHERE, coords=numpy.array(["quad", "quad"]))
 
     @unittest.skipIf(pandas is None, "pandas isn't there")
-    def test_pandas(self):
+    def test_pandas(self) -> None:
         frame = pandas.DataFrame([TORUS, LINK])
         right = trinorm.describe(SPHERE, [TORUS, LINK])
         self.assertEqual(trinorm.describe(SPHERE, frame), right)
@@ -291,7 +303,7 @@ class Arrays(unittest.TestCase):
         self.assertEqual(trinorm.group(pandas.Series([SPHERE, "bkaagb"])).classes, (0, 1))
         self.assertEqual(trinorm.rays(pandas.DataFrame([[1, -2, 0], [0, 1, -2]])), [(4, 2, 1)])
 
-    def test_it_is_not_imported(self):
+    def test_it_is_not_imported(self) -> None:
         text = "import sys, trinorm\ntry:\n    trinorm.verify('bkaagj', [(-1,)], program='/bin/false')\nexcept trinorm.Error:\n    print('numpy' in sys.modules)"
         done = subprocess.run([sys.executable, "-c", text], cwd=REPOSITORY / "python", stdout=subprocess.PIPE, text=True, check=True)
         self.assertEqual(done.stdout, "False\n")

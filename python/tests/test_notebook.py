@@ -27,7 +27,9 @@ CELLS = {
             "[it.failure is None for it in tqdm(trinorm.many(them, 'info'), total=3)]",
     "plain": "trinorm.census([f's{k}' for k in range(100)], OUT, 'sig', jobs=2, program=SLOW)",
     "nonsense": "try:\n    trinorm.info('bkaagjx')\nexcept trinorm.Refused as refused:\n    print(refused)",
-    "stopped": "import os, signal, threading\nthreading.Timer(1.5, os.kill, (os.getpid(), signal.SIGINT)).start()\n"
+    # as soon as there is a line
+    "stopped": "import os, signal, threading, time\ndef stop():\n    while not os.path.exists(NEXT) or not os.path.getsize(NEXT):\n        time.sleep(0.05)\n"
+               "    os.kill(os.getpid(), signal.SIGINT)\nthreading.Thread(target=stop).start()\n"
                "try:\n    trinorm.census([f's{k}' for k in range(400)], NEXT, 'sig', jobs=2, program=SLOW)\n"
                "except KeyboardInterrupt:\n    print('stopped')",
     "resumed": "ran = trinorm.census([f's{k}' for k in range(400)], NEXT, 'sig', jobs=2, program=SLOW)\n"

@@ -6,32 +6,44 @@ import math
 import re
 import unittest
 import xml.etree.ElementTree as xml
+from typing import Any, Collection, Counter, Dict, Iterator, List, Sequence, Tuple
 
 import trinorm
-from trinorm import Table, drawing, graph_layout, pictures
-from trinorm.disc_pictures import DISCS, EDGES, Discs, edge_classes, place_of_vertex, vertex_links
+from trinorm import Table, disc_pictures, drawing, graph_layout, pictures
+from trinorm.disc_pictures import EDGES, Discs, edge_classes, place_of_vertex, vertex_links
 from trinorm.graph_layout import APART, Pair, places, ports
 from trinorm.html_tables import Shown
+from trinorm.options import Coords
 from trinorm.pictures import LABEL, face_pairing_dot, face_pairing_svg, face_pairs, growth_points, growth_svg
 from trinorm.tables import BadArgument
 
+DISCS: List[Dict[str, Any]] = disc_pictures.DISCS
 FIGURE_EIGHT = Table.parse("tri 2\n1:0123 1:1203 1:1032 1:3021\n0:0123 0:1320 0:2013 0:1032\n")
 SPHERE = Table.parse("tri 1\n0:1023 0:1023 0:1230 0:3012\n")
 BALL = Table.parse("tri 1\n- - - -\n")
+# with the column of the first disc that a vector counts
+COORDINATES: List[Tuple[Coords, int]] = [("standard", 0), ("quad", 4), ("octagon", 0)]
 SIGNATURES = ("bkaagj", "cPcbbbiht", "eLMkabcddbrrag", "uLMzMzMzMzMzMPcbcdefghijklmnopqrsttthhhhhhhhhhhhhhhhhhhah")
 
 
-def elements(svg, kind, **attributes):
+def elements(svg: str, kind: str, **attributes: str) -> List[xml.Element]:
     """The elements of a kind with these attributes."""
     found = xml.fromstring(svg).iter(f"{{http://www.w3.org/2000/svg}}{kind}")
     return [it for it in found if all(it.get(name.rstrip("_")) == value for name, value in attributes.items())]
 
 
-def count(svg, kind, **attributes):
+def attribute(element: xml.Element, name: str) -> str:
+    """An attribute that an element has."""
+    found = element.get(name)
+    assert found is not None
+    return found
+
+
+def count(svg: str, kind: str, **attributes: str) -> int:
     return len(elements(svg, kind, **attributes))
 
 
-def examples():
+def examples() -> Iterator[Table]:
     yield from (Table(()), BALL, SPHERE, FIGURE_EIGHT, Table.parse("tri 3\n- - - -\n2:1023 - - -\n- 1:1023 - -\n"))
     yield from map(trinorm.table, SIGNATURES)
     for seed in range(1, 4):
@@ -39,15 +51,15 @@ def examples():
 
 
 class FacePairings(unittest.TestCase):
-    def test_pairs(self):
+    def test_pairs(self) -> None:
         self.assertEqual(face_pairs(FIGURE_EIGHT), [(0, 0, 1, 0), (0, 1, 1, 2), (0, 2, 1, 3), (0, 3, 1, 1)])
         self.assertEqual(face_pairs(SPHERE), [(0, 0, 0, 1), (0, 2, 0, 3)])
 
-    def test_dot(self):
+    def test_dot(self) -> None:
         self.assertIn('0 -- 1 [taillabel="1", headlabel="2"];', face_pairing_dot(FIGURE_EIGHT))
         self.assertEqual(face_pairing_dot(BALL).count("--"), 0)
 
-    def test_each_gluing_face_and_tetrahedron_once(self):
+    def test_each_gluing_face_and_tetrahedron_once(self) -> None:
         for table in examples():
             svg = face_pairing_svg(table)
             self.assertEqual(count(svg, "path", class_="gluing"), len(face_pairs(table)))
@@ -56,25 +68,25 @@ class FacePairings(unittest.TestCase):
             self.assertEqual(labels, {str(face): len(table) for face in range(4) if len(table)})
         self.assertIn("stroke-dasharray", face_pairing_svg(BALL))
 
-    def test_a_gluing_begins_and_ends_at_its_faces(self):
+    def test_a_gluing_begins_and_ends_at_its_faces(self) -> None:
         for table in examples():
             pairs = face_pairs(table)
-            at = [(float(it.get("cx")), float(it.get("cy"))) for it in elements(face_pairing_svg(table), "circle")]
+            at = [(float(attribute(it, "cx")), float(attribute(it, "cy"))) for it in elements(face_pairing_svg(table), "circle")]
             for pair, path in zip(pairs, elements(face_pairing_svg(table), "path")):
-                points = [tuple(map(float, word.lstrip("MC").split(","))) for word in path.get("d").split()]
+                points = [tuple(map(float, word.lstrip("MC").split(","))) for word in attribute(path, "d").split()]
                 self.assertAlmostEqual(math.dist(points[0], at[pair.tet]), 13, delta=0.2)
                 self.assertAlmostEqual(math.dist(points[3], at[pair.other_tet]), 13, delta=0.2)
 
-    def test_all_tetrahedra_are_in_the_picture(self):
+    def test_all_tetrahedra_are_in_the_picture(self) -> None:
         """With room for their gluings on all sides."""
         for table in examples():
             picture = xml.fromstring(face_pairing_svg(table))
-            wide, high = float(picture.get("width")), float(picture.get("height"))
+            wide, high = float(attribute(picture, "width")), float(attribute(picture, "height"))
             for circle in elements(face_pairing_svg(table), "circle"):
-                x, y = float(circle.get("cx")), float(circle.get("cy"))
+                x, y = float(attribute(circle, "cx")), float(attribute(circle, "cy"))
                 self.assertTrue(84.4 < x < wide - 84.4 and 84.4 < y < high - 84.4, (table, x, y, wide, high))
 
-    def test_thirty_tetrahedra_are_readable(self):
+    def test_thirty_tetrahedra_are_readable(self) -> None:
         """None is on another, and no two numbers of faces are."""
         made = [trinorm.make(seed=seed, moves=30).table for seed in range(1, 6)]
         self.assertTrue(any(len(table) >= 30 for table in made) or max(map(len, made)) > 20)
@@ -90,33 +102,33 @@ class FacePairings(unittest.TestCase):
                 for one, other in itertools.combinations(labels, 2):
                     self.assertGreater(math.dist(one, other), 13)
 
-    def test_the_same_each_time(self):
+    def test_the_same_each_time(self) -> None:
         table = trinorm.table(SIGNATURES[-1])
         self.assertEqual(face_pairing_svg(table), face_pairing_svg(trinorm.table(SIGNATURES[-1])))
 
-    def test_large_ones_take_no_long(self):
+    def test_large_ones_take_no_long(self) -> None:
         chain = Table(tuple(trinorm.tables.row_of(
             ["-", "-", f"{tet - 1}:0132" if tet else "-", f"{tet + 1}:0132" if tet < 399 else "-"]) for tet in range(400)))
         self.assertEqual(count(face_pairing_svg(chain), "circle"), 400)
 
-    def test_a_notebook_shows_it(self):
+    def test_a_notebook_shows_it(self) -> None:
         self.assertEqual(SPHERE._repr_svg_(), face_pairing_svg(SPHERE))
 
 
 class Surfaces(unittest.TestCase):
-    def test_each_disc_once(self):
+    def test_each_disc_once(self) -> None:
         for signature in SIGNATURES[:3]:
-            for coords, first in (("standard", 0), ("quad", 4), ("octagon", 0)):
+            for coords, first in COORDINATES:
                 for vector in trinorm.surfaces(signature, coords)[:12]:
                     svg = pictures.surface_svg(signature, vector)
-                    found = collections.Counter(int(it.get("data-column")) for it in elements(svg, "polygon", class_="disc"))
-                    expected = collections.Counter()
+                    found = collections.Counter(int(attribute(it, "data-column")) for it in elements(svg, "polygon", class_="disc"))
+                    expected: Counter[int] = collections.Counter()
                     each = len(vector) // len(trinorm.table(signature))
                     for column, entry in enumerate(vector):
                         expected[first + column % each] += entry
                     self.assertEqual(found, +expected, vector)
 
-    def test_discs_have_their_corners(self):
+    def test_discs_have_their_corners(self) -> None:
         """Three, four and eight corners, one after another on edges with a face in common."""
         self.assertEqual([len(disc["corners"]) for disc in DISCS], [3] * 4 + [4] * 3 + [8] * 3)
         for disc in DISCS:
@@ -128,7 +140,7 @@ class Surfaces(unittest.TestCase):
             pair = disc["name"].split()[1].split("/")
             self.assertEqual({edge: 2 if "".join(map(str, edge)) in pair else 1 for edge in EDGES}, crossed)
 
-    def test_discs_do_not_cross(self):
+    def test_discs_do_not_cross(self) -> None:
         """Discs of one tetrahedron have different corners, and those of an edge are in the same order as in the next."""
         for counts in ([2, 1, 0, 3, 2, 0, 0, 0, 0, 0], [0, 1, 1, 0, 0, 3, 0, 0, 0, 0], [1, 1, 2, 0, 0, 0, 0, 0, 3, 0], [1, 2, 0, 1, 0, 0, 0, 2, 0, 0]):
             discs = Discs(0, counts)
@@ -136,7 +148,7 @@ class Surfaces(unittest.TestCase):
                        for corner in disc["corners"]]
             self.assertEqual(len({(round(x, 3), round(y, 3)) for x, y in corners}), len(corners))
 
-    def test_parallel_discs_are_parallel(self):
+    def test_parallel_discs_are_parallel(self) -> None:
         """The arcs of parallel quads and octagons in a face don't cross: their ends are in the same order on both edges."""
         for column in range(4, 10):
             counts = [0] * 10
@@ -149,17 +161,18 @@ class Surfaces(unittest.TestCase):
                 self.assertEqual(*[sorted(range(3), key=rank.__getitem__) for rank in ranks])
 
     @staticmethod
-    def rank(discs, column, number, corner, vertex):
+    def rank(discs: Discs, column: int, number: int, corner: Sequence[int], vertex: int) -> float:
         """How far a corner is from a vertex of its edge."""
         return math.dist(discs.corner(column, number, corner), place_of_vertex(0, vertex))
 
-    def test_many_discs(self):
+    def test_many_discs(self) -> None:
         svg = pictures.surface_svg("bkaagj", (10 ** 30, 0, 0, 5, 0, 2, 0))
         self.assertEqual(count(svg, "polygon", class_="disc"), 3)
         self.assertIn("1,000,000,000,000,000,000,000,000,000,000 × triangle 0", svg)
 
-    def test_vectors_that_are_none(self):
-        for vector in ((1, 2), (0,) * 14, (), (-1, 0, 0, 0, 0, 0, 0), (0.5,) * 7, "1", 7, None):
+    def test_vectors_that_are_none(self) -> None:
+        wrong: List[Any] = [(1, 2), (0,) * 14, (), (-1, 0, 0, 0, 0, 0, 0), (0.5,) * 7, "1", 7, None]
+        for vector in wrong:
             with self.assertRaises(BadArgument):
                 pictures.surface_svg("bkaagj", vector)
         with self.assertRaises(trinorm.Refused):
@@ -167,7 +180,7 @@ class Surfaces(unittest.TestCase):
 
 
 class Edges(unittest.TestCase):
-    def test_each_edge_once_with_its_degree(self):
+    def test_each_edge_once_with_its_degree(self) -> None:
         for table in examples():
             degrees = [edge.degree for edge in trinorm.info(table).edges]
             self.assertEqual(sorted(collections.Counter(n for numbers in edge_classes(table) for n in numbers.values()).items()),
@@ -177,7 +190,7 @@ class Edges(unittest.TestCase):
 
 
 class Links(unittest.TestCase):
-    def test_triangles_and_gluings_once(self):
+    def test_triangles_and_gluings_once(self) -> None:
         for table in examples():
             vertices = trinorm.info(table).vertices
             self.assertEqual([len(link) for link in vertex_links(table)], [it.degree for it in vertices])
@@ -191,37 +204,38 @@ class Links(unittest.TestCase):
                 joined = 3 * vertex.degree - boundary - 2 * len(cuts)
                 # all else is side by side: two sides that are one
                 self.assertEqual(joined % 2, 0)
-                sides = collections.Counter()
+                sides: Counter[Tuple[Tuple[int, ...], ...]] = collections.Counter()
                 for polygon in elements(svg, "polygon", class_="triangle"):
-                    corners = [tuple(round(float(it)) for it in word.split(",")) for word in polygon.get("points").split()]
+                    corners = [tuple(round(float(it)) for it in word.split(",")) for word in attribute(polygon, "points").split()]
                     sides.update(tuple(sorted(pair)) for pair in itertools.combinations(corners, 2))
                 self.assertLessEqual(max(sides.values()), 2)
                 self.assertGreaterEqual(sum(it == 2 for it in sides.values()), joined // 2)
 
-    def test_no_triangle_is_on_another(self):
+    def test_no_triangle_is_on_another(self) -> None:
         table = trinorm.make(seed=3, moves=60).table
         for number in range(len(trinorm.info(table).vertices)):
             polygons = elements(pictures.vertex_link_svg(table, number), "polygon", class_="triangle")
-            points = [[tuple(map(float, word.split(","))) for word in it.get("points").split()] for it in polygons]
+            points = [[tuple(map(float, word.split(","))) for word in attribute(it, "points").split()] for it in polygons]
             middles = [tuple(sum(axis) / 3 for axis in zip(*corners)) for corners in points]
             for one, other in itertools.combinations(middles, 2):
                 self.assertGreater(math.dist(one, other), 20)
 
-    def test_no_such_vertex(self):
+    def test_no_such_vertex(self) -> None:
         for vertex in (-1, 1):
             with self.assertRaisesRegex(BadArgument, "has 1 vertices"):
                 pictures.vertex_link_svg("bkaagj", vertex)
 
 
 class Tables(unittest.TestCase):
-    def test_info(self):
+    def test_info(self) -> None:
         info = trinorm.info("cPcbbbiht")
         html = xml.fromstring(f"<all>{info._repr_html_()}</all>")
         self.assertEqual(len(html.findall("table/tr")), 2 + len(info.vertices) + len(info.edges))
 
-    def test_lists(self):
+    def test_lists(self) -> None:
         described = trinorm.describe("bkaagj", trinorm.surfaces("bkaagj"))
-        for shown, rows in ((described, 2), (trinorm.surfaces("bkaagj"), 2), (trinorm.spheres("bkaagj"), 0), (trinorm.described("bkaagj"), 2), (Shown(), 0), (Shown([(1, 2)] * 300), 100)):
+        lists: List[Tuple[Any, int]] = [(described, 2), (trinorm.surfaces("bkaagj"), 2), (trinorm.spheres("bkaagj"), 0), (trinorm.described("bkaagj"), 2), (Shown(), 0), (Shown([(1, 2)] * 300), 100)]
+        for shown, rows in lists:
             html = xml.fromstring(shown._repr_html_())
             self.assertEqual(len(html.findall("tr")), 1 + rows)
         self.assertEqual(repr(Shown([(1, 2)])), "[(1, 2)]")
@@ -231,13 +245,14 @@ class Tables(unittest.TestCase):
 class Angles(unittest.TestCase):
     """The angles in which boundary faces leave a tetrahedron: the middle of the greatest gap each."""
 
-    def test_free_ones(self):
+    def test_free_ones(self) -> None:
         quarter = math.pi / 2
-        for angles, free in (([], 1), ([0], 2), ([1], 3), ([0, 1], 2.5), ([0, 1, 2], 3), ([3, 4.5], 5.75), ([-1, 1.5], 0.25), ([0, 5.5], 2.75)):
+        gaps: List[Tuple[List[float], float]] = [([], 1), ([0], 2), ([1], 3), ([0, 1], 2.5), ([0, 1, 2], 3), ([3, 4.5], 5.75), ([-1, 1.5], 0.25), ([0, 5.5], 2.75)]
+        for angles, free in gaps:
             found = graph_layout._free([it * quarter for it in angles]) / quarter
             self.assertAlmostEqual(found % 4, free % 4, msg=angles)
 
-    def test_a_tetrahedron_alone(self):
+    def test_a_tetrahedron_alone(self) -> None:
         [angles] = ports([(0.0, 0.0)], [])
         self.assertEqual(sorted(angles), [0, 1, 2, 3])
         turns = sorted(angle / (math.pi / 2) % 4 for angle in angles.values())
@@ -248,20 +263,20 @@ class Angles(unittest.TestCase):
 class Layout(unittest.TestCase):
     """Where tetrahedra are, in numbers."""
 
-    def assert_near(self, found, right):
+    def assert_near(self, found: Collection[Tuple[float, float]], right: Sequence[Tuple[float, float]]) -> None:
         self.assertEqual(len(found), len(right))
         for one, other in zip(found, right):
             self.assertAlmostEqual(math.dist(one, other), 0.0, msg=(found, right), delta=1e-6)
 
-    def test_distances(self):
+    def test_distances(self) -> None:
         self.assertEqual(graph_layout.distances(4, [Pair(0, 0, 1, 0), Pair(1, 1, 2, 0), Pair(0, 1, 2, 1), Pair(2, 2, 2, 3)]),
                          [{0: 0, 1: 1, 2: 1}, {1: 0, 0: 1, 2: 1}, {2: 0, 1: 1, 0: 1}, {3: 0}])
         self.assertEqual(graph_layout.distances(3, [Pair(0, 0, 1, 0), Pair(1, 1, 2, 0)]), [{0: 0, 1: 1, 2: 2}, {1: 0, 0: 1, 2: 1}, {2: 0, 1: 1, 0: 2}])
 
-    def test_a_circle(self):
+    def test_a_circle(self) -> None:
         self.assert_near(graph_layout.on_circle([3, 1, 0, 2], 10).values(), [(0, -10), (10, 0), (0, 10), (-10, 0)])
 
-    def test_small_ones(self):
+    def test_small_ones(self) -> None:
         self.assert_near(places(1, []), [(0, 0)])
         self.assert_near(places(3, [Pair(0, 0, 1, 0)]), [(0, 0), (0, 95), (95, 0)])
         triangle = places(3, [Pair(0, 0, 1, 0), Pair(0, 1, 2, 0), Pair(1, 1, 2, 1)])
@@ -269,32 +284,32 @@ class Layout(unittest.TestCase):
         line = places(3, [Pair(0, 0, 1, 0), Pair(1, 1, 2, 0)])
         self.assertEqual([round(math.dist(line[one], line[other]) / 10) for one, other in ((0, 1), (1, 2), (0, 2))], [10, 10, 19])
 
-    def test_components_are_side_by_side(self):
+    def test_components_are_side_by_side(self) -> None:
         triangle = [Pair(0, 0, 1, 0), Pair(0, 1, 2, 0), Pair(1, 1, 2, 1)]
         at = places(6, [*triangle, *(Pair(one + 3, face, other + 3, back) for one, face, other, back in triangle)])
         self.assert_near([(x - max(it for it, _ in at[:3]) - 95, y) for x, y in at[3:]], [(x, y) for x, y in at[:3]])
         self.assertEqual([min(x for x, _ in at), min(y for _, y in at)], [0, 0])
 
-    def test_large_ones_are_on_a_circle(self):
+    def test_large_ones_are_on_a_circle(self) -> None:
         for size, radius in ((graph_layout.MOST + 1, APART * (graph_layout.MOST + 1) / 6), (2, 47.5)):
             at = places(size, [Pair(tet, 0, tet + 1, 1) for tet in range(size - 1)])
             for one, other in zip(at, at[1:]):
                 self.assertAlmostEqual(math.dist(one, other), 2 * radius * math.sin(math.pi / size))
 
-    def test_a_step(self):
+    def test_a_step(self) -> None:
         """Two tetrahedra: the first moves to where the second would have it, then the second."""
         far = graph_layout.distances(2, [Pair(0, 0, 1, 0)])
         self.assert_near(graph_layout._relaxed({0: (0.0, 0.0), 1: (3.0, 4.0)}, far).values(), [(-54, -72), (3, 4)])
         self.assert_near(graph_layout._relaxed({0: (0.0, 0.0), 1: (0.0, 0.0)}, far).values(), [(0, 0), (0, 0)])
         self.assert_near(graph_layout._relaxed({0: (7.0, 8.0)}, [{0: 0}]).values(), [(7, 8)])
 
-    def test_a_step_is_weighted(self):
+    def test_a_step_is_weighted(self) -> None:
         """One at twice the distance counts a quarter."""
         far = graph_layout.distances(3, [Pair(0, 0, 1, 0), Pair(1, 1, 2, 0)])
         at = graph_layout._relaxed({0: (0.0, 0.0), 1: (100.0, 0.0), 2: (0.0, 200.0)}, far)
         self.assert_near([at[0]], [((100 - 95) * 0.8, (200 - 190) * 0.2)])
 
-    def test_pushing_apart(self):
+    def test_pushing_apart(self) -> None:
         push = graph_layout._pushed_apart
         self.assert_near(push({0: (0.0, 0.0), 1: (30.0, 40.0)}).values(), [(-4.2, -5.6), (34.2, 45.6)])
         self.assert_near(push({0: (5.0, 7.0), 1: (5.0, 7.0)}).values(), [(-27, 7), (37, 7)])
@@ -304,7 +319,7 @@ class Layout(unittest.TestCase):
         for one, other in itertools.combinations(many.values(), 2):
             self.assertGreater(math.dist(one, other), APART - 0.011)
 
-    def test_wishes(self):
+    def test_wishes(self) -> None:
         at, half = [(0.0, 0.0), (95.0, 0.0)], graph_layout.GAP / 2
         found = graph_layout._wishes(at, [Pair(0, 0, 1, 1), Pair(1, 0, 0, 3), Pair(0, 1, 0, 2), Pair(1, 2, 1, 3)])
         self.assertEqual({key: round(value, 9) for key, value in found.items()}, {key: round(value, 9) for key, value in {
@@ -312,13 +327,14 @@ class Layout(unittest.TestCase):
             (0, 1): math.pi / 2, (0, 2): math.pi / 2, (1, 2): math.pi / 2, (1, 3): math.pi / 2}.items()})
         self.assertAlmostEqual(graph_layout._wishes(at, [Pair(0, 0, 0, 1), Pair(0, 2, 0, 3)])[0, 2], 3 * math.pi / 2)
 
-    def test_spreading(self):
+    def test_spreading(self) -> None:
         gap = graph_layout.GAP
-        for wishes, right in (([], {}), ([(7.0, 2)], {2: 7.0}), ([(0.0, 0), (3.0, 1)], {0: 0.0, 1: 3.0}), ([(1.0, 0), (1.0, 1)], {1: 1 - gap / 2, 0: 1 + gap / 2}),
-                              ([(6.2, 0), (6.2 - gap / 2, 1)], {1: 6.2 - 3 * gap / 4, 0: 6.2 + gap / 4}),
-                              ([(-0.1, 0), (3.0, 1)], {0: -0.1, 1: 3.0}),
-                              # over the place where angles begin anew
-                              ([(0.1, 0), (6.2, 1), (3.0, 2)], {2: 3.0, 1: 3.15 + math.pi - gap / 2, 0: 3.15 + math.pi + gap / 2})):
+        spread: List[Tuple[List[Tuple[float, int]], Dict[int, float]]] = [
+            ([], {}), ([(7.0, 2)], {2: 7.0}), ([(0.0, 0), (3.0, 1)], {0: 0.0, 1: 3.0}), ([(1.0, 0), (1.0, 1)], {1: 1 - gap / 2, 0: 1 + gap / 2}),
+            ([(6.2, 0), (6.2 - gap / 2, 1)], {1: 6.2 - 3 * gap / 4, 0: 6.2 + gap / 4}), ([(-0.1, 0), (3.0, 1)], {0: -0.1, 1: 3.0}),
+            # over the place where angles begin anew
+            ([(0.1, 0), (6.2, 1), (3.0, 2)], {2: 3.0, 1: 3.15 + math.pi - gap / 2, 0: 3.15 + math.pi + gap / 2})]
+        for wishes, right in spread:
             found = graph_layout._spread(wishes)
             self.assertEqual(sorted(found), sorted(right))
             for face, angle in right.items():
@@ -326,7 +342,7 @@ class Layout(unittest.TestCase):
 
 
 class Parts(unittest.TestCase):
-    def test_elements(self):
+    def test_elements(self) -> None:
         self.assertEqual(drawing.line((1.0, 2.0), (3.0, 4.0), "m"), '<line x1="1.0" y1="2.0" x2="3.0" y2="4.0" m/>')
         self.assertEqual(drawing.text((1.0, 2.0), "a<b", "m"), '<text x="1.0" y="6.5" m>a&lt;b</text>')
         self.assertEqual(drawing.polygon([(1.0, 2.0), (3.0, 4.0)], "m"), '<polygon points="1.0,2.0 3.0,4.0" m/>')
@@ -335,7 +351,7 @@ class Parts(unittest.TestCase):
 
 
 class Growth(unittest.TestCase):
-    def test_points(self):
+    def test_points(self) -> None:
         lines = [{"signature": "cPcbbbiht", "answer": [[1], [2]]}, {"signature": "bkaagj", "refused": {}}, {"signature": "bkaagj", "answer": []},
                  {"signature": "bkaagj", "answer": {"surfaces": 7}}, {"signature": "bkaagj", "answer": "bkaagj"}]
         self.assertEqual(list(growth_points(map(json.dumps, lines))), [(2, 2), (1, 0), (1, 7)])
@@ -343,7 +359,7 @@ class Growth(unittest.TestCase):
             with self.assertRaisesRegex(ValueError, "line 2"):
                 list(growth_points([json.dumps(lines[0]), line]))
 
-    def test_svg(self):
+    def test_svg(self) -> None:
         picture = growth_svg([(1, 2), (2, 1), (2, 30), (3, 0)])
         self.assertEqual((count(picture, "circle"), count(picture, "polyline")), (4, 1))
         texts = re.findall(r'<text x="([0-9.]+)" y="([0-9.]+)"[^>]*>([^<]*)<', picture)

@@ -6,6 +6,7 @@ import threading
 import time
 import unittest
 import unittest.mock
+from typing import TYPE_CHECKING, Any, Dict, Iterator, List, Tuple, Type
 
 import trinorm
 from trinorm import library, program, progress
@@ -13,66 +14,85 @@ from trinorm.server import Server
 
 from .cases import timed, within
 from .programs import script
-from .test_library import LONG, named
+from .test_library import LONG, chain, named
 
 
 class Reports:
     """Collects what is reported."""
 
-    def __init__(self):
-        self.seen = []
+    def __init__(self) -> None:
+        self.seen: List[Tuple[float, int]] = []
 
-    def __call__(self, seconds, held):
+    def __call__(self, seconds: float, held: int) -> None:
         self.seen.append((seconds, held))
 
 
-def busy(seconds):
-    """Lists of a triangulation until this time is over."""
-    end = time.monotonic() + seconds
-    reports = Reports()
-    while time.monotonic() < end:
-        trinorm.surfaces(LONG, "octagon", progress=reports)
-    return reports.seen
+def longer_and_longer() -> Iterator[str]:
+    """Triangulations with ever more surfaces: a list that takes too short for a report on this machine is followed by a longer one."""
+    return map(chain, (20, 22, 24, 26))
+
+
+# what `Both` is for those who check types; it is no class of tests itself, so that its tests are run of the classes below it alone
+if TYPE_CHECKING:
+    Case = unittest.TestCase
+else:
+    Case = object
 
 
 class Ended(Exception):
     """Raised by a report."""
 
 
-class Both:
+class Both(Case):
     """What holds of the library and of a process."""
-    way = {}
+    @property
+    def way(self) -> Dict[str, Any]:
+        """The arguments by name that say what runs."""
+        return {}
 
-    def test_reports(self):
+    def most_held(self) -> int:
+        """The most bytes of all reports on lists, until there is one of some bytes."""
         reports = Reports()
-        listed = trinorm.surfaces(LONG, progress=reports, **self.way)
-        self.assertEqual(listed, trinorm.surfaces(LONG))
-        self.assertEqual(trinorm.count(LONG, progress=reports, **self.way).surfaces, len(listed))
+        for text in longer_and_longer():
+            trinorm.surfaces(text, "octagon", progress=reports, **self.way)
+            if any(held for _, held in reports.seen):
+                break
+        return max((held for _, held in reports.seen), default=0)
+
+    def test_reports(self) -> None:
+        reports = Reports()
+        for text in longer_and_longer():
+            listed = trinorm.surfaces(text, progress=reports, **self.way)
+            self.assertEqual(listed, trinorm.surfaces(text))
+            self.assertEqual(trinorm.count(text, progress=reports, **self.way).surfaces, len(listed))
+            if reports.seen:
+                break
         self.assertTrue(reports.seen)
         for seconds, held in reports.seen:
             self.assertIsInstance(held, int)
             self.assertGreaterEqual(held, 0)
             self.assertLess(seconds, 100)
 
-    def test_what_a_report_raises_ends_the_call(self):
+    def test_what_a_report_raises_ends_the_call(self) -> None:
         for raised in (Ended, KeyboardInterrupt, SystemExit):
-            def ends(_seconds, _held, raised=raised):
+            def ends(_seconds: float, _held: int, raised: Type[BaseException] = raised) -> None:
                 raise raised
 
-            begun = time.monotonic()
             with self.assertRaises(raised):
-                for _ in within(60):
-                    trinorm.surfaces(LONG, "octagon", progress=ends, **self.way)
-            self.assertLess(time.monotonic() - begun, 120)
+                for text in longer_and_longer():
+                    trinorm.surfaces(text, "octagon", progress=ends, **self.way)
         self.assertEqual(len(trinorm.surfaces("bkaagj", progress=ends, **self.way)), 2)
 
-    def test_a_call_within_a_report(self):
-        lists = []
-        listed = trinorm.surfaces(LONG, progress=lambda *_: lists.append(trinorm.surfaces("cPcbbbiht")), **self.way)
-        self.assertEqual(listed, trinorm.surfaces(LONG))
+    def test_a_call_within_a_report(self) -> None:
+        lists: List[List[Tuple[int, ...]]] = []
+        for text in longer_and_longer():
+            listed = trinorm.surfaces(text, progress=lambda *_: lists.append(trinorm.surfaces("cPcbbbiht")), **self.way)
+            self.assertEqual(listed, trinorm.surfaces(text))
+            if lists:
+                break
         self.assertTrue(lists and all(it == trinorm.surfaces("cPcbbbiht") for it in lists))
 
-    def test_interrupts(self):
+    def test_interrupts(self) -> None:
         timer = threading.Timer(0.3, os.kill, (os.getpid(), signal.SIGINT))
         timer.start()
         with self.assertRaises(KeyboardInterrupt):
@@ -80,10 +100,10 @@ class Both:
                 trinorm.surfaces(LONG, "octagon", progress=Reports(), **self.way)
         timer.cancel()
 
-    def test_threads(self):
-        found = {}
+    def test_threads(self) -> None:
+        found: Dict[int, Tuple[List[Tuple[int, ...]], List[Tuple[float, int]]]] = {}
 
-        def list_it(number):
+        def list_it(number: int) -> None:
             reports = Reports()
             found[number] = trinorm.surfaces(LONG, progress=reports, **self.way), reports.seen
 
@@ -94,34 +114,35 @@ class Both:
             it.join()
         self.assertEqual([listed for listed, _ in found.values()], [trinorm.surfaces(LONG)] * 3)
 
-    def test_refusals(self):
+    def test_refusals(self) -> None:
         with self.assertRaises(trinorm.Refused):
             trinorm.surfaces("bkaagjx", progress=Reports(), **self.way)
 
-    def test_nonsense(self):
-        for value in (7, "text", [], object()):
+    def test_nonsense(self) -> None:
+        wrong: List[Any] = [7, "text", [], object()]
+        for value in wrong:
             with self.assertRaises(trinorm.BadArgument):
                 trinorm.surfaces("bkaagj", progress=value, **self.way)
 
 
 @unittest.skipUnless(named(), "the library isn't built")
 class ByLibrary(Both, unittest.TestCase):
-    def setUp(self):
+    def setUp(self) -> None:
         self.before = {name: os.environ.get(name) for name in ("TRINORM", "TRINORM_LIBRARY")}
-        os.environ["TRINORM_LIBRARY"] = named()
+        os.environ["TRINORM_LIBRARY"] = named() or ""
 
-    def tearDown(self):
+    def tearDown(self) -> None:
         for name, value in self.before.items():
             if value is None:
                 os.environ.pop(name, None)
             else:
                 os.environ[name] = value
 
-    def test_bytes_are_held(self):
-        self.assertGreater(max(held for _, held in busy(1)), 0)
-        self.assertEqual(library.at(named()).held(), 0)
+    def test_bytes_are_held(self) -> None:
+        self.assertGreater(self.most_held(), 0)
+        self.assertEqual(library.at(named() or "").held(), 0)
 
-    def test_forked_children(self):
+    def test_forked_children(self) -> None:
         child = os.fork()
         if child == 0:
             os._exit(0 if trinorm.surfaces(LONG, progress=Reports()) else 1)
@@ -130,15 +151,13 @@ class ByLibrary(Both, unittest.TestCase):
 
 class ByProcess(Both, unittest.TestCase):
     @property
-    def way(self):
+    def way(self) -> Dict[str, Any]:
         return {"program": trinorm.find()}
 
-    def test_bytes_are_held(self):
-        reports = Reports()
-        trinorm.surfaces(LONG, "octagon", progress=reports, program=trinorm.find())
-        self.assertGreater(max(held for _, held in reports.seen), 0)
+    def test_bytes_are_held(self) -> None:
+        self.assertGreater(self.most_held(), 0)
 
-    def test_long_inputs(self):
+    def test_long_inputs(self) -> None:
         """The input of a program that reads after its first report is still given to it."""
         with tempfile.TemporaryDirectory() as folder:
             slow = script(folder, f"sleep 0.5\nexec {trinorm.find()} \"$@\"\n")
@@ -147,15 +166,27 @@ class ByProcess(Both, unittest.TestCase):
             self.assertEqual(runner.run(["verify"], text).count("solution"), 50000)
 
     @timed
-    def test_limits_of_time(self):
+    def test_limits_of_time(self) -> None:
         with tempfile.TemporaryDirectory() as folder:
-            reports, begun = Reports(), time.monotonic()
+            begun = time.monotonic()
             with self.assertRaisesRegex(trinorm.TimedOut, "no result within 0.5 s"):
-                trinorm.surfaces("bkaagj", progress=reports, timeout=0.5, program=script(folder, "exec sleep 60\n"))
-            self.assertLess(time.monotonic() - begun, 50)
-            self.assertGreaterEqual(len(reports.seen), 2)
+                trinorm.surfaces("bkaagj", progress=Reports(), timeout=0.5, program=script(folder, "exec sleep 300\n"))
+            self.assertLess(time.monotonic() - begun, 200)
 
-    def test_what_fails(self):
+    def test_reports_come_again_and_again(self) -> None:
+        """Until the third one ends a call that has no end of its own."""
+        seen: List[float] = []
+
+        def ends_the_third(seconds: float, _held: int) -> None:
+            seen.append(seconds)
+            if len(seen) == 3:
+                raise Ended
+
+        with tempfile.TemporaryDirectory() as folder, self.assertRaises(Ended):
+            trinorm.surfaces("bkaagj", progress=ends_the_third, timeout=200, program=script(folder, "exec sleep 300\n"))
+        self.assertTrue(0 < seen[0] < seen[1] < seen[2], seen)
+
+    def test_what_fails(self) -> None:
         with self.assertRaises(trinorm.Failed):
             trinorm.surfaces("bkaagj", progress=Reports(), program="/no/such/program")
         with tempfile.TemporaryDirectory() as folder, self.assertRaises(trinorm.Failed):
@@ -165,11 +196,11 @@ class ByProcess(Both, unittest.TestCase):
                 trinorm.surfaces("bkaagj", progress=Reports(), program=trinorm.find())
 
     @unittest.skipIf(Server.find() is None, "the server isn't built")
-    def test_servers_report_nothing(self):
+    def test_servers_report_nothing(self) -> None:
         with Server() as server, self.assertRaises(trinorm.BadArgument):
             trinorm.surfaces("bkaagj", progress=Reports(), program=server)
 
-    def test_processes_that_are_gone(self):
+    def test_processes_that_are_gone(self) -> None:
         self.assertEqual(progress.held_by(2**31 - 1), 0)
         before = progress.held_by(os.getpid())
         taken = b"x" * 100_000_000

@@ -11,6 +11,7 @@ import unittest
 import venv
 import zipfile
 from pathlib import Path
+from typing import ClassVar, List, Tuple
 
 from tests.made_up import MadeUp
 from trinorm.program import REPOSITORY
@@ -23,8 +24,14 @@ ANSWER = "ground\nleft\nright\ntrinorm\n"
 
 
 class Release(unittest.TestCase):
+    folder: ClassVar[Path]
+    clone: ClassVar[MadeUp]
+    early: ClassVar["subprocess.CompletedProcess[str]"]
+    partial: ClassVar["subprocess.CompletedProcess[str]"]
+    done: ClassVar["subprocess.CompletedProcess[str]"]
+
     @classmethod
-    def setUpClass(cls):
+    def setUpClass(cls) -> None:
         folder = tempfile.TemporaryDirectory()
         cls.addClassCleanup(folder.cleanup)
         cls.folder = Path(folder.name)
@@ -42,19 +49,18 @@ class Release(unittest.TestCase):
         cls.clone.build("--anew")
         (cls.folder / "gate").write_text("one\nall passed\n\n")
         cls.done = cls.clone.run(["tools/release.py", "--gate", str(cls.folder / "gate")])
-        cls.files = {path.name.partition("-py3")[0]: path for path in (cls.clone.top / "dist").iterdir()}
 
-    def file(self, ending):
+    def file(self, ending: str) -> Path:
         return next(path for path in (self.clone.top / "dist").iterdir() if path.name.endswith(ending))
 
-    def unpacked(self, name):
+    def unpacked(self, name: str) -> Path:
         """The release's tarball, unpacked."""
         to = self.folder / name
         to.mkdir()
         subprocess.run(["tar", "xzf", str(self.file(".tar.gz")), "-C", str(to), "--strip-components=1"], check=True)
         return to
 
-    def run_alone(self, words, terminal=False):
+    def run_alone(self, words: List[str], terminal: bool = False) -> Tuple[int, str, str]:
         """Status, answer and what is said of a run without the kit."""
         environment, cwd = {"PATH": "/usr/bin:/bin", "HOME": str(self.folder)}, self.folder
         if not terminal:
@@ -70,7 +76,7 @@ class Release(unittest.TestCase):
         os.close(theirs)
         return done.returncode, done.stdout, said.replace("\r\n", "\n")[:-1]
 
-    def test_only_what_was_proved_is_released(self):
+    def test_only_what_was_proved_is_released(self) -> None:
         self.assertEqual(self.early.returncode, 1)
         self.assertIn("no program of these sources is kept here", self.early.stderr)
         self.assertEqual(self.partial.returncode, 1)
@@ -79,7 +85,7 @@ class Release(unittest.TestCase):
         self.addCleanup((self.clone.top / "other").unlink)
         self.assertIn("differs from its commit", self.clone.run(["tools/release.py"]).stderr)
 
-    def test_the_same_bit_for_bit(self):
+    def test_the_same_bit_for_bit(self) -> None:
         self.assertEqual(self.done.returncode, 0, self.done.stderr)
         before = {path.name: path.read_bytes() for path in (self.clone.top / "dist").iterdir()}
         self.assertEqual(len(before), 5)
@@ -89,7 +95,7 @@ class Release(unittest.TestCase):
         done = subprocess.run(["sha256sum", "-c", "--quiet", "SHA256SUMS"], cwd=self.clone.top / "dist", check=False)
         self.assertEqual(done.returncode, 0)
 
-    def test_manifest(self):
+    def test_manifest(self) -> None:
         lines = self.file("MANIFEST").read_text().splitlines()
         head = subprocess.run(["git", "rev-parse", "HEAD"], cwd=self.clone.top, capture_output=True, text=True, check=True).stdout.strip()
         for line in (f"commit {head}", "kit made-up-kit-1", "anew yes", "gate all passed", "verdict left logic=proved functions=1 of=left", "verdict beside logic=proved functions=1 of=beside"):
@@ -98,7 +104,7 @@ class Release(unittest.TestCase):
         done = subprocess.run(["sha256sum"], input=written, capture_output=True, text=True, check=True)
         self.assertIn(f"sources {done.stdout.split()[0]}", lines)
 
-    def test_tarball(self):
+    def test_tarball(self) -> None:
         top = self.unpacked("tarball")
         program = str(top / "bin" / "trinorm")
         self.assertEqual(self.run_alone([program]), (0, ANSWER, ""))
@@ -110,7 +116,7 @@ class Release(unittest.TestCase):
         script = f". {completion}; COMP_WORDS=(trinorm describe --coords ''); COMP_CWORD=3; _trinorm; echo ${{COMPREPLY[*]}}"
         self.assertEqual(self.run_alone(["bash", "-c", script])[1], "standard octagon\n")
 
-    def test_debian_package(self):
+    def test_debian_package(self) -> None:
         if not os.path.exists("/usr/bin/dpkg-deb"):
             self.skipTest("no dpkg-deb")
         to = self.folder / "deb"
@@ -121,27 +127,27 @@ class Release(unittest.TestCase):
         script = f"import sys; sys.path.insert(0, '{to}/usr/lib/python3/dist-packages'); import trinorm; print(trinorm.find())"
         self.assertEqual(self.run_alone([sys.executable, "-c", script])[1], f"{to}/usr/libexec/trinorm/trinorm\n")
 
-    def names(self):
+    def names(self) -> List[str]:
         """The names of all files in the packages."""
         with zipfile.ZipFile(self.file(".whl")) as wheel, tarfile.open(self.file(".tar.gz")) as tarball:
             deb = b"".join(data for name, data in ar_files(self.file(".deb").read_bytes()) if name.startswith("data.tar"))
             with tarfile.open(fileobj=io.BytesIO(deb)) as debian:
                 return [*wheel.namelist(), *tarball.getnames(), *debian.getnames()]
 
-    def test_only_what_git_knows(self):
+    def test_only_what_git_knows(self) -> None:
         names = self.names()
         self.assertEqual([name for name in names if "stray" in name], [])
         for ending in ("trinorm/__main__.py", "trinorm/py.typed", "examples/figure-eight.txt"):
             self.assertGreaterEqual(sum(name.endswith(ending) for name in names), 3, ending)
 
-    def test_the_launcher_is_no_program(self):
+    def test_the_launcher_is_no_program(self) -> None:
         around = dict(self.clone.environment, TRINORM=str(self.clone.top / "trinorm"))
         script = "import sys; sys.path.insert(0, 'python'); import wheels; wheels.build_wheel('.')"
         done = subprocess.run([sys.executable, "-c", script], cwd=self.clone.top, env=around, capture_output=True, text=True, check=False)
         self.assertEqual(done.returncode, 1)
         self.assertIn("is no program but a script, such as the launcher", done.stderr)
 
-    def test_take(self):
+    def test_take(self) -> None:
         other = MadeUp(self.folder, "other clone")
         other.add_library()
         other.environment["XDG_CACHE_HOME"] = str(self.folder / "other cache")
@@ -162,7 +168,7 @@ class Release(unittest.TestCase):
         self.assertIn("1 differ, first crates/left/src/lib.rt", done.stderr)
         self.assertIn("it is a MANIFEST, which --compare takes", other.build("--take", str(self.file("MANIFEST"))).stderr)
 
-    def test_what_is_no_release(self):
+    def test_what_is_no_release(self) -> None:
         """A file that is cut, that holds a link to nothing, or that is none has one line that says so."""
         with tarfile.open(self.folder / "link.tar.gz", "w:gz") as out:
             entry = tarfile.TarInfo("trinorm/libexec/trinorm/trinorm")
@@ -180,7 +186,7 @@ class Release(unittest.TestCase):
             self.assertEqual((done.returncode, len(done.stderr.splitlines())), (1, 1), (name, done.stderr))
             self.assertRegex(done.stderr, f"{why}|isn't the one that its manifest tells|holds no program", name)
 
-    def test_pip(self):
+    def test_pip(self) -> None:
         """The wheel, and the package from the clone and from its folder, without network, in fresh environments."""
         for name, given in (("wheel", str(self.file(".whl"))), ("top", str(self.clone.top)), ("folder", str(self.clone.top / "python"))):
             with self.subTest(name):
@@ -196,7 +202,7 @@ class Release(unittest.TestCase):
                 self.assertTrue(found[1].startswith(str(place)), found)
                 self.assertIn("census", self.run_alone([str(place / "bin" / "trinorm-py"), "--help"])[1])
 
-    def test_pip_without_a_program(self):
+    def test_pip_without_a_program(self) -> None:
         """It says which file of a release can be installed, and which commands make a program."""
         other = MadeUp(self.folder, "without")
         other.lay_out_rest()
@@ -207,7 +213,7 @@ class Release(unittest.TestCase):
             for part in ("there is no program to put into the package", "trinorm-*.whl of a release", "tools/build.py --take FILE", "./trinorm"):
                 self.assertIn(part, done.stdout + done.stderr)
 
-    def test_what_the_wheel_says_of_itself(self):
+    def test_what_the_wheel_says_of_itself(self) -> None:
         """All wheels have one text, so it names no need of one system."""
         with zipfile.ZipFile(self.file(".whl")) as wheel:
             metadata = wheel.read(next(name for name in wheel.namelist() if name.endswith("/METADATA"))).decode()
@@ -217,11 +223,11 @@ class Release(unittest.TestCase):
 
 
 class Table(unittest.TestCase):
-    def test_commands_are_current(self):
+    def test_commands_are_current(self) -> None:
         done = subprocess.run([sys.executable, str(REPOSITORY / "tools" / "commands.py"), "--check"], capture_output=True, text=True, check=False)
         self.assertEqual((done.returncode, done.stdout), (0, ""))
 
-    def test_one_version_and_all_notices(self):
+    def test_one_version_and_all_notices(self) -> None:
         """The version stands in pyproject.toml, and what tells it too tells the same; each library of the kit has its notice."""
         sys.path.insert(0, str(REPOSITORY / "tools"))
         self.addCleanup(sys.path.remove, str(REPOSITORY / "tools"))

@@ -15,7 +15,9 @@ import unittest
 from pathlib import Path
 from typing import Any, List, Sequence, Tuple
 
+from tests.cases import within
 from tests.made_up import MadeUp
+from tests.programs import is_running
 from trinorm.program import REPOSITORY
 
 sys.path.insert(0, str(REPOSITORY / "tools"))
@@ -148,12 +150,18 @@ class Parts(unittest.TestCase):
         """It is ended with all that it started, and fails."""
         with tempfile.TemporaryDirectory() as folder:
             mark = Path(folder, "mark")
-            script = f"(sleep 3; echo late >'{mark}') & sleep 1000"
-            result = tool.run(tool.Part("slow", ["sh", "-c", script]), 0.5)
-            self.assertFalse(result.passed)
-            self.assertIn("it had not ended after", result.wrote)
-            time.sleep(4)
-            self.assertFalse(mark.exists())
+            script = f"sleep 1000 & echo $! >'{mark}.new'; mv '{mark}.new' '{mark}'; sleep 1000"
+            for seconds in (0.5, 5, 50):
+                result = tool.run(tool.Part("slow", ["sh", "-c", script]), seconds)
+                self.assertFalse(result.passed)
+                self.assertIn("it had not ended after", result.wrote)
+                if mark.exists():
+                    break
+            for _ in within(60):
+                if not is_running(int(mark.read_text())):
+                    break
+                time.sleep(0.02)
+            self.assertFalse(is_running(int(mark.read_text())))
 
     def test_signals(self) -> None:
         """A part gets Ctrl-C also where a shell in the background has it ignored."""
@@ -171,11 +179,10 @@ class Parts(unittest.TestCase):
         found = [name for group in [*tool.TESTS, "python"] for name in tool.tests_of(group)]
         self.assertEqual((set(found), len(found)), (there, len(there)))
 
-    def test_types_of_each_test_are_checked_or_it_is_listed(self) -> None:
+    def test_types_of_each_test_are_checked(self) -> None:
         [part] = [part for part in tool.late_parts() if part.name == "types of tests"]
         there = {path.stem for path in (REPOSITORY / "python" / "tests").glob("*.py")}
-        self.assertEqual([name for name in tool.UNTYPED if name not in there], [])
-        self.assertEqual({Path(word).stem for word in part.words if word.startswith("tests/")}, there - set(tool.UNTYPED))
+        self.assertEqual({Path(word).stem for word in part.words if word.startswith("tests/")}, there)
 
 
 class Gate(unittest.TestCase):

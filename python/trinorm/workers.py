@@ -19,7 +19,7 @@ import time
 from concurrent.futures import BrokenExecutor, Executor, Future
 from pathlib import Path
 from types import FrameType
-from typing import IO, Any, BinaryIO, List, NamedTuple, NoReturn, Optional, Set, Tuple
+from typing import IO, Any, BinaryIO, Callable, List, NamedTuple, NoReturn, Optional, Set, Tuple
 
 from .program import how_it_ended
 
@@ -124,7 +124,7 @@ class Workers(Executor):
         self._lock = threading.Lock()
         self._is_closed = False
 
-    def submit(self, function, /, *arguments, **named):  # type: ignore[no-untyped-def]
+    def submit(self, function: Callable[..., Any], /, *arguments: Any, **named: Any) -> "Future[Any]":
         """Calls a function in one of the processes."""
         future: "Future[Any]" = Future()
         call = pickle.dumps((function, arguments, named))
