@@ -59,10 +59,19 @@ class Reading(unittest.TestCase):
             with self.assertRaisesRegex(trinorm.BadArgument, "arrays must be True, False or the name", msg=repr(it)):
                 trinorm.surfaces(SPHERE, arrays=it)
 
+    def test_lines_of_digits_are_read_at_once(self) -> None:
+        self.assertEqual(arrays._digits(b"vec 0 9\nvec 1 2\n", 2).tolist(), [[0, 9], [1, 2]])
+        for chunk in (b"vec 0 :\nvec 1 2\n", b"vec 0/9\nvec 1 2\n", b"vec 0 9\nvec 1 2x", b"vec 10 9\nvec 1\n", b"vec 0 9\nvec 10 2\n"):
+            self.assertIsNone(arrays._digits(chunk, 2), chunk)
+
     def test_widths(self) -> None:
-        for text in ("vec 1 2\nvec 3\n", "vec 1\nvec x\n", "vec 1\nvector\n", "vec 10\nvec -\n", "vec 1\nvec \u0661\n"):
+        for text in ("vec 1 2\nvec 3\n", "vec 1\nvec x\n", "vec 1\nvec :\n", "vec 1 2\nvec 1/2\n", "vec 1\nvector\n", "vec 10\nvec -\n", "vec 1\nvec \u0661\n"):
             with self.assertRaises(trinorm.Failed):
                 arrays.read_vectors(text)
+        with self.assertRaises(trinorm.Failed) as caught:
+            arrays.read_vectors("vec 1\n" * 30 + "vec 1 2\n")
+        beginning = b"vec 1\n" * 10
+        self.assertEqual(str(caught.exception), f"the answer is damaged: its vectors differ in length, near {beginning!r}")
 
 
 @unittest.skipIf(numpy is None, "this Python has no NumPy")

@@ -3,6 +3,7 @@ import concurrent.futures
 import itertools
 import os
 import signal
+import tempfile
 import threading
 import time
 import unittest
@@ -13,7 +14,9 @@ from typing import Any, Dict, Iterator, List, Tuple
 import trinorm
 from trinorm import batch, machine
 
-from .cases import timed
+from .cases import timed, within
+from .programs import script
+from .test_processes import children
 
 SIGNATURES = ["bkaagj", "cPcbbbiht", "bkaajj", "cMcabbgaj", "gLLPQccdfeefqffaqnw", "eLMkabcddbrrag"] * 20
 
@@ -128,6 +131,15 @@ class Many(unittest.TestCase):
         self.assertIsInstance(found[1].failure, trinorm.Failed)
         self.assertTrue(all(it.answer or isinstance(it.failure, trinorm.Failed) for it in found))
 
+    def test_there_are_as_many_threads_as_processors(self) -> None:
+        started: List[object] = []
+        with unittest.mock.patch.object(batch, "processors", lambda: 3), \
+                unittest.mock.patch.object(batch, "start_new_thread", lambda work, _given: started.append(work)):
+            threads = batch._Threads()
+            for _ in range(5):
+                threads.submit(length, "text")
+        self.assertEqual(len(started), 3)
+
     def test_there_are_no_more_threads_than_processors(self) -> None:
         threads = batch._Threads()
         try:
@@ -154,6 +166,25 @@ class Many(unittest.TestCase):
             timer.cancel()
             signal.signal(signal.SIGINT, before)
         self.assertLess(time.monotonic() - begun, 120)
+
+    @unittest.skipUnless(os.path.exists(f"/proc/self/task/{os.getpid()}/children"), "the system does not list children")
+    def test_interrupts_end_processes(self) -> None:
+        """Those of a program that is named, too."""
+        before = children()
+        handler = signal.signal(signal.SIGINT, signal.default_int_handler)
+        timer = threading.Timer(0.5, os.kill, (os.getpid(), signal.SIGINT))
+        try:
+            with tempfile.TemporaryDirectory() as folder, self.assertRaises(KeyboardInterrupt):
+                timer.start()
+                list(trinorm.many(["bkaagj"] * 3, "sig", program=script(folder, "exec sleep 300\n")))
+        finally:
+            timer.cancel()
+            signal.signal(signal.SIGINT, handler)
+        for _ in within(60):
+            if set(children()) <= set(before):
+                break
+            time.sleep(0.02)
+        self.assertLessEqual(set(children()), set(before))
 
     def test_interrupted_early(self) -> None:
         """No lock is left held: it ends at once, with the handler's own exception."""
@@ -208,6 +239,36 @@ class Many(unittest.TestCase):
             with self.assertWarnsRegex(RuntimeWarning, "Loses has answered nothing for"):
                 found = list(trinorm.many(["bkaagj"], length, executor))
         self.assertIn("it was lost", str(found[0].failure))
+
+    def test_warnings(self) -> None:
+        """There is one after the time that is set, however often it is looked, and none before."""
+        class Late(concurrent.futures.ThreadPoolExecutor):
+            def submit(self, function: Any, /, *given: Any, **named: Any) -> Any:
+                future: "concurrent.futures.Future[object]" = concurrent.futures.Future()
+                threading.Timer(0.3, lambda: future.set_result(function(*given))).start()
+                return future
+
+        for silence, count in ((0.01, 1), (600.0, 0)):
+            with self.subTest(silence), Late(1) as executor, unittest.mock.patch.multiple(batch, LOOK=0.02, SILENCE=silence), \
+                    warnings.catch_warnings(record=True) as shown:
+                warnings.simplefilter("always")
+                found = list(trinorm.many(["bkaagj"], length, executor))
+            self.assertEqual(([it.value for it in found], len(shown)), ([11], count))
+
+    def test_an_end_does_not_wait_for_functions_that_go_on(self) -> None:
+        go, ended = threading.Event(), threading.Event()
+
+        def waits(text: str) -> str:
+            if "cPcbbbiht" in text:
+                go.wait(120)
+                ended.set()
+            return text
+
+        answers: Any = trinorm.many(itertools.chain(["bkaagj"], itertools.repeat("cPcbbbiht")), waits)
+        self.assertEqual(next(answers).index, 0)
+        answers.close()
+        self.assertFalse(ended.is_set())
+        go.set()
 
     def test_wrong_arguments_at_once(self) -> None:
         wrong: List[Dict[str, Any]] = [{"executor": concurrent.futures.ThreadPoolExecutor}, {"timeout": 0}, {"timeout": 10 ** 400}, {"program": 5},

@@ -10,15 +10,17 @@ import tempfile
 import time
 import unittest
 import unittest.mock
-from typing import Any, Callable, Dict, List, Optional
+from typing import Any, Callable, Dict, List, Optional, Tuple
 
 import trinorm
 from tests.programs import is_running, script
 from trinorm.__main__ import main
 from trinorm.census import NAMES, Ran, Source, blocks_of, by_processes, entry_of, key_of, run_census
+from trinorm.options import WithTriangles
 from trinorm.program import REPOSITORY, Failed
-from trinorm.tasks import Entry, Task
+from trinorm.tasks import Entry, Task, head_of, line_of
 
+KNOT = "cPcbbbiht"
 SIGNATURES = """# the smallest triangulations
 bkaagj sphere
 sig bkaagb
@@ -103,6 +105,19 @@ class Census(Folder):
                 self.ran = run_census(self.given, self.out, task or Task("surfaces", "standard"), engine, **named)
         self.said = said.getvalue()
         return self.answers()
+
+    def test_coordinates(self) -> None:
+        """Those of the task, and standard ones by default."""
+        entry = Entry(KNOT, "figure-eight")
+        several: Tuple[Optional[WithTriangles], ...] = (None, "standard", "octagon")
+        for coords in several:
+            given = coords or "standard"
+            self.assertEqual(line_of(entry, Task("surfaces", coords))["answer"], trinorm.surfaces(KNOT, given))
+            self.assertEqual(line_of(entry, Task("describe", coords))["answer"], trinorm.described(KNOT, given))
+            self.assertEqual(line_of(entry, Task("count", coords))["answer"], trinorm.count(KNOT, given))
+        self.assertEqual(line_of(entry, Task("surfaces", "quad"))["answer"], trinorm.surfaces(KNOT, "quad"))
+        self.assertEqual(head_of(entry, Task("surfaces", "quad"), 2 / 3),
+                         {"name": "figure-eight", "signature": KNOT, "command": "surfaces --coords quad", "seconds": 0.6667})
 
     def test_answers_and_refusals(self) -> None:
         listed = self.run_it()

@@ -11,7 +11,7 @@ import signal
 import threading
 import time
 import unittest
-from typing import Any, List, Tuple
+from typing import Any, List, Set, Tuple
 from unittest import mock
 
 import trinorm
@@ -160,6 +160,18 @@ class Certificates(unittest.TestCase):
         with mock.patch.object(certificates, "MOST", len(t) + 2), mock.patch.object(Triangulation, "play", noted):
             certificates.search(t.table(), 0, 1)
         self.assertLessEqual(max(sizes), len(t) + 2)
+
+    def test_how_far_a_search_goes_up(self) -> None:
+        """By at most as many moves as it is told, and by none that could make a table larger than the program takes."""
+        looking = certificates.Search(closed(trinorm.table(STUCK[-1])), 0)
+        size = len(looking.here)
+
+        def ups(count: int, most: int) -> Set[int]:
+            with mock.patch.object(certificates, "MOST", most):
+                return {len(looking._ascend(looking.here.copy(), count)[0]) for _ in range(60)}
+
+        self.assertEqual([ups(0, 1000), ups(1, 1000), max(ups(3, 1000))], [{0}, {0, 1}, 3])
+        self.assertEqual([ups(9, size + 2), max(ups(9, size + 3)) > 0], [{0}, True])
 
     def test_groups(self) -> None:
         def group(generators: int, *relators: Tuple[int, ...]) -> trinorm.Presentation:

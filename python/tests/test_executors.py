@@ -13,9 +13,11 @@ import sys
 import tempfile
 import threading
 import time
+import types
 import unittest
 import unittest.mock
 from concurrent.futures import Executor, Future, ProcessPoolExecutor, ThreadPoolExecutor
+from pathlib import Path
 from typing import Any, Callable, Dict, Iterable, Iterator, List, Optional, Sequence, Tuple
 
 import trinorm
@@ -281,6 +283,24 @@ class Handing(Programs):
             self.assertEqual(sorted("".join(done.lines for done in found).split('"')[3::8]), [f"n{k}" for k in range(5)])
             self.assertEqual(len(executor.futures), 2 + len(found))
 
+    def test_how_long_a_silence_may_be(self) -> None:
+        """What may be lost is asked anew after SILENCE, and then after twice as long each time, or after some looks at idle workers; a line comes
+        after six looks."""
+        said, now = io.StringIO(), 100.0
+        clock = types.SimpleNamespace(monotonic=lambda: now)
+        with unittest.mock.patch.multiple(executors, time=clock, LOOK=10.0, SILENCE=300.0, IDLE_LOOKS=3), contextlib.redirect_stderr(said):
+            working, idle, gone = (executors.Silence(Watched(is_idle, workers)) for is_idle, workers in ((False, 1), (True, 1), (False, 0)))
+            self.assertEqual([idle.is_too_long() for _ in range(6)], [False, False, True] * 2)
+            for later, is_lost in ((300.0, False), (300.5, True), (600.5, False), (900.5, False), (901.0, True), (2101.0, False), (2101.5, True)):
+                now = 100.0 + later
+                self.assertEqual(working.is_too_long(), is_lost, later)
+            self.assertEqual(said.getvalue(), "")
+            gone.ends()
+            for later, count in ((59.5, 0), (60.0, 1), (70.0, 1)):
+                now = 100.0 + 2101.5 + later
+                self.assertFalse(gone.is_too_long())
+                self.assertEqual(said.getvalue().count("has no worker"), count)
+
     def test_an_engine_without_workers_is_named(self) -> None:
         said, watch = io.StringIO(), Watched(False, 0)
         with unittest.mock.patch.multiple(executors, LOOK=0.01), contextlib.redirect_stderr(said):
@@ -419,6 +439,36 @@ class DaskExecutors(unittest.TestCase):
             self.assertEqual((raised, client.released, future.cancelled()), ([], 1, True))
 
 
+class Engines(unittest.TestCase):
+    """How many handfuls an engine takes at a time, by made-up modules."""
+
+    def test_mpi(self) -> None:
+        """Two for each process but the first one; a run with one process, or one that mpi4py.futures did not start, is refused."""
+        for size, is_shared, hands in ((1, True, 0), (3, False, 0), (2, True, 2), (3, True, 4)):
+            world = types.SimpleNamespace(Get_size=unittest.mock.Mock(return_value=size))
+            modules = {"mpi4py": types.SimpleNamespace(MPI=types.SimpleNamespace(COMM_WORLD=world)),
+                       "mpi4py.futures": types.SimpleNamespace(MPIPoolExecutor=lambda: ThreadPoolExecutor(1))}
+            with self.subTest((size, is_shared)), unittest.mock.patch.dict(sys.modules, modules), \
+                    unittest.mock.patch.object(executors, "_is_shared", return_value=is_shared):
+                if not hands:
+                    with self.assertRaisesRegex(Failed, "--mpi needs at least two processes"), executors.by_mpi():
+                        pass
+                else:
+                    with executors.by_mpi() as engine:
+                        self.assertEqual(engine.hands, hands)
+
+    def test_dask(self) -> None:
+        """Two for each thread, and sixteen at least."""
+        for threads, hands in (({"a": 1}, 16), ({"a": 8}, 16), ({"a": 3, "b": 6}, 18)):
+            client = unittest.mock.MagicMock(status="running")
+            client.__enter__.return_value = client
+            client.nthreads.return_value = threads
+            client.loop.add_callback.side_effect = RuntimeError("no loop")
+            modules = {"distributed": types.SimpleNamespace(Client=unittest.mock.Mock(return_value=client))}
+            with self.subTest(threads), unittest.mock.patch.dict(sys.modules, modules), executors.by_dask("tcp://made.up:1") as engine:
+                self.assertEqual(engine.hands, hands)
+
+
 class Processes(unittest.TestCase):
     def test_calls(self) -> None:
         with Workers(2) as workers:
@@ -427,6 +477,18 @@ class Processes(unittest.TestCase):
             with self.assertRaises(ZeroDivisionError):
                 workers.submit(divmod, 1, 0).result(100)
             self.assertEqual(len({workers.submit(os.getpid).result(100) for _ in range(10)} | {os.getpid()}) > 1, True)
+
+    def test_the_package_is_found(self) -> None:
+        """By a process that starts in another folder, and whose other places of modules do not have it."""
+        own, before = Path(trinorm.__file__).resolve().parents[1], os.getcwd()
+        others = [place for place in sys.path if place and Path(place).resolve() != own]
+        with tempfile.TemporaryDirectory() as folder, unittest.mock.patch.object(sys, "path", others):
+            os.chdir(folder)
+            try:
+                with Workers(1) as workers:
+                    self.assertEqual(workers.submit(abs, -1).result(100), 1)
+            finally:
+                os.chdir(before)
 
     def test_what_can_not_be_sent(self) -> None:
         with Workers(1) as workers:
@@ -444,7 +506,8 @@ class Processes(unittest.TestCase):
 
     def test_what_a_call_prints_is_no_answer(self) -> None:
         with Workers(1) as workers:
-            self.assertIsNone(workers.submit(print, "", end="").result(100))
+            self.assertIsNone(workers.submit(print, flush=True).result(100))
+            self.assertEqual(workers.submit(abs, -1).result(100), 1)
 
     def test_killed(self) -> None:
         workers = Workers(2)

@@ -170,6 +170,11 @@ class Library(unittest.TestCase):
         self.assertEqual(self.library.answer(["surfaces"], LONG, memory=1 << 20), (8, b"", library.MOST_MEMORY))
         self.assertEqual(self.library.run(["sig"], "sig bkaagj\n", memory=1 << 20), "bkaagj\n")
 
+    def test_no_room_for_a_call_that_reports(self) -> None:
+        for fault in (MemoryError(), OSError(12, "Cannot allocate memory")):
+            with unittest.mock.patch.object(library, "_Room", side_effect=fault), self.assertRaisesRegex(trinorm.Failed, "out of memory"):
+                self.library.run(["sig"], "sig bkaagj\n", progress=lambda _held: None)
+
     def test_each_room_for_memory(self) -> None:
         said = set()
         for most in range(1, 400_000, 7_001):

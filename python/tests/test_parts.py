@@ -8,6 +8,7 @@ import tempfile
 import threading
 import time
 import unittest
+import unittest.mock
 from typing import Any, Callable, ClassVar, Dict, List, Optional, Sequence, Tuple
 
 import trinorm
@@ -96,11 +97,12 @@ class Documents(unittest.TestCase):
         clock = parts.Clock(600)
         self.assertEqual(clock.left(), 600)
         self.assertLess(clock.left() or 0, 600)
-        clock = parts.Clock(0.05)
-        clock.left()
-        time.sleep(0.06)
-        with self.assertRaisesRegex(trinorm.TimedOut, "no result within 0.05 s"):
-            clock.left()
+        with unittest.mock.patch.object(time, "monotonic", side_effect=[100.0, 101.5, 102.0, 107.0]):
+            clock = parts.Clock(2)
+            self.assertEqual([clock.left(), clock.left()], [2, 0.5])
+            for _ in range(2):
+                with self.assertRaisesRegex(trinorm.TimedOut, "no result within 2 s"):
+                    clock.left()
 
 
 class Changed:

@@ -77,6 +77,14 @@ class FacePairings(unittest.TestCase):
                 self.assertAlmostEqual(math.dist(points[0], at[pair.tet]), 13, delta=0.2)
                 self.assertAlmostEqual(math.dist(points[3], at[pair.other_tet]), 13, delta=0.2)
 
+    def test_a_boundary_face_is_a_short_stroke(self) -> None:
+        """Of six units, from the circle outwards."""
+        svg = face_pairing_svg(BALL)
+        [circle], strokes = elements(svg, "circle"), elements(svg, "line")
+        center = float(attribute(circle, "cx")), float(attribute(circle, "cy"))
+        ends = [[(float(attribute(it, f"x{end}")), float(attribute(it, f"y{end}"))) for end in (1, 2)] for it in strokes]
+        self.assertEqual([[round(math.dist(center, end)) for end in pair] for pair in ends], [[13, 19]] * 4)
+
     def test_all_tetrahedra_are_in_the_picture(self) -> None:
         """With room for their gluings on all sides."""
         for table in examples():
@@ -169,6 +177,8 @@ class Surfaces(unittest.TestCase):
         svg = pictures.surface_svg("bkaagj", (10 ** 30, 0, 0, 5, 0, 2, 0))
         self.assertEqual(count(svg, "polygon", class_="disc"), 3)
         self.assertIn("1,000,000,000,000,000,000,000,000,000,000 × triangle 0", svg)
+        for number, drawn in ((60, 60), (61, 1)):
+            self.assertEqual(count(pictures.surface_svg(BALL, (number, 0, 0, 0, 0, 0, 0)), "polygon", class_="disc"), drawn)
 
     def test_vectors_that_are_none(self) -> None:
         wrong: List[Any] = [(1, 2), (0,) * 14, (), (-1, 0, 0, 0, 0, 0, 0), (0.5,) * 7, "1", 7, None]
@@ -177,6 +187,16 @@ class Surfaces(unittest.TestCase):
                 pictures.surface_svg("bkaagj", vector)
         with self.assertRaises(trinorm.Refused):
             pictures.surface_svg("bkaagjx", (0,) * 7)
+        expected = r"with 1 tetrahedra a vector has 7 entries \(3 in quad, 10 in octagon coordinates\), not 2"
+        with self.assertRaisesRegex(BadArgument, expected):
+            pictures.surface_svg("bkaagj", (1, 2))
+
+    def test_discs_are_counted_in_words(self) -> None:
+        """Two kinds in a line, the lines one below the other."""
+        lines = re.findall(r'y="([0-9.]+)" text-anchor="middle" font-size="10">([^<]*)<', pictures.surface_svg(BALL, (1, 2, 3, 4, 5, 0, 0)))
+        self.assertEqual([text for _, text in lines], ["triangle 0, 2 × triangle 1", "3 × triangle 2, 4 × triangle 3", f"5 × {DISCS[4]['name']}"])
+        heights = [float(height) for height, _ in lines]
+        self.assertEqual([round(lower - upper, 3) for upper, lower in zip(heights, heights[1:])], [12.0, 12.0])
 
 
 class Edges(unittest.TestCase):
@@ -187,6 +207,16 @@ class Edges(unittest.TestCase):
                              list(enumerate(degrees)))
             found = collections.Counter(it.text for it in elements(pictures.edges_svg(table), "text", class_="edge"))
             self.assertEqual(found, {f"{number}: {degree}": degree for number, degree in enumerate(degrees)})
+
+    def test_each_edge_has_a_box_of_its_colour(self) -> None:
+        """Around its numbers; hues go round by 137.5 degrees."""
+        svg = pictures.edges_svg(BALL)
+        boxes = [it for it in elements(svg, "rect") if it.get("rx")]
+        self.assertEqual([attribute(it, "fill") for it in boxes], [f"hsl({hue},60%,88%)" for hue in ("0", "138", "275", "52", "190", "328")])
+        for box, words in zip(boxes, elements(svg, "text", class_="edge")):
+            x, y = float(attribute(box, "x")), float(attribute(box, "y"))
+            self.assertAlmostEqual(x + 15, float(attribute(words, "x")), delta=0.11)
+            self.assertTrue(y < float(attribute(words, "y")) < y + 16)
 
 
 class Links(unittest.TestCase):
@@ -239,6 +269,13 @@ class Tables(unittest.TestCase):
             html = xml.fromstring(shown._repr_html_())
             self.assertEqual(len(html.findall("tr")), 1 + rows)
         self.assertEqual(repr(Shown([(1, 2)])), "[(1, 2)]")
+        for shown, caption in ((Shown([(1, 2)] * 1000), "1,000 surfaces, of which the first 100 are shown"), (Shown([(1, 2)] * 100), "100 surfaces"), (Shown([(1, 2)]), "1 surface"), (Shown(), "0 surfaces")):
+            self.assertIn(f"<caption>{caption}</caption>", shown._repr_html_())
+
+    def test_one_surface(self) -> None:
+        html = xml.fromstring(trinorm.describe("bkaagj", [(1, 1, 0, 0, 1, 0, 0)])._repr_html_())  # type: ignore[attr-defined]
+        self.assertEqual([it.text or "" for it in html.iter("th")], ["", "Euler", "linking", "boundary", "components", "vector"])
+        self.assertEqual([it.text for it in html.iter("td")], ["0", "0", "no", "no", "χ 0, two sides", "1 1 0 0 1 0 0"])
         self.assertEqual(Shown([1]), [1])
 
 
@@ -364,8 +401,12 @@ class Growth(unittest.TestCase):
         self.assertEqual((count(picture, "circle"), count(picture, "polyline")), (4, 1))
         texts = re.findall(r'<text x="([0-9.]+)" y="([0-9.]+)"[^>]*>([^<]*)<', picture)
         lengths, sizes, legend = texts[:3], texts[3:6], texts[6]
-        self.assertEqual([it[2] for it in lengths], ["1", "10", "100"])
-        self.assertEqual(len({it[0] for it in lengths}), 1)
+        self.assertEqual(lengths, [("62", "354", "1"), ("62", "189", "10"), ("62", "24", "100")])
+        self.assertEqual({height for _, height, _ in sizes}, {"368"})
+        dots = [(float(attribute(it, "cx")), float(attribute(it, "cy"))) for it in elements(picture, "circle")]
+        self.assertEqual(dots, [(at, round(350 - 165 * math.log10(length), 1)) for at, length in ((175, 2), (385, 1), (385, 30), (595, 1))])
+        [line] = elements(picture, "polyline")
+        self.assertEqual(attribute(line, "points"), " ".join(f"{at:.1f},{350 - 165 * math.log10(length):.1f}" for at, length in ((175, 2), (385, 15.5), (595, 1))))
         lines = re.findall(r'<line x1="([0-9.]+)" x2="([0-9.]+)" y1="([0-9.]+)" y2="([0-9.]+)"', picture)
         self.assertEqual(lines, [("70", "700", y, y) for y in ("350", "185", "20")])
         self.assertEqual([(it[2], float(it[0])) for it in sizes], [("1", 175.0), ("2", 385.0), ("3", 595.0)])
@@ -374,6 +415,9 @@ class Growth(unittest.TestCase):
             self.assertEqual(re.findall(r'text-anchor="end">([^<]*)<', growth_svg([(1, most)])), labels)
         with self.assertRaises(ValueError):
             growth_svg([])
+
+    def test_medians(self) -> None:
+        self.assertEqual([pictures._median(counts) for counts in ([3], [3, 1], [5, 1, 2], [4, 1, 30, 2])], [3, 2, 2, 3])
 
 
 if __name__ == "__main__":

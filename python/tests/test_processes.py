@@ -1,4 +1,5 @@
 """Processes that are interrupted while they are started, are used by many threads, and are asked for nonsense."""
+import _thread
 import os
 import signal
 import subprocess
@@ -51,21 +52,19 @@ class Interrupts(unittest.TestCase):
 
     def interrupted(self, call: Callable[[], object]) -> None:
         """Calls it many times, each time with a signal a little later, from before the process is there until after it runs."""
-        before = children()
+        before, threads = children(), _thread._count()
         for step in range(150):
             with self.assertRaises(Asked):
                 # it comes again after a second, since one that comes just before a wait of the system does not end that wait
                 signal.setitimer(signal.ITIMER_REAL, 1e-5 + step * 4e-5, 1)
                 call()
         signal.setitimer(signal.ITIMER_REAL, 0)
-        for thread in threading.enumerate():
-            if thread is not threading.current_thread() and not thread.daemon:
-                thread.join(10)
         for _ in within(60):
-            if children() == before:
+            # a thread that starts a process for nobody ends it, and may be slow to begin
+            if _thread._count() <= threads and children() == before:
                 return
             threading.Event().wait(0.05)
-        self.assertEqual(children(), before)
+        self.assertEqual((children(), _thread._count()), (before, threads))
 
     def test_of_a_call(self) -> None:
         self.interrupted(lambda: trinorm.surfaces("bkaagj", program=self.endless))
@@ -80,19 +79,20 @@ class Interrupts(unittest.TestCase):
 
         def slow(*words: Any, **how: Any) -> "subprocess.Popen[bytes]":
             begun.set()
-            go.wait(10)
+            go.wait(100)
             return popen(*words, **how)
 
         def signals() -> None:
-            begun.wait(10)
+            begun.wait(100)
             os.kill(os.getpid(), signal.SIGALRM)
 
         before = children()
         thread = threading.Thread(target=signals)
         with mock.patch.object(subprocess, "Popen", slow):
-            thread.start()
-            with self.assertRaises(Asked), Child([self.endless]):
-                pass
+            with self.assertRaises(Asked):
+                thread.start()
+                with Child([self.endless]):
+                    pass
             go.set()
             for _ in within(60):
                 if go.is_set() and children() == before:
@@ -130,6 +130,9 @@ class Started(unittest.TestCase):
                 pass
         with self.assertRaises(ValueError), Child(["a\0b"]):
             pass
+        with mock.patch.object(subprocess, "Popen", side_effect=OSError(12, "Cannot allocate memory")):
+            with self.assertRaisesRegex(trinorm.Failed, "^cat: Cannot allocate memory$"), Child(["cat", "file"]):
+                pass
 
     def test_what_ends_by_an_exception_is_killed(self) -> None:
         with tempfile.TemporaryDirectory() as folder:

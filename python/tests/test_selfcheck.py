@@ -8,6 +8,7 @@ import threading
 import unittest
 from argparse import Namespace
 from pathlib import Path
+from types import SimpleNamespace
 from typing import Tuple
 from unittest import mock
 
@@ -35,6 +36,12 @@ class Rows(unittest.TestCase):
             by_row[rows[2]] = wrong
             [difference] = selfcheck.check_rows(by_row.__getitem__, rows).differences
             self.assertIn(" ".join(rows[2].words), difference)
+
+    def test_long_texts_are_shown_by_their_beginnings(self) -> None:
+        row = selfcheck.Row(("sig", "--x"), b"i" * 200, b"o" * 200, 3)
+        [difference] = selfcheck.check_rows(lambda _row: (0, b"a" * 200), [row]).differences
+        texts = [b"i" * 80, b"o" * 80, b"a" * 80]
+        self.assertEqual(difference, "sig --x < {}: expected {} with status 3, got {} with status 0".format(*map(repr, texts)))
 
     def test_a_program_that_cannot_be_started(self) -> None:
         with tempfile.NamedTemporaryFile() as file:
@@ -74,6 +81,18 @@ class Rows(unittest.TestCase):
         outcome = selfcheck.check_limits(library)
         self.assertEqual((outcome.checks, outcome.differences), (3, []))
 
+    def test_a_library_without_limits_is_reported(self) -> None:
+        library = mock.Mock()
+        library.answer.return_value = 0, b"", 0
+        with mock.patch.object(selfcheck, "time", SimpleNamespace(monotonic=lambda: 100.0)):
+            outcome = selfcheck.check_limits(library)
+        self.assertEqual(outcome, (3, ["time limit: status 0, limit 0, after 0.0 s", "memory limit: status 0, limit 0", "an interruption did not stop a call"], 0.0))
+
+    def test_a_census_is_checked_too(self) -> None:
+        with mock.patch.object(selfcheck, "_differing_census", return_value=iter(["made up"])):
+            outcome = selfcheck.check_many()
+        self.assertEqual((outcome.checks, outcome.differences), (2, ["made up"]))
+
 
 class Report(unittest.TestCase):
     def report(self) -> Tuple[int, str]:
@@ -87,6 +106,7 @@ class Report(unittest.TestCase):
         self.assertEqual(status, 0, said)
         self.assertTrue(said.startswith("trinorm "))
         self.assertTrue(said.endswith("everything is as expected\n"))
+        self.assertRegex(said, r"(?m)^several triangulations at a time: 2 of 2, [0-9.]+ s$")
 
     def test_a_wrong_program_is_reported(self) -> None:
         with tempfile.TemporaryDirectory() as folder, mock.patch.object(program, "find_library", return_value=None):
@@ -130,6 +150,7 @@ class Report(unittest.TestCase):
             status, said = self.report()
         self.assertEqual(status, 1)
         self.assertIn("differs: nowhere\n", said)
+        self.assertIn("no program and no library: 0 of 1, 0.0 s\n", said)
 
     def test_the_data_is_not_changed_by_hand_to_nonsense(self) -> None:
         rows = json.loads((selfcheck.HERE / "worked_rows.json").read_text("utf8"))

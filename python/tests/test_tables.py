@@ -37,7 +37,7 @@ class Forms(unittest.TestCase):
 
 class Sizes(unittest.TestCase):
     def test_head(self) -> None:
-        self.assertEqual([size_of_signature(it) for it in ("a", "bkaagj", "-cLa", "-cOpaaa")], [0, 1, 37, 15 * 64 + 40])
+        self.assertEqual([size_of_signature(it) for it in ("a", "bkaagj", "+LM", "-b-LM", "-cabLM", "-cLa", "-cOpaaa")], [0, 1, 62, 63, 64, 37, 15 * 64 + 40])
 
 
 if __name__ == "__main__":

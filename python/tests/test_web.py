@@ -321,7 +321,7 @@ class Reading(unittest.TestCase):
 
     def understood(self, text: str, reads: str = "table") -> Any:
         [outcome] = self.ask({"text": text, "reads": reads})
-        self.assertLess(outcome["milliseconds"], 5000)
+        self.assertLess(outcome["milliseconds"], 60_000)
         return outcome
 
     def test_signatures(self) -> None:
@@ -778,7 +778,7 @@ return [message(), by('input').value.slice(0, 100), (performance.now() - begun) 
                 said, field, seconds = self.open_file(data)
                 self.assertIn(f"file.bin {why}", said)
                 self.assertEqual(field, first)
-                self.assertLess(seconds, 10)
+                self.assertLess(seconds, 60)
         self.assertEqual(self.open_file("'# é\\nsig bkaagj\\n'", "one.txt")[:2], ["Opened one.txt.", "# é\nsig bkaagj\n"])
 
     # files of about 30 MB, and what is said of them
@@ -853,7 +853,7 @@ by('file').dispatchEvent(new Event('change'));
         self.open()
         drawn = "document.querySelector('#view td button').click(); return document.querySelectorAll('#drawing polygon').length;"
         self.assertGreater(self.ask("surfaces", "dLQbcccajqs", drawn), 0)
-        self.assertLess(time.monotonic() - begun, 10)
+        self.assertLess(time.monotonic() - begun, 60)
         counted, shown = self.run_script("return [by('tally').textContent, document.querySelectorAll('#view tbody:not(.gap) tr').length];")
         self.assertEqual(counted.split()[0], str(shown))
         self.assertEqual(sum(int(count) for count in re.findall(r"(\d+) × ", counted)), shown)

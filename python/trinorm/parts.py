@@ -95,7 +95,6 @@ def _of_the_whole(refused: Refused, part: Part) -> Refused:
     """A refusal of a part, with the numbers of the vector or the line in the whole document."""
     vector = re.match(r"refused: vector (\d+)", refused.line)
     line = re.match(r"refused: input (\d+) \d+ ", refused.line)
-    number = 0
     if vector:
         number = int(vector[1]) + part.before
     elif line and int(line[1]) > part.head:
