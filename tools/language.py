@@ -10,8 +10,9 @@ width: a line of a comment, and one of a contract of code, has at most 120 colum
 names: the parts of an identifier are words of the subject too, none of those in HOUSE or HOUSE_IN_NAMES; those in
     tools/names_kept.txt stay, each for its reason
 
-The comments of proofs are held to the words, as those of public items are, and all contracts to the width. Each identifier of a file of src or specs is held
-to the names, and counts once, with its first line; those of proofs are counted, and not held.
+The comments of proofs are held to the words, as those of public items are, and all contracts of code to the width. Each
+identifier of a file of src or specs is held to the names, and counts once, with its first line; those of proofs are counted,
+and not held.
 
 Printed are, for each crate that breaks a rule, how often its public items break each rule, and then its private ones. --list
 prints each place. With --check the exit status is 1 if a public item of a crate in tools/language_done.txt breaks a rule, or
