@@ -52,7 +52,7 @@ class StubWorkers(workers.Workers):
         assert function is executors.run
         # by the name of this module, which the processes import
         from long_census import run_with_stub as stub
-        return super().submit(stub, *given, **named)  # type: ignore[no-any-return, no-untyped-call]
+        return super().submit(stub, *given, **named)
 
 
 def run_census(words: List[str]) -> int:

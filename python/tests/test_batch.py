@@ -180,11 +180,13 @@ class Many(unittest.TestCase):
         finally:
             timer.cancel()
             signal.signal(signal.SIGINT, handler)
+        left = set(children())
         for _ in within(60):
-            if set(children()) <= set(before):
+            if left <= set(before):
                 break
             time.sleep(0.02)
-        self.assertLessEqual(set(children()), set(before))
+            left = set(children())
+        self.assertLessEqual(left, set(before))
 
     def test_interrupted_early(self) -> None:
         """No lock is left held: it ends at once, with the handler's own exception."""

@@ -59,8 +59,12 @@ class Interrupts(unittest.TestCase):
                 signal.setitimer(signal.ITIMER_REAL, 1e-5 + step * 4e-5, 1)
                 call()
         signal.setitimer(signal.ITIMER_REAL, 0)
+        self.are_left(before, threads)
+
+    def are_left(self, before: List[str], threads: int) -> None:
+        """No other children and no more threads are left than these, soon. A thread that starts a process for nobody ends it, and may
+        be slow to begin."""
         for _ in within(60):
-            # a thread that starts a process for nobody ends it, and may be slow to begin
             if _thread._count() <= threads and children() == before:
                 return
             threading.Event().wait(0.05)
@@ -86,7 +90,7 @@ class Interrupts(unittest.TestCase):
             begun.wait(100)
             os.kill(os.getpid(), signal.SIGALRM)
 
-        before = children()
+        before, threads = children(), _thread._count()
         thread = threading.Thread(target=signals)
         with mock.patch.object(subprocess, "Popen", slow):
             with self.assertRaises(Asked):
@@ -94,12 +98,8 @@ class Interrupts(unittest.TestCase):
                 with Child([self.endless]):
                     pass
             go.set()
-            for _ in within(60):
-                if go.is_set() and children() == before:
-                    break
-                threading.Event().wait(0.05)
-        thread.join()
-        self.assertEqual(children(), before)
+            thread.join()
+            self.are_left(before, threads)
 
 
 class Started(unittest.TestCase):
