@@ -9,7 +9,7 @@ ghost use Rattle.row_reduction.specs.Passing.{PassesFor, PassesAtPivot, PassesAm
 use crate::clear::{Pivot, clear_rows, coefficient_at, copy};
 use crate::fault::SolveFault;
 use crate::known::contains_up_to_sign;
-use crate::late::{named_columns, put_long_and_further_last};
+use crate::late::{named_columns, put_further_last};
 use crate::order::in_cheapest_order;
 use crate::rows::RowList;
 use crate::thin::{Thinned, sparsify};
@@ -179,9 +179,9 @@ fn system_of(alloc: Global, list: RowList) -> Result<System, NoMemory>
 }
 
 /// Brings `system` into solved form for the columns `pivots`; the solutions stay the same. First come the rows without
-/// a pivot, made sparser and ordered so that columns and blocks of `each` columns occur late. Then come the pivot rows,
-/// those with the fewest terms first and those that name a further column last. Fails with `Passed` only if a
-/// coefficient of one of these sums exceeds 1,000,000:
+/// a pivot, made sparser and ordered so that new blocks of `each` columns occur late; then the pivot rows in the order
+/// of `pivots`, those that name a further column last. Fails with `Passed` only if a coefficient of one of these sums
+/// exceeds 1,000,000:
 /// - a row with the multiple of a pivot row that cancels its term, when the columns before in `pivots` are eliminated;
 /// - after all `pivots`, a row without a pivot with 1 or -1 times another such row, if that cancels a term.
 pub fn solve(
@@ -201,7 +201,7 @@ pub fn solve(
     } = solved;
     let RowList { columns, mut rows } = ordered_rows(alloc, each, unsolved)?;
     let named = named_columns(alloc, columns, pivots, &rows)?;
-    put_long_and_further_last(&named, &mut solved)?;
+    put_further_last(&named, &mut solved)?;
     // each pivot row has a column that is in no other row, so it is not empty, and equal to none
     rows.append(&mut solved)?;
     Ok(system_of(alloc, RowList { columns, rows })?)

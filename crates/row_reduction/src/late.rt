@@ -1,4 +1,4 @@
-//! Orders the pivot rows: short ones come first, and those that name a further column last.
+//! Orders the pivot rows: those that name a further column come last.
 
 ghost use Rattle.std.specs.List.Sorted.{IsPermutation};
 
@@ -54,15 +54,11 @@ fn names_further(named: &[bool], row: &SparseRow) -> bool {
     false
 }
 
-/// Sorts the rows by their number of terms, the fewest first, and moves those with a column that is not in `named` to
-/// the end. Most rays are made at long rows, and the rows after that read them all. The unit vector of a column that is
-/// not in `named` is combined with the fewest rays and rows.
-pub(crate) fn put_long_and_further_last(
-    named: &[bool],
-    rows: &mut Vec<SparseRow>,
-) -> Result<(), NoMemory>
+/// Moves the rows with a column that is not in `named` to the end; otherwise the order stays. The unit vector of such a
+/// column is then combined with the fewest rays and rows.
+pub(crate) fn put_further_last(named: &[bool], rows: &mut Vec<SparseRow>) -> Result<(), NoMemory>
     ensures { IsPermutation rows.old.items rows.new.items }
 {
-    rows.sort_by_key(|row| (names_further(named, row), row.entries().len()))?;
+    rows.sort_by_key(|row| names_further(named, row))?;
     Ok(())
 }

@@ -1,4 +1,4 @@
-//! A greedy order of rows: each next row has the fewest blocks, or the fewest columns, that no earlier row names.
+//! A greedy order of rows: each next row has columns in the fewest blocks that no earlier row names.
 
 ghost use Rattle.std.specs.Prelude.{◌≡◌, ◌<◌, IfOk, length};
 ghost use Rattle.std.specs.List.Sorted.{IsPermutation};
@@ -11,166 +11,64 @@ use std::alloc::Global;
 /// The greatest number of rows for which each one is tried as the first.
 const MOST_STARTS: usize = 128;
 
-/// The number of rows from which on orders by new columns are tried too. Fewer rows make few rays in any order.
-const MANY_ROWS: usize = 20;
-
-/// A set of columns, one bit each. Columns whose numbers differ by a multiple of 192 share a bit.
+/// The blocks of columns that a row names, one bit each, and its number of terms. Blocks whose numbers differ by a
+/// multiple of 64 share a bit, which may change the order found; any order is correct.
 #[derive(Clone, Copy)]
-struct ColumnBits {
-    low: u64,
-    middle: u64,
-    high: u64,
-}
-
-/// The blocks and columns that rows name. Blocks whose numbers differ by a multiple of 64 share a bit. Shared bits may
-/// change the order found; any order is correct.
-#[derive(Clone, Copy)]
-struct Named {
+struct RowBlocks {
     blocks: u64,
-    columns: ColumnBits,
-}
-
-/// The blocks and columns that a row names, and its number of terms.
-#[derive(Clone, Copy)]
-struct RowShape {
-    named: Named,
     terms: usize,
 }
 
-/// What is counted of a row that no earlier row names.
-#[derive(Clone, Copy)]
-enum Counted {
-    Blocks,
-    Columns,
-}
-
-/// The first row of a greedy order, and what the rank of the others counts.
-#[derive(Clone, Copy)]
-struct Start {
-    place: usize,
-    counted: Counted,
-}
-
-/// The rank of a row among those left, by which the least comes next: the number of new blocks or columns that it
-/// names, then its number of terms.
+/// The rank of a row among those left, by which the least comes next: the number of new blocks that it names, then its
+/// number of terms.
 #[derive(Clone, Copy)]
 struct Rank {
     fresh: u32,
     terms: usize,
 }
 
-/// The cost of an order: the sums over its rows of the squared numbers of blocks, and of columns, named up to each.
-#[derive(Clone, Copy)]
-struct Cost {
-    blocks: u64,
-    columns: u64,
-}
-
-/// What is named so far, and the cost so far.
+/// The blocks named so far, and the cost so far: the sum over the rows taken of the squared number of blocks named up
+/// to each.
 #[derive(Clone, Copy)]
 struct OrderState {
-    seen: Named,
-    cost: Cost,
+    seen: u64,
+    cost: u64,
 }
 
 /// An order of rows and its cost. Each row is given by its position among those left when it is taken.
 #[derive(Drop)]
 struct RowOrder {
     positions: Vec<usize>,
-    cost: Cost,
+    cost: u64,
 }
 
-/// No block and no column.
-fn nothing() -> Named {
-    Named {
-        blocks: 0,
-        columns: ColumnBits {
-            low: 0,
-            middle: 0,
-            high: 0,
-        },
-    }
-}
-
-/// `columns` with `column`.
-fn with_column(columns: ColumnBits, column: u32) -> ColumnBits {
-    let bit: u64 = 1 << (column % 64);
-    let ColumnBits { low, middle, high } = columns;
-    match column / 64 % 3 {
-        0 => ColumnBits {
-            low: low | bit,
-            middle,
-            high,
-        },
-        1 => ColumnBits {
-            low,
-            middle: middle | bit,
-            high,
-        },
-        _ => ColumnBits {
-            low,
-            middle,
-            high: high | bit,
-        },
-    }
-}
-
-/// The blocks and columns of `one` and those of `other`.
-fn union(one: Named, other: Named) -> Named {
-    Named {
-        blocks: one.blocks | other.blocks,
-        columns: ColumnBits {
-            low: one.columns.low | other.columns.low,
-            middle: one.columns.middle | other.columns.middle,
-            high: one.columns.high | other.columns.high,
-        },
-    }
-}
-
-/// The number of `columns` that are not among `seen`.
-fn count_new(columns: ColumnBits, seen: ColumnBits) -> u32 {
-    let low = (columns.low & !seen.low).count_ones();
-    let middle = (columns.middle & !seen.middle).count_ones();
-    let high = (columns.high & !seen.high).count_ones();
-    low.saturating_add(middle).saturating_add(high)
-}
-
-/// The blocks of `each` columns that `row` names, its columns, and its number of terms.
-fn shape_of(each: u32, row: &SparseRow) -> RowShape {
-    let mut named = nothing();
+/// The blocks of `each` columns that `row` names, and its number of terms.
+fn blocks_of(each: u32, row: &SparseRow) -> RowBlocks {
+    let mut blocks: u64 = 0;
     for (column, _) in row.entries() {
         let block = *column / each.max(1);
-        named.blocks |= 1 << (block % 64);
-        named.columns = with_column(named.columns, *column);
+        blocks |= 1 << (block % 64);
     }
-    RowShape {
-        named,
+    RowBlocks {
+        blocks,
         terms: row.entries().len(),
     }
 }
 
-/// `shape_of` for each of the `rows`.
-fn shapes_of(alloc: Global, each: u32, rows: &[SparseRow]) -> Result<Vec<RowShape>, NoMemory> {
+/// `blocks_of` for each of the `rows`.
+fn blocks_of_all(alloc: Global, each: u32, rows: &[SparseRow]) -> Result<Vec<RowBlocks>, NoMemory> {
     let mut all = Vec::with_capacity(alloc, rows.len())?;
     for row in rows {
-        all.push(shape_of(each, row))?;
+        all.push(blocks_of(each, row))?;
     }
     Ok(all)
 }
 
-/// How much `row` names that `seen` doesn't.
-fn count_fresh(counted: Counted, seen: Named, row: Named) -> u32 {
-    match counted {
-        Counted::Blocks => (row.blocks & !seen.blocks).count_ones(),
-        Counted::Columns => count_new(row.columns, seen.columns),
-    }
-}
-
-/// The rank of row `place` when `seen` is named.
-fn rank_of(counted: Counted, seen: Named, rows: &[RowShape], place: usize) -> Rank {
+/// The rank of row `place` when the blocks `seen` are named.
+fn rank_of(seen: u64, rows: &[RowBlocks], place: usize) -> Rank {
     match rows.get(place) {
         Some(row) => Rank {
-            fresh: count_fresh(counted, seen, row.named),
+            fresh: (row.blocks & !seen).count_ones(),
             terms: row.terms,
         },
         None => Rank {
@@ -186,14 +84,14 @@ fn is_before(one: Rank, other: Rank) -> bool {
 }
 
 /// The position in `left` of the row of least rank, the first such.
-fn first_position(counted: Counted, seen: Named, rows: &[RowShape], left: &[usize]) -> usize
+fn first_position(seen: u64, rows: &[RowBlocks], left: &[usize]) -> usize
     requires { 0 < length left.now }
     ensures { result < length left.now }
 {
     let mut best = 0;
-    let mut least = rank_of(counted, seen, rows, left[0]);
+    let mut least = rank_of(seen, rows, left[0]);
     for (position, place) in left.iter().enumerate() {
-        let rank = rank_of(counted, seen, rows, *place);
+        let rank = rank_of(seen, rows, *place);
         if is_before(rank, least) {
             best = position;
             least = rank;
@@ -202,62 +100,49 @@ fn first_position(counted: Counted, seen: Named, rows: &[RowShape], left: &[usiz
     best
 }
 
-/// The position in `left` of the row to take next: the place of `start` for the first row of the order, and after that
-/// the row of least rank.
-fn next_position(start: Start, seen: Named, rows: &[RowShape], left: &[usize]) -> usize
+/// The position in `left` of the row to take next: `start` for the first row of the order, and after that the row of
+/// least rank.
+fn next_position(seen: u64, rows: &[RowBlocks], left: &[usize], start: usize) -> usize
     requires { 0 < length left.now }
     ensures { result < length left.now }
 {
     if left.len() == rows.len() {
-        start.place.min(left.len() - 1)
+        start.min(left.len() - 1)
     } else {
-        first_position(start.counted, seen, rows, left)
+        first_position(seen, rows, left)
     }
 }
 
-/// `sum` with the square of `count`.
-fn add_square(sum: u64, count: u32) -> u64 {
-    let count = u64::from(count);
-    sum.saturating_add(count.saturating_mul(count))
-}
-
 /// The state after row `place` is taken; an empty row costs nothing.
-fn step(walk: OrderState, rows: &[RowShape], place: usize) -> OrderState {
+fn step(walk: OrderState, rows: &[RowBlocks], place: usize) -> OrderState {
     match rows.get(place) {
         Some(row) if row.terms > 0 => {
-            let seen = union(walk.seen, row.named);
-            let Cost { blocks, columns } = walk.cost;
-            let cost = Cost {
-                blocks: add_square(blocks, seen.blocks.count_ones()),
-                columns: add_square(columns, count_new(seen.columns, nothing().columns)),
-            };
-            OrderState { seen, cost }
+            let seen = walk.seen | row.blocks;
+            let count = u64::from(seen.count_ones());
+            OrderState {
+                seen,
+                cost: walk.cost.saturating_add(count.saturating_mul(count)),
+            }
         }
         _ => walk,
     }
 }
 
-/// The greedy order that begins with `start`, or `None` if its blocks cost at least `blocks`.
+/// The greedy order that begins with row `start`, or `None` if it costs at least `cost`.
 fn order_from(
     alloc: Global,
-    rows: &[RowShape],
-    start: Start,
-    blocks: u64,
+    rows: &[RowBlocks],
+    start: usize,
+    cost: u64,
 ) -> Result<Option<RowOrder>, NoMemory> {
     let mut left: Vec<usize> = (0..rows.len()).collect(alloc)?;
     let mut positions = Vec::with_capacity(alloc, left.len())?;
-    let mut walk = OrderState {
-        seen: nothing(),
-        cost: Cost {
-            blocks: 0,
-            columns: 0,
-        },
-    };
+    let mut walk = OrderState { seen: 0, cost: 0 };
     while !left.is_empty() {
-        let position = next_position(start, walk.seen, rows, &left);
+        let position = next_position(walk.seen, rows, &left, start);
         positions.push(position)?;
         walk = step(walk, rows, left.remove(position));
-        if walk.cost.blocks >= blocks {
+        if walk.cost >= cost {
             return Ok(None);
         }
     }
@@ -276,39 +161,20 @@ fn start_count(rows: usize) -> usize {
 fn unchanged_order(alloc: Global) -> RowOrder {
     RowOrder {
         positions: Vec::new(alloc),
-        cost: Cost {
-            blocks: u64::MAX,
-            columns: u64::MAX,
-        },
+        cost: u64::MAX,
     }
 }
 
-/// The greedy order of `rows` whose blocks cost least, among one for each first row that is tried, where ranks count
-/// `counted`. An order is given up once its blocks cost as much as those of the best.
-fn cheapest_by(alloc: Global, rows: &[RowShape], counted: Counted) -> Result<RowOrder, NoMemory> {
+/// The cheapest of the greedy orders of `rows`, one for each first row that is tried. An order is given up once it
+/// costs as much as the best.
+fn cheapest(alloc: Global, rows: &[RowBlocks]) -> Result<RowOrder, NoMemory> {
     let mut best = unchanged_order(alloc);
-    for place in 0..start_count(rows.len()) {
-        let start = Start { place, counted };
-        if let Some(other) = order_from(alloc, rows, start, best.cost.blocks)? {
+    for start in 0..start_count(rows.len()) {
+        if let Some(other) = order_from(alloc, rows, start, best.cost)? {
             best = other;
         }
     }
     Ok(best)
-}
-
-/// Of the two orders by new blocks and by new columns, the one whose columns cost less. On some tables it makes several
-/// times fewer rays than the other. Of few rows it is the order by new blocks.
-fn cheapest(alloc: Global, rows: &[RowShape]) -> Result<RowOrder, NoMemory> {
-    let by_blocks = cheapest_by(alloc, rows, Counted::Blocks)?;
-    if rows.len() < MANY_ROWS {
-        return Ok(by_blocks);
-    }
-    let by_columns = cheapest_by(alloc, rows, Counted::Columns)?;
-    if by_columns.cost.columns < by_blocks.cost.columns {
-        Ok(by_columns)
-    } else {
-        Ok(by_blocks)
-    }
 }
 
 /// Takes the rows in the order that `positions` gives, each by its position among those left. Rows without a position
@@ -331,8 +197,8 @@ fn rows_in_turn(
     Ok(ordered)
 }
 
-/// Reorders the rows of `list` so that columns and blocks of `each` columns occur as late as possible: the cheapest of
-/// the greedy orders. Any order is correct.
+/// Reorders the rows of `list` so that blocks of `each` columns occur as late as possible: the cheapest of the greedy
+/// orders. Any order is correct.
 pub(crate) fn in_cheapest_order(
     alloc: Global,
     each: u32,
@@ -341,7 +207,7 @@ pub(crate) fn in_cheapest_order(
     ensures columns { IfOk result (λ ordered. ordered.columns ≡ list.columns) }
     ensures permutation { IfOk result (λ ordered. IsPermutation list.rows.items ordered.rows.items) }
 {
-    let all = shapes_of(alloc, each, &list.rows)?;
+    let all = blocks_of_all(alloc, each, &list.rows)?;
     let order = cheapest(alloc, &all)?;
     let RowList { columns, rows } = list;
     let rows = rows_in_turn(alloc, rows, &order.positions)?;

@@ -15,9 +15,9 @@ pub invariant_of-system_of : goal.invariant_of-system_of
 invariant_of-system_of c =
     let blocks = c.in_ok-unsolved.field-0 in
     let rows = c.in_ok-columns.field-0 in
-    let last = c.put_long_and_further_last.new.rows.items in
+    let last = c.put_further_last.new.rows.items in
     let same = blocks.same_columns ∙ sym c.in_ok-columns.ensures.columns in
-    let solved = All-permutation (IsInRange blocks.solved.columns) _ _ c.put_long_and_further_last.ensures blocks.solved.in_range in
+    let solved = All-permutation (IsInRange blocks.solved.columns) _ _ c.put_further_last.ensures blocks.solved.in_range in
     record {
       in_range = rw c.in_ok-append.ensures.items (All-append (IsInRange rows.columns) rows.rows.items last rows.in_range (subst (λ n. All (IsInRange n) last) same solved));
     }
@@ -28,10 +28,10 @@ returns-clause-same c =
     let unsolved = c.in_ok-unsolved.field-0.unsolved.rows.items in
     let solved = c.in_ok-unsolved.field-0.solved.rows.items in
     let first = c.in_ok-columns.field-0.rows.items in
-    let last = c.put_long_and_further_last.new.rows.items in
+    let last = c.put_further_last.new.rows.items in
     let system = c.in_ok-system_of.field-0 in
     let made = front_replaced unsolved first solved c.in_ok-columns.ensures.same in
-    let in_turn = back_reordered first solved last c.put_long_and_further_last.ensures in
+    let in_turn = back_reordered first solved last c.put_further_last.ensures in
     let all = zeros_follow start (unsolved ++ solved) (first ++ last) c.in_ok-unsolved.ensures.same (zeros_follow (unsolved ++ solved) (first ++ solved) (first ++ last) made in_turn) in
     same_from_zeros c.args.system.now.columns start system.rows (subst (HaveSameZeros start) (sym (c.in_ok-system_of.ensures.rows ∙ c.in_ok-append.ensures.items)) all)
 

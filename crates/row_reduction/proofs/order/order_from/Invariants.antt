@@ -1,5 +1,5 @@
 use Rattle.std.proofs.Common.{vec_len}
 use Rattle.row_reduction.proofs.order.order_from.Given as goal
 
-abbrev pub decreases-loop-start : goal.decreases-loop-start
-decreases-loop-start l = vec_len l.left
+abbrev pub decreases-loop-left : goal.decreases-loop-left
+decreases-loop-left l = vec_len l.left
