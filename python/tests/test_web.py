@@ -479,6 +479,12 @@ class Quiet(http.server.SimpleHTTPRequestHandler):
         super().end_headers()
 
 
+class Server(http.server.ThreadingHTTPServer):
+    """A server of a folder. A browser asks for all files of a page at once, and the system breaks connections that are too many to wait."""
+
+    request_queue_size = 128
+
+
 # what the scripts of the tests use
 HELPERS = """
 const by = (id) => document.getElementById(id);
@@ -520,7 +526,7 @@ class Page(Case):
     from_disk = False
     folder: ClassVar["tempfile.TemporaryDirectory[str]"]
     build: ClassVar[Dict[str, str]]
-    server: ClassVar[http.server.ThreadingHTTPServer]
+    server: ClassVar[Server]
     address: ClassVar[str]
     window: Any
 
@@ -531,7 +537,7 @@ class Page(Case):
         cls.build = {**BUILD, "wasm": hashlib.sha256(module().read_bytes()).hexdigest()}
         web_page.write(module().read_bytes(), Path(cls.folder.name), cls.build)
         handler = functools.partial(Quiet, directory=f"{cls.folder.name}/web")
-        cls.server = http.server.ThreadingHTTPServer(("127.0.0.1", 0), handler)
+        cls.server = Server(("127.0.0.1", 0), handler)
         threading.Thread(target=cls.server.serve_forever, daemon=True).start()
         cls.addClassCleanup(cls.server.server_close)
         cls.addClassCleanup(cls.server.shutdown)
