@@ -974,6 +974,22 @@ const {citation, module_of} = await import('./citation.js');
 return (await citation({words: ['make', '--seed', '5'], input: ''}, module_of('', {wasm: ''}), {wasm: ''})).split('. ')[1];"""),
                          "Without the checksum its version, commit and Rattle kit are unknown, and nothing is cited as proved")
 
+    def test_a_broken_connection_is_tried_again(self) -> None:
+        """Once: what breaks twice, and a file that is missing, are said."""
+        if self.from_disk:
+            self.skipTest("over HTTP alone")
+        self.open()
+        for broken, name, expected in ((1, "page.css", "2 true"), (2, "page.css", "2 TypeError: broken"), (0, "none.css", "1 Error: none.css is missing (404)")):
+            self.assertEqual(self.run_script(f"""
+await until(idle);
+const {{text_of}} = await import('./files.js');
+const whole = window.fetch;
+let calls = 0;
+window.fetch = (...given) => ++calls <= {broken} ? Promise.reject(new TypeError('broken')) : whole(...given);
+const said = await text_of('{name}').then((text) => String(text.length > 100), String);
+window.fetch = whole;
+return `${{calls}} ${{said}}`;"""), expected)
+
     def test_over_http_from_another_machine(self) -> None:
         """Browsers compute no checksum there, and let no page copy. The page answers, and says both."""
         if self.from_disk:
