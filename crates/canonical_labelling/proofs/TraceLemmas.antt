@@ -9,7 +9,7 @@ use Rattle.table_definitions.specs.Relabelling.{Relabelling, relabelled_place, f
 use Rattle.table_definitions.specs.Places.{face_of}
 use Rattle.table_definitions.proofs.Permutations.{preimage_below, image-preimage, inverse_permutes, compose_permutes}
 use Rattle.table_definitions.proofs.Carried.{perm_permutes, images_apart}
-use Rattle.signature_definitions.specs.Labellings.{Start, Relabels, IsWalked}
+use Rattle.signature_definitions.specs.Labellings.{Start, Relabels}
 use Rattle.signature_laws.specs.Orders.{start_at, start_across, face_from, Numbers}
 use Rattle.signature_laws.proofs.NewGluings.{met_by_identity}
 use Rattle.signature_laws.proofs.Agreeing.{one_behind}
@@ -109,19 +109,6 @@ pub glued_agrees : {E : Type 0} (rows target : List Row) (order after : List Sta
     → glue rows (face_from from (k % 4)) ≡ Some g → glue target (face_of k) ≡ Some expected → IfOk o (AgreesGlued n order after from g expected) → IfOk o (Agrees rows target order after)
 glued_agrees rows target order after k n from g expected (Err e) h size f f' a = tt
 glued_agrees rows target order after k n from g expected (Ok b) h size f f' a = λ by r numbers. a by (subst (λ m. Becomes m order from g expected by) (sym size) (becomes rows target order k from h by r numbers g expected f f'))
-
--- the relabelling of a traversal maps its start to index 0
-pub begun_numbers : (rows target : List Row) (start : Start) (order : List Start) (by : Relabelling) → order ≡ start ∷ [] → IsWalked rows start by target → Numbers order by
-begun_numbers rows target start order by e w = subst (λ (o : List Start). Numbers o by) (sym e) one
-  where
-    one : Numbers (start ∷ []) by
-    one i l = let z : 0 ≡ i = omega arith in subst (λ j. relabelled_place by (start_at (start ∷ []) j).tet ≡ record { tet = j; perm = (start_at (start ∷ []) j).perm }) z w.begins
-
-pub begun_below : (n : ℕ) (start : Start) (order : List Start) → order ≡ start ∷ [] → start.tet < n → AreBelow n order
-begun_below n start order e h = subst (AreBelow n) (sym e) one
-  where
-    one : AreBelow n (start ∷ [])
-    one i l = let z : 0 ≡ i = omega arith in subst (λ j. (start_at (start ∷ []) j).tet < n) z h
 
 -- a test of whether a face is not glued is true of a face that is not glued
 pub none_by_test : {X : Type 0} (o : Option X) (b : Bool) → o ≡ None → is_some o ≡ not b → b ≡ true

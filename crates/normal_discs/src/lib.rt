@@ -8,10 +8,10 @@ mod meetings;
 mod types;
 
 pub use coords::{
-    before_octagons, columns, columns_each, first_column, has_octagons, has_triangles, is_octagon,
-    is_quad_or_octagon, octagon_column, octagons_each, place_of, quad_column, tet_of,
-    triangle_column, triangles_each, type_of,
+    before_octagons, columns, columns_each, first_column, has_octagons, is_octagon,
+    is_quad_or_octagon, octagons_each, place_of, quad_column, tet_of, triangle_column,
+    triangles_each, type_of,
 };
 pub use disc_coords::DiscCoords;
 pub use meetings::{arc_columns, edge_columns, octagon_arcs};
-pub use types::{keeping, other_types, partner};
+pub use types::{keeping, partner};

@@ -30,4 +30,3 @@ pub use no_clash::NoClash;
 pub use rays::{LargeKind, RayWithSupport, StepFault};
 pub use signs::Sign;
 pub use step::Step;
-pub use zeros::keep_zeros;

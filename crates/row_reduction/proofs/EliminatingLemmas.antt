@@ -200,10 +200,6 @@ pub passes_among : (rows kept : List Row) → AreKept rows kept → (fault : Sol
 passes_among rows kept h Passed p = record { kept = kept; are_kept = h; passes = p }
 passes_among rows kept h NoMemory p = tt
 
-pub first_passed : (rows : List Row) (pivots : List ℕ) (fault : SolveFault) → IfPassed (PassesAtPivot rows pivots) fault → IfPassed (HasPassedSum rows pivots) fault
-first_passed rows pivots Passed p = inl p
-first_passed rows pivots NoMemory p = tt
-
 pub then_passed : (rows : List Row) (pivots : List ℕ) (unsolved solved : List Row) → AreEliminated rows pivots unsolved solved → (fault : SolveFault) → IfPassed (PassesAmong unsolved) fault →
     IfPassed (HasPassedSum rows pivots) fault
 then_passed rows pivots unsolved solved h Passed p = inr (record { unsolved = unsolved; solved = solved; eliminated = h; passes = p })

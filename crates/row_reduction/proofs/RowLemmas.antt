@@ -9,7 +9,6 @@ use Rattle.cone_row_laws.specs.Solutions.{HaveSameZeros}
 use Rattle.std.specs.List.Sorted.{IsPermutation}
 use Rattle.std.proofs.lemmas.List.Sorted.{All-permutation, IsPermutation-remove, IsPermutation-sym}
 use Rattle.row_reduction.specs.Clearing.{AreClearedBy, AddsRow, AddsMultipleAt}
-use Rattle.cone_arithmetic.specs.Sparse.{IsInRange}
 use Rattle.cone_row_laws.proofs.Sums.{sum_zero_alike}
 
 pub all_split : {X : Type 0} (P : X → Type 0) (front back : List X) → All P (front ++ back) → All P front × All P back
@@ -89,10 +88,6 @@ cleared_at columns pivot start rows i factor new h adds same x p = rw adds.repla
 
 pub count_at : (columns : ℕ) (rows : List Row) (i : ℕ) (factor : ℤ) (other : Row) (new : List Row) → AddsMultipleAt columns rows i factor other new → length new ≡ length rows
 count_at columns rows i factor other new adds = ap length adds.replaced ∙ length-set rows i adds.sum
-
-pub in_range_at : (columns : ℕ) (rows : List Row) (i : ℕ) (factor : ℤ) (other : Row) (new : List Row) → AddsMultipleAt columns rows i factor other new →
-    All (IsInRange columns) rows → All (IsInRange columns) new
-in_range_at columns rows i factor other new adds h = rw adds.replaced (All-set (IsInRange columns) rows i adds.sum adds.in_range h)
 
 -- ---- both blocks
 

@@ -10,5 +10,4 @@ mod refusals;
 mod writing;
 
 pub use addup_command::addup;
-pub use blocks::{Block, TableAndBlocks, read_table_and_blocks};
 pub use decompose_command::decompose;

@@ -58,9 +58,6 @@ common_more width first k start words old mid new added h starts keeps is within
 
 -- ---- the blocks of a table
 
-pub blocks_of_none : (width : ℕ) → AreBlocks width 0 0 [] []
-blocks_of_none width = record { most = omega arith; total = omega arith; common = λ place less. absurd (omega arith) }
-
 pub blocks_push : (width count closed : ℕ) (words blocks more : List ℕ) → AreBlocks width count closed words blocks → length words ≡ count * width → AreBlocks width (count + 1) closed (words ++ more) blocks
 blocks_push width count closed words blocks more h total = record {
   most = omega (arith, h.most);

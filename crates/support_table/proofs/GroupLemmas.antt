@@ -1,11 +1,10 @@
 -- Groups of candidates: their columns, and the ranges of their indices.
-use Rattle.std.proofs.Common.{◌≡◌, ◌≢◌, ℕ, suc, ◌+◌, ◌-◌, ◌*◌, ◌^◌, ◌<◌, ◌≤◌, ◌⊎◌, inl, inr, min, List, Bool, eqb, [], ◌∷◌, ◌++◌, length, get_or, set, length-set, get_or-set_same, get_or-set_other, replicate, w64, bit_and, subst, sym, ap, ◌∙◌, arith}
+use Rattle.std.proofs.Common.{◌≡◌, ◌≢◌, ℕ, suc, ◌+◌, ◌-◌, ◌*◌, ◌^◌, ◌<◌, ◌≤◌, ◌⊎◌, inl, inr, min, List, Bool, eqb, [], ◌∷◌, ◌++◌, length, get_or, set, length-set, get_or-set_same, get_or-set_other, w64, bit_and, subst, sym, ap, ◌∙◌, arith}
 use native.Mathlib.Numerals.{unary_clauses}
 use Rattle.std.specs.Int.{bit_at, bit_not, leading_zeros}
 use Rattle.std.specs.List.{All}
 use Rattle.std.specs.List.Sorted.{IsPermutation}
 use Rattle.std.proofs.lemmas.Bool.{cases_eq, cases_lt, eq-eqb, false≢true}
-use Rattle.std.proofs.lemmas.List.{get_or_past, get_or-replicate, length-replicate}
 use Rattle.std.proofs.lemmas.List.Elements.{All-push, Contains-push, Contains-append_left, Contains-get_or}
 use Rattle.std.proofs.lemmas.List.Sorted.{All-permutation, Contains-permutation}
 use Rattle.std.proofs.lemmas.Nat.{leading_top, div_below, le-div, and_le_l}
@@ -63,13 +62,6 @@ group_from_words outer s words outer_words group of_s of_outer h column is = eli
 
 -- ---- candidate by candidate
 
-pub grouped_none : (supports : List (List Bool)) (outer : List Bool) (candidates : List Candidate) → AreGrouped supports outer candidates 0 []
-grouped_none supports outer candidates = record {
-  each = λ k d within. absurd (omega arith);
-  from = λ k d within. absurd (omega arith);
-  complete = λ k d less. absurd (omega arith);
-}
-
 pub grouped_push : (supports : List (List Bool)) (outer : List Bool) (candidates : List Candidate) (n : ℕ) (list : List Grouped) (it : Grouped) → AreGrouped supports outer candidates n list → n < length candidates →
     ((d : Candidate) → (get_or candidates n d).place ≡ it.place) → IsGrouped supports outer it → AreGrouped supports outer candidates (n + 1) (list ++ it ∷ [])
 grouped_push supports outer candidates n list it h within is sized = record {
@@ -90,22 +82,6 @@ grouped_moved supports outer candidates n before after moves h = record {
 }
 
 -- ---- ranges
-
-zero_at : (n j : ℕ) (entries : List ℕ) → entries ≡ replicate n 0 → get_or entries j 0 ≡ 0
-zero_at n j entries are = let nothing : ℕ = 0 in ap (λ (xs : List ℕ). get_or xs j nothing) are ∙ elim (cases_lt j n) [
-  | inl less ↦ get_or-replicate n j nothing nothing less
-  | inr exceeded ↦ get_or_past (replicate n nothing) j nothing (let e = length-replicate n nothing in omega (arith, e))
-]
-
-pub ranges_none : (list : List Grouped) (groups : ℕ) (ranges : Ranges) → ranges.starts.items ≡ replicate groups 0 → ranges.ends.items ≡ replicate groups 0 → AreRanges list groups 0 ranges
-ranges_none list groups ranges starts_are ends_are = let nothing : ℕ = 0 in record {
-  starts = ap length starts_are ∙ length-replicate groups nothing;
-  ends = ap length ends_are ∙ length-replicate groups nothing;
-  low = λ group. let e = zero_at groups group ranges.starts.items starts_are in omega (arith, e);
-  within = λ group. let e = zero_at groups group ranges.ends.items ends_are in omega (arith, e);
-  from = λ k less. absurd (omega arith);
-  to = λ k less. absurd (omega arith);
-}
 
 -- how the start of a group changes: at its first entry
 abbrev pub IsStartSet : List ℕ → ℕ → ℕ → List ℕ → List ℕ → Type 0

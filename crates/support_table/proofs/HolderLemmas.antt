@@ -2,13 +2,13 @@
 use Rattle.std.proofs.Common.{◌≡◌, ℕ, zero, suc, ◌+◌, ◌-◌, ◌*◌, ◌/◌, ◌^◌, ◌<◌, ◌≤◌, ◌||◌, inl, inr, ⊎_elim, Bool, true, false, eqb, List, [], length, get_or, set, length-set, get_or-set_same, get_or-set_other, replicate, w64, bit_or, max, subst, sym, ap, ◌∙◌, arith}
 use Rattle.std.specs.Int.{bit_at, bit_not, trailing_zeros}
 use Rattle.std.proofs.lemmas.Bool.{cases_eq, cases_lt, cases_Bool, eq-eqb, false≢true, or_right}
-use Rattle.std.proofs.lemmas.List.{get_or_default, get_or_past, get_or-replicate, length-replicate}
+use Rattle.std.proofs.lemmas.List.{get_or_past, get_or-replicate, length-replicate}
 use Rattle.std.proofs.lemmas.Nat.Bits.{bit_at-lt, bit_at-zero, bit_at_above, bit_at_not, bit_at_or, bit_at_ones_above, bit_at_mask_below, bit_at-trailing_zeros}
 use Rattle.support_bits.specs.Columns.{HasColumn, IsUnion, Meets}
 use Rattle.support_bits.specs.Words.{AreWordsOf}
 use Rattle.support_bits.proofs.WordLemmas.{bit_of-column, bit_after}
 use Rattle.support_table.specs.Tables.{Table, IsFarBlock}
-use Rattle.support_table.specs.Holders.{IsHolder, AreHolders, AreAsLong, IsMeetingBelow, IsMeeting, MarksMeeting}
+use Rattle.support_table.specs.Holders.{IsHolder, AreHolders, IsMeetingBelow, IsMeeting, MarksMeeting}
 use Rattle.support_table.specs.Residuals.{support_at, IsCandidate}
 use Rattle.support_table.specs.declared.compatible_list.Candidate.{Candidate}
 use Rattle.support_table.specs.Candidates.{ListCandidates, NamesCandidates}
@@ -105,9 +105,6 @@ meeting_of table count holders columns places h same m = record {
   complete = λ place meets. let within = column_within columns meets.0 meets.2 in
       m.complete place meets.0 within meets.2 ((h.each meets.0 (omega (arith, h.columns, same))).each place ∙ meets.1);
 }
-
-pub holders_long : (table : Table) (count : ℕ) (holders : List (List Bool)) → AreHolders table count holders → AreAsLong count holders
-holders_long table count holders h k d within = ap length (get_or_default holders k d [] within) ∙ (h.each k within).count_is
 
 -- ---- word by word
 

@@ -1,18 +1,17 @@
 -- Marks, word by word and candidate by candidate.
-use Rattle.std.proofs.Common.{◌≡◌, ℕ, ◌+◌, ◌-◌, ◌/◌, ◌%◌, ◌^◌, ◌<◌, ◌≤◌, ◌⊎◌, ◌↔◌, inl, inr, ⊎_elim, min, max, Bool, true, false, eqb, List, [], ◌∷◌, ◌++◌, Contains, length, get_or, set, length-set, get_or-set_same, get_or-set_other, replicate, w64, bit_and, bit_or, refl, subst, subst₂, sym, ap, ◌∙◌, arith}
+use Rattle.std.proofs.Common.{◌≡◌, ℕ, ◌+◌, ◌-◌, ◌/◌, ◌%◌, ◌^◌, ◌<◌, ◌≤◌, ◌⊎◌, ◌↔◌, inl, inr, ⊎_elim, min, max, Bool, true, false, eqb, List, [], ◌∷◌, ◌++◌, Contains, length, get_or, set, length-set, get_or-set_same, get_or-set_other, w64, bit_and, bit_or, refl, subst, subst₂, sym, ap, ◌∙◌, arith}
 use Rattle.std.specs.Int.{bit_at, bit_not}
 use Rattle.std.specs.List.{All, AllPairs}
-use Rattle.std.proofs.lemmas.Bool.{cases_eq, cases_lt, eq-eqb, false≢true}
-use Rattle.std.proofs.lemmas.List.{get_or_default, get_or_past, get_or-replicate, length-replicate}
+use Rattle.std.proofs.lemmas.Bool.{cases_eq, cases_lt, eq-eqb}
+use Rattle.std.proofs.lemmas.List.{get_or_default}
 use Rattle.std.proofs.lemmas.List.Elements.{All-push, Contains-push, Contains-append_left}
 use Rattle.std.proofs.lemmas.List.Quantifiers.{all_pairs_push}
-use Rattle.std.proofs.lemmas.Nat.Bits.{bit_at-lt, bit_at-zero, bit_at_and, bit_at_or, bit_at_not}
+use Rattle.std.proofs.lemmas.Nat.Bits.{bit_at-lt, bit_at_and, bit_at_or, bit_at_not}
 use Rattle.support_bits.specs.Columns.{HasColumn}
 use Rattle.support_bits.specs.Words.{bit_of, AreWordsOf, HaveCommon}
 use Rattle.support_bits.proofs.WordLemmas.{is_one}
 use Rattle.support_table.specs.declared.compatible_list.Candidate.{Candidate}
-use Rattle.support_table.specs.Residuals.{support_at}
-use Rattle.support_table.specs.Candidates.{AddsOutside, IsMarked, IsHit, AreUnhit}
+use Rattle.support_table.specs.Candidates.{IsHit, AreUnhit}
 
 -- ---- word by word
 
@@ -56,28 +55,6 @@ beside_more k words outer old new n h within fits n_is = record {
     ]
 
 -- ---- candidate by candidate
-
--- no bit of a list of zeros is set
-pub no_bit : (n column : ℕ) → bit_of (replicate n 0) column ≡ true → ⊥
-no_bit n column is = false≢true (sym (ap (λ m. eqb (bit_at m (column % 64)) 1) zero_word ∙ ap (λ m. eqb m 1) (bit_at-zero (column % 64))) ∙ is)
-  where
-    zero_word : get_or {A = ℕ} (replicate n 0) (column / 64) 0 ≡ 0
-    zero_word = let nothing : ℕ = 0 in ⊎_elim (λ less. get_or-replicate n (column / 64) nothing nothing less)
-        (λ exceeded. get_or_past (replicate n nothing) (column / 64) nothing (let e = length-replicate n nothing in omega (arith, e))) (cases_lt (column / 64) n)
-
-pub marked_more : (supports : List (List Bool)) (outer : List Bool) (single : ℕ) (compatible_list : List Candidate) (r : Candidate) (words outer_words old new : List ℕ) →
-    Contains compatible_list r → r.size ≤ single → AreWordsOf (support_at supports r.place) words → AreWordsOf outer outer_words → AddsOutside words outer_words old new →
-    ((column : ℕ) → bit_of old column ≡ true → IsMarked supports outer single compatible_list column) → (column : ℕ) → bit_of new column ≡ true → IsMarked supports outer single compatible_list column
-marked_more supports outer single compatible_list r words outer_words old new listed limited of_words of_outer adds so_far column is = ⊎_elim
-    (λ before. so_far column before)
-    (λ now. record {
-      candidate = r;
-      listed = listed;
-      limited = limited;
-      has = sym (of_words.bits column) ∙ now.0;
-      outside = λ has. false≢true (sym now.1 ∙ of_outer.bits column ∙ has);
-    })
-    (adds.each column is)
 
 -- ---- hits
 

@@ -9,12 +9,6 @@ use Rattle.cone_laws.proofs.Counts.{count_weaker, count_stronger}
 use Rattle.support_bits.specs.Columns.{HasColumn, IsInsideUnionOf}
 use Rattle.support_table.specs.Counts.{columns_in_either}
 
-pub inside_self : (outer s : List Bool) → IsInsideUnionOf s outer s
-inside_self outer s column has = inr has
-
-pub inside_chain : (outer s t v : List Bool) → IsInsideUnionOf s outer t → IsInsideUnionOf t outer v → IsInsideUnionOf s outer v
-inside_chain outer s t v one other column has = elim (one column has) [ inl o ↦ inl o | inr h ↦ other column h ]
-
 or_weaker : (x y z : Bool) → (y ≡ true → (x ≡ true) ⊎ (z ≡ true)) → (x || y) ≡ true → (x || z) ≡ true
 or_weaker true y z h is = refl
 or_weaker false y z h is = elim (h is) [ inl none ↦ absurd (false≢true none) | inr e ↦ e ]
@@ -29,22 +23,6 @@ column_within s column has = elim (cases_lt column (length s)) [
 pub size_within : (outer s t : List Bool) → IsInsideUnionOf s outer t → columns_in_either outer s ≤ columns_in_either outer t
 size_within outer s t inside = count_weaker (λ k. get_or outer k false || get_or s k false) (λ k. get_or outer k false || get_or t k false) 0 (length outer)
     (λ k _ is. or_weaker (get_or outer k false) (get_or s k false) (get_or t k false) (inside k) is)
-
--- if the outer one has at most as many, the two are equal
-pub same_size : (outer s t : List Bool) → length t ≡ length outer → IsInsideUnionOf s outer t → columns_in_either outer t ≤ columns_in_either outer s → IsInsideUnionOf t outer s
-same_size outer s t wide inside limited column has = elim (cases_Bool (get_or outer column false)) [
-  | inl e ↦ inl e
-  | inr out ↦ elim (cases_Bool (get_or s column false)) [
-    | inl e ↦ inr e
-    | inr none ↦ absurd (let less = column_within t column has in
-        let more = count_stronger (λ k. get_or outer k false || get_or s k false) (λ k. get_or outer k false || get_or t k false) 0 (length outer) column
-        (λ k is. or_weaker (get_or outer k false) (get_or s k false) (get_or t k false) (inside k) is) (omega arith) (omega (arith, wide))
-        (ap₂ (λ x y. x || y) out none) (or_right (get_or outer column false) (get_or t column false) has) in omega (arith, limited, more))
-  ]
-]
-
-one_more : (x y : Bool) → (x || x) ≡ true → ((x || x) || y) ≡ true
-one_more x y is = or_left (x || x) y is
 
 -- a residual of a single column lies inside each that contains it
 pub single_inside : (outer s t : List Bool) (column : ℕ) → length s ≡ length outer → columns_in_either outer s ≤ columns_in_either outer outer + 1 →

@@ -1,7 +1,6 @@
 -- For each column the indices of the rays that contain it.
 use Rattle.std.specs.Prelude.{◌≡◌, ℕ, ◌+◌, ◌<◌, List, Bool, [], false, length, slice_index_or}
 use Rattle.std.specs.Int.{bit_at}
-use Rattle.std.specs.List.{All}
 use Rattle.support_bits.specs.Columns.{HasColumn, Meets}
 use Rattle.support_table.specs.Tables.{Table}
 use Rattle.support_table.specs.Residuals.{support_at}
@@ -16,10 +15,6 @@ pub record AreHolders (table : Table) (count : ℕ) (holders : List (List Bool))
   pub count_is : count ≡ length table.supports
   pub columns : length holders ≡ table.columns
   pub each : (column : ℕ) → column < length holders → IsHolder table.supports column count (slice_index_or holders column [])
-
--- each list has count entries
-abbrev pub AreAsLong : ℕ → List (List Bool) → Type 0
-AreAsLong count holders = All (λ places. length places ≡ count) holders
 
 -- the indices that occur for one of the columns below n
 pub record IsMeetingBelow (holders : List (List Bool)) (columns : List Bool) (count n : ℕ) (places : List Bool) : Type 0 where

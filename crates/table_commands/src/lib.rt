@@ -15,5 +15,5 @@ pub use csame_command::csame;
 pub use csig_command::csig;
 pub use group_command::group;
 pub use info_command::info;
-pub use same_command::{relabelling_outcome, same};
+pub use same_command::same;
 pub use sig_command::sig;
