@@ -243,19 +243,19 @@ class Many(unittest.TestCase):
         self.assertIn("it was lost", str(found[0].failure))
 
     def test_warnings(self) -> None:
-        """There is one after the time that is set, however often it is looked, and none before."""
+        """There is one after the time that is set, however often it is looked, and none before. It names the line that asks."""
         class Late(concurrent.futures.ThreadPoolExecutor):
             def submit(self, function: Any, /, *given: Any, **named: Any) -> Any:
                 future: "concurrent.futures.Future[object]" = concurrent.futures.Future()
                 threading.Timer(0.3, lambda: future.set_result(function(*given))).start()
                 return future
 
-        for silence, count in ((0.01, 1), (600.0, 0)):
-            with self.subTest(silence), Late(1) as executor, unittest.mock.patch.multiple(batch, LOOK=0.02, SILENCE=silence), \
-                    warnings.catch_warnings(record=True) as shown:
+        for silence, in_order, files in ((0.01, True, [__file__]), (0.01, False, [__file__]), (600.0, True, [])):
+            with self.subTest(silence, in_order=in_order), Late(1) as executor, \
+                    unittest.mock.patch.multiple(batch, LOOK=0.02, SILENCE=silence), warnings.catch_warnings(record=True) as shown:
                 warnings.simplefilter("always")
-                found = list(trinorm.many(["bkaagj"], length, executor))
-            self.assertEqual(([it.value for it in found], len(shown)), ([11], count))
+                found = list(trinorm.many(["bkaagj"], length, executor, in_order=in_order))
+            self.assertEqual(([it.value for it in found], [it.filename for it in shown]), ([11], files))
 
     def test_an_end_does_not_wait_for_functions_that_go_on(self) -> None:
         go, ended = threading.Event(), threading.Event()

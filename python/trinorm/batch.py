@@ -104,6 +104,17 @@ class Task(NamedTuple):
         return said, time.monotonic() - begun
 
 
+def _level_of_caller() -> int:
+    """The `stacklevel` by which `warnings.warn`, called by the caller of this function, names the line outside this package that
+    asked for the next answer. How many of the package's own frames lie between depends on the order of the answers."""
+    folder, level = os.path.dirname(__file__), 1
+    frame = inspect.currentframe()
+    frame = frame.f_back if frame is not None else None
+    while frame is not None and os.path.dirname(frame.f_code.co_filename) == folder:
+        frame, level = frame.f_back, level + 1
+    return level
+
+
 class _Threads(Executor):
     """Threads whose calls end soon after `stop`. The queues are the one thing that they share with who asks: no lock is kept if
     a handler of a signal raises an exception between two steps."""
@@ -247,7 +258,7 @@ class _Run:
             if isinstance(self.executor, _Threads):
                 self.executor.help()
             elif not has_warned and time.monotonic() - begun > SILENCE:
-                warnings.warn(f"{type(self.executor).__name__} has answered nothing for {SILENCE:.0f} seconds", RuntimeWarning, stacklevel=4)
+                warnings.warn(f"{type(self.executor).__name__} has answered nothing for {SILENCE:.0f} seconds", RuntimeWarning, stacklevel=_level_of_caller())
                 has_warned = True
 
     def _again(self, handful: _Handful, fault: BaseException) -> Iterator[Answered]:
