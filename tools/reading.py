@@ -393,7 +393,7 @@ INTRODUCTION = """# The theorem on `surfaces`, in full
 
 This page has the clause of `run` that is the theorem, and each definition on which its table, its equations, its clashing pairs and its \
 list rest: {lines} lines in {files} files. `tools/reading.py` writes it from the sources, and refuses a word or sign that is \
-neither defined here nor explained. Reading it takes some forty minutes. [CLAIMS](CLAIMS.md) says what else is proved, and what is trusted.
+neither defined here nor explained. [CLAIMS](CLAIMS.md) says what else is proved, and what is trusted.
 
 ## The clause
 

@@ -90,7 +90,7 @@ class Page(unittest.TestCase):
     def test_the_clause_and_the_call(self) -> None:
         self.assertIn("ensures all_surfaces {", self.text)
         self.assertIn("\nfn main(rt: HostRuntime)", self.text)
-        self.assertIn("forty minutes", self.text)
+        self.assertRegex(self.text, r"list rest: \d+ lines in \d+ files\.")
 
 
 if __name__ == "__main__":
