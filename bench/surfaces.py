@@ -1,5 +1,5 @@
 #!/usr/bin/env python3
-"""Measures `trinorm surfaces` and `trinorm decompose` beside Regina, in one run.
+"""Measures `trinorm surfaces`, `trinorm decompose` and `trinorm describe` beside Regina, in one run.
 
     bench/surfaces.py [PROGRAM] [--families closed,ideal,..] [--straight] [--best 3] [--cut 60]
 
@@ -31,6 +31,20 @@ for _ in range(%d):
     if seconds > 1:
         break
 print(found.size(), least)
+"""
+# the least seconds for the properties of all surfaces of a list, which a list computes once
+REGINA_DESCRIBES = """
+import regina, time
+table = regina.Triangulation3.fromIsoSig(%r)
+least = None
+for _ in range(%d):
+    found = list(regina.NormalSurfaces(table, regina.NS_STANDARD))
+    begun = time.process_time()
+    for it in found:
+        it.components(), it.eulerChar(), it.isVertexLinking(), it.hasRealBoundary(), it.isTwoSided(), it.isOrientable()
+    seconds = time.process_time() - begun
+    least = seconds if least is None else min(least, seconds)
+print(len(found), least)
 """
 DEFAULT, STRAIGHT = "", ", regina.NS_VERTEX, regina.NS_VERTEX_STD_DIRECT | regina.NS_VERTEX_DD"
 FAMILIES = {"closed": CLOSED, "hyperbolic": HYPERBOLIC, "ideal": IDEAL, "boundary": BOUNDARY}
@@ -105,6 +119,17 @@ class Bench:
         ratios.add(whole[1] / listed[1])
         print(f"| {name}, decompose | {listed[1]:.4f} | {whole[1]:.4f} | {whole[1] / listed[1]:.2f} |", flush=True)
 
+    def describe(self, name: str, text: str, ratios: Ratios) -> None:
+        """The properties of all surfaces of a list, beside Regina's."""
+        listed = self.ask(["surfaces"], text)
+        described = None if listed is None else self.ask(["describe"], text + listed[0])
+        signature = text.split()[1] if text.startswith("sig ") else run([self.program, "sig"], text).answer.split()[0]
+        said = regina_says(REGINA_DESCRIBES % (signature, self.best), self.best * self.cut) if regina_python() else None
+        if described is None or said is None:
+            return
+        ratios.add(described[1] / float(said[-1]))
+        print(f"| {name}, describe | {said[-2]} | {described[1]:.4f} | {float(said[-1]):.4f} | {described[1] / float(said[-1]):.2f} |", flush=True)
+
 
 def tables(least: int, most: int) -> Iterator[Tuple[str, str, str]]:
     """The families with their tables, a loop for each even number of tetrahedra."""
@@ -119,7 +144,7 @@ def tables(least: int, most: int) -> Iterator[Tuple[str, str, str]]:
 def words() -> argparse.Namespace:
     asked = argparse.ArgumentParser(description=str(__doc__).split("\n", maxsplit=1)[0])
     asked.add_argument("program", nargs="?")
-    asked.add_argument("--families", default="closed,hyperbolic,ideal,boundary,loop,twenty,quad,octagon,decompose,slow,large")
+    asked.add_argument("--families", default="closed,hyperbolic,ideal,boundary,loop,twenty,quad,octagon,decompose,describe,slow,large")
     asked.add_argument("--straight", action="store_true")
     asked.add_argument("--best", type=int, default=3)
     asked.add_argument("--cut", type=int, default=60)
@@ -131,6 +156,7 @@ class Families:
 
     NAMES = {"default": "standard, Regina's default", "straight": "standard, Regina's straight way", "twenty": "20, Regina's default",
              "quad": "quad, Regina's default", "octagon": "octagon, Regina's default", "decompose": "decompose, the list",
+             "describe": "describe of whole lists, Regina's properties",
              "large": "over 50,000 surfaces, Regina's default"}
 
     def __init__(self, bench: "Bench", chosen: Sequence[str], straight: bool) -> None:
@@ -155,9 +181,12 @@ class Families:
                 self.bench.compare(f"{name}, {coords}", text, coords, [(self.ratios[coords], DEFAULT)])
 
     def others(self) -> None:
-        """Sums, tables that are numbered badly, and lists of over 50,000 surfaces."""
+        """Sums, properties, tables that are numbered badly, and lists of over 50,000 surfaces."""
         for _, name, text in tables(12, 16) if "decompose" in self.chosen else ():
             self.bench.decompose(name, text, self.ratios["decompose"])
+        for count in (14, 16) if "describe" in self.chosen else ():
+            for _, name, text in tables(count, count):
+                self.bench.describe(name, text, self.ratios["describe"])
         for count, text in SLOW.items() if "slow" in self.chosen else ():
             self.bench.compare(f"{count} numbered badly", text, "standard", [])
         for count, signature in LARGE.items() if "large" in self.chosen else ():
