@@ -49,6 +49,16 @@ SYSTEMS: Dict[str, System] = {
 }
 
 
+def emulated_python(root: str, folder: Path) -> Path:
+    """A script in `folder` that runs Debian's Python for arm64 of the folder `root` by qemu-user. That Python takes the script for
+    itself, so its worker processes are started by the script: without the system's help no program of another processor starts."""
+    python = next(iter(sorted(Path(root, "usr", "bin").glob("python3.[0-9]*"))), Path(root, "usr/bin/python3"))
+    script = folder / "emulated-python"
+    script.write_text(f"#!/bin/sh\nPYTHONHOME='{root}/usr' exec qemu-aarch64 -0 \"$0\" -L '{root}' '{python}' \"$@\"\n", "utf8")
+    script.chmod(0o755)
+    return script
+
+
 def missing(name: str) -> str:
     """The Debian package that a system needs and that is not installed, or an empty text."""
     system = SYSTEMS[name]

@@ -33,6 +33,7 @@ from typing import Any, Callable, Dict, Iterator, List, NamedTuple, Optional, Se
 
 import docs_site
 from manifest import Manifest, NoManifest, read_manifest
+from native import emulated_python
 from repository import PROGRAM, TOP, every_crate, sum_of_file
 
 sys.path.insert(0, str(TOP / "python"))
@@ -108,8 +109,10 @@ def run(words: Sequence[str], home: Path, text: str = "", **more: str) -> str:
 
 
 def last_line(text: str) -> str:
+    """The last line, or what differs by a selfcheck."""
     lines = text.strip().splitlines()
-    return lines[-1][:200] if lines else "nothing was printed"
+    differs = [line for line in lines if line.startswith("differs: ")]
+    return (differs or lines)[-1][:400] if lines else "nothing was printed"
 
 
 def needed(command: str, package: str) -> str:
@@ -222,8 +225,7 @@ class Release:
         site, emulated = self.unpacked_wheel(path, home), home / "emulated"
         emulated.write_text(f"#!/bin/sh\nexec {' '.join(words)} '{site}/libexec/{PROGRAM}/{PROGRAM}' \"$@\"\n", "utf8")
         emulated.chmod(0o755)
-        python = next(iter(sorted(Path(root, "usr", "bin").glob("python3.[0-9]*"))), Path(root, "usr/bin/python3"))
-        return self.selfchecked([*words, str(python)], home, PYTHONPATH=str(site), TRINORM=str(emulated),
+        return self.selfchecked([str(emulated_python(root, home))], home, PYTHONPATH=str(site), TRINORM=str(emulated),
                                 TRINORM_LIBRARY=str(site / "libexec" / PROGRAM / f"lib{PROGRAM}.so.1"))
 
     def windows(self, path: Path, home: Path) -> str:

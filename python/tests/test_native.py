@@ -159,8 +159,8 @@ class OnArm(unittest.TestCase):
         emulated.chmod(0o755)
         library = program.with_name(native.SYSTEMS["linux-aarch64"].library)
         around = {**os.environ, "PYTHONPATH": str(site), "TRINORM": str(emulated), "TRINORM_LIBRARY": str(library)}
-        done = subprocess.run([*self.python(), "-m", "trinorm", "selfcheck"], env=around, cwd=site, stdout=subprocess.PIPE,
-                              stderr=subprocess.STDOUT, text=True, check=False)
+        done = subprocess.run([str(native.emulated_python(ARM64_ROOT, site)), "-m", "trinorm", "selfcheck"], env=around, cwd=site,
+                              stdout=subprocess.PIPE, stderr=subprocess.STDOUT, text=True, check=False)
         self.assertEqual(done.returncode, 0, done.stdout)
         self.assertIn("aarch64", done.stdout)
         self.assertIn(f"stored examples, by the library {library}", done.stdout)

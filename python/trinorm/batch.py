@@ -258,7 +258,8 @@ class _Run:
             if isinstance(self.executor, _Threads):
                 self.executor.help()
             elif not has_warned and time.monotonic() - begun > SILENCE:
-                warnings.warn(f"{type(self.executor).__name__} has answered nothing for {SILENCE:.0f} seconds", RuntimeWarning, stacklevel=_level_of_caller())
+                said = f"{type(self.executor).__name__} has answered nothing for {SILENCE:.0f} seconds"
+                warnings.warn(said, RuntimeWarning, stacklevel=_level_of_caller())
                 has_warned = True
 
     def _again(self, handful: _Handful, fault: BaseException) -> Iterator[Answered]:
