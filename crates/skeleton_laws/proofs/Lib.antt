@@ -13,6 +13,7 @@ pub mod Sides
 pub mod SideParts
 pub mod Halves
 pub mod TwiceEdges
+mod Unique
 pub mod Totals
 pub mod EdgeDirections
 pub mod FaceSides

@@ -1,16 +1,17 @@
-//! Existence of the skeleton, orientation signs, vertex links and equations of a table, and counts of sides, directions
-//! and faces by classes.
+//! Existence of the skeleton, orientation signs, vertex links and equations of a table, uniqueness of all but the
+//! signs, and counts of sides, directions and faces by classes.
 //!
 //! A *skeleton* of a table numbers its classes of vertices, edges and faces. An edge is *invalid* if it is identified
 //! with its own reverse. A table is *closed* if no face is a boundary face.
 #![tactic(auto)]
 
-ghost use Rattle.skeleton_laws.specs.Laws.{SomeSkeleton, InvalidOrNot, SomeFirstInvalid, SomeOrientation, SomeLinks, SomeEquations};
+ghost use Rattle.skeleton_laws.specs.Laws.{SomeSkeleton, OneSkeleton, InvalidOrNot, SomeFirstInvalid, SomeOrientation, SomeLinks, OneListOfLinks, SomeEquations, OneSystem};
 ghost use Rattle.skeleton_laws.specs.Counts.{LinkEdgesAreSides, EdgesHaveTwoDirections, FacesHaveTwoSides};
 
-/// Theorem: each table has a skeleton.
+/// Theorem: each table has exactly one skeleton.
 pub fn skeletons_exist()
-    ensures { SomeSkeleton }
+    ensures some { SomeSkeleton }
+    ensures one { OneSkeleton }
 {}
 
 /// Theorem: let T be a table.
@@ -29,15 +30,17 @@ pub fn orientations_exist()
     ensures { SomeOrientation }
 {}
 
-/// Theorem: each vertex class of a table has a link.
+/// Theorem: each vertex class of a table has exactly one link.
 pub fn links_exist()
-    ensures { SomeLinks }
+    ensures some { SomeLinks }
+    ensures one { OneListOfLinks }
 {}
 
-/// Theorem: each table has equations in each of the coordinates: matching equations in standard and octagon
-/// coordinates, and quad equations in quad coordinates.
+/// Theorem: each table has exactly one system of equations in each of the coordinates: the matching equations in
+/// standard and octagon coordinates, and the quad equations in quad coordinates.
 pub fn equations_exist()
-    ensures { SomeEquations }
+    ensures some { SomeEquations }
+    ensures one { OneSystem }
 {}
 
 /// Theorem: let T be a table with n tetrahedra.
