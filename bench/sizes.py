@@ -3,8 +3,8 @@
 
     bench/sizes.py [PROGRAM] [--limit SECONDS]
 
-For each list: coordinates, tetrahedra, family, number of surfaces, the processor's seconds and the megabytes. A list is stopped after
-60 seconds of the clock, or the limit. Nothing is compared.
+For each list: coordinates, tetrahedra, family, number of surfaces and the processor's seconds. A list is stopped after 60 seconds of
+the clock, or the limit. Nothing is compared.
 """
 from __future__ import annotations
 
@@ -45,7 +45,7 @@ def measure(program: str, coords: str, tetrahedra: int, limit: float) -> None:
         for seed in SEEDS:
             done = run([program, "surfaces", "--coords", coords], grown_to(program, signature, tetrahedra, seed), limit)
             surfaces = "stopped" if done.status == ENDED else f"{done.answer.count('vec'):,}"
-            print(f"| {coords} | {tetrahedra} | {family} | {surfaces} | {done.seconds:.2f} | {done.megabytes:.0f} |", flush=True)
+            print(f"| {coords} | {tetrahedra} | {family} | {surfaces} | {done.seconds:.2f} |", flush=True)
 
 
 def main() -> None:
@@ -54,7 +54,7 @@ def main() -> None:
     reader.add_argument("--limit", type=float, default=60.0)
     given = reader.parse_args()
     program = find(given.program)
-    print("| Coordinates | Tetrahedra | Family | Surfaces | Seconds | MB |\n|---|---|---|---|---|---|")
+    print("| Coordinates | Tetrahedra | Family | Surfaces | Seconds |\n|---|---|---|---|---|")
     for coords, tetrahedra in SIZES:
         measure(program, coords, tetrahedra, given.limit)
 
