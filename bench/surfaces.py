@@ -1,5 +1,5 @@
 #!/usr/bin/env python3
-"""Measures `trinorm surfaces`, `trinorm decompose` and `trinorm describe` beside Regina, in one run.
+"""Measures `trinorm surfaces`, `trinorm decompose` and `trinorm describe`, and Regina, in one run.
 
     bench/surfaces.py [PROGRAM] [--families closed,ideal,..] [--straight] [--best 3] [--cut 60]
 
@@ -120,7 +120,7 @@ class Bench:
         print(f"| {name}, decompose | {listed[1]:.4f} | {whole[1]:.4f} | {whole[1] / listed[1]:.2f} |", flush=True)
 
     def describe(self, name: str, text: str, ratios: Ratios) -> None:
-        """The properties of all surfaces of a list, beside Regina's."""
+        """The properties of all surfaces of a list, compared with Regina's."""
         listed = self.ask(["surfaces"], text)
         described = None if listed is None else self.ask(["describe"], text + listed[0])
         signature = text.split()[1] if text.startswith("sig ") else run([self.program, "sig"], text).answer.split()[0]
