@@ -19,10 +19,10 @@ use crate::thirds::{PairAmong, has_single, is_single, third_inside};
 use out_of_memory::NoMemory;
 use std::alloc::Global;
 use support_bits::Support;
-use support_table::{Found, Outer, PartSearch, RayTable, find_adjacent};
+use support_table::{Found, Outer, PartSearch, find_adjacent};
 
-/// Adjacent pairs are found by residuals only in steps with at least this many rays.
-const MANY_RAYS: usize = 1000;
+/// Adjacent pairs are found by residuals only in steps with at least so many pairs of a positive ray and any ray.
+const MANY_PAIRS: usize = 1 << 16;
 
 impl<'a, C: Compatible> Step<'a, C> {
     /// A search for the third rays of ray `i`, given compatible rays that an earlier search gathered.
@@ -112,12 +112,11 @@ impl<'a, C: Compatible> Step<'a, C> {
         }
     }
 
-    /// Whether to find adjacent pairs by residuals: if there are many rays, and at least as many positive ones as
-    /// columns. Affects speed alone, so the contract says nothing.
+    /// Whether to find adjacent pairs by residuals: if there are many pairs of a positive ray and any ray. Affects speed
+    /// alone, so the contract says nothing.
     fn is_large(&self) -> bool {
-        let clashes = self.clashes;
-        self.ray_list.len() >= MANY_RAYS
-            && positive_count(&self.signs) >= clashes.columns() as usize
+        let count = positive_count(&self.signs);
+        count.saturating_mul(self.ray_list.len()) >= MANY_PAIRS
     }
 
     /// Ray `i` with the columns that clash with it.
@@ -158,16 +157,12 @@ impl<'a, C: Compatible> Step<'a, C> {
         if !self.is_large() {
             return Ok(None);
         }
-        let Ok(count) = u32::try_from(self.ray_list.len()) else {
-            return Ok(None);
-        };
         let clashes = self.clashes;
         let ray_list = RayList {
             columns: clashes.columns(),
             items: &self.ray_list,
         };
-        let supports = all_supports(alloc, ray_list)?;
-        let table = RayTable::of(alloc, supports, count)?;
+        let table = all_supports(alloc, ray_list)?;
         let negative = are_negative(alloc, &self.signs)?;
         let outers = self.outers(alloc)?;
         let search = PartSearch {

@@ -5,12 +5,11 @@ use Rattle.std.proofs.lemmas.Bool.{cases_lt, cases_Bool, eq-eqb}
 use Rattle.std.proofs.lemmas.List.{get_or_append_left, get_or-append-add, get_or-drop}
 use Rattle.std.proofs.lemmas.Nat.Bits.{bit_at_and, bit_at-lt}
 use Rattle.support_bits.specs.Columns.{HasColumn}
-use Rattle.support_bits.specs.Words.{bit_of, spelled, AreWordsOf, AreCovered}
-use Rattle.support_bits.proofs.WordLemmas.{get_or-spelled, is_one, within_words}
+use Rattle.support_bits.specs.Words.{bit_of, AreWordsOf, AreCovered}
+use Rattle.support_bits.proofs.WordLemmas.{is_one, within_words}
 use Rattle.support_table.specs.Blocks.{block_size, AreWithin, AreBlocks, KeepsCommon, AreCommonOf, IsBlockPushed}
-use Rattle.support_table.specs.Counts.{columns_in_either}
-use Rattle.support_table.specs.Tables.{Table, listed, IsTable, AreCommonAt, CanPass, IsFarBlock}
-use Rattle.support_table.proofs.SizeLemmas.{column_within, size_within}
+use Rattle.support_table.specs.Tables.{Table, listed, IsTable, AreCommonAt, CanPass}
+use Rattle.support_table.proofs.SizeLemmas.{column_within}
 use Rattle.support_table.proofs.TableLemmas.{part_within, table_of, count_of, words_of_place, width_of_place}
 
 -- ---- the bits that two words have
@@ -142,10 +141,3 @@ module _ (table : Table) (a : List Bool) (common : List ℕ) (place : ℕ) (h : 
     within = h.within;
     none = λ k from to inside. outside (λ column set. elim (inside column (h.each k column from to set)) [ inl has ↦ inl (of_a.bits column ∙ has) | inr has ↦ inr (of_b.bits column ∙ has) ]);
   }
-
-  -- the union with each support has all columns of the union with the columns in common
-  pub all_far : (count most : ℕ) → count ≡ columns_in_either a (spelled table.columns common) → most < count → IsFarBlock table.supports a most place
-  all_far count most is more k from to =
-      let least = size_within a (spelled table.columns common) (get_or table.supports k [])
-      (λ column has. inr (h.each k column from to (sym (get_or-spelled table.columns common h.padded column) ∙ has))) in
-      omega (arith, is, more, least)

@@ -14,7 +14,7 @@ use Rattle.support_bits.specs.Words.{AreWordsOf}
 use Rattle.support_bits.proofs.WordLemmas.{bit_of-column}
 use Rattle.support_table.specs.declared.groups.Grouped.{Grouped}
 use Rattle.support_table.specs.declared.groups.Ranges.{Ranges}
-use Rattle.support_table.specs.declared.compatible_list.Candidate.{Candidate}
+use Rattle.support_table.specs.declared.candidates.Candidate.{Candidate}
 use Rattle.support_table.specs.Residuals.{support_at}
 use Rattle.support_table.specs.Candidates.{HasPlace}
 use Rattle.support_table.specs.Groups.{IsColumnOutside, IsGroup, IsGrouped, AreGrouped, grouped_at, AreRanges}

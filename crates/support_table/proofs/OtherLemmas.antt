@@ -1,5 +1,5 @@
 -- Whether a residual contains that of another candidate, by groups, and the candidates that contain none.
-use Rattle.std.proofs.Common.{◌≡◌, ℕ, suc, ◌+◌, ◌-◌, ◌*◌, ◌/◌, ◌%◌, ◌^◌, ◌<◌, ◌≤◌, min, inl, inr, List, Bool, true, false, eqb, [], ◌∷◌, ◌++◌, Contains, length, get_or, w64, bit_and, subst, sym, ap, ◌∙◌, arith}
+use Rattle.std.proofs.Common.{◌≡◌, ℕ, suc, ◌+◌, ◌-◌, ◌*◌, ◌/◌, ◌%◌, ◌^◌, ◌<◌, ◌≤◌, min, inl, inr, List, Bool, true, false, eqb, [], ◌∷◌, ◌++◌, Contains, length, get_or, w64, bit_and, refl, subst, sym, ap, ◌∙◌, arith}
 use Rattle.std.specs.Int.{bit_at, bit_not, trailing_zeros}
 use Rattle.std.specs.List.{All}
 use Rattle.std.proofs.lemmas.Bool.{cases_eq, cases_lt, cases_Bool, false≢true}
@@ -10,12 +10,14 @@ use Rattle.std.proofs.lemmas.Nat.Bits.{bit_at-lt, bit_at-zero, bit_at_and, bit_a
 use Rattle.support_bits.specs.Columns.{HasColumn, IsInsideUnionOf}
 use Rattle.support_bits.specs.Words.{bit_of, AreWordsOf}
 use Rattle.support_bits.proofs.WordLemmas.{bit_after, is_one, within_words}
+use Rattle.support_table.specs.Counts.{columns_in_either}
 use Rattle.support_table.specs.declared.groups.Grouped.{Grouped}
 use Rattle.support_table.specs.declared.groups.Ranges.{Ranges}
-use Rattle.support_table.specs.declared.compatible_list.Candidate.{Candidate}
+use Rattle.support_table.specs.declared.candidates.Candidate.{Candidate}
 use Rattle.support_table.specs.Residuals.{support_at, IsCandidate, IsMinimal, AreMinimalOf}
 use Rattle.support_table.specs.Candidates.{HasPlace, IsSized, AreCandidates}
 use Rattle.support_table.specs.Groups.{HasEntry, AreGrouped, grouped_at, AreFamily, IsOtherInside, HasOtherInside, HasNoneOfGroup, IsSelectedAlone, AreSelectedAlone}
+use Rattle.support_table.proofs.SizeLemmas.{size_within}
 use Rattle.support_table.proofs.CandidateLemmas.{inside_union, inside_residual}
 
 module _ (supports : List (List Bool)) (outer : List Bool) (list : List Grouped) (place : ℕ) where
@@ -25,6 +27,14 @@ module _ (supports : List (List Bool)) (outer : List Bool) (list : List Grouped)
       let b = f.below k (record { place = 0; group = 0; size = 0 }) other.in_range in
       let n = f.hold.ends in
       omega (arith, b, n, is, exceeded)
+
+  -- an entry of greater size than the ray is no such ray
+  pub none_larger : (ranges : Ranges) (size k : ℕ) → AreFamily supports outer list ranges → size ≡ columns_in_either outer (support_at supports place) → size < (grouped_at list k).size →
+      ¬ IsOtherInside supports outer list place k
+  none_larger ranges size k f is more other =
+      let s = (f.each k (record { place = 0; group = 0; size = 0 }) other.in_range).size in
+      let within = size_within outer (support_at supports (grouped_at list k).place) (support_at supports place) other.inside in
+      omega (arith, s, is, more, within)
 
   -- all entries of a group are in its range
   pub none_in_range : (ranges : Ranges) (group end : ℕ) → AreFamily supports outer list ranges → get_or ranges.ends.items group 0 ≤ end →
@@ -193,14 +203,16 @@ module _ (supports : List (List Bool)) (outer joined : List Bool) (own most : �
       minimal = λ k candidate inside. elim (cases_eq k place) [
         | inl e ↦ e
         | inr differ ↦ absurd (let covered = inside_union outer (support_at supports k) (support_at supports place) inside in
-            let e = has_entry k (c.closed t.0 k t.1 candidate (subst (λ j. IsInsideUnionOf (support_at supports k) outer (support_at supports j)) (sym t.2) covered)) in
+            let s = c.closed t.0 k t.1 candidate (λ e. differ (e ∙ t.2)) (subst (λ j. IsInsideUnionOf (support_at supports k) outer (support_at supports j)) (sym t.2) covered) in
+            let e = has_entry s.0.place (s.0, s.1, refl) in
             let at = ap (λ (it : Grouped). it.place) (entry_at e.0 e.1) ∙ e.2 in
             alone (
               e.1.0,
               record {
                 in_range = e.1.1;
-                other = λ same. differ (sym at ∙ same);
-                inside = subst (λ j. IsInsideUnionOf (support_at supports j) outer (support_at supports place)) (sym at) covered;
+                other = λ same. s.2 (sym at ∙ same ∙ sym t.2);
+                inside = subst (λ j. IsInsideUnionOf (support_at supports j) outer (support_at supports place)) (sym at)
+                    (subst (λ j. IsInsideUnionOf (support_at supports s.0.place) outer (support_at supports j)) t.2 s.3);
               },
             ))
       ];

@@ -1,100 +1,28 @@
 -- Rays among which the rays adjacent to some outer rays are looked for.
-use Rattle.std.proofs.Common.{◌≡◌, ℕ, bit_and, ◌+◌, ◌-◌, ◌/◌, ◌%◌, ◌<◌, ◌≤◌, inl, inr, Bool, true, eqb, List, [], ◌∷◌, ◌++◌, Contains, length, length-append, get_or, set, length-set, get_or-set_same, get_or-set_other, refl, subst, sym, ap, ◌∙◌, arith}
+use Rattle.std.proofs.Common.{◌≡◌, ℕ, bit_and, ◌+◌, ◌/◌, ◌%◌, ◌<◌, ◌≤◌, inl, inr, Bool, true, eqb, List, [], ◌∷◌, ◌++◌, Contains, length, length-append, length-take, length-drop, take, drop, get_or, get_or-take, set, length-set, get_or-set_same, get_or-set_other, refl, subst, sym, ap, ◌∙◌, arith}
 use Rattle.std.specs.Prelude.{None, IfSome}
 use Rattle.std.specs.List.{All}
 use Rattle.std.specs.Int.{bit_at}
 use Rattle.std.proofs.lemmas.Bool.{cases_eq, cases_lt, eq-eqb, false≢true}
-use Rattle.std.proofs.lemmas.List.{get_or_default, get_or_past, get_or_append_left, get_or-append-add}
+use Rattle.std.proofs.lemmas.List.{get_or_default, get_or_past, get_or_append_left, get_or-append-add, get_or-drop}
 use Rattle.std.proofs.lemmas.Option.{IfSome_then}
 use Rattle.std.proofs.lemmas.List.Elements.{All-push, All-contains, Contains-push, Contains-append_left}
 use Rattle.std.proofs.lemmas.List.Quantifiers.{all_pairs_push}
 use Rattle.std.proofs.lemmas.Nat.Bits.{bit_at-zero}
-use Rattle.support_bits.specs.Columns.{HasColumn, Meets}
+use Rattle.support_bits.specs.Columns.{HasColumn}
 use Rattle.support_bits.specs.Words.{bit_of, AreWordsOf}
 use Rattle.support_bits.proofs.WordLemmas.{is_one}
 use Rattle.support_table.specs.Blocks.{KeepsCommon}
-use Rattle.support_table.specs.Parts.{outer_at, AreAllBelow, AreNear, AreCopied, HasAllAvoiding, ArePartRays, AreColumnsOf, AreCommonColumns, HasOneOf, AreLeft, IsPart, IsWithout, IsFoundFor, AreFoundFor}
-use Rattle.support_table.specs.Residuals.{support_at, IsCandidate, AreMinimalOf}
-use Rattle.support_table.specs.Candidates.{ListCandidates}
+use Rattle.support_table.specs.Parts.{outer_at, AreAllBelow, AreCopied, HasAllAvoiding, ArePartRays, AreColumnsOf, AreCommonColumns, HasOneOf, AreLeft, IsPart, IsWithout, IsFoundFor, AreFoundFor}
+use Rattle.support_table.specs.Residuals.{support_at, AreMinimalOf}
 use Rattle.support_table.specs.declared.outer.Outer.{Outer}
 use Rattle.support_table.specs.declared.part.Part.{Part}
 use Rattle.support_table.specs.declared.parts.Found.{Found}
-use Rattle.support_table.specs.declared.compatible_list.Candidate.{Candidate}
 use Rattle.support_table.specs.Tables.{Table}
 use Rattle.support_table.proofs.BlockLemmas.{common_bits}
-use Rattle.support_table.proofs.HolderLemmas.{rivals_past, rivals_all}
-use Rattle.support_table.proofs.RivalLemmas.{rival_skip}
 
 same_at : (places : List ℕ) (k m d e : ℕ) → k ≡ m → m < length places → get_or places k d ≡ get_or places m e
 same_at places k m d e is within = ap (λ j. get_or places j d) is ∙ get_or_default places m d e within
-
--- ---- candidates among some rays
-
--- the candidates among the first m of the rays
-pub record AreRivalsTo (supports : List (List Bool)) (outer joined : List Bool) (own most : ℕ) (places : List ℕ) (m : ℕ) (compatible_list : List Candidate) : Type 0 where
-  pub up_to : ℕ
-  pub before : (k d : ℕ) → k < m → k < length places → get_or places k d < up_to
-  pub after : (k d : ℕ) → m ≤ k → k < length places → up_to ≤ get_or places k d
-  pub so_far : ListCandidates supports outer joined own most up_to compatible_list
-
-module _ (supports : List (List Bool)) (outer joined : List Bool) (own most : ℕ) (places : List ℕ) where
-  pub among_none : (compatible_list : List Candidate) → compatible_list ≡ [] → AreRivalsTo supports outer joined own most places 0 compatible_list
-  among_none compatible_list none = let empty : length compatible_list ≡ 0 = ap length none in record {
-    up_to = 0;
-    before = λ k d less. absurd (omega arith);
-    after = λ k d _ within. omega arith;
-    so_far = record {
-      each = λ k d within. absurd (omega (arith, empty));
-      below = λ k d within. absurd (omega (arith, empty));
-      ascending = λ k l d less within. absurd (omega (arith, empty));
-      complete = λ place less. absurd (omega arith);
-    };
-  }
-
-  module _ (near : AreNear supports joined places) where
-    -- a candidate from up_to on is one of the rays from m on
-    rival_from : (m : ℕ) (compatible_list : List Candidate) → (t : AreRivalsTo supports outer joined own most places m compatible_list) → (place : ℕ) → t.up_to ≤ place → IsCandidate supports outer joined own most place →
-        (k : ℕ) × (m ≤ k) × (k < length places) × (get_or places k place ≡ place)
-    rival_from m compatible_list t place from candidate =
-        let c = near.complete place candidate.in_range candidate.separate in
-        elim (cases_lt c.0 m) [
-          | inl early ↦ let b = t.before c.0 place early c.1 in let e = c.2 in absurd (omega arith)
-          | inr late ↦ (c.0, omega arith, c.1, c.2)
-        ]
-
-    none_between : (m : ℕ) (compatible_list : List Candidate) → (t : AreRivalsTo supports outer joined own most places m compatible_list) → m < length places → (place : ℕ) → t.up_to ≤ place → place < get_or places m 0 → ¬ IsCandidate supports outer joined own most place
-    none_between m compatible_list t within place from less candidate =
-        let c = rival_from m compatible_list t place from candidate in
-        elim (cases_eq c.0 m) [
-          | inl e ↦ let same = same_at places c.0 m place 0 e within in let is = c.3 in omega arith
-          | inr other ↦ let low = c.1 in let b = near.ascending m c.0 0 (omega arith) c.2 in let same = get_or_default places c.0 place 0 c.2 in let is = c.3 in omega arith
-        ]
-
-    pub among_reach : (m : ℕ) (compatible_list : List Candidate) → AreRivalsTo supports outer joined own most places m compatible_list → m < length places → ListCandidates supports outer joined own most (get_or places m 0) compatible_list
-    among_reach m compatible_list t within =
-        let low = t.after m 0 (omega arith) within in
-        subst (λ n. ListCandidates supports outer joined own most n compatible_list) {x = t.up_to + (get_or places m 0 - t.up_to)} {y = get_or places m 0} (omega (arith, low))
-        (rivals_past supports outer joined own most t.up_to (get_or places m 0 - t.up_to) compatible_list (λ i less. none_between m compatible_list t within (t.up_to + i) (omega arith) (omega arith)) t.so_far)
-
-    pub among_next : (m : ℕ) (compatible_list : List Candidate) → m < length places → ListCandidates supports outer joined own most (get_or places m 0 + 1) compatible_list → AreRivalsTo supports outer joined own most places (m + 1) compatible_list
-    among_next m compatible_list within h = record {
-      up_to = get_or places m 0 + 1;
-      before = λ k d less l. elim (cases_eq k m) [
-        | inl e ↦ let same = same_at places k m d 0 e within in omega arith
-        | inr other ↦ let b = near.ascending k m 0 (omega arith) within in let same = get_or_default places k d 0 l in omega arith
-      ];
-      after = λ k d more l. let b = near.ascending m k 0 (omega arith) l in let same = get_or_default places k d 0 l in omega arith;
-      so_far = h;
-    }
-
-    pub among_skip : (m : ℕ) (compatible_list : List Candidate) → AreRivalsTo supports outer joined own most places m compatible_list → m < length places → Meets (support_at supports (get_or places m 0)) joined →
-        AreRivalsTo supports outer joined own most places (m + 1) compatible_list
-    among_skip m compatible_list t within meets = among_next m compatible_list within (rival_skip supports outer joined own most (get_or places m 0) compatible_list (among_reach m compatible_list t within) (λ r. r.separate meets))
-
-    pub among_all : (m : ℕ) (compatible_list : List Candidate) → AreRivalsTo supports outer joined own most places m compatible_list → length places ≤ m → ListCandidates supports outer joined own most (length supports) compatible_list
-    among_all m compatible_list t all = rivals_all supports outer joined own most (t.up_to + length supports) compatible_list (omega arith)
-        (rivals_past supports outer joined own most t.up_to (length supports) compatible_list
-        (λ i less candidate. let c = rival_from m compatible_list t (t.up_to + i) (omega arith) candidate in let low = c.1 in let l = c.2 in omega arith) t.so_far)
 
 -- ---- columns that several outer rays clash with
 
@@ -223,13 +151,6 @@ module _ (supports : List (List Bool)) (outers : List Outer) where
         subst (Contains left) c.2 (l.complete c.0 place (let less = c.1 in omega arith) c.1 (subst (λ p. ¬ HasOneOf (support_at supports p) words) (sym c.2) free));
   }
 
-  pub near_of : (chosen places : List ℕ) (n : ℕ) (it : Outer) → ArePartRays supports outers chosen places → n < length chosen → outer_at outers (get_or chosen n 0) ≡ it → AreNear supports it.joined places
-  near_of chosen places n it h within is = record {
-    in_range = h.in_range;
-    ascending = h.ascending;
-    complete = subst (λ (o : Outer). HasAllAvoiding supports o.joined places) is (h.complete n 0 within);
-  }
-
 module _ (rays : Table) (outers : List Outer) where
   pub part_of_some : (chosen some : List ℕ) (part : Part) → IsPart rays outers chosen part → All (Contains chosen) some → IsPart rays outers some part
   part_of_some chosen some part h from = record {
@@ -292,3 +213,12 @@ part_of_all supports outers chosen places c p = record {
   ascending = λ k l d less within. let n = p.count_is in let one = p.each k d (omega (arith, n)) in let other = p.each l d (omega (arith, n)) in omega (arith, one, other);
   complete = λ k d within place inside separate. (place, (let n = p.count_is in omega (arith, n)), p.each place place inside);
 }
+
+-- ---- some of the outer rays
+
+pub chunk_from : (chosen part : List ℕ) (start count : ℕ) → part ≡ take count (drop start chosen) → start + count ≤ length chosen → All (Contains chosen) part
+chunk_from chosen part start count is all k d less =
+    let long : length part ≡ count = ap length is ∙ omega (arith, length-take count (drop start chosen), length-drop start chosen) in
+    let within : start + k < length chosen = omega (arith, long) in
+    let at : get_or part k d ≡ get_or chosen (start + k) d = ap (λ ks. get_or ks k d) is ∙ get_or-take count (drop start chosen) k d (omega (arith, long)) ∙ get_or-drop start chosen k d in
+    (start + k, within, get_or_default chosen (start + k) (get_or part k d) d within ∙ sym at)

@@ -1,5 +1,5 @@
 -- The number of columns of a residual, by the size of the union with the outer ray.
-use Rattle.std.proofs.Common.{◌≡◌, ◌≢◌, ℕ, ◌+◌, ◌<◌, ◌≤◌, ◌||◌, ◌⊎◌, inl, inr, Bool, true, false, eqb, List, length, get_or, refl, sym, ap, ap₂, ◌∙◌, arith}
+use Rattle.std.proofs.Common.{◌≡◌, ◌≢◌, ℕ, ◌+◌, ◌<◌, ◌≤◌, ◌||◌, ◌⊎◌, inl, inr, Bool, true, false, eqb, List, length, get_or, refl, subst, sym, ap, ap₂, ◌∙◌, arith}
 use Rattle.std.specs.List.{range_with_len}
 use Rattle.std.proofs.lemmas.Bool.{cases_eq, cases_lt, cases_Bool, false≢true, or_left, or_right, eqb-true, eq-eqb}
 use Rattle.std.proofs.lemmas.List.{get_or_past}
@@ -24,15 +24,12 @@ pub size_within : (outer s t : List Bool) → IsInsideUnionOf s outer t → colu
 size_within outer s t inside = count_weaker (λ k. get_or outer k false || get_or s k false) (λ k. get_or outer k false || get_or t k false) 0 (length outer)
     (λ k _ is. or_weaker (get_or outer k false) (get_or s k false) (get_or t k false) (inside k) is)
 
--- a residual of a single column lies inside each that contains it
-pub single_inside : (outer s t : List Bool) (column : ℕ) → length s ≡ length outer → columns_in_either outer s ≤ columns_in_either outer outer + 1 →
-    HasColumn s column → ¬ HasColumn outer column → HasColumn t column → IsInsideUnionOf s outer t
-single_inside outer s t column wide limited has outside in_t other other_has = elim (cases_Bool (get_or outer other false)) [
-  | inl e ↦ inl e
-  | inr out ↦ elim (cases_eq other column) [
-    | inl e ↦ inr (ap (λ k. get_or t k false) e ∙ in_t)
-    | inr separate ↦ absurd (two out separate)
-  ]
+-- a residual of at most one column has no other column
+pub single_column : (outer s : List Bool) (column other : ℕ) → length s ≡ length outer → columns_in_either outer s ≤ columns_in_either outer outer + 1 →
+    HasColumn s column → ¬ HasColumn outer column → HasColumn s other → ¬ HasColumn outer other → other ≡ column
+single_column outer s column other wide limited has outside other_has other_outside = elim (cases_eq other column) [
+  | inl e ↦ e
+  | inr separate ↦ absurd (two (out other other_outside) separate)
 ]
   where
     p : ℕ → Bool
@@ -44,15 +41,15 @@ single_inside outer s t column wide limited has outside in_t other other_has = e
     r : ℕ → Bool
     r k = get_or outer k false || get_or s k false
 
-    without : get_or outer column false ≡ false
-    without = elim (cases_Bool (get_or outer column false)) [ inl e ↦ absurd (outside e) | inr e ↦ e ]
+    out : (k : ℕ) → ¬ HasColumn outer k → get_or outer k false ≡ false
+    out k lacks = elim (cases_Bool (get_or outer k false)) [ inl e ↦ absurd (lacks e) | inr e ↦ e ]
 
     to_r : (k : ℕ) → q k ≡ true → r k ≡ true
     to_r k is = elim (cases_Bool (get_or outer k false)) [
       | inl e ↦ or_left (get_or outer k false) (get_or s k false) e
-      | inr out ↦ elim (cases_Bool (eqb k column)) [
+      | inr lacks ↦ elim (cases_Bool (eqb k column)) [
         | inl e ↦ or_right (get_or outer k false) (get_or s k false) (ap (λ i. get_or s i false) (eqb-true k column e) ∙ has)
-        | inr differ ↦ absurd (false≢true (sym (ap₂ (λ x y. (x || x) || y) out differ) ∙ is))
+        | inr differ ↦ absurd (false≢true (sym (ap₂ (λ x y. (x || x) || y) lacks differ) ∙ is))
       ]
     ]
 
@@ -61,12 +58,20 @@ single_inside outer s t column wide limited has outside in_t other other_has = e
     not_equal false none = refl
 
     two : get_or outer other false ≡ false → other ≢ column → ⊥
-    two out separate =
+    two is_out separate =
         let first = count_stronger p q 0 (length outer) column (λ k is. or_left (p k) (eqb k column) is) (omega arith) (let less = column_within s column has in omega (arith, wide))
-        (ap (λ x. x || x) without) (or_right (p column) (eqb column column) (eq-eqb column column refl)) in
+        (ap (λ x. x || x) (out column outside)) (or_right (p column) (eqb column column) (eq-eqb column column refl)) in
         let second = count_stronger q r 0 (length outer) other to_r (omega arith) (let less = column_within s other other_has in omega (arith, wide))
-        (ap₂ (λ x y. (x || x) || y) out (not_equal (eqb other column) (λ e. separate (eqb-true other column e)))) (or_right (get_or outer other false) (get_or s other false) other_has) in
+        (ap₂ (λ x y. (x || x) || y) is_out (not_equal (eqb other column) (λ e. separate (eqb-true other column e)))) (or_right (get_or outer other false) (get_or s other false) other_has) in
         omega (arith, limited, first, second)
+
+-- a residual of a single column lies inside each that contains it
+pub single_inside : (outer s t : List Bool) (column : ℕ) → length s ≡ length outer → columns_in_either outer s ≤ columns_in_either outer outer + 1 →
+    HasColumn s column → ¬ HasColumn outer column → HasColumn t column → IsInsideUnionOf s outer t
+single_inside outer s t column wide limited has outside in_t other other_has = elim (cases_Bool (get_or outer other false)) [
+  | inl e ↦ inl e
+  | inr out ↦ inr (subst (HasColumn t) (sym (single_column outer s column other wide limited has outside other_has (λ is. false≢true (sym out ∙ is)))) in_t)
+]
 
 pub columns_within : (a b : List Bool) → columns_in_either a b ≤ length a
 columns_within a b = omega (arith, count_by-le-length (λ k. get_or a k false || get_or b k false) (range_with_len 0 (length a)), length-range_with_len 0 (length a))

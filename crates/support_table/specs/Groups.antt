@@ -3,9 +3,10 @@ use Rattle.std.specs.Prelude.{◌≡◌, ◌≢◌, ℕ, ◌+◌, ◌<◌, ◌�
 use Rattle.std.specs.List.{All, AllPairs}
 use Rattle.support_bits.specs.Columns.{HasColumn, IsInsideUnionOf}
 use Rattle.support_bits.specs.Words.{bit_of}
+use Rattle.support_table.specs.Counts.{columns_in_either}
 use Rattle.support_table.specs.declared.groups.Grouped.{Grouped}
 use Rattle.support_table.specs.declared.groups.Ranges.{Ranges}
-use Rattle.support_table.specs.declared.compatible_list.Candidate.{Candidate}
+use Rattle.support_table.specs.declared.candidates.Candidate.{Candidate}
 use Rattle.support_table.specs.Residuals.{support_at}
 use Rattle.support_table.specs.Candidates.{HasPlace}
 
@@ -17,11 +18,12 @@ IsColumnOutside words outer group = (group ≡ 0) ⊎ ((column : ℕ) × (group 
 abbrev pub IsGroup : List Bool → List Bool → ℕ → Type 0
 IsGroup outer s group = (column : ℕ) → group ≡ column + 1 → HasColumn s column × (¬ HasColumn outer column)
 
--- the entry of a ray, with its group
+-- the entry of a ray, with its group and the number of columns of its union with the outer ray
 pub record IsGrouped (supports : List (List Bool)) (outer : List Bool) (it : Grouped) : Type 0 where
   pub in_range : it.place < length supports
   pub wide : length (support_at supports it.place) ≡ length outer
   pub group : IsGroup outer (support_at supports it.place) it.group
+  pub size : it.size ≡ columns_in_either outer (support_at supports it.place)
 
 -- an entry of the list has index place
 abbrev pub HasEntry : List Grouped → ℕ → Type 0

@@ -28,12 +28,6 @@ pub record AreAllBelow (count : ℕ) (places : List ℕ) : Type 0 where
   pub count_is : length places ≡ count
   pub each : (k d : ℕ) → k < count → slice_index_or places k d ≡ k
 
--- rays, ascending, among which are all that contain none of the columns
-pub record AreNear (supports : List (List Bool)) (columns : List Bool) (places : List ℕ) : Type 0 where
-  pub in_range : All (λ place. place < length supports) places
-  pub ascending : AllPairs (λ one other. one < other) places
-  pub complete : HasAllAvoiding supports columns places
-
 -- a table has the supports of these rays, in the same order
 pub record AreCopied (rays : Table) (places : List ℕ) (table : Table) : Type 0 where
   pub columns : table.columns ≡ rays.columns

@@ -9,7 +9,7 @@ use std::alloc::Global;
 use support_bits::Support;
 
 /// At most so many outer rays are not parted further. Affects speed alone.
-const UNSPLIT_OUTERS: usize = 8;
+const UNSPLIT_OUTERS: usize = 256;
 
 /// A column is chosen by some of the outer rays, about so many. Affects speed alone.
 const SAMPLE: usize = 32;
@@ -28,8 +28,7 @@ pub fn clashing_columns(alloc: Global, search: PartSearch) -> Result<Support, No
     ensures { IfOk result (λ clashing. length clashing ≡ search.entry.rays.now.columns) }
 {
     let rays = search.rays;
-    let table = rays.table();
-    let mut clashing = Support::none(alloc, table.columns())?;
+    let mut clashing = Support::none(alloc, rays.columns())?;
     for outer in search.outers {
         clashing.add(&outer.joined);
     }

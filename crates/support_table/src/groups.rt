@@ -25,7 +25,7 @@ pub struct Ranges {
 }
 
 /// One more than the last column that is set in `words` but not in `outer`, or 0 if there is none.
-fn group_of(words: &[u64], outer: &[u64]) -> usize
+pub fn group_of(words: &[u64], outer: &[u64]) -> usize
     requires lengths { length outer.now ≡ length words.now }
     requires short { length words.now < 2 ^ 32 }
     ensures { IsColumnOutside words.now outer.now result }

@@ -3,15 +3,15 @@
 ghost use Rattle.std.specs.Prelude.{◌≡◌, ◌+◌, ◌/◌, ◌<◌, length};
 ghost use Rattle.std.specs.List.{All};
 ghost use Rattle.support_table.specs.Groups.{AreFamily};
-ghost use Rattle.support_table.specs.Candidates.{AreFound};
+ghost use Rattle.support_table.specs.Candidates.{AreFound, HasUnionSize};
 
-use crate::compatible_list::Candidate;
+use crate::candidates::Candidate;
 use crate::groups::{Grouped, Ranges};
 use crate::table::SupportTable;
 use support_bits::Support;
 
 /// Candidates for adjacency to a ray of support `outer`. Invariant: their indices are those of supports of `table`,
-/// which has the columns of `outer`.
+/// which has the columns of `outer`, and their sizes those of their unions with `outer`.
 #[derive(Clone, Copy)]
 pub struct FoundCandidates<'a> {
     pub table: &'a SupportTable,
@@ -19,6 +19,7 @@ pub struct FoundCandidates<'a> {
     pub list: &'a [Candidate],
     pub ghost columns: { length outer.now ≡ table.now.columns },
     pub ghost found: { AreFound table.now.supports list.now },
+    pub ghost sized: { All (HasUnionSize table.now.supports outer.now) list.now },
 }
 
 /// Candidates with their groups, which are below `groups`.
@@ -29,8 +30,9 @@ pub struct GroupedList<'a> {
     pub ghost below: { All (λ it. it.group < groups) list.now },
 }
 
-/// Candidates in groups. Invariant: they are rays of `table`, which has the columns of `outer`; each group but 0 is one
-/// more than a column of its residuals, and `ranges` has the range of each group.
+/// Candidates in groups. Invariant: they are rays of `table`, which has the columns of `outer`, with the sizes of their
+/// unions with `outer`; each group but 0 is one more than a column of its residuals, and `ranges` has the range of each
+/// group.
 #[derive(Clone, Copy)]
 pub struct Family<'a> {
     pub table: &'a SupportTable,
@@ -39,16 +41,4 @@ pub struct Family<'a> {
     pub ranges: &'a Ranges,
     pub ghost columns: { length outer.now ≡ table.now.columns },
     pub ghost family: { AreFamily table.now.supports outer.now list.now ranges.now },
-}
-
-/// Candidates with the words of the marked columns; a residual of more than one column is one of a union of more than
-/// `single` columns. Invariant: `marks` has as many words as a support of `table`.
-#[derive(Clone, Copy)]
-pub struct MarkedCandidates<'a> {
-    pub table: &'a SupportTable,
-    pub list: &'a [Candidate],
-    pub marks: &'a [u64],
-    pub single: u64,
-    pub ghost found: { AreFound table.now.supports list.now },
-    pub ghost words: { length marks.now ≡ (table.now.columns + 63) / 64 },
 }

@@ -3,7 +3,7 @@
 ghost use Rattle.std.specs.Prelude.{◌≡◌, length};
 ghost use Rattle.support_table.specs.Parts.{AreOuters};
 
-use crate::ray_table::RayTable;
+use crate::table::SupportTable;
 use support_bits::Support;
 
 /// The support of a ray whose adjacent rays are looked for. Candidates are the rays of `rays` other than the one with
@@ -11,7 +11,7 @@ use support_bits::Support;
 /// Invariant: `support` and `joined` have the columns of `rays`.
 #[derive(Clone, Copy)]
 pub struct OuterRay<'a> {
-    pub rays: &'a RayTable,
+    pub rays: &'a SupportTable,
     pub support: &'a Support,
     pub joined: &'a Support,
     pub own: usize,
@@ -33,7 +33,7 @@ pub struct Outer {
 /// each ray, and each outer ray is one of the table, with its columns.
 #[derive(Clone, Copy)]
 pub struct PartSearch<'a> {
-    pub rays: &'a RayTable,
+    pub rays: &'a SupportTable,
     pub selected: &'a [bool],
     pub outers: &'a [Outer],
     pub most: u64,

@@ -3,22 +3,20 @@
 
 ghost use Rattle.std.specs.Prelude.{◌≡◌, ◌+◌, ◌/◌, ◌<◌, None, length, IfOk, OnOk, Contains};
 ghost use Rattle.std.specs.List.{All};
-ghost use Rattle.support_table.specs.Parts.{AreAllBelow, AreNear, AreCopied, AreCommonColumns, IsPart, AreFoundFor};
-ghost use Rattle.support_table.specs.Residuals.{AreMinimalOf};
+ghost use Rattle.support_table.specs.Parts.{AreAllBelow, AreCommonColumns, IsPart, AreFoundFor};
 
 use crate::blocks::keep_common;
+use crate::chunk::{Chunk, chunk_at};
+use crate::chunks::find_chunk;
 use crate::columns::{Parting, clashing_columns, common_column};
-use crate::minimal::{minimal_among, minimal_places};
-use crate::outer::{Outer, OuterRay, PartSearch};
+use crate::masks::CHUNK;
+use crate::outer::PartSearch;
 use crate::part::Part;
 use out_of_memory::NoMemory;
 use std::alloc::Global;
 
 /// Outer rays are parted at most so many times, since each time takes some of the stack. Affects speed alone.
 const MOST_PARTINGS: u32 = 12;
-
-/// If a part has more than all rays divided by this, all are looked through, by words of 64 rays. Affects speed alone.
-const WORDS_SHARE: usize = 2;
 
 /// The rays adjacent to one ray, if they were looked for.
 #[derive(Drop)]
@@ -33,8 +31,7 @@ fn common_columns(alloc: Global, search: PartSearch, chosen: &[usize]) -> Result
         AreCommonColumns search.entry.outers.now chosen.now search.entry.rays.now.columns words.items) }
 {
     let rays = search.rays;
-    let table = rays.table();
-    let width = (table.columns() as usize).div_ceil(64);
+    let width = (rays.columns() as usize).div_ceil(64);
     let mut common = vec![in alloc; u64::MAX; width]?;
     for k in chosen {
         let outer = &search.outers[*k];
@@ -56,7 +53,7 @@ fn chosen_by(
     requires column { column < search.rays.now.columns }
     ensures { IfOk result (λ part. All (Contains chosen.now) part.items) }
 {
-    let mut part = Vec::new(alloc);
+    let mut part = Vec::with_capacity(alloc, chosen.len())?;
     for k in chosen {
         let outer = &search.outers[*k];
         let support = &outer.support;
@@ -67,46 +64,7 @@ fn chosen_by(
     Ok(part)
 }
 
-/// The rays adjacent to `outer` that are `true` in `search.selected`, if among the rays of `part` are all that do not
-/// clash with it. If these are many, all rays are looked through, by words.
-fn find_one(
-    alloc: Global,
-    search: PartSearch,
-    outer: &Outer,
-    part: &Part,
-) -> Result<Vec<usize>, NoMemory>
-    requires support { length outer.now.support ≡ search.rays.now.columns }
-    requires joined { length outer.now.joined ≡ search.rays.now.columns }
-    requires near { AreNear search.rays.now.supports outer.now.joined part.now.places.items }
-    requires copied { AreCopied search.rays.now part.now.places.items part.now.table }
-    ensures { IfOk result (λ found.
-        AreMinimalOf search.entry.rays.now.supports outer.now.support outer.now.joined outer.now.place search.entry.most
-        search.entry.selected.now found.items) }
-{
-    let rays = search.rays;
-    let table = rays.table();
-    if part.places.len() > table.len() / WORDS_SHARE {
-        return minimal_places(
-            alloc,
-            rays,
-            search.selected,
-            &outer.support,
-            &outer.joined,
-            outer.place,
-            search.most,
-        );
-    }
-    let ray = OuterRay {
-        rays,
-        support: &outer.support,
-        joined: &outer.joined,
-        own: outer.place,
-        most: search.most,
-    };
-    minimal_among(alloc, ray, search.selected, part)
-}
-
-/// Finds the rays adjacent to each outer ray of `chosen`.
+/// Finds the rays adjacent to each outer ray of `chosen` among the rays of `part`, for `CHUNK` outer rays at once.
 fn find_each(
     alloc: Global,
     search: PartSearch,
@@ -120,10 +78,13 @@ fn find_each(
     ensures { OnOk result (AreFoundFor search.entry.rays.now.supports search.entry.outers.now search.entry.selected.now
         search.entry.most found.new.items) }
 {
-    for k in chosen {
-        let outer = &search.outers[*k];
-        let list = find_one(alloc, search, outer, part)?;
-        found[outer.place] = Found { places: Some(list) };
+    for n in 0..chosen.len().div_ceil(CHUNK) {
+        let chunk = Chunk {
+            search,
+            chosen: chunk_at(chosen, CHUNK * n),
+            part,
+        };
+        find_chunk(alloc, chunk, found)?;
     }
     Ok(())
 }
@@ -191,11 +152,10 @@ pub fn find_adjacent(alloc: Global, search: PartSearch) -> Result<Vec<Found>, No
         found.items) }
 {
     let rays = search.rays;
-    let table = rays.table();
     let clashing = clashing_columns(alloc, search)?;
     let chosen = all_below(alloc, search.outers.len())?;
-    let part = Part::whole(alloc, table)?;
-    let mut found = none_found(alloc, table.len())?;
+    let part = Part::whole(alloc, rays)?;
+    let mut found = none_found(alloc, rays.len())?;
     let parting = Parting {
         search,
         clashing: &clashing,

@@ -1,6 +1,6 @@
 use Rattle.std.proofs.Common.{◌+◌, subst, sym, ap, ◌∙◌}
 use Rattle.std.proofs.lemmas.List.{get_or_default}
-use Rattle.support_table.specs.declared.compatible_list.Candidate.{Candidate}
+use Rattle.support_table.specs.declared.candidates.Candidate.{Candidate}
 use Rattle.support_table.specs.Groups.{AreGrouped}
 use Rattle.support_table.proofs.GroupLemmas.{grouped_push, group_from_words}
 use Rattle.support_table.proofs.groups.with_groups.Goals as goal
@@ -17,4 +17,5 @@ loop-candidate-preserved c =
       in_range = found.found n _ c.loop-candidate-test.true;
       wide = c.words_at.ensures.width ∙ sym found.columns;
       group = group_from_words found.outer.now _ c.words_at.result.now c.words-words.result.now c.group_of-group.result c.words_at.ensures.words c.words-words.ensures c.group_of-group.ensures;
+      size = found.sized n _ c.loop-candidate-test.true;
     }))

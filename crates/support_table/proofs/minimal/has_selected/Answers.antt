@@ -1,7 +1,7 @@
 use Rattle.std.proofs.Common.{◌≡◌, inl, inr, false, get_or, ap, ◌∙◌, arith}
 use Rattle.std.proofs.lemmas.Bool.{cases_lt}
 use Rattle.std.proofs.lemmas.List.{get_or_default}
-use Rattle.support_table.specs.declared.compatible_list.Candidate.{Candidate}
+use Rattle.support_table.specs.declared.candidates.Candidate.{Candidate}
 use Rattle.support_table.proofs.minimal.has_selected.Goals as goal
 
 pub loop-candidate-preserved : goal.loop-candidate-preserved

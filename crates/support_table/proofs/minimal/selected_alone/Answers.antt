@@ -1,7 +1,7 @@
 use Rattle.std.proofs.Common.{◌+◌, subst, sym, ap, ◌∙◌}
 use Rattle.std.proofs.lemmas.Bool.{false≢true}
 use Rattle.std.proofs.lemmas.List.{get_or_default}
-use Rattle.support_table.specs.declared.compatible_list.Candidate.{Candidate}
+use Rattle.support_table.specs.declared.candidates.Candidate.{Candidate}
 use Rattle.support_table.specs.Groups.{AreSelectedAlone}
 use Rattle.support_table.proofs.OtherLemmas.{wanted_none, wanted_push, wanted_skip}
 use Rattle.support_table.proofs.minimal.selected_alone.Goals.{then-is_selected_alone+in_ok-push, else-is_selected_alone}

@@ -2,5 +2,5 @@
 use Rattle.support_table.specs.Parts.{AreFoundFor}
 use Rattle.support_table.proofs.parts.find_each.Given as goal
 
-abbrev pub invariant-loop-k : goal.invariant-loop-k
-invariant-loop-k l = AreFoundFor l.search.rays.now.supports l.search.outers.now l.search.selected.now l.search.most l.found.items
+abbrev pub invariant-loop-n : goal.invariant-loop-n
+invariant-loop-n l = AreFoundFor l.search.rays.now.supports l.search.outers.now l.search.selected.now l.search.most l.found.items

@@ -22,8 +22,7 @@ invariant_of-search g c =
     let flags = c.deref-3.result.now in
     let outers = c.deref-4.result.now in
     let supports = subst (λ (d : StepData). HasAllSupports d.rays d.columns table) c.self.view_is
-    (subst (HasAllSupports (rays_of s.ray_list.items) s.clashes.now.columns) (sym c.in_ok-table.ensures)
-    (subst₂ (λ rs n. HasAllSupports (rays_of rs) n c.in_ok-supports.supports) c.deref.ensures.value c.columns.ensures c.in_ok-supports.ensures)) in
+    (subst₂ (λ rs n. HasAllSupports (rays_of rs) n table) c.deref.ensures.value c.columns.ensures c.in_ok-table.ensures) in
     let tell = subst (λ (d : StepData). AreNegativeFlags d.signs (length d.signs) flags) c.self.view_is
     (subst₂ (λ ss fs. AreNegativeFlags ss (length ss) fs) c.deref-2.ensures.value (sym c.deref-3.ensures.value) c.in_ok-negative.ensures) in
     let small = subst (λ (d : StepData). HaveSmallUnions d.columns s.most d.pairs d.rays) c.self.view_is c.self.invariant.rays.small in
@@ -49,8 +48,7 @@ returns g c =
     let flags = c.deref-3.result.now in
     let outers = c.deref-4.result.now in
     let supports = subst (λ (d : StepData). HasAllSupports d.rays d.columns table) c.self.view_is
-    (subst (HasAllSupports (rays_of s.ray_list.items) s.clashes.now.columns) (sym c.in_ok-table.ensures)
-    (subst₂ (λ rs n. HasAllSupports (rays_of rs) n c.in_ok-supports.supports) c.deref.ensures.value c.columns.ensures c.in_ok-supports.ensures)) in
+    (subst₂ (λ rs n. HasAllSupports (rays_of rs) n table) c.deref.ensures.value c.columns.ensures c.in_ok-table.ensures) in
     let tell = subst (λ (d : StepData). AreNegativeFlags d.signs (length d.signs) flags) c.self.view_is
     (subst₂ (λ ss fs. AreNegativeFlags ss (length ss) fs) c.deref-2.ensures.value (sym c.deref-3.ensures.value) c.in_ok-negative.ensures) in
     let small = subst (λ (d : StepData). HaveSmallUnions d.columns s.most d.pairs d.rays) c.self.view_is c.self.invariant.rays.small in

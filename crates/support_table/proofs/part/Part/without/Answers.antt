@@ -2,7 +2,7 @@ use Rattle.std.proofs.Common.{◌≡◌, ◌+◌, ◌<◌, ◌≤◌, [], length
 use Rattle.std.proofs.lemmas.List.{get_or_default}
 use Rattle.support_table.specs.Parts.{AreCopied, AreLeft, IsWithout, HasOneOf}
 use Rattle.support_table.specs.Tables.{Table}
-use Rattle.support_table.proofs.MarkLemmas.{common_marks}
+use Rattle.support_table.proofs.BitLemmas.{common_marks}
 use Rattle.support_table.proofs.PartLemmas.{copied_none, copied_push, left_none, left_push, left_skip}
 use Rattle.support_table.proofs.part.Part.without.Goals.{then-not-have_common+in_ok-push, else-not-have_common}
 use Rattle.support_table.proofs.part.Part.without.Goals as goal
