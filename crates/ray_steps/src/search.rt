@@ -21,6 +21,10 @@ use std::alloc::Global;
 use support_bits::Support;
 use support_table::{Found, Outer, PartSearch, find_adjacent};
 
+/// Adjacent pairs are found by residuals only in steps with at least so many positive rays: this many are looked at
+/// together.
+const SOME_POSITIVES: usize = 64;
+
 /// Adjacent pairs are found by residuals only in steps with at least so many pairs of a positive ray and any ray.
 const MANY_PAIRS: usize = 1 << 16;
 
@@ -112,11 +116,11 @@ impl<'a, C: Compatible> Step<'a, C> {
         }
     }
 
-    /// Whether to find adjacent pairs by residuals: if there are many pairs of a positive ray and any ray. Affects speed
-    /// alone, so the contract says nothing.
+    /// Whether to find adjacent pairs by residuals: if there are some positive rays, and many pairs of one and any ray.
+    /// Affects speed alone, so the contract says nothing.
     fn is_large(&self) -> bool {
         let count = positive_count(&self.signs);
-        count.saturating_mul(self.ray_list.len()) >= MANY_PAIRS
+        count >= SOME_POSITIVES && count.saturating_mul(self.ray_list.len()) >= MANY_PAIRS
     }
 
     /// Ray `i` with the columns that clash with it.

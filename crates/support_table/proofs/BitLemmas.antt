@@ -89,6 +89,19 @@ next_before place end rest h some fits = h (trailing_zeros w64 rest) (bit_at-tra
 pub before_more : (place end rest : ℕ) → AreBefore place end rest → AreBefore (place + trailing_zeros w64 rest + 1) end (rest / 2 ^ trailing_zeros w64 rest / 2)
 before_more place end rest h i one = let b = h (trailing_zeros w64 rest + suc i) (sym (bit_after rest (trailing_zeros w64 rest) i) ∙ one) in omega arith
 
+-- the remaining bits are those of the word from `bit` on
+abbrev pub AreFrom : ℕ → ℕ → ℕ → Type 0
+AreFrom word bit rest = (i : ℕ) → bit_at rest i ≡ bit_at word (bit + i)
+
+pub from_first : (word : ℕ) → AreFrom word 0 word
+from_first word i = ap (bit_at word) (omega arith)
+
+pub from_more : (word bit rest : ℕ) → AreFrom word bit rest → AreFrom word (bit + trailing_zeros w64 rest + 1) (rest / 2 ^ trailing_zeros w64 rest / 2)
+from_more word bit rest h i = bit_after rest (trailing_zeros w64 rest) i ∙ h (trailing_zeros w64 rest + suc i) ∙ ap (bit_at word) (omega arith)
+
+pub set_at : (word bit rest : ℕ) → AreFrom word bit rest → 0 < rest → rest < 2 ^ 64 → bit_at word (bit + trailing_zeros w64 rest) ≡ 1
+set_at word bit rest h some fits = sym (h (trailing_zeros w64 rest)) ∙ (bit_at-trailing_zeros w64 rest some fits).1
+
 -- ---- common bits
 
 pub common_marks : (s : List Bool) (words marks : List ℕ) → AreWordsOf s words → HaveCommon words marks ↔ ((column : ℕ) × HasColumn s column × (bit_of marks column ≡ true))

@@ -1,5 +1,5 @@
 -- The lists of a chunk, ray by ray.
-use Rattle.std.proofs.Common.{◌≡◌, ◌≢◌, ℕ, suc, ◌+◌, ◌-◌, ◌*◌, ◌/◌, ◌^◌, ◌<◌, ◌≤◌, ◌⊎◌, inl, inr, Bool, List, [], ◌∷◌, ◌++◌, Vec, length, get_or, set, length-set, get_or-set_same, get_or-set_other, w64, bit_or, bit_and, refl, subst, sym, ap, ◌∙◌, arith}
+use Rattle.std.proofs.Common.{◌≡◌, ◌≢◌, ℕ, ◌+◌, ◌-◌, ◌*◌, ◌/◌, ◌^◌, ◌<◌, ◌≤◌, ◌⊎◌, inl, inr, Bool, List, [], ◌∷◌, ◌++◌, Vec, length, get_or, set, length-set, get_or-set_same, get_or-set_other, w64, bit_or, bit_and, refl, subst, sym, ap, ◌∙◌, arith}
 use Rattle.std.specs.declared.alloc.Global.{Global}
 use Rattle.std.specs.Int.{bit_at, bit_not, trailing_zeros}
 use Rattle.std.specs.List.{All, AllPairs}
@@ -9,7 +9,6 @@ use Rattle.std.proofs.lemmas.List.Elements.{All-push, Contains-push, Contains-ap
 use Rattle.std.proofs.lemmas.List.Quantifiers.{all_pairs_push}
 use Rattle.std.proofs.lemmas.Nat.Bits.{bit_at-lt, bit_at-zero, bit_at_above, bit_at_or, bit_at_not, bit_at-trailing_zeros}
 use Rattle.support_bits.specs.Columns.{HasColumn, Meets}
-use Rattle.support_bits.proofs.WordLemmas.{bit_after}
 use Rattle.support_table.specs.declared.candidates.Candidate.{Candidate}
 use Rattle.support_table.specs.declared.near.Near.{Near}
 use Rattle.support_table.specs.declared.outer.Outer.{Outer}
@@ -21,7 +20,7 @@ use Rattle.support_table.specs.Parts.{IsPart}
 use Rattle.support_table.specs.Residuals.{support_at, IsCandidate}
 use Rattle.support_table.specs.Singles.{AreAllSingles, AreSingleMasks}
 use Rattle.support_table.specs.Tables.{Table}
-use Rattle.support_table.proofs.BitLemmas.{either_set}
+use Rattle.support_table.proofs.BitLemmas.{AreFrom, either_set}
 use Rattle.support_table.proofs.BlockLemmas.{common_bits}
 use Rattle.support_table.proofs.CandidateLemmas.{AreUnhit, unhit_candidates}
 
@@ -70,24 +69,11 @@ module _ (supports : List (List Bool)) (outers : List Outer) (chosen : List ℕ)
 
 -- ---- bit by bit
 
--- the remaining bits are those of the word from `bit` on
-abbrev pub AreFrom : ℕ → ℕ → ℕ → Type 0
-AreFrom word bit rest = (i : ℕ) → bit_at rest i ≡ bit_at word (bit + i)
-
-pub from_first : (word : ℕ) → AreFrom word 0 word
-from_first word i = ap (bit_at word) (omega arith)
-
-pub from_more : (word bit rest : ℕ) → AreFrom word bit rest → AreFrom word (bit + trailing_zeros w64 rest + 1) (rest / 2 ^ trailing_zeros w64 rest / 2)
-from_more word bit rest h i = bit_after rest (trailing_zeros w64 rest) i ∙ h (trailing_zeros w64 rest + suc i) ∙ ap (bit_at word) (omega arith)
-
 pub unset_before : (word bit rest : ℕ) → AreFrom word bit rest → 0 < rest → rest < 2 ^ 64 → (b : ℕ) → bit ≤ b → b < bit + trailing_zeros w64 rest → bit_at word b ≢ 1
 unset_before word bit rest h some fits b low less one =
     let e = h (b - bit) ∙ ap (bit_at word) {x = bit + (b - bit)} {y = b} (omega arith) in
     let z = (bit_at-trailing_zeros w64 rest some fits).2 (b - bit) (omega arith) in
     omega (arith, e, z, one)
-
-pub set_at : (word bit rest : ℕ) → AreFrom word bit rest → 0 < rest → rest < 2 ^ 64 → bit_at word (bit + trailing_zeros w64 rest) ≡ 1
-set_at word bit rest h some fits = sym (h (trailing_zeros w64 rest)) ∙ (bit_at-trailing_zeros w64 rest some fits).1
 
 pub unset_from : (word bit : ℕ) → AreFrom word bit 0 → (b : ℕ) → bit ≤ b → bit_at word b ≢ 1
 unset_from word bit h b low one =

@@ -1,12 +1,11 @@
 -- Columns that alone are the residual of a candidate.
-use Rattle.std.proofs.Common.{◌≡◌, ◌≢◌, ℕ, suc, ◌+◌, ◌-◌, ◌/◌, ◌^◌, ◌<◌, ◌≤◌, inl, inr, Bool, true, false, List, [], length, get_or, set, length-set, get_or-set_same, get_or-set_other, replicate, w64, bit_or, subst, sym, ap, ◌∙◌, arith}
-use Rattle.std.specs.Int.{bit_at, bit_not, trailing_zeros}
+use Rattle.std.proofs.Common.{◌≡◌, ◌≢◌, ℕ, ◌+◌, ◌^◌, ◌<◌, ◌≤◌, inl, inr, Bool, true, false, List, [], length, get_or, set, length-set, get_or-set_same, get_or-set_other, replicate, w64, bit_or, subst, sym, ap, ◌∙◌, arith}
+use Rattle.std.specs.Int.{bit_at, bit_not}
 use Rattle.std.specs.List.{All}
 use Rattle.std.proofs.lemmas.Bool.{cases_eq, cases_lt, false≢true}
 use Rattle.std.proofs.lemmas.List.{get_or-replicate, length-replicate}
-use Rattle.std.proofs.lemmas.Nat.Bits.{bit_at-lt, bit_at-zero, bit_at_above, bit_at_not, bit_at-trailing_zeros}
+use Rattle.std.proofs.lemmas.Nat.Bits.{bit_at-lt, bit_at-zero, bit_at_above, bit_at_not}
 use Rattle.support_bits.specs.Columns.{HasColumn, Meets}
-use Rattle.support_bits.proofs.WordLemmas.{bit_after}
 use Rattle.support_table.specs.declared.outer.Outer.{Outer}
 use Rattle.support_table.specs.Counts.{columns_in_either}
 use Rattle.support_table.specs.Near.{chosen_at}
@@ -17,20 +16,6 @@ use Rattle.support_table.proofs.BitLemmas.{left_set}
 use Rattle.support_table.proofs.SizeLemmas.{column_within}
 
 -- ---- bits that are left
-
--- the remaining bits are those of the word from place on
-abbrev pub AreBitsFrom : ℕ → ℕ → ℕ → Type 0
-AreBitsFrom word place rest = (j : ℕ) → bit_at rest j ≡ bit_at word (place + j)
-
-pub bits_first : (word : ℕ) → AreBitsFrom word 0 word
-bits_first word j = ap (bit_at word) (omega arith)
-
-module _ (word place rest : ℕ) (h : AreBitsFrom word place rest) where
-  pub bits_more : AreBitsFrom word (place + trailing_zeros w64 rest + 1) (rest / 2 ^ trailing_zeros w64 rest / 2)
-  bits_more j = bit_after rest (trailing_zeros w64 rest) j ∙ h (trailing_zeros w64 rest + suc j) ∙ ap (bit_at word) (omega arith)
-
-  pub next_bit : 0 < rest → rest < 2 ^ 64 → bit_at word (place + trailing_zeros w64 rest) ≡ 1
-  next_bit some fits = sym (h (trailing_zeros w64 rest)) ∙ (bit_at-trailing_zeros w64 rest some fits).1
 
 -- a bit of the complement of a union is not set in the first of the two
 pub none_in_first : (m n b : ℕ) → bit_at (bit_not w64 (bit_or m n)) b ≡ 1 → bit_at m b ≡ 0

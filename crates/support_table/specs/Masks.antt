@@ -1,5 +1,5 @@
 -- Words with a bit for each of at most 64 outer rays: for each column, and for each value of each byte of a support.
-use Rattle.std.specs.Prelude.{◌≡◌, ℕ, ◌+◌, ◌*◌, ◌<◌, ◌⊎◌, ◌↔◌, ◌++◌, List, Bool, length, slice_index, bit_or}
+use Rattle.std.specs.Prelude.{◌≡◌, ℕ, ◌+◌, ◌*◌, ◌<◌, ◌⊎◌, ◌↔◌, List, Bool, length, slice_index, bit_or}
 use Rattle.std.specs.Int.{bit_at}
 use Rattle.support_bits.specs.Columns.{HasColumn}
 

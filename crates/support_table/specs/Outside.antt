@@ -1,5 +1,5 @@
 -- Which of at most 64 outer rays lack one, or two, of some columns; the masks have for each column those that lack it.
-use Rattle.std.specs.Prelude.{◌≡◌, ℕ, ◌+◌, ◌*◌, ◌<◌, ◌⊎◌, List, Bool, length, slice_index, slice_index_or}
+use Rattle.std.specs.Prelude.{◌≡◌, ℕ, ◌+◌, ◌*◌, ◌<◌, ◌⊎◌, List, Bool, length, slice_index_or}
 use Rattle.std.specs.Int.{bit_at}
 use Rattle.support_bits.specs.Columns.{HasColumn}
 use Rattle.support_table.specs.declared.outside.Outside.{Outside}

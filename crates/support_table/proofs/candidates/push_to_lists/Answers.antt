@@ -7,8 +7,8 @@ use Rattle.support_table.specs.declared.candidates.Candidate.{Candidate}
 use Rattle.support_table.specs.Candidates.{IsCandidatePushed}
 use Rattle.support_table.specs.Near.{chosen_at}
 use Rattle.support_table.specs.Residuals.{support_at}
-use Rattle.support_table.proofs.BitLemmas.{before_first, next_before, before_more}
-use Rattle.support_table.proofs.ListLemmas.{AreFrom, from_first, from_more, unset_before, set_at, unset_from, pushed_none, pushed_pass, pushed_set}
+use Rattle.support_table.proofs.BitLemmas.{AreFrom, before_first, next_before, before_more, from_first, from_more, set_at}
+use Rattle.support_table.proofs.ListLemmas.{unset_before, unset_from, pushed_none, pushed_pass, pushed_set}
 use Rattle.support_table.proofs.candidates.push_to_lists.Goals as goal
 
 pub loop-rest-init : goal.loop-rest-init

@@ -1,7 +1,6 @@
 use Rattle.std.proofs.Common.{◌≤◌, length, slice_index}
 use Rattle.support_table.specs.Candidates.{ArePushedBelow}
-use Rattle.support_table.proofs.BitLemmas.{AreBefore}
-use Rattle.support_table.proofs.ListLemmas.{AreFrom}
+use Rattle.support_table.proofs.BitLemmas.{AreBefore, AreFrom}
 use Rattle.support_table.proofs.candidates.push_to_lists.Given as goal
 
 abbrev pub invariant-loop-rest : goal.invariant-loop-rest
