@@ -21,11 +21,11 @@ use std::alloc::Global;
 use support_bits::Support;
 use support_table::{Found, Outer, PartSearch, find_adjacent};
 
-/// Adjacent pairs are found by residuals only in steps with at least so many positive rays: this many are looked at
+/// Adjacent pairs are found by residuals only in steps with at least this number of positive rays, which are handled
 /// together.
 const SOME_POSITIVES: usize = 64;
 
-/// Adjacent pairs are found by residuals only in steps with at least so many pairs of a positive ray and any ray.
+/// Adjacent pairs are found by residuals only in steps with at least this number of pairs of a positive ray and another.
 const MANY_PAIRS: usize = 1 << 16;
 
 impl<'a, C: Compatible> Step<'a, C> {

@@ -24,7 +24,7 @@ pub fn add_mask(masks: &mut Vec<u64>, columns: &Support, bit: usize)
     }
 }
 
-/// The entry of `masks` with index `column`, or 0 if there is none.
+/// The entry of `masks` with index `column`, or 0 if it has no more entries.
 pub fn mask_at(masks: &[u64], column: usize) -> u64
     ensures { result ≡ slice_index masks.now column }
 {

@@ -260,7 +260,7 @@ fn scattered(seed: u64) -> u128 {
     bits
 }
 
-/// 300 rays are parted, and handled 64 at once. The second word of a support has four columns.
+/// 300 outer rays are separated by columns, and handled 64 at a time. The second word of a support has four columns.
 #[test]
 fn many_at_once(rt: HostRuntime) -> Result<(), NoMemory> {
     let alloc = rt.alloc();
