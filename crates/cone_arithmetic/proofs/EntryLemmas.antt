@@ -13,7 +13,7 @@ use Rattle.cone_definitions.specs.Vectors.{IsNonzero, multiple, sum_of}
 use Rattle.cone_definitions.proofs.Entries.{length-multiple, entry-multiple, length-sum_of, entry-sum_of}
 use Rattle.cone_definitions.proofs.Divisors.{entry-divided, divided_is, divided_primitive}
 use Rattle.cone_arithmetic.specs.RayEntries.{IsReduced}
-use Rattle.cone_arithmetic.specs.Combinations.{IsEntriesGcd, IsReducedBy}
+use Rattle.cone_arithmetic.specs.Combinations.{IsEntriesGcd, IsDividedByGcd, IsReducedBy}
 
 -- an entry of a times w plus b times u
 pub entry-sums : (a b : ℕ) (w u : List ℕ) → length u ≡ length w → (k : ℕ) →
@@ -113,13 +113,13 @@ pub record Combined (limit most at_u at_w g : ℕ) (u w items : List ℕ) : Type
   pub by_values : IsReducedBy limit at_u at_w u w (map (λ entry. entry / g) items)
 
 pub combined : (limit most at_u at_w d g : ℕ) (u w listed_u listed_w items z : List ℕ) → IsGcd at_u at_w d → 1 ≤ at_u → 1 ≤ at_w → length u ≡ length w →
-    listed_w ≡ w → listed_u ≡ u → IsReduced most w → IsReduced most u → limit ≤ most →
+    listed_w ≡ w → listed_u ≡ u → length w < 2 ^ 32 → IsReduced most u → limit ≤ most →
     items ≡ sum_of (multiple (at_u / d) listed_w) (multiple (at_w / d) listed_u) →
     ((column : ℕ) → get_or (sum_of (multiple (at_u / d) listed_w) (multiple (at_w / d) listed_u)) column 0 ≤ limit) →
     z ≡ items → IsEntriesGcd z g → Combined limit most at_u at_w g u w items
-combined limit most at_u at_w d g u w listed_u listed_w items z gcd some_u some_w same w_is u_is w_reduced u_reduced up is within z_is h = record {
+combined limit most at_u at_w d g u w listed_u listed_w items z gcd some_u some_w same w_is u_is width u_reduced up is within z_is h = record {
   positive = entries_gcd_positive items g common nonzero;
-  reduced = divided_reduced limit most items g common nonzero (let e = ap length sums in omega (arith, length-sums (at_u / d) (at_w / d) w u same, w_reduced.width)) bounded up;
+  reduced = divided_reduced limit most items g common nonzero (let e = ap length sums in omega (arith, length-sums (at_u / d) (at_w / d) w u same, width)) bounded up;
   by_values = reduced_by limit at_u at_w d u w g gcd items sums common nonzero bounded;
 }
   where
@@ -140,6 +140,18 @@ pub divided_in_place : (n g : ℕ) (items lent new : List ℕ) → lent ≡ item
     take n (new ++ drop (length new) items) ≡ map (λ entry. entry / g) items
 divided_in_place n g items lent new lent_is new_is count =
     refilled n new items (ap length new_is ∙ length-map lent (λ entry. entry / g) ∙ ap length lent_is ∙ sym count) ∙ new_is ∙ ap (λ x. map (λ entry. entry / g) x) lent_is
+
+-- entries that are divided by their greatest common divisor, if these are those of a combination
+pub combined_divided : (limit most at_u at_w d : ℕ) (u w items divided : List ℕ) → IsGcd at_u at_w d → 1 ≤ at_u → 1 ≤ at_w → length u ≡ length w →
+    IsReduced most u → limit ≤ most → items ≡ sum_of (multiple (at_u / d) w) (multiple (at_w / d) u) →
+    ((column : ℕ) → get_or (sum_of (multiple (at_u / d) w) (multiple (at_w / d) u)) column 0 ≤ limit) →
+    IsDividedByGcd items divided → IsReduced most divided × IsReducedBy limit at_u at_w u w divided
+combined_divided limit most at_u at_w d u w items divided gcd some_u some_w same u_reduced up is within by_gcd =
+    subst (λ x. IsReduced most x × IsReducedBy limit at_u at_w u w x) (sym (by_gcd.quotients k.positive)) (k.reduced, k.by_values)
+  where
+    k : Combined limit most at_u at_w by_gcd.divisor u w items
+    k = combined limit most at_u at_w d by_gcd.divisor u w u w items items gcd some_u some_w same refl refl
+        (let e = u_reduced.width in omega (arith, e, same)) u_reduced up is within refl by_gcd.greatest
 
 -- one more sum
 pub sums_more : (z : List ℕ) (column limit n : ℕ) (sums : List ℕ) → sums ≡ take column z → column < length z → get_or z column 0 ≡ n → sums ++ n ∷ [] ≡ take (column + 1) z

@@ -2,10 +2,11 @@
 use Rattle.std.specs.Prelude.{ℕ, ◌<◌, ◌≤◌, ◌^◌, List, length, slice_index}
 use Rattle.cone_definitions.specs.Vectors.{IsNonzero, IsPrimitive}
 use Rattle.cone_arithmetic.specs.declared.entries.Entries.{Entries}
-use Rattle.cone_arithmetic.specs.declared.entries.Entries.TheVariants.{Small, Large}
+use Rattle.cone_arithmetic.specs.declared.entries.Entries.TheVariants.{Bytes, Small, Large}
 
--- the entries as a list of numbers, whether stored in 64 or in 128 bits
+-- the entries as a list of numbers, whether stored in 8, in 64 or in 128 bits
 abbrev pub numbers_of : Entries → List ℕ
+numbers_of (Bytes bytes) = bytes.items
 numbers_of (Small small) = small.items
 numbers_of (Large large) = large.items
 

@@ -2,7 +2,9 @@
 
 ghost use Rattle.std.specs.Prelude.{◌≡◌, ◌<◌, ◌/◌, map};
 ghost use Rattle.cone_arithmetic.specs.Combinations.{IsEntriesGcd};
+ghost use Rattle.cone_arithmetic.specs.NarrowEntries.{narrow_numbers};
 
+use crate::narrow::Narrow;
 use crate::numbers::gcd;
 use crate::small::{gcd_of_small, quotient};
 
@@ -20,16 +22,16 @@ fn common_divisor(entries: &[u128]) -> u128
     divisor
 }
 
-/// As `common_divisor`, for entries of 64 bits.
-fn common_small_divisor(entries: &[u64]) -> u64
-    ensures { IsEntriesGcd entries.now result }
+/// As `common_divisor`, for entries of at most 64 bits.
+fn common_small_divisor(entries: Narrow) -> u64
+    ensures { IsEntriesGcd (narrow_numbers entries.entry) result }
 {
     let mut divisor = 0;
-    for entry in entries {
+    for column in 0..entries.len() {
         if divisor == 1 {
             return 1;
         }
-        divisor = gcd_of_small(divisor, *entry);
+        divisor = gcd_of_small(divisor, entries.at(column));
     }
     divisor
 }
@@ -54,10 +56,24 @@ pub(crate) fn divide_by_small_common(entries: &mut [u64]) -> u64
     ensures divisor { IsEntriesGcd entries.old result }
     ensures divided { 0 < result → entries.new ≡ map (λ entry. entry / result) entries.old }
 {
-    let divisor = common_small_divisor(entries);
+    let divisor = common_small_divisor(Narrow::Words(entries));
     if divisor > 1 {
         for entry in entries.iter_mut() {
             *entry = *entry / divisor;
+        }
+    }
+    divisor
+}
+
+/// As `divide_by_common`, for entries of 8 bits.
+pub(crate) fn divide_by_byte_common(entries: &mut [u8]) -> u64
+    ensures divisor { IsEntriesGcd entries.old result }
+    ensures divided { 0 < result → entries.new ≡ map (λ entry. entry / result) entries.old }
+{
+    let divisor = common_small_divisor(Narrow::Bytes(entries));
+    if divisor > 1 {
+        for entry in entries.iter_mut() {
+            *entry = (u64::from(*entry) / divisor) as u8;
         }
     }
     divisor

@@ -1,8 +1,8 @@
 //! Rows, systems of rows and rays of a cone, with exact arithmetic up to a limit.
 //!
 //! - `SparseRow`, `System`: rows with coefficients up to `MAX_COEFFICIENT`
-//! - `Ray`, `PackedRay`: primitive integer vectors with entries up to `MAX_ENTRY`; the second stores 64 bits for each
-//!   entry if they suffice
+//! - `Ray`, `PackedRay`: primitive integer vectors with entries up to `MAX_ENTRY`; `Ray` stores 128 bits for each, and
+//!   `PackedRay` 8 or 64 bits for each if these suffice
 //! - `parts`, `combine`, `combine_inside`: the positive and negative part of a row at a ray, and the combination of two
 //!   rays at which a row is 0
 //! - `is_solution`: whether a vector solves a system
@@ -15,6 +15,7 @@ mod divisors;
 mod entries;
 mod filled;
 mod limit;
+mod narrow;
 mod numbers;
 mod packed;
 mod pair;

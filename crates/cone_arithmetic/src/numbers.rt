@@ -1,6 +1,6 @@
 //! Greatest common divisors, and the positive and negative parts of a row at a vector.
 
-ghost use Rattle.std.specs.Prelude.{◌≡◌, ◌+◌, ◌*◌, ◌<◌, ◌≤◌, ◌⊎◌, ◌↔◌, length, IfOk, OnOk, OnErr, IsErr};
+ghost use Rattle.std.specs.Prelude.{◌≡◌, ◌+◌, ◌*◌, ◌<◌, ◌≤◌, ◌⊎◌, ◌↔◌, ◌^◌, length, unsigned_abs, IfOk, OnOk, OnErr, IsErr};
 ghost use Rattle.std.specs.Int.{IsGcd};
 ghost use Rattle.cone_definitions.specs.Rows.{positive_coefficient, negative_coefficient};
 ghost use Rattle.cone_definitions.specs.Elimination.{HasLargePart, HasPartsWithin};
@@ -107,6 +107,60 @@ pub(crate) fn small_parts(row: &SparseRow, x: &[u64], limit: u128) -> Result<Plu
         plus: sums.plus,
         minus: sums.minus,
     })
+}
+
+/// The parts of the first terms of a row at a vector with entries of 8 bits.
+#[derive(Clone, Copy)]
+struct ByteParts {
+    plus: u64,
+    minus: u64,
+}
+
+/// The parts `sums` with one more term, which is at most 255,000,000.
+fn add_byte_term(sums: ByteParts, coefficient: i32, entry: u8) -> ByteParts
+    requires magnitude { unsigned_abs coefficient ≤ 1000000 }
+    requires plus_room { sums.plus < 2 ^ 63 }
+    requires minus_room { sums.minus < 2 ^ 63 }
+    ensures plus { result.plus ≡ sums.plus + positive_coefficient coefficient * entry }
+    ensures minus { result.minus ≡ sums.minus + negative_coefficient coefficient * entry }
+    ensures plus_bounded { result.plus ≤ sums.plus + 255000000 }
+    ensures minus_bounded { result.minus ≤ sums.minus + 255000000 }
+{
+    let ByteParts { plus, minus } = sums;
+    let term = u64::from(coefficient.unsigned_abs()) * u64::from(entry);
+    if coefficient > 0 {
+        ByteParts {
+            plus: plus + term,
+            minus,
+        }
+    } else {
+        ByteParts {
+            plus,
+            minus: minus + term,
+        }
+    }
+}
+
+/// The positive and the negative part of `row` at `x`, with entries of 8 bits. Fails with `Passed` if a part exceeds
+/// `limit`. A row has at most 2^32 terms, so the sums fit in 64 bits, and only the whole parts are compared.
+pub(crate) fn byte_parts(row: &SparseRow, x: &[u8], limit: u128) -> Result<PlusMinus, Passed>
+    requires in_range { IsInRange (length x.now) row.now }
+    ensures ok { IfOk result (ArePartsAt row.now x.now) }
+    ensures within { OnOk result (HasPartsWithin limit row.now x.now) }
+    ensures passed { IsErr result ↔ HasLargePart limit row.now x.now }
+{
+    let entries = row.entries();
+    let mut sums = ByteParts { plus: 0, minus: 0 };
+    for (column, coefficient) in entries {
+        sums = add_byte_term(sums, *coefficient, x[*column as usize]);
+    }
+    let plus = u128::from(sums.plus);
+    let minus = u128::from(sums.minus);
+    if plus <= limit && minus <= limit {
+        Ok(PlusMinus { plus, minus })
+    } else {
+        Err(Passed)
+    }
 }
 
 /// The positive and the negative part of `row` at `x`. Fails with `Passed` if and only if one of them exceeds `limit`.

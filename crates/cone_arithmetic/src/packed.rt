@@ -1,5 +1,6 @@
 //! Rays as the steps store them. A large step reads most entries of its rays and writes as many, so memory bounds its
-//! speed. Nearly all entries fit in 64 bits, which halves the memory.
+//! speed. Nearly all entries are below 256. A ray stores 8 bits for each entry if all fit, and otherwise 64 bits if all
+//! fit there; a combination that has to be computed in 128 bits keeps these.
 
 ghost use Rattle.std.specs.Prelude.{◌≡◌, ◌<◌, ◌≤◌, ◌↔◌, length, IfOk, OnOk, IsErr, slice_index, slice_set};
 ghost use Rattle.std.specs.Ordering.{nat_cmp};
@@ -10,7 +11,7 @@ ghost use Rattle.cone_arithmetic.specs.RayEntries.{IsReduced, numbers_of};
 ghost use Rattle.cone_arithmetic.specs.Sparse.{IsInRange, ArePartsAt};
 
 use crate::entries::{Entries, count, entry, into_wide, wide_entries, with_entry};
-use crate::numbers::{MAX_ENTRY, Passed, PlusMinus, parts, small_parts};
+use crate::numbers::{MAX_ENTRY, Passed, PlusMinus, byte_parts, parts, small_parts};
 use crate::ray::Ray;
 use crate::row::SparseRow;
 use out_of_memory::NoMemory;
@@ -18,8 +19,8 @@ use std::alloc::Global;
 use std::cmp::Ordering;
 use std::marker::Model;
 
-/// A ray whose entries are stored in 64 bits each, or in 128 bits each. Invariant: at most `MAX_ENTRY`, not all 0, with
-/// greatest common divisor 1.
+/// A ray whose entries are stored in 8 bits each, in 64 bits each, or in 128 bits each. Invariant: at most `MAX_ENTRY`,
+/// not all 0, with greatest common divisor 1.
 #[derive(Drop)]
 pub struct PackedRay {
     pub(crate) entries: Entries,
@@ -44,10 +45,10 @@ impl PackedRay {
         requires { place < columns }
         ensures { IfOk result (λ ray. ray ≡ unit columns place) }
     {
-        let mut entries = vec![in alloc; 0u64; columns as usize]?;
+        let mut entries = vec![in alloc; 0u8; columns as usize]?;
         entries[place as usize] = 1;
         Ok(PackedRay {
-            entries: Entries::Small(entries),
+            entries: Entries::Bytes(entries),
         })
     }
 
@@ -59,6 +60,15 @@ impl PackedRay {
         count(&self.entries)
     }
 
+    /// The entry in `column`.
+    pub fn entry(&self, column: usize) -> u128
+        requires { column < length self.now }
+        ensures entry { result ≡ slice_index self.now column }
+        ensures reduced { IsReduced MAX_ENTRY self.now }
+    {
+        entry(&self.entries, column)
+    }
+
     /// The positive and the negative part of `row` at the ray. Fails with `Passed` if and only if one of them exceeds
     /// `limit`.
     pub fn parts(&self, row: &SparseRow, limit: u128) -> Result<PlusMinus, Passed>
@@ -68,6 +78,7 @@ impl PackedRay {
         ensures passed { IsErr result ↔ HasLargePart limit row.now self.now }
     {
         match &self.entries {
+            Entries::Bytes(bytes) => byte_parts(row, bytes, limit),
             Entries::Small(small) => small_parts(row, small, limit),
             Entries::Large(large) => parts(row, large, limit),
         }
@@ -78,6 +89,7 @@ impl PackedRay {
         ensures { result ≡ slice_cmp nat_cmp self.now other.now }
     {
         match (&self.entries, &other.entries) {
+            (Entries::Bytes(x), Entries::Bytes(y)) => x.as_slice().cmp(y.as_slice()),
             (Entries::Small(x), Entries::Small(y)) => x.as_slice().cmp(y.as_slice()),
             (Entries::Large(x), Entries::Large(y)) => x.as_slice().cmp(y.as_slice()),
             _ => compare_each(&self.entries, &other.entries),

@@ -2,20 +2,19 @@
 
 ghost use Rattle.std.specs.Prelude.{◌≡◌, ◌≤◌, ℕ, length, slice_index, IfOk, IfErr, IfSome};
 ghost use Rattle.cone_definitions.specs.Vectors.{multiple, sum_of};
-ghost use Rattle.cone_arithmetic.specs.RayEntries.{IsReduced};
+ghost use Rattle.cone_arithmetic.specs.RayEntries.{numbers_of};
 ghost use Rattle.cone_arithmetic.specs.Combinations.{IsReducedBy};
 ghost use Rattle.cone_arithmetic.specs.Faults.{CombineFails};
 ghost use Rattle.cone_arithmetic.specs.Filled.{AreInside};
 
-use crate::combination::SmallCombination;
-use crate::divisors::divide_by_small_common;
-use crate::entries::{Entries, small_entries};
-use crate::filled::sums_at;
+use crate::combination::{ByteCombination, SmallCombination};
+use crate::entries::{Entries, byte_entries, divided, narrow_entries};
+use crate::filled::{byte_sums_at, sums_at};
 use crate::limit::Limit;
-use crate::numbers::{MAX_ENTRY, gcd};
+use crate::numbers::gcd;
 use crate::packed::PackedRay;
 use crate::ray::{CombineFault, combine};
-use crate::small::{MAX_SMALL, quotient};
+use crate::small::{MAX_BYTE, MAX_SMALL, quotient};
 use out_of_memory::NoMemory;
 use std::alloc::Global;
 use support_bits::Support;
@@ -36,8 +35,43 @@ pub struct RayPair<'a> {
     pub ghost some_w: { 1 ≤ at_w },
 }
 
-/// The entries of `a * w + b * u` for the rays of `pair`, computed at the columns of its support; `None` if a number
-/// does not fit in 64 bits or exceeds `limit`.
+/// The entries of `a * w + b * u` for the rays of `pair`, computed at the columns of its support; `None` if an entry
+/// exceeds `limit`, or if a factor, an entry of a ray or an entry of the result does not fit in 8 bits.
+fn byte_sums(
+    alloc: Global,
+    pair: RayPair,
+    a: u128,
+    b: u128,
+    limit: u128,
+) -> Result<Option<Vec<u8>>, NoMemory>
+    ensures sums { IfOk result (λ answer.
+        IfSome answer (λ sums. sums.items ≡ sum_of (multiple a pair.entry.w.now) (multiple b pair.entry.u.now))) }
+    ensures within { IfOk result (λ answer.
+        IfSome answer (λ _. (column : ℕ)
+        → slice_index (sum_of (multiple a pair.entry.w.now) (multiple b pair.entry.u.now)) column ≤ limit)) }
+{
+    if a > MAX_BYTE || b > MAX_BYTE {
+        return Ok(None);
+    }
+    let RayPair { u, w, support, .. } = pair;
+    let Some(w) = byte_entries(&w.entries) else {
+        return Ok(None);
+    };
+    let Some(u) = byte_entries(&u.entries) else {
+        return Ok(None);
+    };
+    let words = support.words();
+    let combination = ByteCombination {
+        a: a as u8,
+        w,
+        b: b as u8,
+        u,
+        words,
+    };
+    byte_sums_at(alloc, combination, limit)
+}
+
+/// As `byte_sums`, with 64 bits in place of 8.
 fn small_sums(
     alloc: Global,
     pair: RayPair,
@@ -50,17 +84,15 @@ fn small_sums(
     ensures within { IfOk result (λ answer.
         IfSome answer (λ _. (column : ℕ)
         → slice_index (sum_of (multiple a pair.entry.w.now) (multiple b pair.entry.u.now)) column ≤ limit)) }
-    ensures reduced { IfOk result (λ answer.
-        IfSome answer (λ _. IsReduced MAX_ENTRY pair.entry.w.now × IsReduced MAX_ENTRY pair.entry.u.now)) }
 {
     if a > MAX_SMALL || b > MAX_SMALL {
         return Ok(None);
     }
     let RayPair { u, w, support, .. } = pair;
-    let Some(w) = small_entries(&w.entries) else {
+    let Some(w) = narrow_entries(&w.entries) else {
         return Ok(None);
     };
-    let Some(u) = small_entries(&u.entries) else {
+    let Some(u) = narrow_entries(&u.entries) else {
         return Ok(None);
     };
     let words = support.words();
@@ -72,6 +104,30 @@ fn small_sums(
         words,
     };
     sums_at(alloc, combination, limit)
+}
+
+/// The entries of `a * w + b * u` for the rays of `pair`, in 8 bits each if `byte_sums` computes them, and otherwise in
+/// 64 bits each; `None` if `small_sums` does not compute them either.
+fn sums_inside(
+    alloc: Global,
+    pair: RayPair,
+    a: u128,
+    b: u128,
+    limit: u128,
+) -> Result<Option<Entries>, NoMemory>
+    ensures sums { IfOk result (λ answer.
+        IfSome answer (λ sums. numbers_of sums ≡ sum_of (multiple a pair.entry.w.now) (multiple b pair.entry.u.now))) }
+    ensures within { IfOk result (λ answer.
+        IfSome answer (λ _. (column : ℕ)
+        → slice_index (sum_of (multiple a pair.entry.w.now) (multiple b pair.entry.u.now)) column ≤ limit)) }
+{
+    if let Some(bytes) = byte_sums(alloc, pair, a, b, limit)? {
+        return Ok(Some(Entries::Bytes(bytes)));
+    }
+    match small_sums(alloc, pair, a, b, limit)? {
+        Some(small) => Ok(Some(Entries::Small(small))),
+        None => Ok(None),
+    }
 }
 
 /// As `combine`, with the same errors, for the rays and values of `pair`.
@@ -100,11 +156,11 @@ pub fn combine_inside(alloc: Global, pair: RayPair, limit: Limit) -> Result<Pack
     let greatest = gcd(pair.at_u, pair.at_w);
     let a = quotient(pair.at_u, greatest);
     let b = quotient(pair.at_w, greatest);
-    let Some(mut sums) = small_sums(alloc, pair, a, b, limit.number)? else {
+    let Some(sums) = sums_inside(alloc, pair, a, b, limit.number)? else {
         return combine_wide(alloc, pair, limit);
     };
-    divide_by_small_common(&mut sums);
-    Ok(PackedRay {
-        entries: Entries::Small(sums),
-    })
+    // the invariant of the first ray: its entries are not all 0
+    let _columns = pair.u.columns();
+    let entries = divided(alloc, sums)?;
+    Ok(PackedRay { entries })
 }

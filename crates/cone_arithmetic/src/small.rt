@@ -1,10 +1,26 @@
-//! Products, quotients and common divisors, in 64 bits if the numbers fit.
+//! Sums, products, quotients and common divisors, in 8 or in 64 bits if the numbers fit.
 
 ghost use Rattle.std.specs.Prelude.{◌≡◌, ◌+◌, ◌*◌, ◌/◌, ◌<◌, ◌≤◌, ◌^◌, IfSome, IfNone};
 ghost use Rattle.std.specs.Int.{IsGcd};
 
 /// The greatest number of 64 bits: 2^64 - 1.
 pub(crate) const MAX_SMALL: u128 = 18446744073709551615;
+
+/// The greatest number of 8 bits: 2^8 - 1.
+pub(crate) const MAX_BYTE: u128 = 255;
+
+/// `a * x + b * y` if it is at most `most`. The sum of two products of numbers of 8 bits fits in 32 bits.
+pub(crate) fn byte_sum(a: u8, x: u8, b: u8, y: u8, most: u8) -> Option<u8>
+    ensures some { IfSome result (λ sum. sum ≡ a * x + b * y) }
+    ensures within { IfSome result (λ sum. sum ≤ most) }
+{
+    let sum = u32::from(a) * u32::from(x) + u32::from(b) * u32::from(y);
+    if sum <= u32::from(most) {
+        Some(sum as u8)
+    } else {
+        None
+    }
+}
 
 /// `a * x + b * y` if it is at most `limit` and the products and the sum fit in 64 bits. Most factors are 1.
 pub(crate) fn small_sum(a: u64, x: u64, b: u64, y: u64, limit: u128) -> Option<u64>
