@@ -16,8 +16,7 @@ pub fn read_numbers(alloc: Global, lexer: &mut Lexer<'_>) -> Result<Vec<u128>, T
     ensures { ReadsFrom TextFault.NoMemory (λ v. v.items) result lexer.new (lexed (numbers_at limit lexer.old)) }
 {
     let mut numbers = Vec::new(alloc);
-    while !lexer.at_end() {
-        let number = lexer.number(LIMIT)?;
+    while let Some(number) = lexer.number_or_end(LIMIT)? {
         numbers.push(number)?;
     }
     Ok(numbers)

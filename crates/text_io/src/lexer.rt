@@ -1,12 +1,13 @@
 //! A cursor over the words and lines of an input.
 ghost use Rattle.std.specs.Prelude.{◌≡◌, ◌↔◌, ◌<◌, ◌≤◌, [], length, IsTrue, Ok};
 ghost use Rattle.std.specs.Bool.{OnTrue, OnFalse};
-ghost use Rattle.text_definitions.specs.declared.LexKind.TheVariants.{BadWord};
+ghost use Rattle.text_definitions.specs.declared.LexKind.TheVariants.{BadWord, NumberTooWide};
 ghost use Rattle.text_definitions.specs.Reading.{Gives, Moves, start_of, need_line_at, word_at, number_at, signed_at, end_line_at, word_fault, fault_at, number_up_to, magnitude, is_negative};
 ghost use Rattle.text_definitions.specs.Signed.{signed_bound};
 ghost use Rattle.text_definitions.specs.Text.{max_text, decimal_value};
+ghost use Rattle.text_io.specs.LineEnd.{GivesOrEnds};
 
-use crate::decimals::{is_decimal_word, value_up_to};
+use crate::decimals::{is_decimal_word, short_value, value_up_to};
 use crate::front::{Front, front_of};
 use crate::lines::{FoundLine, end_place, first_line};
 use std::marker::Model;
@@ -99,19 +100,9 @@ impl<'a> Lexer<'a> {
     pub fn word(&mut self) -> Result<&'a [u8], LexFault>
         ensures { Gives (λ w. w.now) result self.new (word_at self.old) }
     {
-        let (column, front) = front_of(self.line, self.column);
-        match front {
-            Front::End => Err(self.fault(column, LexKind::MissingWord)),
-            Front::Stray => Err(self.fault(column, LexKind::BadByte)),
-            Front::Word(word, after) => {
-                self.line = after;
-                self.column = column + word.len() as u32;
-                self.taken = Place {
-                    line: self.number,
-                    column,
-                };
-                Ok(word)
-            }
+        match self.word_or_end()? {
+            Some(word) => Ok(word),
+            None => Err(self.fault(self.line_end(), LexKind::MissingWord)),
         }
     }
 
@@ -123,6 +114,19 @@ impl<'a> Lexer<'a> {
     {
         let word = self.word()?;
         self.value_of(word, max)
+    }
+
+    /// Reads the next word of the line as a decimal of at most `max`. If only spaces and tabs are left, returns `None`,
+    /// and the cursor stays. Otherwise fails as `number`.
+    #[tactic(auto, unfolding(text_definitions::specs::Reading::number_at))]
+    pub fn number_or_end(&mut self, max: u128) -> Result<Option<u128>, LexFault>
+        ensures { GivesOrEnds (λ n. n) result self.old self.new (number_at max self.old) }
+    {
+        let Some(word) = self.word_or_end()? else {
+            return Ok(None);
+        };
+        let value = self.value_of(word, max)?;
+        Ok(Some(value))
     }
 
     /// Reads the next word of the line as a decimal with or without one `-` before it. Fails as `word`; then with
@@ -172,6 +176,34 @@ impl<'a> Lexer<'a> {
         }
     }
 
+    /// Reads the next word of the line, as a slice of the input. If only spaces and tabs are left, returns `None`, and
+    /// the cursor stays. Fails with `BadByte` at a byte that no word contains.
+    fn word_or_end(&mut self) -> Result<Option<&'a [u8]>, LexFault>
+        ensures { GivesOrEnds (λ w. w.now) result self.old self.new (word_at self.old) }
+    {
+        let (column, front) = front_of(self.line, self.column);
+        match front {
+            Front::End => Ok(None),
+            Front::Stray => Err(self.fault(column, LexKind::BadByte)),
+            Front::Word(word, after) => {
+                self.line = after;
+                self.column = column + word.len() as u32;
+                self.taken = Place {
+                    line: self.number,
+                    column,
+                };
+                Ok(Some(word))
+            }
+        }
+    }
+
+    /// The column after the last byte of the current line.
+    fn line_end(&self) -> u32
+        ensures { result ≡ self.now.current.end }
+    {
+        self.column + self.line.len() as u32
+    }
+
     /// An error of kind `kind` in column `column` of the current line.
     fn fault(&self, column: u32, kind: LexKind) -> LexFault
         ensures { result ≡ fault_at self.now column kind }
@@ -186,13 +218,34 @@ impl<'a> Lexer<'a> {
     fn value_of(&self, digits: &[u8], max: u128) -> Result<u128, LexFault>
         ensures { Gives (λ n. n) result self.now (number_up_to max (decimal_value digits.now) self.now) }
     {
+        let Some(value) = short_value(digits) else {
+            return self.any_value_of(digits, max);
+        };
+        let value = u128::from(value);
+        if value > max {
+            return Err(self.too_wide());
+        }
+        Ok(value)
+    }
+
+    /// As `value_of`, without the fast way for short decimals.
+    fn any_value_of(&self, digits: &[u8], max: u128) -> Result<u128, LexFault>
+        ensures { Gives (λ n. n) result self.now (number_up_to max (decimal_value digits.now) self.now) }
+    {
         if !is_decimal_word(digits) {
             return Err(self.bad_word());
         }
-        value_up_to(digits, max).ok_or(LexFault {
+        value_up_to(digits, max).ok_or(self.too_wide())
+    }
+
+    /// The error `NumberTooWide` at the word read last: its value exceeds the maximum.
+    fn too_wide(&self) -> LexFault
+        ensures { result ≡ word_fault self.now NumberTooWide }
+    {
+        LexFault {
             place: self.taken,
             kind: LexKind::NumberTooWide,
-        })
+        }
     }
 }
 

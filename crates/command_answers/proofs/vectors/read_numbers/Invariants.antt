@@ -5,8 +5,8 @@ use Rattle.text_definitions.proofs.Readers.{with_front}
 use Rattle.text_definitions.specs.Written.{limit}
 use Rattle.command_answers.proofs.vectors.read_numbers.Given as goal
 
-abbrev pub invariant-loop-lexer : goal.invariant-loop-lexer
-invariant-loop-lexer l = with_front l.numbers.items (numbers_at limit l.lexer) ≡ numbers_at limit l.fn.lexer
+abbrev pub invariant-loop-numbers : goal.invariant-loop-numbers
+invariant-loop-numbers l = with_front l.numbers.items (numbers_at limit l.lexer) ≡ numbers_at limit l.fn.lexer
 
-abbrev pub decreases-loop-lexer : goal.decreases-loop-lexer
-decreases-loop-lexer l = length l.lexer.current.tokens
+abbrev pub decreases-loop-numbers : goal.decreases-loop-numbers
+decreases-loop-numbers l = length l.lexer.current.tokens

@@ -1,14 +1,6 @@
-use Rattle.text_io.proofs.LexerSteps.{word-end, word-stray, word-word}
+use Rattle.text_io.proofs.LexerSteps.{word_at-ended}
 use Rattle.text_io.proofs.lexer.Lexer.word.Goals as goal
 
-pub returns-in-End : goal.returns-in-End
-returns-in-End c =
-    rw (c.fault.ensures, ← c.self.view_is) (word-end c.self.inside _ (rw c.in-End.is at c.front_of-column.ensures))
-
-pub returns-in-Stray : goal.returns-in-Stray
-returns-in-Stray c =
-    rw (c.fault-in-Stray.ensures, ← c.self.view_is) (word-stray c.self.inside _ (rw c.in-Stray.is at c.front_of-column.ensures))
-
-pub returns-in-Word : goal.returns-in-Word
-returns-in-Word c =
-    rw (← c.self.view_is) (word-word c.self.inside _ c.in-Word.word c.in-Word.after (rw c.in-Word.is at c.front_of-column.ensures))
+pub returns-in-None : goal.returns-in-None
+returns-in-None c =
+    let h = rw c.in-None.is at c.in_ok-word.ensures in rw (c.fault.ensures, c.line_end.ensures, h.1) (word_at-ended _ h.0)
