@@ -5,11 +5,14 @@ use Rattle.std.proofs.Props.{props}
 use Rattle.table_definitions.specs.Permutation.{IsPermutationOfFour}
 use Rattle.table_definitions.specs.Table.{Row, IsTable}
 use Rattle.table_definitions.specs.Places.{IsConnected}
-use Rattle.signature_definitions.specs.Labellings.{Start}
-use Rattle.signature_laws.specs.Orders.{IsWholeOrder, start_at, is_visited, whole_order}
+use Rattle.table_definitions.specs.Relabelling.{Relabelling, IsRelabelling, Carries}
+use Rattle.signature_definitions.specs.Labellings.{Start, IsWalked}
+use Rattle.signature_laws.specs.Orders.{IsWholeOrder, Numbers, start_at, is_visited, whole_order}
 use Rattle.signature_laws.proofs.Growing.{met_from, met_at}
 use Rattle.signature_laws.proofs.Sound.{IsOrder, order_holds}
 use Rattle.signature_laws.proofs.Reaching.{whole_order_holds, order_few}
+use Rattle.signature_laws.proofs.Labelled.{labelled_is_walked}
+use Rattle.signature_laws.proofs.Walks.{relabelled_exist_lem}
 
 -- a tetrahedron of a whole order is visited
 whole_visits : (n : ℕ) (order : List Start) (t : ℕ) → IsWholeOrder n order → t < n → is_visited order t ≡ true
@@ -41,3 +44,29 @@ traversed rows start order table connected low permutes is =
       limited = order_few rows start (whole_order rows start) h;
       permute = h.permutes;
     })
+
+-- the relabelling numbers a table that is known to be connected by its traversal from the start
+pub record IsByTraversal (rows : List Row) (start : Start) (by : Relabelling) : Type 0 where
+  pub table : IsTable rows
+  pub connected : ∥ IsConnected rows ∥₁
+  pub in_range : start.tet < length rows
+  pub permutes : IsPermutationOfFour start.perm
+  pub bijection : IsRelabelling (length rows) by
+  pub numbers : Numbers (whole_order rows start) by
+
+-- the table to which such a relabelling carries the table is that of the traversal
+pub walked_by : (rows : List Row) (start : Start) (by : Relabelling) (new : List Row) → IsByTraversal rows start by → Carries by rows new → IsWalked rows start by new
+walked_by rows start by new h carries = labelled_is_walked rows start by new (record {
+  table = h.table;
+  order = order_holds rows start (4 * length rows) h.table h.in_range h.permutes;
+  whole = whole_order_known rows start h.table h.connected h.in_range h.permutes;
+  bijection = h.bijection;
+  numbers = h.numbers;
+  carries = carries;
+})
+
+-- such a relabelling carries the table to some table, whether or not it is made
+pub walk_exists : (rows : List Row) (start : Start) (by : Relabelling) → IsByTraversal rows start by → (new : List Row) × IsWalked rows start by new
+walk_exists rows start by h =
+    let carried = relabelled_exist_lem rows by h.table h.bijection in
+    (carried.0, walked_by rows start by carried.0 h carried.1)

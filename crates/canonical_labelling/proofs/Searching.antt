@@ -1,9 +1,8 @@
 -- The search for the least text, start after start.
-use Rattle.std.proofs.Common.{◌≡◌, ℕ, ◌+◌, ◌*◌, ◌/◌, ◌<◌, ◌≤◌, Bool, true, false, List, [], ◌∷◌, ◌++◌, length, refl, sym, ap, ◌∙◌, subst, arith, inl, inr, replicate, ⊎_elim}
+use Rattle.std.proofs.Common.{◌≡◌, ℕ, ◌+◌, ◌*◌, ◌/◌, ◌<◌, Bool, true, false, List, [], ◌∷◌, ◌++◌, length, refl, sym, ap, ◌∙◌, subst, arith, inl, inr, replicate}
 use Rattle.std.specs.Prelude.{All, slice_set}
 use Rattle.std.specs.List.{slice_index_or}
-use Rattle.std.proofs.lemmas.Bool.{cases_lt}
-use Rattle.std.proofs.lemmas.List.{length-set, length-replicate, get_or-replicate, get_or_past}
+use Rattle.std.proofs.lemmas.List.{length-set, length-replicate}
 use Rattle.std.proofs.lemmas.List.Elements.{All-push}
 use Rattle.table_definitions.specs.Lists.{is_list_before}
 use Rattle.table_definitions.specs.Table.{Row, IsTable}
@@ -21,6 +20,7 @@ use Rattle.signature_automorphism_laws.proofs.Marks.{marked_more, no_walk, lesse
 use Rattle.table_walk_laws.proofs.SearchLemmas.{none_marked}
 use Rattle.canonical_labelling.specs.declared.orbits.Orbits.{Orbits}
 use Rattle.canonical_labelling.specs.Marks.{MarksFollow}
+use Rattle.canonical_labelling.proofs.Reached.{IsByTraversal, walk_exists}
 use Rattle.canonical_labelling.specs.Orbits.{AreOrbitsOf, SparesFollow, IsTextBy, IsFound, IsSearch}
 
 pub text_is_from : (rows : List Row) (start : Start) (by : Relabelling) (text : List ℕ) → IsTextBy rows start by text → IsTextFrom rows start text
@@ -77,10 +77,11 @@ pub orbits_marked : (rows : List Row) (orbits last : Orbits) → AreOrbitsOf row
 orbits_marked rows orbits last h long same = record { size = long ∙ h.size; automorphisms = subst (All (IsAutomorphism rows)) (sym same) h.automorphisms }
 
 -- the relabelling that is made from a start with an equal text
-pub tie_by : (rows : List Row) (start : Start) (first second by : Relabelling) (new : List Row) (text : List ℕ) → IsTable rows → IsFound rows first text → IsWalked rows start second new
+pub tie_by : (rows : List Row) (start : Start) (first second by : Relabelling) (text : List ℕ) → IsByTraversal rows start second → IsFound rows first text
     → ((other : List ℕ) → IsTextFrom rows start other → other ≡ text) → by ≡ between (length first.images) first second → IsAutomorphism rows by
-tie_by rows start first second by new text table found w equal is =
-    subst (IsAutomorphism rows) (sym (is ∙ ap (λ n. between n first second) (found_size rows first text found))) (tie_is rows start first second new text table found w equal)
+tie_by rows start first second by text h found equal is =
+    let w = walk_exists rows start second h in
+    subst (IsAutomorphism rows) (sym (is ∙ ap (λ n. between n first second) (found_size rows first text found))) (tie_is rows start first second w.0 text h.table found w.1 equal)
 
 -- the orbits of the table after an automorphism is added
 pub orbits_added : (rows : List Row) (by : Relabelling) (orbits last : Orbits) → AreOrbitsOf rows orbits → IsAutomorphism rows by → length last.marked.items ≡ length orbits.marked.items

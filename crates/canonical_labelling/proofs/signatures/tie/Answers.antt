@@ -10,7 +10,7 @@ invariant_of-pair c =
     let limited = c.args.traversal.now.is_table.limited in
     record {
       limited = omega (arith, size, limited);
-      equal = length-images (length c.args.traversal.now.table.now) c.in_ok-walked.walked.relabelling c.in_ok-walked.ensures.relabels.0 ∙ sym size;
+      equal = length-images (length c.args.traversal.now.table.now) c.in_ok-second.second c.in_ok-second.ensures.bijection ∙ sym size;
     }
 
 pub between-requires : goal.between-requires
@@ -20,19 +20,45 @@ between-requires c =
 
 pub add_automorphism-requires : goal.add_automorphism-requires
 add_automorphism-requires c =
-    let auto = tie_by c.args.traversal.now.table.now c.args.traversal.now.start c.args.best.now.by c.in_ok-walked.walked.relabelling c.in_ok-by.by c.in_ok-walked.walked.table c.args.best.now.text.items c.args.traversal.now.is_table c.requires.found c.in_ok-walked.ensures c.requires.equal c.in_ok-by.ensures in
+    let t = c.args.traversal.now in
+    let s = c.in_ok-second.ensures in
+    let auto = tie_by t.table.now t.start c.args.best.now.by c.in_ok-second.second c.in_ok-by.by c.args.best.now.text.items (record {
+      table = t.is_table;
+      connected = t.connected;
+      in_range = t.in_range;
+      permutes = s.permutes;
+      bijection = s.bijection;
+      numbers = s.numbers;
+    }) c.requires.found c.requires.equal c.in_ok-by.ensures in
     ap (λ n. 24 * n) (length-images (length c.args.traversal.now.table.now) c.in_ok-by.by auto.0) ∙ sym c.requires.orbits.size
 
 pub returns-clause-orbits : goal.returns-clause-orbits
 returns-clause-orbits c =
+    let t = c.args.traversal.now in
+    let s = c.in_ok-second.ensures in
     let e = c.in_ok-add_automorphism.ensures in
-    orbits_added c.args.traversal.now.table.now c.in_ok-by.by c.args.orbits.now c.add_automorphism.new.orbits c.requires.orbits
-    (tie_by c.args.traversal.now.table.now c.args.traversal.now.start c.args.best.now.by c.in_ok-walked.walked.relabelling c.in_ok-by.by c.in_ok-walked.walked.table c.args.best.now.text.items c.args.traversal.now.is_table c.requires.found c.in_ok-walked.ensures c.requires.equal c.in_ok-by.ensures)
-    e.size e.automorphisms
+    let auto = tie_by t.table.now t.start c.args.best.now.by c.in_ok-second.second c.in_ok-by.by c.args.best.now.text.items (record {
+      table = t.is_table;
+      connected = t.connected;
+      in_range = t.in_range;
+      permutes = s.permutes;
+      bijection = s.bijection;
+      numbers = s.numbers;
+    }) c.requires.found c.requires.equal c.in_ok-by.ensures in
+    orbits_added t.table.now c.in_ok-by.by c.args.orbits.now c.add_automorphism.new.orbits c.requires.orbits auto e.size e.automorphisms
 
 pub returns-clause-marks : goal.returns-clause-marks
 returns-clause-marks c = λ text h.
+    let t = c.args.traversal.now in
+    let s = c.in_ok-second.ensures in
     let e = c.in_ok-add_automorphism.ensures in
-    let auto = tie_by c.args.traversal.now.table.now c.args.traversal.now.start c.args.best.now.by c.in_ok-walked.walked.relabelling c.in_ok-by.by c.in_ok-walked.walked.table c.args.best.now.text.items c.args.traversal.now.is_table c.requires.found c.in_ok-walked.ensures c.requires.equal c.in_ok-by.ensures in
+    let auto = tie_by t.table.now t.start c.args.best.now.by c.in_ok-second.second c.in_ok-by.by c.args.best.now.text.items (record {
+      table = t.is_table;
+      connected = t.connected;
+      in_range = t.in_range;
+      permutes = s.permutes;
+      bijection = s.bijection;
+      numbers = s.numbers;
+    }) c.requires.found c.requires.equal c.in_ok-by.ensures in
     let all = orbits_added c.args.traversal.now.table.now c.in_ok-by.by c.args.orbits.now c.add_automorphism.new.orbits c.requires.orbits auto e.size e.automorphisms in
     e.marked c.args.traversal.now.table.now text c.args.traversal.now.is_table all.automorphisms (sym c.requires.orbits.size) h
