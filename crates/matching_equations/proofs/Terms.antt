@@ -1,5 +1,5 @@
 -- The terms of an equation's row, column by column.
-use Rattle.std.proofs.Common.{◌≡◌, ◌≢◌, ℕ, zero, suc, ◌+◌, ◌-◌, ◌<◌, ◌≤◌, Bool, true, false, cond, ℤ, pos, negsuc, ◌-ℤ◌, List, [], ◌∷◌, ◌++◌, length, Option, Some, None, refl, sym, ap, ◌∙◌, subst, arith}
+use Rattle.std.proofs.Common.{◌≡◌, ◌≢◌, ℕ, zero, suc, ◌+◌, ◌-◌, ◌<◌, ◌≤◌, Bool, true, false, cond, ℤ, pos, negsuc, ◌-ℤ◌, List, [], ◌∷◌, ◌++◌, length, Option, Some, None, refl, sym, ap, ◌∙◌, arith}
 use Rattle.std.specs.List.{cons_option, filter_map, range_with_len, All, AllPairs}
 use Rattle.std.specs.Prelude.{◌==◌, if◌then◌else◌, slice_index, option_to_list, unsigned_abs}
 use Rattle.std.proofs.lemmas.Int.{ints}
@@ -10,8 +10,6 @@ use Rattle.std.proofs.lemmas.List.Kept.{AllPairs-cons}
 use Rattle.table_definitions.specs.Lists.{below, times_in}
 use Rattle.surface_definitions.specs.Equations.{Equation, coefficient, term_of, row_of}
 use Rattle.cone_arithmetic.specs.Sparse.{IsSparse, IsInRange}
-use Rattle.std.specs.Prelude.{Result, Ok, Err, IfOk}
-use Rattle.out_of_memory.specs.declared.NoMemory.{NoMemory}
 use Rattle.surface_definitions.proofs.Ranges.{quiet, filter_map-more}
 
 abbrev pub NoneBefore : List ℕ → ℕ → ℕ → Type 0
@@ -115,8 +113,3 @@ first_terms left right first second high l r = sym (quiet_between left right 0 f
 
 pub made_row : (left right : List ℕ) (column n : ℕ) {terms : List (ℕ × ℤ)} → column ≡ n → terms ≡ filter_map (term_of (equation_of left right)) (below column) → terms ≡ row_of n (equation_of left right)
 made_row left right column n e f = f ∙ ap (λ k. filter_map (term_of (equation_of left right)) (below k)) e
-
-pub kept_in_range : (left right : List ℕ) (n : ℕ) (terms : List (ℕ × ℤ)) (result : Result (List (ℕ × ℤ)) NoMemory) → IfOk result (λ row. row ≡ terms) → terms ≡ row_of n (equation_of left right)
-    → length left ≤ 1000000 → length right ≤ 1000000 → IfOk result (IsInRange n)
-kept_in_range left right n terms (Ok row) k e l r = subst (IsInRange n) (sym (k ∙ e)) (row_in_range (equation_of left right) n l r)
-kept_in_range left right n terms (Err fault) k e l r = tt

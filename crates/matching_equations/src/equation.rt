@@ -83,5 +83,5 @@ pub fn row_of(alloc: Global, columns: u32, sides: Sides<'_>) -> Result<SparseRow
         push_term(&mut terms, sides, column)?;
         column = next_column(right, column + 1, next_column(left, column + 1, columns));
     }
-    SparseRow::new(alloc, terms.as_slice())
+    Ok(SparseRow::of(terms))
 }

@@ -1,6 +1,6 @@
 use Rattle.std.proofs.Common.{◌≡◌, subst, sym, ◌∙◌, arith}
-use Rattle.cone_arithmetic.specs.Sparse.{IsSparse}
-use Rattle.matching_equations.proofs.Terms.{equation_of, first_terms, terms_on, made_row, row_is_sparse, kept_in_range}
+use Rattle.cone_arithmetic.specs.Sparse.{IsSparse, IsInRange}
+use Rattle.matching_equations.proofs.Terms.{equation_of, first_terms, terms_on, made_row, row_is_sparse, row_in_range}
 use Rattle.matching_equations.proofs.equation.row_of.Goals as goal
 
 pub loop-column-init : goal.loop-column-init
@@ -18,13 +18,18 @@ loop-column-preserved c = record {
       c.next_column-in-loop-column.ensures.none_before c.next_column-column-in-loop-column.ensures.none_before;
 }
 
-pub new-requires : goal.new-requires
-new-requires c =
+pub of-requires : goal.of-requires
+of-requires c =
     let whole : c.loop-column.column ≡ c.args.columns = omega arith in
-    subst IsSparse (sym (made_row c.args.sides.left.now c.args.sides.right.now c.loop-column.column c.args.columns whole (c.as_slice.ensures ∙ c.loop-column.invariant.terms)))
+    subst IsSparse (sym (made_row c.args.sides.left.now c.args.sides.right.now c.loop-column.column c.args.columns whole c.loop-column.invariant.terms))
     (row_is_sparse (equation_of c.args.sides.left.now c.args.sides.right.now) c.args.columns c.args.sides.left_bounded c.args.sides.right_bounded)
+
+pub returns-clause-value : goal.returns-clause-value
+returns-clause-value c =
+    let whole : c.loop-column.column ≡ c.args.columns = omega arith in
+    c.of.ensures ∙ made_row c.args.sides.left.now c.args.sides.right.now c.loop-column.column c.args.columns whole c.loop-column.invariant.terms
 
 pub returns-clause-in_range : goal.returns-clause-in_range
 returns-clause-in_range c =
-    let whole : c.loop-column.column ≡ c.args.columns = omega arith in
-    kept_in_range c.args.sides.left.now c.args.sides.right.now c.args.columns c.as_slice.result.now c.new.result c.new.ensures.keeps (made_row c.args.sides.left.now c.args.sides.right.now c.loop-column.column c.args.columns whole (c.as_slice.ensures ∙ c.loop-column.invariant.terms)) c.args.sides.left_bounded c.args.sides.right_bounded
+    subst (IsInRange c.args.columns) (sym (returns-clause-value c))
+    (row_in_range (equation_of c.args.sides.left.now c.args.sides.right.now) c.args.columns c.args.sides.left_bounded c.args.sides.right_bounded)
