@@ -1,14 +1,17 @@
 -- One more row, and one column eliminated.
-use Rattle.std.proofs.Common.{◌≡◌, ℕ, inl, inr, List, [], ◌∷◌, ◌++◌, length, get_or, take, sym, ap, ap₂, ◌∙◌, subst, arith, ◌<◌, ◌+◌, append-nil, slice_set, zero, suc, ℤ, Contains}
-use Rattle.std.specs.Prelude.{◌↔◌}
-use Rattle.std.specs.List.{All, remove}
+use Rattle.std.proofs.Common.{◌≡◌, ℕ, inl, inr, List, [], ◌∷◌, ◌++◌, length, get_or, take, refl, sym, ap, ap₂, ◌∙◌, subst, arith, ◌<◌, ◌+◌, append-nil, slice_set, zero, suc, ℤ, Contains}
+use Rattle.std.specs.Prelude.{◌↔◌, Result, Ok, Err, IfOk}
+use Rattle.std.specs.List.{All, remove, slice_index_or}
 use Rattle.std.proofs.lemmas.List.Elements.{All-cons, All-head, All-tail, All-push, All-nil, All-append, All-set, All-get_or, All-weaker, All-contains, All-contains_itself, Contains-append_left}
 use Rattle.std.proofs.lemmas.List.{take_more, length-set}
 use Rattle.cone_definitions.specs.Rows.{Row, IsZeroAt}
+use Rattle.cone_arithmetic.specs.Sparse.{IsSparse, IsInRange}
 use Rattle.cone_row_laws.specs.Solutions.{HaveSameZeros}
+use Rattle.cone_row_laws.specs.Operations.{IsSumWith}
 use Rattle.std.specs.List.Sorted.{IsPermutation}
 use Rattle.std.proofs.lemmas.List.Sorted.{All-permutation, IsPermutation-remove, IsPermutation-sym}
 use Rattle.row_reduction.specs.Clearing.{AreClearedBy, AddsRow, AddsMultipleAt}
+use Rattle.row_reduction.specs.declared.fault.SolveFault.{SolveFault}
 use Rattle.cone_row_laws.proofs.Sums.{sum_zero_alike}
 
 pub all_split : {X : Type 0} (P : X → Type 0) (front back : List X) → All P (front ++ back) → All P front × All P back
@@ -85,6 +88,12 @@ cleared_at columns pivot start rows i factor new h adds same x p = rw adds.repla
 
     alike : IsZeroAt (get_or rows i []) x ↔ IsZeroAt adds.sum x
     alike = sum_zero_alike (get_or rows i []) factor pivot adds.sum adds.is_sum x p
+
+-- the sum replaces row i
+pub sum_replaces : (columns : ℕ) (rows : List Row) (i : ℕ) (factor : ℤ) (other : Row) (result : Result Row SolveFault) → IfOk result (IsSumWith (slice_index_or rows i []) factor other) → IfOk result (IsInRange columns) → IfOk result IsSparse
+    → IfOk result (λ sum. AddsMultipleAt columns rows i factor other (slice_set rows i sum))
+sum_replaces columns rows i factor other (Ok sum) is_sum in_range is_sparse = record { sum = sum; is_sum = is_sum; in_range = in_range; is_sparse = is_sparse; replaced = refl }
+sum_replaces columns rows i factor other (Err fault) is_sum in_range is_sparse = tt
 
 pub count_at : (columns : ℕ) (rows : List Row) (i : ℕ) (factor : ℤ) (other : Row) (new : List Row) → AddsMultipleAt columns rows i factor other new → length new ≡ length rows
 count_at columns rows i factor other new adds = ap length adds.replaced ∙ length-set rows i adds.sum

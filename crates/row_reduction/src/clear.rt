@@ -1,6 +1,6 @@
 //! Clears a column from rows by a pivot row.
 
-ghost use Rattle.std.specs.Prelude.{◌≡◌, ◌≤◌, ◌≢◌, ◌⊎◌, [], pos, negsuc, Contains, ◌<◌, length, slice_index_or, IfOk, OnOk, IfErr, IfSome, IsNone, unsigned_abs};
+ghost use Rattle.std.specs.Prelude.{◌≡◌, ◌≤◌, ◌≢◌, ◌⊎◌, [], pos, negsuc, Contains, ◌<◌, length, slice_index_or, slice_set, IfOk, OnOk, IfErr, IfSome, IsNone, unsigned_abs};
 ghost use Rattle.cone_arithmetic.specs.Sparse.{IsInRange};
 ghost use Rattle.row_reduction.specs.Merging.{IsCoefficientSum};
 ghost use Rattle.row_reduction.specs.Clearing.{AreClearedBy, AddsMultipleAt, IsUnitAt};
@@ -90,8 +90,32 @@ impl Pivot {
     }
 }
 
+/// The sum of row `i` of `list` and `factor` times `other`. Fails with `Passed` if a coefficient exceeds 1,000,000.
+pub(crate) fn sum_at(
+    alloc: Global,
+    list: &RowList,
+    i: usize,
+    factor: i32,
+    other: &SparseRow,
+) -> Result<SparseRow, SolveFault>
+    requires place { i < length list.now.rows.items }
+    requires other_in_range { IsInRange list.now.columns other.now }
+    ensures adds { IfOk result (λ sum. AddsMultipleAt list.now.columns list.now.rows.items i factor other.now
+        (slice_set list.now.rows.items i sum)) }
+    ensures in_range { IfOk result (IsInRange list.now.columns) }
+    ensures passed { IfErr result (IfPassed
+        (PassesAtColumn (slice_index_or list.now.rows.items i []) factor other.now)) }
+{
+    let pair = RowPair {
+        columns: list.columns,
+        row: list.rows[i].entries(),
+        other: other.entries(),
+    };
+    add_multiple(alloc, &pair, factor)
+}
+
 /// Adds `factor` times `other` to row `i`. Fails with `Passed` if a coefficient of the sum exceeds 1,000,000.
-pub(crate) fn add_at(
+fn add_at(
     alloc: Global,
     list: &mut RowList,
     i: usize,
@@ -106,12 +130,7 @@ pub(crate) fn add_at(
     ensures passed { IfErr result (IfPassed
         (PassesAtColumn (slice_index_or list.old.rows.items i []) factor other.now)) }
 {
-    let pair = RowPair {
-        columns: list.columns,
-        row: list.rows[i].entries(),
-        other: other.entries(),
-    };
-    let sum = add_multiple(alloc, &pair, factor)?;
+    let sum = sum_at(alloc, list, i, factor, other)?;
     list.rows[i] = sum;
     Ok(())
 }

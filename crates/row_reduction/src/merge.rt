@@ -8,6 +8,7 @@ ghost use Rattle.row_reduction.specs.Passing.{PassesSum, PassesAtColumn, IfPasse
 
 use crate::fault::SolveFault;
 use cone_arithmetic::{MAX_COEFFICIENT, SparseRow};
+use smallvec::SmallVec;
 use std::alloc::Global;
 
 /// The terms of two rows. Invariant: in each, the columns ascend strictly and are below `columns`, and no coefficient
@@ -80,7 +81,7 @@ fn sum_with_product(number: i32, factor: i32, other: i32) -> Option<i32>
 /// Appends the term `number + factor * other` at `column`, unless it is 0. Fails with `Passed` if its absolute value
 /// exceeds 1,000,000.
 fn push_sum(
-    terms: &mut Vec<(u32, i32)>,
+    terms: &mut SmallVec<(u32, i32), 8>,
     column: u32,
     number: i32,
     factor: i32,
@@ -102,14 +103,17 @@ fn push_sum(
 }
 
 /// The terms of `row + factor * other`, by ascending column. Fails with `Passed` if a coefficient exceeds 1,000,000.
-fn merge_rows(alloc: Global, pair: &RowPair<'_>, factor: i32) -> Result<Vec<(u32, i32)>, SolveFault>
+fn merge_rows(
+    alloc: Global,
+    pair: &RowPair<'_>,
+    factor: i32,
+) -> Result<SmallVec<(u32, i32), 8>, SolveFault>
     ensures sum { IfOk result (λ terms. IsSumWith pair.now.row.now factor pair.now.other.now terms.items) }
     ensures sparse { IfOk result (λ terms. IsSparse terms.items) }
     ensures in_range { IfOk result (λ terms. IsInRange pair.now.columns terms.items) }
     ensures passed { IfErr result (IfPassed (PassesAtColumn pair.now.row.now factor pair.now.other.now)) }
 {
-    let most = pair.row.len().saturating_add(pair.other.len());
-    let mut terms = Vec::with_capacity(alloc, most)?;
+    let mut terms = SmallVec::new(alloc);
     let mut i = 0;
     let mut j = 0;
     while i < pair.row.len() || j < pair.other.len() {
@@ -135,5 +139,5 @@ pub(crate) fn add_multiple(
     ensures passed { IfErr result (IfPassed (PassesAtColumn pair.now.row.now factor pair.now.other.now)) }
 {
     let terms = merge_rows(alloc, pair, factor)?;
-    Ok(SparseRow::new(alloc, &terms)?)
+    Ok(SparseRow::of(terms))
 }

@@ -1,7 +1,8 @@
 //! A greedy order of rows: each next row has columns in the fewest blocks that no earlier row names.
 
-ghost use Rattle.std.specs.Prelude.{◌≡◌, ◌<◌, IfOk, length};
+ghost use Rattle.std.specs.Prelude.{◌≡◌, ◌<◌, ◌++◌, Some, IfOk, OnOk, length, map};
 ghost use Rattle.std.specs.List.Sorted.{IsPermutation};
+ghost use Rattle.row_reduction.specs.RowsLeft.{rows_left};
 
 use crate::rows::RowList;
 use cone_arithmetic::SparseRow;
@@ -35,10 +36,10 @@ struct OrderState {
     cost: u64,
 }
 
-/// An order of rows and its cost. Each row is given by its position among those left when it is taken.
+/// An order of rows, each given by its index, and its cost.
 #[derive(Drop)]
 struct RowOrder {
-    positions: Vec<usize>,
+    places: Vec<usize>,
     cost: u64,
 }
 
@@ -136,18 +137,19 @@ fn order_from(
     cost: u64,
 ) -> Result<Option<RowOrder>, NoMemory> {
     let mut left: Vec<usize> = (0..rows.len()).collect(alloc)?;
-    let mut positions = Vec::with_capacity(alloc, left.len())?;
+    let mut places = Vec::with_capacity(alloc, left.len())?;
     let mut walk = OrderState { seen: 0, cost: 0 };
     while !left.is_empty() {
         let position = next_position(walk.seen, rows, &left, start);
-        positions.push(position)?;
-        walk = step(walk, rows, left.remove(position));
+        let place = left.remove(position);
+        places.push(place)?;
+        walk = step(walk, rows, place);
         if walk.cost >= cost {
             return Ok(None);
         }
     }
     Ok(Some(RowOrder {
-        positions,
+        places,
         cost: walk.cost,
     }))
 }
@@ -160,7 +162,7 @@ fn start_count(rows: usize) -> usize {
 /// The order that leaves all rows in place, with a cost that any other order beats.
 fn unchanged_order(alloc: Global) -> RowOrder {
     RowOrder {
-        positions: Vec::new(alloc),
+        places: Vec::new(alloc),
         cost: u64::MAX,
     }
 }
@@ -177,23 +179,59 @@ fn cheapest(alloc: Global, rows: &[RowBlocks]) -> Result<RowOrder, NoMemory> {
     Ok(best)
 }
 
-/// Takes the rows in the order that `positions` gives, each by its position among those left. Rows without a position
-/// come last.
-fn rows_in_turn(
-    alloc: Global,
-    mut rows: Vec<SparseRow>,
-    positions: &[usize],
-) -> Result<Vec<SparseRow>, NoMemory>
-    ensures { IfOk result (λ ordered. IsPermutation rows.items ordered.items) }
+/// The `rows`, each in a slot from which it can be taken.
+fn slots_of(alloc: Global, rows: Vec<SparseRow>) -> Result<Vec<Option<SparseRow>>, NoMemory>
+    ensures { IfOk result (λ slots. slots.items ≡ map (λ row. Some row) rows.items) }
 {
-    let mut ordered = Vec::with_capacity(alloc, rows.len())?;
-    for position in positions {
-        if *position < rows.len() {
-            let row = rows.remove(*position);
+    let slots = rows.into_iter().map(Some).collect(alloc)?;
+    Ok(slots)
+}
+
+/// Moves the row with index `place` from `left` to the end of `ordered`, if it is still there.
+fn take_row(
+    ordered: &mut Vec<SparseRow>,
+    left: &mut [Option<SparseRow>],
+    place: usize,
+) -> Result<(), NoMemory>
+    ensures size { length left.new ≡ length left.old }
+    ensures permutation { OnOk result (IsPermutation (ordered.old.items ++ rows_left left.old)
+        (ordered.new.items ++ rows_left left.new)) }
+{
+    if place >= left.len() {
+        return Ok(());
+    }
+    if let Some(row) = left[place].take() {
+        ordered.push(row)?;
+    }
+    Ok(())
+}
+
+/// Appends to `ordered` the rows that are `left`.
+fn append_left(ordered: &mut Vec<SparseRow>, left: Vec<Option<SparseRow>>) -> Result<(), NoMemory>
+    ensures { OnOk result (ordered.new.items ≡ ordered.old.items ++ rows_left left.items) }
+{
+    for slot in left {
+        if let Some(row) = slot {
             ordered.push(row)?;
         }
     }
-    ordered.append(&mut rows)?;
+    Ok(())
+}
+
+/// The `rows` in the order of `places`, by their indices. Rows that `places` does not name come last.
+fn rows_in_turn(
+    alloc: Global,
+    rows: Vec<SparseRow>,
+    places: &[usize],
+) -> Result<Vec<SparseRow>, NoMemory>
+    ensures { IfOk result (λ ordered. IsPermutation rows.items ordered.items) }
+{
+    let mut left = slots_of(alloc, rows)?;
+    let mut ordered = Vec::with_capacity(alloc, left.len())?;
+    for place in places {
+        take_row(&mut ordered, &mut left, *place)?;
+    }
+    append_left(&mut ordered, left)?;
     Ok(ordered)
 }
 
@@ -210,6 +248,6 @@ pub(crate) fn in_cheapest_order(
     let all = blocks_of_all(alloc, each, &list.rows)?;
     let order = cheapest(alloc, &all)?;
     let RowList { columns, rows } = list;
-    let rows = rows_in_turn(alloc, rows, &order.positions)?;
+    let rows = rows_in_turn(alloc, rows, &order.places)?;
     Ok(RowList { columns, rows })
 }

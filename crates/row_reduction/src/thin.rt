@@ -6,7 +6,7 @@ ghost use Rattle.row_reduction.specs.Merging.{IsCoefficientSum};
 ghost use Rattle.row_reduction.specs.Eliminating.{CancelsTerm, is_shared, is_cancelled, Thins, AreThinned};
 ghost use Rattle.row_reduction.specs.Passing.{PassesThinned, IfPassed};
 
-use crate::clear::{add_at, copy};
+use crate::clear::sum_at;
 use crate::fault::SolveFault;
 use crate::rows::RowList;
 use std::alloc::Global;
@@ -131,11 +131,11 @@ impl Thinning {
         ensures thinned { OnOk result (AreThinned self.old.list.rows.items self.new.list.rows.items) }
         ensures passed { IfErr result (IfPassed (PassesThinned self.old.list.rows.items)) }
     {
-        let rows = &self.list.rows;
-        match thinning_factor(rows[i].entries(), rows[j].entries()) {
+        let list = &mut self.list;
+        match thinning_factor(list.rows[i].entries(), list.rows[j].entries()) {
             Some(factor) => {
-                let other = copy(alloc, &rows[j])?;
-                add_at(alloc, &mut self.list, i, factor, &other)?;
+                let sum = sum_at(alloc, list, i, factor, &list.rows[j])?;
+                list.rows[i] = sum;
                 note(&mut self.passes, i, self.pass);
                 Ok(true)
             }

@@ -44,7 +44,7 @@ pub loop-i-init : goal.loop-i-init
 loop-i-init c = record {
   within = omega arith;
   other_within = omega arith;
-  merged = merged_none _ _ _ _ _ c.in_ok-terms.ensures.items;
+  merged = merged_none _ _ _ _ _ c.new-terms.ensures.items;
   row_before = λ k less. absurd (omega arith);
   other_before = λ k less. absurd (omega arith);
 }
@@ -66,7 +66,7 @@ returns-in_err-push_sum-clause-passed c =
     let g : FitsSigned w32 c.take_at-two.result.coefficient = search rules in
     let h = c.ranges.factor in
     let small = bounded_at _ _ _ _ _ c.args.pair.now.sparse c.take_at-one.ensures in
-    let p = err_from_is_err_and c.from_residual-in_err-push_sum.result c.from_residual-in_err-push_sum.ensures.1 in
+    let p = err_from_is_err_and c.from_residual.result c.from_residual.ensures.1 in
     rw (p.1, p.2) (fault_in_merge _ _ _ _ _ _ _ _ _ _ c.take_at-one.ensures c.take_at-two.ensures c.least_column-column.ensures c.args.pair.now.sparse c.args.pair.now.other_sparse c.args.pair.now.in_range
     c.args.pair.now.other_in_range c.loop-i.invariant.within c.loop-i.invariant.other_within c.loop-i.invariant.row_before c.loop-i.invariant.other_before c.args.factor _
     ((simp to_z-of_z at c.in_err-push_sum.ensures.passed) small))

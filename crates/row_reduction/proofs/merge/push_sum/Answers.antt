@@ -22,7 +22,7 @@ returns-in_ok-push-in-Some-clause-appends c =
       sum = c.in-Some.sum;
       is_sum = s;
       appended = inr (
-        c.in_ok-push-in-Some.ensures.items ∙ ap (λ z. c.args.terms.now.items ++ (c.args.column, z) ∷ []) back,
+        c.in_ok-push-in-Some.ensures.ok ∙ ap (λ z. c.args.terms.now.items ++ (c.args.column, z) ∷ []) back,
         some_magnitude c.in-Some.sum c.if-sum-ne0.true,
         (let v = c.unsigned_abs.ensures.value ∙ ap unsigned_abs back in let b = c.if-unsigned_abs-le-MAX_COEFFICIENT.true in omega (arith, v, b)),
       );
