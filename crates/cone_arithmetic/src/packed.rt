@@ -2,7 +2,7 @@
 //! speed. Nearly all entries are below 256. A ray stores 8 bits for each entry if all fit, and otherwise 64 bits if all
 //! fit there; a combination that has to be computed in 128 bits keeps these.
 
-ghost use Rattle.std.specs.Prelude.{◌≡◌, ◌<◌, ◌≤◌, ◌↔◌, length, IfOk, OnOk, IsErr, slice_index, slice_set};
+ghost use Rattle.std.specs.Prelude.{◌≡◌, ◌<◌, ◌≤◌, ◌↔◌, length, IfOk, IfSome, OnOk, IsErr, slice_index, slice_set};
 ghost use Rattle.std.specs.Ordering.{nat_cmp};
 ghost use Rattle.std.specs.Cmp.Lexicographic.{slice_cmp};
 ghost use Rattle.cone_definitions.specs.Vectors.{unit};
@@ -10,7 +10,7 @@ ghost use Rattle.cone_definitions.specs.Elimination.{HasLargePart, HasPartsWithi
 ghost use Rattle.cone_arithmetic.specs.RayEntries.{IsReduced, numbers_of};
 ghost use Rattle.cone_arithmetic.specs.Sparse.{IsInRange, ArePartsAt};
 
-use crate::entries::{Entries, count, entry, into_wide, wide_entries, with_entry};
+use crate::entries::{Entries, byte_entries, count, entry, into_wide, wide_entries, with_entry};
 use crate::numbers::{MAX_ENTRY, Passed, PlusMinus, byte_parts, parts, small_parts};
 use crate::ray::Ray;
 use crate::row::SparseRow;
@@ -60,13 +60,11 @@ impl PackedRay {
         count(&self.entries)
     }
 
-    /// The entry in `column`.
-    pub fn entry(&self, column: usize) -> u128
-        requires { column < length self.now }
-        ensures entry { result ≡ slice_index self.now column }
-        ensures reduced { IsReduced MAX_ENTRY self.now }
+    /// The entries as they are stored, if they have 8 bits each.
+    pub fn bytes(&self) -> Option<&[u8]>
+        ensures { IfSome result (λ bytes. bytes.now ≡ self.now) }
     {
-        entry(&self.entries, column)
+        byte_entries(&self.entries)
     }
 
     /// The positive and the negative part of `row` at the ray. Fails with `Passed` if and only if one of them exceeds

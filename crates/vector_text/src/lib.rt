@@ -2,5 +2,6 @@
 #![tactic(auto)]
 
 mod text;
+mod view;
 
 pub use text::{write_entries, write_list, write_packed_list, write_vector};

@@ -1,9 +1,11 @@
 //! Vectors as text: a line for each, `vec` and its entries.
 
-ghost use Rattle.std.specs.Prelude.{◌≡◌, ◌<◌, ◌≤◌, ◌+◌, [], ◌∷◌, ◌++◌, decimal, drop, length, OnOk, OnErr, IfOk};
+ghost use Rattle.std.specs.Prelude.{◌≡◌, ◌<◌, ◌≤◌, ◌+◌, [], ◌∷◌, ◌++◌, decimal, length, OnOk, OnErr, IfOk};
 ghost use Rattle.cone_text_definitions.specs.VectorText.{vector_text, entries_text, list_text};
 ghost use Rattle.vector_text.specs.Four.{four_from};
+ghost use Rattle.vector_text.specs.ViewEntries.{view_numbers};
 
+use crate::view::EntryView;
 use cone_arithmetic::{PackedRay, Ray};
 use out_of_memory::NoMemory;
 use std::alloc::Global;
@@ -19,16 +21,6 @@ fn push_entry(alloc: Global, text: &mut Vec<u8>, entry: u128) -> Result<(), NoMe
         append(text, b" ")?;
         append_decimal(alloc, text, entry)
     }
-}
-
-/// Appends the entries of `x` one by one, each after a space.
-fn push_each(alloc: Global, text: &mut Vec<u8>, x: &[u128]) -> Result<(), NoMemory>
-    ensures { OnOk result (text.new.items ≡ text.old.items ++ entries_text x.now) }
-{
-    for entry in x {
-        push_entry(alloc, text, *entry)?;
-    }
-    Ok(())
 }
 
 /// Appends the digits `a`, `b`, `c` and `d`, each after a space.
@@ -53,14 +45,19 @@ fn push_digits(text: &mut Vec<u8>, a: u8, b: u8, c: u8, d: u8) -> Result<(), NoM
 
 /// Appends the four entries of `x` from `column` on, each after a space; with one call if all have one digit, as most
 /// do.
-fn push_four(alloc: Global, text: &mut Vec<u8>, x: &[u128], column: usize) -> Result<(), NoMemory>
-    requires { column + 4 ≤ length x.now }
-    ensures { OnOk result (text.new.items ≡ text.old.items ++ entries_text (four_from x.now column)) }
+fn push_four(
+    alloc: Global,
+    text: &mut Vec<u8>,
+    x: EntryView<'_>,
+    column: usize,
+) -> Result<(), NoMemory>
+    requires { column + 4 ≤ length (view_numbers x) }
+    ensures { OnOk result (text.new.items ≡ text.old.items ++ entries_text (four_from (view_numbers x.entry) column)) }
 {
-    let a = x[column];
-    let b = x[column + 1];
-    let c = x[column + 2];
-    let d = x[column + 3];
+    let a = x.at(column);
+    let b = x.at(column + 1);
+    let c = x.at(column + 2);
+    let d = x.at(column + 3);
     if a < 10 && b < 10 && c < 10 && d < 10 {
         return push_digits(text, a as u8, b as u8, c as u8, d as u8);
     }
@@ -71,15 +68,20 @@ fn push_four(alloc: Global, text: &mut Vec<u8>, x: &[u128], column: usize) -> Re
 }
 
 /// Appends the entries of `x`, each after a space.
-fn push_entries(alloc: Global, text: &mut Vec<u8>, x: &[u128]) -> Result<(), NoMemory>
-    ensures { OnOk result (text.new.items ≡ text.old.items ++ entries_text x.now) }
+fn push_entries(alloc: Global, text: &mut Vec<u8>, x: EntryView<'_>) -> Result<(), NoMemory>
+    ensures { OnOk result (text.new.items ≡ text.old.items ++ entries_text (view_numbers x.entry)) }
 {
     let mut column = 0;
-    while x.len() - column >= 4 {
-        push_four(alloc, text, x, column)?;
-        column += 4;
+    while column < x.len() {
+        if x.len() - column >= 4 {
+            push_four(alloc, text, x, column)?;
+            column += 4;
+        } else {
+            push_entry(alloc, text, x.at(column))?;
+            column += 1;
+        }
     }
-    push_each(alloc, text, &x[column..])
+    Ok(())
 }
 
 /// Appends the entries of `ray`, each after a space. If memory runs out `out` is unchanged.
@@ -88,13 +90,13 @@ pub fn write_entries(alloc: Global, ray: &Ray, out: &mut Vec<u8>) -> Result<(), 
     ensures err { OnErr result (out.new.items ≡ out.old.items) }
 {
     let mut text = Vec::new(alloc);
-    push_entries(alloc, &mut text, ray.entries())?;
+    push_entries(alloc, &mut text, EntryView::Wide(ray.entries()))?;
     append(out, &text)
 }
 
 /// Appends the line of the vector `x`.
-fn push_line(alloc: Global, text: &mut Vec<u8>, x: &[u128]) -> Result<(), NoMemory>
-    ensures { OnOk result (text.new.items ≡ text.old.items ++ vector_text x.now) }
+fn push_line(alloc: Global, text: &mut Vec<u8>, x: EntryView<'_>) -> Result<(), NoMemory>
+    ensures { OnOk result (text.new.items ≡ text.old.items ++ vector_text (view_numbers x.entry)) }
 {
     append(text, b"vec")?;
     push_entries(alloc, text, x)?;
@@ -108,7 +110,7 @@ pub fn write_vector(alloc: Global, x: &[u128], out: &mut Vec<u8>) -> Result<(), 
     ensures err { OnErr result (out.new.items ≡ out.old.items) }
 {
     let mut text = Vec::new(alloc);
-    push_line(alloc, &mut text, x)?;
+    push_line(alloc, &mut text, EntryView::Wide(x))?;
     append(out, &text)
 }
 
@@ -119,17 +121,20 @@ pub fn write_list(alloc: Global, list: &[Ray], out: &mut Vec<u8>) -> Result<(), 
 {
     let mut text = Vec::new(alloc);
     for ray in list {
-        push_line(alloc, &mut text, ray.entries())?;
+        push_line(alloc, &mut text, EntryView::Wide(ray.entries()))?;
     }
     append(out, &text)
 }
 
-/// Appends the line of the packed ray `packed`.
+/// Appends the line of the packed ray `packed`. Entries of 8 bits each are not copied.
 fn push_packed(alloc: Global, text: &mut Vec<u8>, packed: &PackedRay) -> Result<(), NoMemory>
     ensures { OnOk result (text.new.items ≡ text.old.items ++ vector_text packed.now) }
 {
+    if let Some(bytes) = packed.bytes() {
+        return push_line(alloc, text, EntryView::Bytes(bytes));
+    }
     let ray = packed.to_ray(alloc)?;
-    push_line(alloc, text, ray.entries())
+    push_line(alloc, text, EntryView::Wide(ray.entries()))
 }
 
 /// A lower bound on the number of bytes of the lines of `list`.
@@ -149,7 +154,7 @@ fn lines_after(alloc: Global, front: &[u8], list: &[PackedRay]) -> Result<Vec<u8
 {
     let mut text = Vec::with_capacity(alloc, least_bytes(list).saturating_add(front.len()))?;
     append(&mut text, front)?;
-    // a list of packed rays is large, so one ray at a time is converted
+    // a list of packed rays is large, so at most one ray at a time is copied
     for packed in list {
         push_packed(alloc, &mut text, packed)?;
     }
