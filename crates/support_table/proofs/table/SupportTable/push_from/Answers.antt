@@ -13,6 +13,7 @@ invariant_of-self-2 c =
     rw c.in_ok-extend_from_slice.ensures.items record {
       spelled = table_push _ _ _ _ _ _ c.self.invariant.spelled c.words_at.ensures.words wide;
       common = blocks_push _ _ _ _ _ _ c.self.invariant.common c.self.invariant.spelled.total;
+      grouped = c.self.invariant.grouped;
     }
 
 pub returns-clause-pushed : goal.returns-clause-pushed
