@@ -56,7 +56,7 @@ report('100,000 steps', [status_of(['play'], `sig bkaagj\n${'14 0\nundo\n'.repea
 
 const full = new Session();
 let taken = 0;
-for (const mebibytes of [1024, 1024, 1024, 512, 256]) if (full.area(mebibytes * MIB)) taken += mebibytes;
+for (const mebibytes of [1024, 1024, 1024, 512, 256, 128, 64]) if (full.area(mebibytes * MIB)) taken += mebibytes;
 report('surfaces of 24 with a full memory', [full.ask('surfaces', OF_24)]);
 console.log(JSON.stringify({trial: 'held', taken, bytes: full.exports.memory.buffer.byteLength}));
 report('an area of 4 GiB', [full.area(2 ** 32), full.area(2 ** 47)]);
