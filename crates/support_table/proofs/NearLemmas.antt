@@ -10,13 +10,15 @@ use Rattle.std.proofs.lemmas.List.Quantifiers.{all_pairs_push}
 use Rattle.std.proofs.lemmas.Nat.Bits.{bit_at-lt, bit_at_and, bit_at_ones, bit_at_ones_above}
 use Rattle.std.proofs.lemmas.Option.{none-some}
 use Rattle.support_bits.specs.Columns.{HasColumn}
-use Rattle.support_bits.specs.Words.{AreWordsOf}
+use Rattle.support_bits.specs.Words.{AreWordsOf, HaveCommon}
 use Rattle.support_table.specs.declared.near.Near.{Near}
 use Rattle.support_table.specs.declared.outer.Outer.{Outer}
 use Rattle.support_table.specs.Masks.{IsBitSet, IsOutsideAdded, IsMarkOf}
 use Rattle.support_table.specs.Outside.{HaveTwo}
-use Rattle.support_table.specs.Near.{chosen_at, AreClashMasks, AreLackMasks, IsNearBy, AreNearBy, AreNearRays}
+use Rattle.support_table.specs.Near.{chosen_at, AreClashMasks, AreFullColumns, AreLackMasks, IsNearBy, AreNearBy, AreNearRays}
 use Rattle.support_table.specs.Residuals.{support_at}
+use Rattle.support_table.specs.Parts.{AreCommonColumns}
+use Rattle.support_table.proofs.BitLemmas.{common_marks}
 use Rattle.support_table.proofs.MaskLemmas.{masks_none}
 
 -- ---- the lowest bits
@@ -73,6 +75,11 @@ module _ (clashing lacking : List ℕ) (supports : List (List Bool)) (count : �
   pub near_if_some : (place : ℕ) (it : Near) → it.place ≡ place → IsMarkOf clashing (support_at supports place) it.clash → HaveTwo lacking (support_at supports place) it.two → IsNearBy clashing lacking supports count place (Some it)
   near_if_some place it is mark two = record { none = λ none. absurd (none-some it (sym none)); some = (is, mark, two) }
 
+  -- Theorem: a ray that contains a column whose mask has all bits set has all bits of its mark set
+  pub near_if_common : (place : ℕ) (words common : List ℕ) → AreWordsOf (support_at supports place) words → AreFullColumns clashing count common → HaveCommon words common → IsNearBy clashing lacking supports count place None
+  near_if_common place words common of full has = let t = (common_marks (support_at supports place) words common of).0 has in
+      near_if_all place (λ b less _. (t.0, t.1, full t.0 b t.2 less))
+
   pub near_none : AreNearBy clashing lacking supports count 0 []
   near_none = record {
     below = λ k d within. absurd (omega arith);
@@ -119,6 +126,10 @@ pub table_for : {T : Type 0} (P : List ℕ → ℕ → List T → Type 0) (masks
     P masks (8 * ((columns + 63) / 64)) slice
 table_for P masks read table slice columns read_is slice_is count h =
     subst (P masks (8 * ((columns + 63) / 64))) (sym slice_is) (subst (λ n. P masks (8 * ((n + 63) / 64)) table) count (subst (λ ms. P ms (8 * ((length ms + 63) / 64)) table) read_is h))
+
+-- a column with which all outer rays clash has all of their bits set in its mask
+pub common_full : (outers : List Outer) (chosen clashing words : List ℕ) (columns : ℕ) → AreClashMasks outers chosen columns (length chosen) clashing → AreCommonColumns outers chosen columns words → AreFullColumns clashing (length chosen) words
+common_full outers chosen clashing words columns c common column b is less = (c.each column b).1 (less, common.each b 0 less column is)
 
 -- Theorem: a ray clashes with an outer ray if and only if one of its columns does
 pub near_rays_of : (outers : List Outer) (chosen clashing lacking : List ℕ) (columns : ℕ) (supports : List (List Bool)) (near : List Near) → length chosen ≤ 64 →

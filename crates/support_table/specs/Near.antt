@@ -1,8 +1,9 @@
 -- The rays of a part that do not clash with all outer rays of a chunk.
-use Rattle.std.specs.Prelude.{◌≡◌, ℕ, ◌<◌, ◌↔◌, List, Bool, Option, length, Contains, slice_index, IfSome, None}
+use Rattle.std.specs.Prelude.{◌≡◌, ℕ, ◌<◌, ◌↔◌, List, Bool, true, Option, length, Contains, slice_index, IfSome, None}
 use Rattle.std.specs.Int.{bit_at}
 use Rattle.std.specs.List.{All, AllPairs}
 use Rattle.support_bits.specs.Columns.{HasColumn, Meets}
+use Rattle.support_bits.specs.Words.{bit_of}
 use Rattle.support_table.specs.declared.near.Near.{Near}
 use Rattle.support_table.specs.declared.outer.Outer.{Outer}
 use Rattle.support_table.specs.Masks.{IsBitSet, IsMarkOf, AreMasksBelow}
@@ -22,6 +23,10 @@ AreClashMasks outers chosen columns n masks = AreMasksBelow (λ b. (chosen_at ou
 pub record AreLackMasks (outers : List Outer) (chosen : List ℕ) (columns n : ℕ) (masks : List ℕ) : Type 0 where
   pub count : length masks ≡ columns
   pub each : (column b : ℕ) → IsBitSet masks column b → (b < n) × (¬ HasColumn (chosen_at outers chosen b).support column)
+
+-- each column whose bit is set in the words has all of the first count bits set in its mask
+abbrev pub AreFullColumns : List ℕ → ℕ → List ℕ → Type 0
+AreFullColumns masks count words = (column b : ℕ) → bit_of words column ≡ true → b < count → IsBitSet masks column b
 
 -- the entry of the ray with index place, or none if all of the first count bits of its mark are set
 pub record IsNearBy (clashing lacking : List ℕ) (supports : List (List Bool)) (count place : ℕ) (it : Option Near) : Type 0 where

@@ -2,16 +2,18 @@
 
 ghost use Rattle.std.specs.Prelude.{◌≡◌, ℕ, ◌+◌, ◌*◌, ◌/◌, ◌<◌, ◌≤◌, ◌^◌, ◌↔◌, List, Bool, length, IfOk, IfSome, IsNone};
 ghost use Rattle.std.specs.Int.{bit_at};
-ghost use Rattle.support_table.specs.Near.{AreClashMasks, AreLackMasks, AreNearBy, AreNearRays, IsNearBy};
+ghost use Rattle.support_table.specs.Near.{AreClashMasks, AreFullColumns, AreLackMasks, AreNearBy, AreNearRays, IsNearBy};
 ghost use Rattle.support_table.specs.Masks.{AreByteMasks};
 ghost use Rattle.support_table.specs.Outside.{AreByteOutsides};
 
 use crate::chunk::Chunk;
 use crate::masks::{add_mask, byte_masks, mask_of};
 use crate::outside::{Outside, add_outside, byte_outsides, two_of};
+use crate::parts::common_columns;
 use crate::table::SupportTable;
 use out_of_memory::NoMemory;
 use std::alloc::Global;
+use support_bits::have_common;
 
 /// A ray of a part, by its index there: bit b of `clash` is set if and only if it clashes with outer ray b of a chunk,
 /// and each bit that is set in `two` is that of an outer ray that lacks two of its columns.
@@ -65,27 +67,35 @@ fn low_bits(count: usize) -> u64
     }
 }
 
-/// The tables that `byte_masks` and `byte_outsides` made of the masks of `count` outer rays, for supports of `table`.
+/// The tables that `byte_masks` and `byte_outsides` made of the masks of `count` outer rays, for supports of `table`,
+/// and the words of columns with which all of these outer rays clash.
 #[derive(Clone, Copy)]
 struct ByteTables<'a> {
     table: &'a SupportTable,
+    common: &'a [u64],
     clashing: &'a [u64],
     lacking: &'a [Outside],
     count: usize,
+    ghost common_words: { length common.now ≡ (table.now.columns + 63) / 64 },
     ghost clash_words: { length clashing.now ≡ 2048 * ((table.now.columns + 63) / 64) },
     ghost lack_words: { length lacking.now ≡ 2048 * ((table.now.columns + 63) / 64) },
 }
 
-/// The ray with index `place` of `tables.table`, or `None` if it clashes with all outer rays.
+/// The ray with index `place` of `tables.table`, or `None` if it clashes with all outer rays. A ray that contains a
+/// column of `tables.common` clashes with all of them, and none of its bytes is looked up.
 fn near_at(tables: ByteTables, place: usize) -> Option<Near>
     requires { place < length tables.table.now.supports }
     ensures { (clashing lacking : List ℕ)
         → AreByteMasks clashing (8 * ((tables.entry.table.now.columns + 63) / 64)) tables.entry.clashing.now
         → AreByteOutsides lacking (8 * ((tables.entry.table.now.columns + 63) / 64)) tables.entry.lacking.now
+        → AreFullColumns clashing tables.entry.count tables.entry.common.now
         → IsNearBy clashing lacking tables.entry.table.now.supports tables.entry.count place result }
 {
     let table = tables.table;
     let words = table.words_at(place);
+    if have_common(words, tables.common) {
+        return None;
+    }
     let clash = mask_of(tables.clashing, words);
     let low = low_bits(tables.count);
     if clash & low == low {
@@ -103,6 +113,7 @@ fn near_by(alloc: Global, tables: ByteTables) -> Result<Vec<Near>, NoMemory>
     ensures { IfOk result (λ near. (clashing lacking : List ℕ)
         → AreByteMasks clashing (8 * ((tables.entry.table.now.columns + 63) / 64)) tables.entry.clashing.now
         → AreByteOutsides lacking (8 * ((tables.entry.table.now.columns + 63) / 64)) tables.entry.lacking.now
+        → AreFullColumns clashing tables.entry.count tables.entry.common.now
         → AreNearBy clashing lacking tables.entry.table.now.supports tables.entry.count
         (length tables.entry.table.now.supports) near.items) }
 {
@@ -127,8 +138,10 @@ pub fn near_rays(alloc: Global, chunk: Chunk) -> Result<Vec<Near>, NoMemory>
     let clashing = byte_masks(alloc, &clash)?;
     let lack = lack_masks(alloc, chunk)?;
     let lacking = byte_outsides(alloc, &lack)?;
+    let common = common_columns(alloc, chunk.search, chunk.chosen)?;
     let tables = ByteTables {
         table: &part.table,
+        common: &common,
         clashing: &clashing,
         lacking: &lacking,
         count: chunk.chosen.len(),

@@ -25,7 +25,11 @@ pub struct Found {
 }
 
 /// The words of the columns that each outer ray of `chosen` clashes with.
-fn common_columns(alloc: Global, search: PartSearch, chosen: &[usize]) -> Result<Vec<u64>, NoMemory>
+pub fn common_columns(
+    alloc: Global,
+    search: PartSearch,
+    chosen: &[usize],
+) -> Result<Vec<u64>, NoMemory>
     requires { All (λ k. k < length search.outers.now) chosen.now }
     ensures { IfOk result (λ words.
         AreCommonColumns search.entry.outers.now chosen.now search.entry.rays.now.columns words.items) }

@@ -2,11 +2,17 @@ use Rattle.std.proofs.Common.{refl, subst}
 use Rattle.support_table.specs.Masks.{AreByteMasks}
 use Rattle.support_table.specs.Outside.{AreByteOutsides}
 use Rattle.support_table.specs.Residuals.{support_at}
-use Rattle.support_table.proofs.NearLemmas.{low_is_set, byte_count, near_if_all, near_if_some}
+use Rattle.support_table.proofs.NearLemmas.{low_is_set, byte_count, near_if_all, near_if_common, near_if_some}
 use Rattle.support_table.proofs.near.near_at.Goals as goal
 
+pub returns-then-have_common : goal.returns-then-have_common
+returns-then-have_common c clashing lacking _ _ full =
+    let tables = c.args.tables in
+    near_if_common clashing lacking tables.table.now.supports tables.count c.args.place c.words_at-words.result.now tables.common.now c.words_at-words.ensures.words full
+    (c.have_common.ensures.0 c.if-have_common.true)
+
 pub returns-then-clash-low : goal.returns-then-clash-low
-returns-then-clash-low c clashing lacking masks _ =
+returns-then-clash-low c clashing lacking masks _ _ =
     let tables = c.args.tables in
     let supports = tables.table.now.supports in
     let words = c.words_at-words in
@@ -16,7 +22,7 @@ returns-then-clash-low c clashing lacking masks _ =
     (λ b less fits. (mark b).0 (low_is_set c.mask_of-clash.result c.low_bits-low.result b c.if-clash-low.true ((c.low_bits-low.ensures b fits).1 less)))
 
 pub returns : goal.returns
-returns c clashing lacking masks outsides =
+returns c clashing lacking masks outsides _ =
     let tables = c.args.tables in
     let supports = tables.table.now.supports in
     let words = c.words_at-words in
