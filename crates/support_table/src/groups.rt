@@ -1,6 +1,7 @@
 //! Candidates in groups by a column of their residual, so that only the groups of a residual's own columns are tested.
 
-ghost use Rattle.std.specs.Prelude.{◌≡◌, ◌+◌, ◌<◌, ◌^◌, length, IfOk};
+ghost use Rattle.std.specs.Prelude.{◌≡◌, ◌+◌, ◌<◌, ◌^◌, length, OnOk};
+ghost use Rattle.std.specs.List.{All};
 ghost use Rattle.std.specs.List.Sorted.{IsPermutation};
 ghost use Rattle.support_table.specs.Groups.{IsColumnOutside, AreGrouped, AreRanges};
 
@@ -24,6 +25,27 @@ pub struct Ranges {
     pub ends: Vec<usize>,
 }
 
+/// Memory for the candidates of one outer ray in groups, and for the ranges of these, that is used again for the next
+/// outer ray.
+#[derive(Drop)]
+pub struct GroupMemory {
+    pub by_group: Vec<Grouped>,
+    pub ranges: Ranges,
+}
+
+impl GroupMemory {
+    /// Memory that holds nothing.
+    pub fn new(alloc: Global) -> GroupMemory {
+        GroupMemory {
+            by_group: Vec::new(alloc),
+            ranges: Ranges {
+                starts: Vec::new(alloc),
+                ends: Vec::new(alloc),
+            },
+        }
+    }
+}
+
 /// One more than the last column that is set in `words` but not in `outer`, or 0 if there is none.
 pub fn group_of(words: &[u64], outer: &[u64]) -> usize
     requires lengths { length outer.now ≡ length words.now }
@@ -40,22 +62,22 @@ pub fn group_of(words: &[u64], outer: &[u64]) -> usize
     group
 }
 
-/// The candidates of `found` with their groups, in order.
-fn with_groups(alloc: Global, found: FoundCandidates) -> Result<Vec<Grouped>, NoMemory>
-    ensures { IfOk result (λ list. AreGrouped found.entry.table.now.supports found.entry.outer.now found.entry.list.now
-        (length found.entry.list.now) list.items) }
+/// Replaces the entries of `grouped` by the candidates of `found` with their groups, in order.
+fn fill_with_groups(found: FoundCandidates, grouped: &mut Vec<Grouped>) -> Result<(), NoMemory>
+    ensures { OnOk result (AreGrouped found.entry.table.now.supports found.entry.outer.now found.entry.list.now
+        (length found.entry.list.now) grouped.new.items) }
 {
     let FoundCandidates { table, outer, list } = found;
     let _columns = outer.columns();
     let words = outer.words();
-    let mut grouped = Vec::with_capacity(alloc, list.len())?;
+    grouped.clear();
     for candidate in list {
         let place = candidate.place;
         let group = group_of(table.words_at(place), words);
         let size = candidate.size;
         grouped.push(Grouped { place, group, size })?;
     }
-    Ok(grouped)
+    Ok(())
 }
 
 /// Brings each group together, with the smallest residuals first: they are inside others more often. The order inside a
@@ -66,14 +88,24 @@ fn sort_by_group(list: &mut Vec<Grouped>)
     list.sort_unstable_by_key(|it| (it.group, it.size));
 }
 
-/// The candidates of `found`, group after group.
-pub fn in_groups(alloc: Global, found: FoundCandidates) -> Result<Vec<Grouped>, NoMemory>
-    ensures { IfOk result (λ list. AreGrouped found.entry.table.now.supports found.entry.outer.now found.entry.list.now
-        (length found.entry.list.now) list.items) }
+/// Replaces the entries of `list` by the candidates of `found`, group after group.
+pub fn fill_in_groups(found: FoundCandidates, list: &mut Vec<Grouped>) -> Result<(), NoMemory>
+    ensures { OnOk result (AreGrouped found.entry.table.now.supports found.entry.outer.now found.entry.list.now
+        (length found.entry.list.now) list.new.items) }
 {
-    let mut list = with_groups(alloc, found)?;
-    sort_by_group(&mut list);
-    Ok(list)
+    fill_with_groups(found, list)?;
+    sort_by_group(list);
+    Ok(())
+}
+
+/// Replaces the entries of `list` by `count` zeros.
+fn set_zeros(list: &mut Vec<usize>, count: usize) -> Result<(), NoMemory>
+    ensures count { OnOk result (length list.new.items ≡ count) }
+    ensures zeros { OnOk result (All (λ n. n ≡ 0) list.new.items) }
+{
+    list.clear();
+    list.resize(count, 0)?;
+    Ok(())
 }
 
 /// Extends the range of the group of `list` at index `k` by that index.
@@ -89,16 +121,14 @@ fn extend(list: GroupedList, k: usize, ranges: &mut Ranges)
     ranges.ends[group] = k + 1;
 }
 
-/// The ranges of the groups of `list`.
-pub fn ranges_of(alloc: Global, list: GroupedList) -> Result<Ranges, NoMemory>
-    ensures { IfOk result (AreRanges list.entry.list.now list.entry.groups (length list.entry.list.now)) }
+/// Replaces the ranges of `ranges` by those of the groups of `list`.
+pub fn fill_ranges(list: GroupedList, ranges: &mut Ranges) -> Result<(), NoMemory>
+    ensures { OnOk result (AreRanges list.entry.list.now list.entry.groups (length list.entry.list.now) ranges.new) }
 {
-    let mut ranges = Ranges {
-        starts: vec![in alloc; 0usize; list.groups]?,
-        ends: vec![in alloc; 0usize; list.groups]?,
-    };
+    set_zeros(&mut ranges.starts, list.groups)?;
+    set_zeros(&mut ranges.ends, list.groups)?;
     for k in 0..list.list.len() {
-        extend(list, k, &mut ranges);
+        extend(list, k, ranges);
     }
-    Ok(ranges)
+    Ok(())
 }

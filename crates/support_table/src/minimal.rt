@@ -7,7 +7,7 @@ ghost use Rattle.support_table.specs.Residuals.{AreMinimalOf};
 ghost use Rattle.support_table.specs.Candidates.{AreCandidates, AreFound, HasUnionSize};
 
 use crate::candidates::Candidate;
-use crate::groups::{in_groups, ranges_of};
+use crate::groups::{GroupMemory, fill_in_groups, fill_ranges};
 use crate::lists::{Family, FoundCandidates, GroupedList};
 use crate::others::has_other;
 use crate::outer::OuterRay;
@@ -63,12 +63,13 @@ fn has_selected(list: &[Candidate], selected: &[bool]) -> bool
 }
 
 /// The indices, ascending, of the candidates for adjacency to `ray` that are `true` in `selected` and whose residual
-/// contains that of no other, given candidates among which are all of minimal residual.
+/// contains that of no other, given candidates among which are all of minimal residual. `memory` may hold anything.
 pub fn minimal_of(
     alloc: Global,
     ray: OuterRay,
     selected: &[bool],
     list: &[Candidate],
+    memory: &mut GroupMemory,
 ) -> Result<Vec<usize>, NoMemory>
     requires selected { length selected.now ≡ length ray.rays.now.supports }
     requires candidates { AreCandidates ray.rays.now.supports ray.support.now ray.joined.now ray.own ray.most list.now }
@@ -82,17 +83,17 @@ pub fn minimal_of(
     let table = ray.rays;
     let outer = ray.support;
     let found = FoundCandidates { table, outer, list };
-    let by_group = in_groups(alloc, found)?;
+    fill_in_groups(found, &mut memory.by_group)?;
     let groups = GroupedList {
-        list: &by_group,
+        list: &memory.by_group,
         groups: table.columns() as usize + 1,
     };
-    let ranges = ranges_of(alloc, groups)?;
+    fill_ranges(groups, &mut memory.ranges)?;
     let family = Family {
         table,
         outer,
-        list: &by_group,
-        ranges: &ranges,
+        list: &memory.by_group,
+        ranges: &memory.ranges,
     };
     selected_alone(alloc, family, list, selected)
 }

@@ -21,7 +21,7 @@ invariant_of-groups c =
     let ray = c.args.ray in
     record {
       below = subst (All (λ (it : Grouped). it.group < c.columns.result + 1)) (sym c.deref.ensures.value)
-          (groups_below ray.rays.now.supports ray.support.now c.columns.result c.in_ok-by_group.by_group.items (ray.columns ∙ sym c.columns.ensures) c.in_ok-by_group.ensures.each);
+          (groups_below ray.rays.now.supports ray.support.now c.columns.result c.fill_in_groups.new.list.items (ray.columns ∙ sym c.columns.ensures) c.in_ok-fill_in_groups.ensures.each);
     }
 
 pub returns : goal.returns
@@ -31,8 +31,8 @@ returns c =
     let outer = ray.support.now in
     let selected = c.args.selected.now in
     let list = c.args.list.now in
-    let by_group = c.in_ok-by_group.by_group.items in
+    let by_group = c.fill_in_groups.new.list.items in
     let answer = c.selected_alone.result in
     IfOk-weaker answer (λ places. AreSelectedAlone supports outer by_group selected list (length list) places.items) (λ places. AreMinimalOf supports outer ray.joined.now ray.own ray.most selected places.items)
-    (λ places h. minimal_of supports outer ray.joined.now ray.own ray.most list c.requires.candidates by_group c.in_ok-by_group.ensures selected places.items h)
+    (λ places h. minimal_of supports outer ray.joined.now ray.own ray.most list c.requires.candidates by_group c.in_ok-fill_in_groups.ensures selected places.items h)
     (subst (λ gs. IfOk answer (λ places. AreSelectedAlone supports outer gs selected list (length list) places.items)) c.deref-2.ensures.value c.selected_alone.ensures)

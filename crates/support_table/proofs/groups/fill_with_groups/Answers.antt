@@ -3,7 +3,7 @@ use Rattle.std.proofs.lemmas.List.{get_or_default}
 use Rattle.support_table.specs.declared.candidates.Candidate.{Candidate}
 use Rattle.support_table.specs.Groups.{AreGrouped}
 use Rattle.support_table.proofs.GroupLemmas.{grouped_push, group_from_words}
-use Rattle.support_table.proofs.groups.with_groups.Goals as goal
+use Rattle.support_table.proofs.groups.fill_with_groups.Goals as goal
 
 pub loop-candidate-preserved : goal.loop-candidate-preserved
 loop-candidate-preserved c =

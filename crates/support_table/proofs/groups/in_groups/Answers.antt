@@ -1,6 +1,0 @@
-use Rattle.std.proofs.Common.{length}
-use Rattle.support_table.proofs.GroupLemmas.{grouped_moved}
-use Rattle.support_table.proofs.groups.in_groups.Goals as goal
-
-pub returns : goal.returns
-returns c = grouped_moved c.args.found.table.now.supports c.args.found.outer.now c.args.found.list.now (length c.args.found.list.now) c.in_ok-list.list.items c.sort_by_group.new.list.items c.sort_by_group.ensures c.in_ok-list.ensures
