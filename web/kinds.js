@@ -59,7 +59,7 @@ function ideal_sentence(kind, contrary) {
 }
 
 const BOUNDED = 'It has boundary faces, so discs count as well as spheres and projective planes. Regina’s isZeroEfficient() also returns false if a boundary component is a sphere.';
-const NOT_ORIENTABLE = 'It is not orientable. A two-sided projective plane counts here, but not in Regina’s isZeroEfficient().';
+const TWO_SIDED = 'A two-sided projective plane counts here, but not in Regina’s isZeroEfficient().';
 const NOT_CONNECTED = 'It is not connected; all of its components are considered.';
 
 /** What the property means for a kind of triangulation; `contrary` is the surface that is no vertex link, or null. */
@@ -67,7 +67,7 @@ export function meaning_of(kind, contrary) {
     if (kind.invalid.length) return invalid_sentence(kind.invalid);
     const parts = kind.name === 'closed' ? [closed_sentence(kind, contrary)] : kind.name === 'ideal' ? [ideal_sentence(kind, contrary)] : [BOUNDED];
     if (kind.name === 'bounded' && kind.ideal) parts.push(kind_sentence(kind));
-    if (!kind.is_orientable) parts.push(NOT_ORIENTABLE);
+    if (!kind.is_orientable) parts.push(kind.name === 'closed' ? TWO_SIDED : `It is not orientable. ${TWO_SIDED}`);
     if (!kind.is_connected) parts.push(NOT_CONNECTED);
     return parts.join(' ');
 }

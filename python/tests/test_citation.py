@@ -39,7 +39,7 @@ class Citations(unittest.TestCase):
         self.assertIn("SHA-256 of the library bb22, Rattle kit rattle-kit-0) and read by its Python package, which is tested. That", said)
 
     def test_what_is_unknown_cannot_be_cited(self) -> None:
-        for build, missing in (("", "commit and kit and checksum"), ("commit 1\nkit k\n", "checksum")):
+        for build, missing in (("", "commit, kit and checksum"), ("commit 1\nkit k\n", "checksum")):
             with self.assertRaisesRegex(Failed, f"does not know its {missing}, so it cannot be cited"):
                 self.sentences(build)
 

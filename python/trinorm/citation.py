@@ -43,7 +43,8 @@ def sentences(product: str = "program", coords: str = "standard") -> str:
              "checksum": known.get(product, "")}
     missing = [name for name, value in facts.items() if value in ("", "unknown")]
     if missing:
-        raise Failed(f"this installation does not know its {' and '.join(missing)}, so it cannot be cited")
+        unknown = " and ".join([", ".join(missing[:-1]), missing[-1]] if missing[1:] else missing)
+        raise Failed(f"this installation does not know its {unknown}, so it cannot be cited")
     read = READ if product == "library" else ""
     return " ".join(SENTENCES.split()).format(coords=coords, product=product, read=read, **facts)
 
