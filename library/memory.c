@@ -136,7 +136,6 @@ HIDDEN void rattle_dealloc(void *p) {
 HIDDEN struct tried rattle_realloc(void *old, size_t kept, size_t n, size_t alignment) {
     struct call *call = current_call;
     size_t had = *size_of(old);
-    (void)kept;
     n = n ? n : alignment;
     if (n <= had && had <= SMALL)
         return outcome_of(old);
@@ -146,7 +145,8 @@ HIDDEN struct tried rattle_realloc(void *old, size_t kept, size_t n, size_t alig
         return outcome_of(larger(call, old, had, n));
     void *p = call && n <= SMALL ? small_block(call, n) : large_block(call, n);
     if (p) {
-        memcpy(p, old, least(had, n));
+        /* outside a call the size of a short block is not known, only that it is malloc's */
+        memcpy(p, old, least(kept, n));
         rattle_dealloc(old);
     }
     return outcome_of(p);

@@ -42,28 +42,46 @@ static int read_input(uint8_t *to, size_t *length) {
     return !ferror(stdin);
 }
 
+/* The answer, of which `needed` bytes are there unless the status is above TRINORM_LARGE. */
+struct answer {
+    uint8_t *at;
+    size_t room, needed;
+};
+
+static uint8_t answer_of(const uint8_t *said, size_t said_length, const uint8_t *input, size_t length, struct answer *to) {
+    uint8_t status = trinorm_run(said, said_length, input, length, to->at, to->room, &to->needed);
+    if (status != TRINORM_ROOM)
+        return status;
+    free(to->at);
+    to->room = to->needed;
+    to->at = calloc(to->room, 1);
+    return to->at ? trinorm_run(said, said_length, input, length, to->at, to->room, &to->needed) : TRINORM_MEMORY;
+}
+
+/* Whether the words were refused, before an input was looked at. */
+static int ends_without_input(uint8_t status) {
+    return status == TRINORM_USAGE || status == TRINORM_WORDS || status == TRINORM_MEMORY;
+}
+
 int main(int count, char **words) {
     static uint8_t input[MOST_INPUT + 1];
-    size_t words_length, input_length = 0, needed, room = USUAL_ROOM;
-    uint8_t *said = joined(count, words, &words_length), *answer = calloc(room, 1);
+    size_t words_length, length = 0;
+    uint8_t *said = joined(count, words, &words_length);
+    struct answer answer = {calloc(USUAL_ROOM, 1), USUAL_ROOM, 0};
 #ifdef _WIN32
     _setmode(0, _O_BINARY);
     _setmode(1, _O_BINARY);
 #endif
-    if (!said || !answer)
+    if (!said || !answer.at)
         return TRINORM_MEMORY;
-    if ((count < 2 || !reads_nothing(words[1])) && !read_input(input, &input_length)) {
-        static const char refusal[] = "refused: read\n";
-        return write_whole((const uint8_t *)refusal, sizeof refusal - 1) ? FAILED_SOURCE : FAILED_SINK;
+    /* with an empty input: words that are refused are, whatever standard input has, and it is not read */
+    uint8_t status = answer_of(said, words_length, input, 0, &answer);
+    if (!ends_without_input(status) && !reads_nothing(words[1])) {
+        if (!read_input(input, &length)) {
+            static const char refusal[] = "refused: read\n";
+            return write_whole((const uint8_t *)refusal, sizeof refusal - 1) ? FAILED_SOURCE : FAILED_SINK;
+        }
+        status = answer_of(said, words_length, input, length, &answer);
     }
-    uint8_t status = trinorm_run(said, words_length, input, input_length, answer, room, &needed);
-    if (status == TRINORM_ROOM) {
-        free(answer);
-        room = needed;
-        answer = calloc(room, 1);
-        if (!answer)
-            return TRINORM_MEMORY;
-        status = trinorm_run(said, words_length, input, input_length, answer, room, &needed);
-    }
-    return status > TRINORM_LARGE || write_whole(answer, needed) ? status : FAILED_SINK;
+    return status > TRINORM_LARGE || write_whole(answer.at, answer.needed) ? status : FAILED_SINK;
 }

@@ -32,6 +32,19 @@ int main(void) {
 }
 """
 
+# a program that calls the archive without the library's own calls, so with malloc's blocks alone
+DIRECT = """
+#include "trinorm.h"
+#include <stdio.h>
+int main(void) {
+    uint8_t room[64];
+    size_t needed;
+    uint8_t status = trinorm_answer((const uint8_t *)"x", 1, (const uint8_t *)"20000", 5, room, sizeof room, &needed);
+    printf("%d %zu\\n", status, needed);
+    return 0;
+}
+"""
+
 STOP = ctypes.CFUNCTYPE(ctypes.c_int, ctypes.c_void_p)
 
 
@@ -104,8 +117,8 @@ class Linked(unittest.TestCase):
         declared = re.findall(r"\b(trinorm_\w+)\(", re.sub(r"/\*.*?\*/", "", (SOURCES / "trinorm.h").read_text("utf8"), flags=re.S))
         self.assertEqual(exported, sorted([*declared, "trinorm_python_raises", "trinorm_python_stops"]))
 
-    def run_program(self, *flags: str, before: Sequence[str] = ()) -> Tuple[int, str]:
-        (self.folder / "main.c").write_text(MAIN)
+    def run_program(self, *flags: str, before: Sequence[str] = (), main: str = MAIN) -> Tuple[int, str]:
+        (self.folder / "main.c").write_text(main)
         files = [*(str(SOURCES / name) for name in ("limits.c", "memory.c", "tests/requests.c")), "main.c"]
         subprocess.run(["cc", "-g", "-O1", "-Wall", "-Wextra", "-Werror", "-I", SOURCES, *flags, *files, "-o", "program"], cwd=self.folder, check=True)
         done = subprocess.run([*before, "./program"], cwd=self.folder, stdout=subprocess.PIPE, text=True, check=False)
@@ -120,6 +133,11 @@ class Linked(unittest.TestCase):
         several: Tuple[List[str], ...] = ([], ["-DSMALL=0"])
         for flags in several:
             self.assertEqual(self.run_program(*flags, before=check), (0, "0 0 unknown\n"))
+
+    @unittest.skipUnless(shutil.which("valgrind"), "valgrind isn't there")
+    def test_outside_a_call_no_block_is_read_beyond_its_end(self) -> None:
+        check = ["valgrind", "--quiet", "--leak-check=full", "--error-exitcode=9"]
+        self.assertEqual(self.run_program(before=check, main=DIRECT), (0, "0 0\n"))
 
 
 if __name__ == "__main__":

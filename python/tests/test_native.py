@@ -126,6 +126,18 @@ class Emulated(unittest.TestCase):
                 done = subprocess.run([*words, "sig"], input=b"sig bkaagn\n", stdout=full, check=False)
                 self.assertEqual(done.returncode, 7)
 
+    def test_wrong_words_are_refused_before_the_input_is_read(self) -> None:
+        for name in ("linux-x86_64", "linux-aarch64"):
+            with self.subTest(system=name):
+                words, _ = self.words(name)
+                folder = os.open("/", os.O_RDONLY)  # each read of a folder fails
+                try:
+                    ended = [subprocess.run([*words, command], stdin=folder, stdout=subprocess.DEVNULL, stderr=subprocess.DEVNULL,
+                                            check=False).returncode for command in ("foo", "sig")]
+                finally:
+                    os.close(folder)
+                self.assertEqual(ended, [2, 6])
+
 
 class OnArm(unittest.TestCase):
     """The wheel for arm64 in the Python of Debian for arm64, by an emulator."""
