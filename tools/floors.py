@@ -8,7 +8,8 @@ into all pages.
 A crate stands one floor above the highest crate that it names. With --check nothing is written, and the status is 1 where
 something would be. It is 1, too, where tools/refusals.py refuses something: laws or definitions that stand on code, a crate
 whose line lists one that none of its files names, or lacks one that they do, and a crate without a subject here. So it is where
-tools/page_facts.py refuses something: a definition of a contract that DEFINITIONS does not name, or a wrong star of CLAIMS.
+tools/page_facts.py refuses something: a definition of a contract that DEFINITIONS does not name, a file that DEFINITIONS names and
+that isn't there, or a wrong star of CLAIMS.
 """
 from __future__ import annotations
 
@@ -18,7 +19,7 @@ import sys
 from typing import Dict, List
 
 from build_times import Plan, read_times
-from page_facts import imported, numbers, pages_of, unlisted, with_numbers, wrong_stars
+from page_facts import imported, misnamed, numbers, pages_of, unlisted, with_numbers, wrong_stars
 from refusals import kind, refusals
 from repository import TOP, crates_of_build, lines_of_crates
 
@@ -178,7 +179,8 @@ def wanted_files(known: Crates) -> Dict[str, str]:
 def main(checking: bool) -> int:
     known = crates()
     refused = refusals(TOP, known, " ".join(SUBJECTS.values()).split())
-    refused += [*unlisted(TOP, read("docs/DEFINITIONS.md")), *wrong_stars(TOP, read("docs/CLAIMS.md"))]
+    definitions = read("docs/DEFINITIONS.md")
+    refused += [*unlisted(TOP, definitions), *misnamed(TOP, definitions), *wrong_stars(TOP, read("docs/CLAIMS.md"))]
     for line in refused:
         print(line)
     stale = {path: text for path, text in wanted_files(known).items() if read(path) != text}

@@ -64,6 +64,12 @@ def unlisted(top: Path, page: str) -> List[str]:
             for crate, name in sorted(set(imported(top)) - there)]
 
 
+def misnamed(top: Path, page: str) -> List[str]:
+    """Files of definitions that a row of DEFINITIONS names and its crate does not have."""
+    return [f"refused: docs/DEFINITIONS.md names {name} of {crate}, which has no such file"
+            for crate, name in sorted(listed(page)) if name[0].isupper() and not any((top / "crates" / crate / "specs").rglob(f"{name}.antt"))]
+
+
 def wrong_stars(top: Path, page: str) -> List[str]:
     """Crates of laws and definitions that CLAIMS names with a star although a first build proves them, or without one although it
     does not."""

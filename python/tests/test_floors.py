@@ -12,7 +12,7 @@ sys.path.insert(0, str(REPOSITORY / "tools"))
 
 from build_times import NotOfThisRun, Plan, Times, Took, is_sealed, read_times, run_of, sealed, write_times  # noqa: E402
 from floors import first_sentence  # noqa: E402
-from page_facts import imported, listed, numbers, unlisted, with_numbers, wrong_stars  # noqa: E402
+from page_facts import imported, listed, misnamed, numbers, unlisted, with_numbers, wrong_stars  # noqa: E402
 from refusals import functions_of, kind, refusals  # noqa: E402
 
 
@@ -165,6 +165,13 @@ class Order(unittest.TestCase):
         self.assertEqual(unlisted(REPOSITORY, page.replace("`surface_equation_laws`: Entries, Weights, Caps, Bounds, BoundedTables", "`surface_equation_laws`: Entries")), [
             "refused: docs/DEFINITIONS.md does not name BoundedTables of surface_equation_laws, which a contract of the program or the library imports"])
         self.assertEqual(listed("| rows | `one`: A, the enum `B`, C; `two`: D | E |\n`three`: F"), {("one", "A"), ("one", "the"), ("one", "enum"), ("one", "`B`"), ("one", "C"), ("two", "D")})
+
+    def test_files_of_definitions(self) -> None:
+        """Each file that a row of DEFINITIONS names is there."""
+        page = (REPOSITORY / "docs" / "DEFINITIONS.md").read_text("utf8")
+        self.assertEqual(misnamed(REPOSITORY, page), [])
+        self.assertEqual(misnamed(REPOSITORY, page.replace("HoldingRows, Listings", "Met, Listings")), [
+            "refused: docs/DEFINITIONS.md names Met of cone_definitions, which has no such file"])
 
     def test_stars(self) -> None:
         page = (REPOSITORY / "docs" / "CLAIMS.md").read_text("utf8")
