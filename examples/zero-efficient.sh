@@ -5,8 +5,8 @@
 #
 # TRIANGULATION is a line `sig SIGNATURE` or a gluing table. The program is `trinorm`, or the one that the variable TRINORM
 # names. Printed are what `info` says of it, and its kind: closed, ideal or bounded, with the kinds of those closed vertex links
-# that are no spheres, as `kind ideal torus 2`; what is true of closed triangulations need not be true of others. All vertex
-# surfaces in standard coordinates are listed and described, in parts that fit into one input, and the counts are compared.
+# that are no spheres, as `kind ideal torus 2`; what is true of closed triangulations need not be true of others. It is invalid if
+# a vertex link has boundary and is no disc, since a manifold has no such vertex. All vertex surfaces in standard coordinates are listed and described, in parts that fit into one input, and the counts are compared.
 # Status 0: each connected normal surface of positive Euler characteristic is a vertex link; 1: a vertex surface is not, and
 # the first one is printed; 2: a command was refused or failed, or an answer was cut off.
 set -u
@@ -54,6 +54,7 @@ grep -E '^(orientable|closed) ' "$folder/info"
 awk '
     $1 == "closed" { kind = $2 == "no" ? "bounded" : "closed" }
     $1 == "vertex" && $8 == "yes" && $10 != "sphere" { links[$10 == "other" && $6 == 1 ? "projective-plane" : $10]++; ideal = 1 }
+    $1 == "vertex" && $8 == "no" && $10 != "disc" { kind = "invalid" }
     END {
         printf "kind %s", kind == "closed" && ideal ? "ideal" : kind
         names = split("projective-plane torus klein other", name)

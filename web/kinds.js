@@ -14,7 +14,7 @@ function counted(words) {
     return [...new Set(words)].map((word) => `${words.filter((other) => other === word).length} × ${word}`).join(', ');
 }
 
-/** What kind of triangulation this is: {name, is_orientable, is_connected, invalid, ideal, links, has_round_links, count}. */
+/** What kind of triangulation this is: {name, is_orientable, is_connected, invalid, not_discs, ideal, links, has_round_links, count}. */
 export function kind_of({facts, vertices, edges}) {
     const values = Object.fromEntries(facts), ideal = vertices.filter(({closed, kind}) => closed === 'yes' && kind !== 'sphere');
     const name = values.closed === 'no' ? 'bounded' : ideal.length ? 'ideal' : 'closed';
@@ -22,6 +22,7 @@ export function kind_of({facts, vertices, edges}) {
         name, ideal: ideal.length, count: vertices.length, links: counted(ideal.map(link_name)),
         is_orientable: values.orientable === 'yes', is_connected: values.connected === 'yes',
         invalid: edges.filter(({valid}) => valid === 'no').map(({number}) => number),
+        not_discs: vertices.filter(({closed, kind}) => closed === 'no' && kind !== 'disc').map(({number}) => number),
         has_round_links: vertices.some(({closed, euler}) => closed === 'yes' && Number(euler) > 0),
     };
 }
@@ -31,11 +32,23 @@ function ideal_links({ideal, count, links}) {
     return `${ideal} of its ${count} vertex links ${ideal === 1 ? 'is not a sphere' : 'are not spheres'} (${links})`;
 }
 
-/** The kind as a sentence. */
+/** The closed vertex links of a triangulation with boundary that are not spheres. */
+function with_ideal({ideal, links}) {
+    return `ideal vertices: of its closed vertex links, ${ideal} ${ideal === 1 ? 'is not a sphere' : 'are not spheres'} (${links})`;
+}
+
+/** A sentence on vertices with a link with boundary that is not a disc. */
+function not_discs_sentence({not_discs}) {
+    const which = not_discs.length === 1 ? `The link of vertex ${not_discs[0]} has boundary and is not a disc` : `The links of vertices ${not_discs.join(', ')} have boundary and are not discs`;
+    return `${which}, so this is not a triangulation of a 3-manifold.`;
+}
+
+/** The kind in sentences. */
 export function kind_sentence(kind) {
     if (kind.name === 'closed') return 'Closed: each vertex link is a sphere.';
     if (kind.name === 'ideal') return `Ideal: there is no boundary face, and ${ideal_links(kind)}.`;
-    return `With boundary faces${kind.ideal ? `, and with ideal vertices: of its closed vertex links, ${kind.ideal} ${kind.ideal === 1 ? 'is not a sphere' : 'are not spheres'} (${kind.links})` : ''}.`;
+    const begun = `With boundary faces${kind.ideal ? `, and with ${with_ideal(kind)}` : ''}.`;
+    return kind.not_discs.length ? `${begun} ${not_discs_sentence(kind)}` : begun;
 }
 
 /** A sentence on invalid edges. */
@@ -66,7 +79,8 @@ const NOT_CONNECTED = 'It is not connected; all of its components are considered
 export function meaning_of(kind, contrary) {
     if (kind.invalid.length) return invalid_sentence(kind.invalid);
     const parts = kind.name === 'closed' ? [closed_sentence(kind, contrary)] : kind.name === 'ideal' ? [ideal_sentence(kind, contrary)] : [BOUNDED];
-    if (kind.name === 'bounded' && kind.ideal) parts.push(kind_sentence(kind));
+    if (kind.name === 'bounded' && kind.ideal) parts.push(`It also has ${with_ideal(kind)}.`);
+    if (kind.not_discs.length) parts.push(not_discs_sentence(kind));
     if (!kind.is_orientable) parts.push(kind.name === 'closed' ? TWO_SIDED : `It is not orientable. ${TWO_SIDED}`);
     if (!kind.is_connected) parts.push(NOT_CONNECTED);
     return parts.join(' ');

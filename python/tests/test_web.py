@@ -1129,7 +1129,8 @@ return [first < 100, rows() < 100, Math.abs(middle - 50000) < 1000, document.act
             ("tri 1\n0:1203 0:2013 0:0231 0:0312\n", holds, [ideal + "(Klein bottle)", "It is not orientable."], [self.JACO_AND_RUBINSTEIN]),
             ("sig eLMkabcddbrrag", "Not 0-efficient: surface [0-9]+ is a projective plane and not a vertex link.", [closed + "not " + self.JACO_AND_RUBINSTEIN, "the double of this projective plane"], []),
             ("sig dLQbcccajqs", "Surface [0-9]+ is a projective plane and not a vertex link.", ["It is closed (each vertex link is a sphere) and not orientable.", "A two-sided projective plane counts here"], [self.JACO_AND_RUBINSTEIN]),
-            ("tri 1\n- - - -\n", "", ["It has boundary faces, so discs count"], [self.JACO_AND_RUBINSTEIN, "closed (each"])]
+            ("sig bGad", holds, ["The link of vertex 0 has boundary and is not a disc, so this is not a triangulation of a 3-manifold."], [self.JACO_AND_RUBINSTEIN]),
+            ("tri 1\n- - - -\n", "", ["It has boundary faces, so discs count"], [self.JACO_AND_RUBINSTEIN, "closed (each", "not a triangulation"])]
         for text, short, there, absent in trials:
             with self.subTest(text=text):
                 said, whole = self.ask("0-efficient", text, verdict)

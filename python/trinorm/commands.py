@@ -234,7 +234,8 @@ def rays(rows: Sequence[Sequence[int]], columns: Optional[int] = None, order: Op
 
 def verify(t: Triangulation, vectors: Vectors, coords: Coords = "standard", *,
            timeout: Optional[float] = None, program: Program = None) -> List[Verdict]:
-    """For each vector, whether it is the vector of a normal surface, or what fails first.
+    """For each vector, whether it is an admissible solution, or what fails first. In standard coordinates these are the vectors of
+    normal surfaces.
 
     Args:
         t: the triangulation

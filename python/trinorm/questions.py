@@ -37,8 +37,8 @@ class ZeroEfficiency:
     Attributes:
         witness: None if it is true. Otherwise a listed surface of positive Euler characteristic that is not a vertex link: a sphere, a
             projective plane or a disc, in standard coordinates
-        kind: `bounded` if there is a boundary face; else `closed` if all vertex links are spheres; else `ideal`. What may be concluded
-            depends on it
+        kind: `invalid` if a vertex link has boundary and is not a disc, so that this is not a manifold; else `bounded` if there is a
+            boundary face; else `closed` if all vertex links are spheres; else `ideal`. What may be concluded depends on it
         orientable: whether the triangulation is orientable
 
     >>> import trinorm
@@ -330,8 +330,8 @@ def _by_quads(text: str, clock: Clock, program: Program) -> Optional[Surface]:
 
 
 def _kind_of(info: Info) -> Kind:
-    """Whether a triangulation is closed, ideal or bounded."""
-    if not all(it.valid for it in info.edges):
+    """Whether a triangulation is closed, ideal, bounded or invalid."""
+    if not all(it.valid for it in info.edges) or any(not it.closed and it.kind != "disc" for it in info.vertices):
         return "invalid"
     if not info.closed:
         return "bounded"

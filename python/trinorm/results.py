@@ -23,7 +23,7 @@ def vector_line(vector: Sequence[Any]) -> str:
 
 @dataclass(frozen=True)
 class Verdict:
-    """What `verify` returns for a vector: true if it is the vector of a normal surface.
+    """What `verify` returns for a vector: true if it is an admissible solution.
 
     Attributes:
         kind: `solution`; or what fails first: `length`, `large`, `fails` or `clash`
@@ -40,7 +40,7 @@ class Verdict:
 
     @property
     def is_solution(self) -> bool:
-        """Whether it is the vector of a normal surface."""
+        """Whether it is an admissible solution."""
         return self.kind == "solution"
 
     def __bool__(self) -> bool:

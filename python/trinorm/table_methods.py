@@ -83,7 +83,8 @@ class TableMethods:
 
     def verify(self, vectors: Vectors, coords: Coords = "standard", *, timeout: Optional[float] = None,
                program: Program = None) -> List[Verdict]:
-        """For each vector, whether it is the vector of a normal surface, or what fails first.
+        """For each vector, whether it is an admissible solution, or what fails first. In standard coordinates these are the vectors of
+        normal surfaces.
 
         Args:
             vectors: a list of any length
