@@ -10,11 +10,12 @@ from typing import List, Optional
 from . import certificates, citation, commands, crosscheck, pictures, selfcheck, versions
 from .census import add_arguments, main as run_census
 from .program import Error, Failed
+from .standard_streams import faults_of_output, open_closed, read_input
 from .workers import Terminated, end_as_by_keyboard
 
 
 def draw_graph(given: argparse.Namespace) -> int:
-    table = commands.table(sys.stdin.read() if given.triangulation == "-" else given.triangulation)
+    table = commands.table(read_input() if given.triangulation == "-" else given.triangulation)
     print(pictures.face_pairing_svg(table) if given.svg else pictures.face_pairing_dot(table), end="")
     return 0
 
@@ -25,6 +26,8 @@ def draw_growth(given: argparse.Namespace) -> int:
             picture = pictures.growth_svg(pictures.growth_points(file))
     except OSError as fault:
         raise Failed(f"{given.answers}: {fault.strerror}") from None
+    except UnicodeDecodeError:
+        raise Failed(f"{given.answers} is not UTF-8") from None
     except ValueError as fault:
         raise Failed(f"{given.answers}: {fault}") from None
     print(picture, end="")
@@ -76,11 +79,13 @@ def reader_of_words() -> argparse.ArgumentParser:
 
 
 def main(words: Optional[List[str]] = None) -> int:
-    given = reader_of_words().parse_args(words)
+    open_closed()
     in_main_thread = threading.current_thread() is threading.main_thread()
     before = signal.signal(signal.SIGTERM, end_as_by_keyboard) if in_main_thread else None
     try:
-        return int(given.main(given))
+        with faults_of_output():
+            given = reader_of_words().parse_args(words)
+            return int(given.main(given))
     except Error as wrong:
         print(f"trinorm: {wrong}", file=sys.stderr)
         return 3

@@ -98,6 +98,8 @@ class Output:
     def __init__(self, path: str) -> None:
         self.path = path
         self.is_regular = path != "-" and _is_regular(path)
+        if path == "-" and sys.stdout is None:
+            raise ValueError("standard output is closed")
         self._file: TextIO = sys.stdout
         if self.is_regular:
             self._file = _held(path)

@@ -88,6 +88,8 @@ def opened(signatures: Signatures, accept_bad: bool = False) -> Iterator[Source]
     if isinstance(signatures, os.PathLike):
         signatures = os.fspath(signatures)
     if isinstance(signatures, str) and signatures == "-":
+        if sys.stdin is None:
+            raise Failed("standard input is closed")
         yield Source("standard input", None, read_blocks(sys.stdin.buffer, "standard input", are_alone=True))
     elif isinstance(signatures, str):
         with open(signatures, "rb") as file:
@@ -267,7 +269,7 @@ def faults_of_files(path: str) -> Iterator[None]:
     except Error:
         raise
     except OSError as fault:
-        raise Failed(f"{fault.filename or path}: {fault.strerror}") from None
+        raise Failed(f"{fault.filename or ('standard output' if path == '-' else path)}: {fault.strerror}") from None
     except ValueError as fault:
         raise Failed(str(fault)) from None
 

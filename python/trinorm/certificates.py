@@ -22,6 +22,7 @@ from .parts import Clock
 from .program import Program
 from .errors import BadArgument, Failed
 from .results import Info, Presentation
+from .standard_streams import read_input
 from .tables import Table, Triangulation as Given
 
 # the seconds of a search for which none are given
@@ -238,7 +239,7 @@ def add_arguments(reader: argparse.ArgumentParser) -> None:
 
 def main(given: argparse.Namespace) -> int:
     """Prints the triangulation and the moves; status 1 if there are none."""
-    made = certify(sys.stdin.read() if given.triangulation == "-" else given.triangulation, given.seed, given.timeout)
+    made = certify(read_input() if given.triangulation == "-" else given.triangulation, given.seed, given.timeout)
     if made is None:
         print("trinorm: no moves to the 3-sphere were found; this does not mean that it is not a 3-sphere", file=sys.stderr)
         return 1

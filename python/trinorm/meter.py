@@ -84,6 +84,18 @@ class Log:
         print(text, file=self.to, flush=True)
 
 
+class Nothing:
+    """No signs, as in a process without standard error."""
+
+    interval = SELDOM
+
+    def show(self, meter: Meter) -> None:
+        """Shows nothing."""
+
+    def end(self, text: str) -> None:
+        """Shows nothing."""
+
+
 class Bar:
     """A bar of tqdm's."""
 
@@ -110,8 +122,10 @@ def in_notebook() -> bool:
     return type(shell).__name__ == "ZMQInteractiveShell"
 
 
-def shown(total: Optional[int], to: TextIO) -> Shown:
-    """Where signs go to: a bar in a notebook, the line of a terminal, or lines of a log."""
+def shown(total: Optional[int], to: Optional[TextIO]) -> Shown:
+    """Where signs go to: a bar in a notebook, the line of a terminal, or lines of a log; nowhere if there is no file for them."""
+    if to is None:
+        return Nothing()
     if in_notebook():
         try:
             from tqdm.auto import tqdm
