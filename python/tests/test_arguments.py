@@ -5,7 +5,7 @@ from typing import Any, Callable, Iterator, List, Tuple
 
 import trinorm
 from trinorm import BadArgument, hints, pictures
-from trinorm.arguments import shown
+from trinorm.arguments import read_number, shown
 from trinorm.documents import fault_of
 
 TORUS = (1, 1, 0, 0, 1, 0, 0)
@@ -50,6 +50,17 @@ class Arguments(unittest.TestCase):
         self.is_none("not an empty string", trinorm.group, ["", f"sig {SPHERE}"])
         self.is_none("has 0 rows of 1", trinorm.play, "tri 1", ["0:1023 0:1023 0:1230 0:3012"])
         self.assertEqual(trinorm.verify(f"# one\r\nsig {SPHERE}\r\n\n# end", [TORUS])[0].kind, "solution")
+
+    def test_numbers_that_begin_with_zeros(self) -> None:
+        """The program reads any number of zeros before a number, so the package does."""
+        for zeros in (1, 20, 5000):
+            text = f"tri {'0' * zeros}1\n0:1023 0:1023 0:1230 0:3012\n"
+            for more, call, words in ((f"sig {SPHERE}", trinorm.same, [""]), ("14 0", trinorm.check, [["41 3 3"]]), ("vec 1 1 1 1 0 0 0", trinorm.describe, [[TORUS]])):
+                self.is_none("more text after it", call, f"{text}{more}\n", *words)
+            self.assertEqual(trinorm.same(text, SPHERE), trinorm.same(SPHERE, SPHERE))
+            with self.assertRaisesRegex(trinorm.Refused, "refused: input 2 8 bad-word"):
+                trinorm.sig(text.replace("0:1023 0:1023", "0:1023 x"))
+        self.assertEqual([read_number(it) for it in ("0", "007", "9" * 20, "9" * 21, "", "-1", "1x", "\u0663")], [0, 7, int("9" * 20), *[None] * 5])
 
     def test_numbers_that_are_too_long(self) -> None:
         long = 10 ** 5000

@@ -4,6 +4,7 @@ from __future__ import annotations
 from dataclasses import dataclass
 from typing import List, Sequence, Tuple
 
+from .arguments import read_number
 from .errors import Place
 
 
@@ -69,7 +70,7 @@ class Reader:
 
 def _number(words: List[str], at: int) -> int:
     """A word as a number; 0 if it is none."""
-    return int(words[at]) if len(words) > at and words[at].isdecimal() else 0
+    return (read_number(words[at]) if len(words) > at else None) or 0
 
 
 def is_comment(line: str) -> bool:

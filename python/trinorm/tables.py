@@ -5,7 +5,7 @@ import string
 from dataclasses import dataclass
 from typing import TYPE_CHECKING, Any, Iterable, Iterator, List, Optional, Protocol, Sequence, Tuple, Union
 
-from .arguments import listed, shown, whole_number
+from .arguments import listed, read_number, shown, whole_number
 from .errors import BadArgument as BadArgument, Failed
 from .table_methods import TableMethods
 
@@ -322,15 +322,16 @@ def _lines_of(text: str) -> List[str]:
 def _lines_of_head(line: str) -> Optional[int]:
     """How many lines a triangulation has that begins with this one; None if none does, which the program refuses."""
     words = line.split()
-    if words[0] == "tri" and len(words) == 2 and words[1].isdecimal() and len(words[1]) <= 20:
-        return 1 + int(words[1])
+    count = read_number(words[1]) if words[0] == "tri" and len(words) == 2 else None
+    if count is not None:
+        return 1 + count
     return 1 if words[0] == "sig" and len(words) == 2 else None
 
 
 def size_of(text: str) -> int:
     """How many tetrahedra the triangulation has with which a document begins."""
     words = _lines_of(text)[0].split()
-    return int(words[1]) if words[0] == "tri" else size_of_signature(words[1])
+    return read_number(words[1]) or 0 if words[0] == "tri" else size_of_signature(words[1])
 
 
 def size_of_signature(signature: str) -> int:
