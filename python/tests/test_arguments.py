@@ -88,6 +88,8 @@ class Arguments(unittest.TestCase):
         self.is_none("a vector must be a list", trinorm.crush, SPHERE, [TORUS])
         self.is_none("a list of moves", trinorm.check, SPHERE, "14 0")
         self.is_none("a list of steps", trinorm.play, SPHERE, "14 0")
+        for step in ("", "  ", "# 14 0"):
+            self.is_none(f"expected a list of steps, such as .*; {step!r} is not one of them", trinorm.play, SPHERE, ["14 0", step])
 
     def test_vectors_of_other_kinds(self) -> None:
         self.is_none("1.0 is not a whole number; convert an array with astype", trinorm.crush, SPHERE, [1.0] * 7)

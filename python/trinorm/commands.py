@@ -18,6 +18,7 @@ from . import answers, arrays as numpy_arrays, hints, parts
 from .answers import (Accepted, Bulk, Cover, Descent, Grouping, Info, Isomorphism, Made, Played, Presentation, Sum, Surface, Term,
                       Vector, Verdict, vector_line)
 from .arguments import lines, listed, plain, shown, whole_number, whole_numbers
+from .documents import is_comment
 from .errors import CHECKED, LARGE, NO_MEMORY_HERE, BadArgument, Error
 from .html_tables import Shown
 from .options import Coords, Order, WithTriangles, words
@@ -624,7 +625,11 @@ def play(t: Triangulation, steps: Iterable[str] = (), *, timeout: Optional[float
     >>> played.answers, len(played.table)
     (('done', 'illegal no-such-tet', 'undone'), 1)
     """
-    given = listed(steps, "expected a list of steps, such as ['14 0']")
+    expected = "expected a list of steps, such as ['14 0']"
+    given = listed(steps, expected)
+    for step in given:
+        if isinstance(step, str) and is_comment(step):  # nothing is answered to it
+            raise BadArgument(f"{expected}; {shown(step)} is not one of them")
     text = alone(t) + lines(given, "steps", "14 0")
     return _ask(["play"], text, lambda said: answers.read_played(said, len(given)), timeout, program)
 
