@@ -15,7 +15,7 @@ from trinorm.graph_layout import APART, Pair, places, ports
 from trinorm.html_tables import Shown
 from trinorm.options import Coords
 from trinorm.pictures import LABEL, face_pairing_dot, face_pairing_svg, face_pairs, growth_points, growth_svg
-from trinorm.tables import BadArgument
+from trinorm.tables import BadArgument, row_of
 
 DISCS: List[Dict[str, Any]] = disc_pictures.DISCS
 FIGURE_EIGHT = Table.parse("tri 2\n1:0123 1:1203 1:1032 1:3021\n0:0123 0:1320 0:2013 0:1032\n")
@@ -58,6 +58,13 @@ class FacePairings(unittest.TestCase):
     def test_dot(self) -> None:
         self.assertIn('0 -- 1 [taillabel="1", headlabel="2"];', face_pairing_dot(FIGURE_EIGHT))
         self.assertEqual(face_pairing_dot(BALL).count("--"), 0)
+
+    def test_tables_that_are_no_gluing_tables(self) -> None:
+        """Another tetrahedron, the face itself, no permutation, no way back, another way back."""
+        for rows, place in (("1:1023 0:1023 - -", "0"), ("- 0:0123 - -", "1"), ("0:1123 0:1023 - -", "0"), ("- - 0:0132 -", "2"), ("0:1023 0:1032 - -", "0")):
+            for call in (face_pairing_svg, face_pairing_dot, face_pairs):
+                with self.assertRaisesRegex(BadArgument, f"are not those of a gluing table: face {place} of tetrahedron 0 is glued by"):
+                    call(Table((row_of(rows),)))
 
     def test_each_gluing_face_and_tetrahedron_once(self) -> None:
         for table in examples():

@@ -13,17 +13,30 @@ from .drawing import BLUE, GREY, Point, svg, text, towards
 from .errors import BadArgument
 from .graph_layout import Pair, places, ports
 from .regina_vectors import ReginaSurface, is_surface, vector_of
-from .tables import Table, Triangulation, size_of_signature
+from .tables import Gluing, Table, Triangulation, size_of_signature
 
 # the radius of a tetrahedron in the face-pairing graph, and where the number of a face is
 RADIUS, LABEL = 13.0, 23.0
 
 
 def _checked(table: Table) -> Table:
-    """A table, or BadArgument for any other value."""
+    """A table with the gluings of a triangulation, or BadArgument for any other value."""
     if not isinstance(table, Table):
         raise BadArgument(f"expected a Table, as `table` returns, not {shown(table)}")
-    return table.checked()
+    table = table.checked()
+    for tet, row in enumerate(table.rows):
+        for face, gluing in enumerate(row):
+            if gluing is not None and not _has_inverse(table, tet, face, gluing):
+                raise BadArgument(f"the rows of this Table are not those of a gluing table: face {face} of tetrahedron {tet} is glued by {gluing}")
+    return table
+
+
+def _has_inverse(table: Table, tet: int, face: int, gluing: Gluing) -> bool:
+    """Whether the gluing of a face leads to another face, whose gluing leads back."""
+    if gluing.tet >= len(table) or sorted(gluing.images) != [0, 1, 2, 3] or (gluing.tet, gluing.images[face]) == (tet, face):
+        return False
+    back = table.rows[gluing.tet][gluing.images[face]]
+    return back is not None and back.tet == tet and all(back.images[gluing.images[it]] == it for it in range(4))
 
 
 def face_pairs(table: Table) -> List[Pair]:
@@ -36,7 +49,7 @@ def face_pairs(table: Table) -> List[Pair]:
         A list of pairs, with `tet`, `face`, `other_tet` and `other_face`.
 
     Raises:
-        BadArgument: it is not a `Table`
+        BadArgument: it is not a `Table`, or not a gluing table
 
     >>> import trinorm
     >>> [tuple(pair) for pair in trinorm.pictures.face_pairs(trinorm.table("bkaagj"))]
@@ -58,7 +71,7 @@ def face_pairing_dot(table: Table) -> str:
         The text of a file for Graphviz.
 
     Raises:
-        BadArgument: it is not a `Table`
+        BadArgument: it is not a `Table`, or not a gluing table
 
     >>> from trinorm import pictures, table
     >>> pictures.face_pairing_dot(table("bkaagj")).count("--")
@@ -108,7 +121,7 @@ def face_pairing_svg(table: Table) -> str:
         The text of an SVG file.
 
     Raises:
-        BadArgument: it is not a `Table`
+        BadArgument: it is not a `Table`, or not a gluing table
 
     >>> from trinorm import pictures, table
     >>> pictures.face_pairing_svg(table("bkaagj")).count('class="gluing"')
