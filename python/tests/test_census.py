@@ -178,7 +178,7 @@ class Census(Folder):
         self.run_it()
         self.fails_with("has results of `surfaces --coords standard`, not of `info`", Task("info"))
         whole = self.lines()
-        for line in ("{broken\n", "[]\n", '{"name": 1}\n'):
+        for line in ("{broken\n", "[]\n", '{"name": 1}\n', "[" * 100_000 + "\n"):
             self.put(self.out, "".join(whole[:2]) + line + whole[2])
             self.fails_with("answers.jsonl, line 3: ")
             self.assertEqual(len(self.lines()), 4)

@@ -399,7 +399,7 @@ class Growth(unittest.TestCase):
         lines = [{"signature": "cPcbbbiht", "answer": [[1], [2]]}, {"signature": "bkaagj", "refused": {}}, {"signature": "bkaagj", "answer": []},
                  {"signature": "bkaagj", "answer": {"surfaces": 7}}, {"signature": "bkaagj", "answer": "bkaagj"}]
         self.assertEqual(list(growth_points(map(json.dumps, lines))), [(2, 2), (1, 0), (1, 7)])
-        for line in ("{", "[]", '{"answer": [], "signature": ""}'):
+        for line in ("{", "[]", '{"answer": [], "signature": ""}', "[" * 100_000):
             with self.assertRaisesRegex(ValueError, "line 2"):
                 list(growth_points([json.dumps(lines[0]), line]))
 

@@ -202,7 +202,7 @@ def read_answer(line: bytes, path: str, number: int) -> Dict[str, Any]:
     """A line of the output of a census."""
     try:
         answer = json.loads(decoded(line, path, number))
-    except ValueError as fault:
+    except (ValueError, RecursionError) as fault:
         raise fault if isinstance(fault, BadLine) else ValueError(f"{path}, line {number}: {fault}") from None
     if not (isinstance(answer, dict) and all(isinstance(answer.get(part), str) for part in ("name", "signature", "command"))):
         raise ValueError(f"{path}, line {number}: this is not a line of a census")

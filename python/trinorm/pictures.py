@@ -244,7 +244,7 @@ def growth_points(lines: Iterable[str]) -> Iterator[Tuple[int, int]]:
             length = _list_length(entry.get("answer"))
             if length >= 0:
                 yield size_of_signature(entry["signature"]), length
-        except (ValueError, KeyError, AttributeError, IndexError, TypeError) as fault:
+        except (ValueError, KeyError, AttributeError, IndexError, TypeError, RecursionError) as fault:
             raise BadArgument(f"line {number} is not a line of a census: {fault}") from None
 
 
