@@ -602,6 +602,9 @@ class FromPython(Programs):
                         raise Failed("a limit as any other")
         with self.assertRaisesRegex(BadArgument, "a lone surrogate at index 2"):
             self.census(["a \ud800"], jobs=1)
+        for text in ("s1\ns2", "s1\ns2\n", "s1 one\rs2 two\r"):
+            with self.assertRaisesRegex(BadArgument, "has several lines"):
+                self.census([text], jobs=1)
 
     def test_lines_that_are_not_utf8(self) -> None:
         with open(self.given, "wb") as file:

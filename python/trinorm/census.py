@@ -126,6 +126,9 @@ def _encoded(line: str) -> List[bytes]:
     """A line that was given as text."""
     if not isinstance(line, str):
         raise BadArgument(f"a line must be a string, such as 'cPcbbbiht figure-eight', not {shown(line)}")
+    text = line.rstrip("\r\n")
+    if "\n" in text or "\r" in text:
+        raise BadArgument(f"{shown(line)} has several lines; pass the lines of a text as text.splitlines()")
     return [as_bytes(line)]
 
 
