@@ -11,9 +11,11 @@ from trinorm.program import REPOSITORY
 PACKAGE = REPOSITORY / "python"
 # what a user writes, with the types that come out
 USER = """
+from pathlib import Path
 from typing import List, Optional, Tuple
 
 import trinorm
+from trinorm import library
 from trinorm.server import Server
 
 vectors: List[Tuple[int, ...]] = trinorm.surfaces("cPcbbbiht", "quad", timeout=5)
@@ -28,7 +30,10 @@ shown: trinorm.ZeroEfficiency = trinorm.zero_efficient(table)
 witness: Optional[trinorm.Surface] = shown.witness
 if not verdict:
     why: str = verdict.required().hint
-with Server() as server:
+path = Path("a")
+ran = trinorm.census(path, path, "sig", program=path)
+loaded: library.Library = library.at(path)
+with Server(path) as server:
     grouping: trinorm.Grouping = trinorm.group(["bkaagj", table], program=server)
     answer: str = server.run(["sig"], str(table), 5)
 try:

@@ -5,10 +5,12 @@ import math
 import numbers
 import os
 from collections.abc import Mapping, Set
-from typing import Iterable, List, Optional, Sequence, Tuple
+from typing import Iterable, List, Optional, Sequence, Tuple, Union
 
 from .errors import BadArgument
 
+# a path, as a text or as one of pathlib's
+AnyPath = Union[str, "os.PathLike[str]"]
 # in seconds: what is longer than the system waits at a time is no limit
 LONGEST = 2_000_000
 # of a whole number: 4,000 digits; Python writes no more than 4,300

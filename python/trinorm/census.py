@@ -18,7 +18,7 @@ from typing import TYPE_CHECKING, Any, BinaryIO, Callable, Dict, Iterable, Itera
 
 from . import executors
 from .answer_files import BadLine, Output, count_lines, decoded, digests, read_blocks
-from .arguments import as_bytes, checked_timeout, path_text, plain, shown, whole_number
+from .arguments import AnyPath, as_bytes, checked_timeout, path_text, plain, shown, whole_number
 from .executors import Done, Engine
 from .machine import processors
 from .options import Coords, add_run_arguments, coordinates
@@ -37,7 +37,7 @@ COORDS = {"surfaces": coordinates("surfaces"), "describe": coordinates("describe
 NAMES = tuple(sorted(COMMANDS.keys() - {"crosscheck"}))
 KINDS = {"answer": "answered", "refused": "refused", "failed": "failed"}
 # the path of a file, `-` for standard input, or the lines themselves
-Signatures = Union[str, "os.PathLike[str]", Iterable[str]]
+Signatures = Union[AnyPath, Iterable[str]]
 
 
 # a line of plain characters, with blanks alone between its words: its signature, which isn't `sig`, and its name
@@ -343,7 +343,7 @@ def run_census(signatures: Signatures, out: str, task: Task, engine: Engine, *, 
             return Ran(counter.before, counter.done(), counter.counted["failed"])
 
 
-def task_of(command: str, coords: Optional[str], timeout: Optional[float], program: Optional[str]) -> Task:
+def task_of(command: str, coords: Optional[str], timeout: Optional[float], program: Optional[AnyPath]) -> Task:
     """What is asked of each triangulation, or `BadArgument`."""
     if not isinstance(command, str) or command not in NAMES:
         raise BadArgument(f"command must be one of {', '.join(NAMES)}, not {shown(command)}")
@@ -353,9 +353,9 @@ def task_of(command: str, coords: Optional[str], timeout: Optional[float], progr
     return Task(command, cast(Coords, coords or "standard") if may_be else None, checked_timeout(timeout), find(program))
 
 
-def census(signatures: Signatures, out: str, command: CommandName = "surfaces", coords: Optional[Coords] = None, *,
+def census(signatures: Signatures, out: AnyPath, command: CommandName = "surfaces", coords: Optional[Coords] = None, *,
            timeout: Optional[float] = None, jobs: Optional[int] = None, retry_failed: bool = False, skip_bad: bool = False,
-           executor: Optional[Executor] = None, program: Optional[str] = None) -> Ran:
+           executor: Optional[Executor] = None, program: Optional[AnyPath] = None) -> Ran:
     """Runs a command on each of many signatures, and writes a JSON line for each to a file.
 
     If it is called again with the same arguments, it resumes where it stopped.

@@ -13,7 +13,7 @@ import threading
 from pathlib import Path
 from typing import Any, Callable, Dict, Generator, List, Optional, Sequence, Tuple
 
-from .arguments import as_bytes, checked_memory, checked_timeout, checked_words, joined, path_text, shown
+from .arguments import AnyPath, as_bytes, checked_memory, checked_timeout, checked_words, joined, path_text, shown
 from .errors import BadArgument, Failed, TimedOut
 from .outcomes import read_outcome
 
@@ -114,7 +114,7 @@ class Library:
     'bkaagj\\n'
     """
 
-    def __init__(self, path: str) -> None:
+    def __init__(self, path: AnyPath) -> None:
         path = _checked_path(path)
         try:
             library = ctypes.CDLL(path)
@@ -257,7 +257,7 @@ _known: Dict[str, Library] = {}
 _lock = threading.Lock()
 
 
-def at(path: str) -> Library:
+def at(path: AnyPath) -> Library:
     """The library at a path, which is loaded once.
 
     Args:

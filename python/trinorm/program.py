@@ -10,7 +10,7 @@ import threading
 from pathlib import Path
 from typing import TYPE_CHECKING, Dict, Optional, Protocol, Sequence, Tuple, Union
 
-from .arguments import as_bytes, checked_timeout, checked_words, path_text, shown
+from .arguments import AnyPath, as_bytes, checked_timeout, checked_words, path_text, shown
 from .errors import BadArgument as BadArgument, Error as Error, Failed as Failed, Place as Place, Refused as Refused  # noqa: F401
 from .errors import TimedOut as TimedOut, how_it_ended as how_it_ended, kind_and_places as kind_and_places  # noqa: F401
 from .outcomes import read_outcome as read_outcome
@@ -39,7 +39,7 @@ def _built_in_repository() -> str:
     return str(program)
 
 
-def _path_of(program: Union[str, "os.PathLike[str]"]) -> str:
+def _path_of(program: AnyPath) -> str:
     """A path as a text."""
     path = path_text(program)
     if path is None:
@@ -47,7 +47,7 @@ def _path_of(program: Union[str, "os.PathLike[str]"]) -> str:
     return path
 
 
-def find(program: Union[str, "os.PathLike[str]", None] = None) -> str:
+def find(program: Optional[AnyPath] = None) -> str:
     """The path of the program that is used.
 
     That is the one that is named here; else by TRINORM in the environment; else the one of the repository that contains this package,
@@ -93,7 +93,7 @@ class Runner(Protocol):
 
 
 # what runs the commands: a path, what runs in its place, or None for the library or the program that are found
-Program = Union[str, "os.PathLike[str]", Runner, None]
+Program = Union[AnyPath, Runner, None]
 
 
 def checked_program(program: Program) -> Program:
@@ -176,7 +176,7 @@ def run(words: Sequence[str], text: str = "", timeout: Optional[float] = None, p
 
 
 def run_process(words: Sequence[str], text: str = "", timeout: Optional[float] = None,
-                program: Union[str, "os.PathLike[str]", None] = None) -> str:
+                program: Optional[AnyPath] = None) -> str:
     """Runs a command line over an input in a process of its own.
 
     Args:

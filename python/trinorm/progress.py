@@ -4,10 +4,10 @@ from __future__ import annotations
 import os
 import subprocess
 import time
-from typing import Callable, Optional, Sequence, Union
+from typing import Callable, Optional, Sequence
 
 from . import program
-from .arguments import as_bytes, checked_timeout, checked_words, shown
+from .arguments import AnyPath, as_bytes, checked_timeout, checked_words, shown
 from .errors import BadArgument, TimedOut
 from .outcomes import read_outcome
 from .processes import Child
@@ -17,8 +17,6 @@ from .program import Program
 Progress = Callable[[float, int], object]
 # seconds between two reports
 INTERVAL = 0.1
-# a program by its path; None for the one that is found
-Named = Union[str, "os.PathLike[str]", None]
 
 
 class Reported:
@@ -27,7 +25,7 @@ class Reported:
     named: the program, if it isn't the one that is found
     """
 
-    def __init__(self, named: Named, progress: Progress) -> None:
+    def __init__(self, named: Optional[AnyPath], progress: Progress) -> None:
         self.named = named
         self._progress, self._begun = progress, time.monotonic()
 

@@ -10,7 +10,7 @@ from _thread import start_new_thread
 from pathlib import Path
 from typing import Any, Dict, Optional, Sequence, Set, Tuple, Union
 
-from .arguments import as_bytes, checked_timeout, checked_words, joined, shown
+from .arguments import AnyPath, as_bytes, checked_timeout, checked_words, joined, shown
 from .errors import NO_MEMORY_HERE, BadArgument, Failed, TimedOut, how_it_ended
 from .outcomes import read_outcome
 from .program import find
@@ -47,7 +47,7 @@ class Server:
     ['bkaagj', 'cPcbbbiht']
     """
 
-    def __init__(self, program: Optional[str] = None, *, own_group: bool = True) -> None:
+    def __init__(self, program: Optional[AnyPath] = None, *, own_group: bool = True) -> None:
         path = self.find(program)
         if not isinstance(own_group, bool):
             raise BadArgument(f"own_group must be True or False, not {shown(own_group)}")
@@ -75,7 +75,7 @@ class Server:
         self._begin()
 
     @staticmethod
-    def find(program: Optional[str] = None) -> Optional[str]:
+    def find(program: Optional[AnyPath] = None) -> Optional[str]:
         """The path of the server that was built with a program.
 
         Args:
