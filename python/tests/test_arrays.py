@@ -32,10 +32,10 @@ class Reading(unittest.TestCase):
         return f"# surfaces {len(rows)}\n" + "".join("vec " + " ".join(map(str, row)) + "\n" for row in rows)
 
     def test_entries(self) -> None:
-        small: List[Rows] = [[(0, 1, 2)], [(9, 9)] * 7, [(10, 0), (0, 1)], [(0, 1), (2, 10**18 - 1)], [(1,)], []]
+        small: List[Rows] = [[(0, 1, 2)], [(9, 9)] * 7, [(10, 0), (0, 1)], [(0, 1), (2, 10**18 - 1)], [(0, 10**18), (2**63 - 1, 1)], [(1,)], []]
         for rows in small:
             self.same(arrays.read_vectors(self.text(rows)), rows)
-        for rows in ([(0, 2**63)], [(1, 2), (LARGE, 3)], [(0, 10**18)]):
+        for rows in ([(0, 2**63)], [(1, 2), (LARGE, 3)], [(10**18, 2**63)]):
             self.same(arrays.read_vectors(self.text(rows)), rows, "object")
 
     def test_several_chunks(self) -> None:
@@ -50,6 +50,7 @@ class Reading(unittest.TestCase):
     def test_types(self) -> None:
         self.same(arrays.read_vectors(self.text([(1, 127)]), "int8"), [(1, 127)], "int8")
         self.same(arrays.read_vectors(self.text([(1, 2)]), numpy.uint16), [(1, 2)], "uint16")
+        self.same(arrays.read_vectors(self.text([(1, 2**64 - 1)]), "uint64"), [(1, 2**64 - 1)], "uint64")
         too_small: List[Tuple[Rows, str]] = [([(1, 128)], "int8"), ([(LARGE,)], "int32"), ([(LARGE,)], "uint64")]
         for rows, kind in too_small:
             with self.assertRaisesRegex(trinorm.BadArgument, "does not fit into"):

@@ -124,7 +124,7 @@ def _rows(chunk: bytes, width: int) -> Any:
 def _put(made: Any, rows: Any, at: int) -> Any:
     """The array with these rows at an index; one of objects if they don't fit into `int64`."""
     import numpy
-    if len(rows) and made.dtype != object and (rows.dtype == object or rows.max(initial=0) > numpy.iinfo(made.dtype).max):
+    if len(rows) and made.dtype != object and rows.max(initial=0) > numpy.iinfo(made.dtype).max:
         if made.dtype != numpy.int64:
             raise BadArgument(f"the entry {rows.max()} does not fit into {made.dtype}; use arrays=True")
         made = made.astype(object)
