@@ -338,9 +338,16 @@ def compare(given: argparse.Namespace, kit: Kit) -> None:
     print(f"{PROGRAM}: all {len(build.crates)} crates were proved here")
 
 
+def number_of_jobs(text: str) -> int:
+    """The number of jobs that a word names, at least 1."""
+    if text.isascii() and text.isdecimal() and 0 < len(text) < 10 and int(text) > 0:
+        return int(text)
+    raise argparse.ArgumentTypeError(f"expected a whole number of at least 1, not {text}")
+
+
 def read_words() -> argparse.Namespace:
     parser = argparse.ArgumentParser(description="Proves and builds the program.")
-    parser.add_argument("--jobs", type=int, default=jobs_that_fit(), metavar="N", help="prove by N jobs at a time")
+    parser.add_argument("--jobs", type=number_of_jobs, default=jobs_that_fit(), metavar="N", help="prove by N jobs at a time")
     parser.add_argument("--browsers", action="store_true", help="make the module for browsers too")
     parser.add_argument("--keep", action="store_true", help="keep what was proved, for the build after a change")
     kinds = parser.add_mutually_exclusive_group()

@@ -69,6 +69,13 @@ class Build(unittest.TestCase):
         kept = [it.name for it in (self.folder / "cache" / "trinorm" / "programs").iterdir() if it.is_dir()]
         self.assertEqual([name.count("-") for name in kept], [2])
 
+    def test_numbers_of_jobs(self) -> None:
+        for jobs in ("0", "-1", "x", "", "9" * 30):
+            done = self.clone.build("--jobs", jobs)
+            self.assertEqual((done.returncode, self.clone.proved()), (2, []), jobs)
+            self.assertIn("expected a whole number of at least 1, not", done.stderr)
+        self.assertEqual(self.clone.build("--jobs", "1").returncode, 0)
+
     def test_a_touched_source_proves_nothing(self) -> None:
         self.clone.launch()
         self.clone.proved()
