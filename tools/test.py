@@ -393,7 +393,7 @@ def main() -> int:
     parser.add_argument("--complete", action="store_true", help="fail if a test is skipped or a part is left out")
     given = parser.parse_args()
     tests = Tests([name.strip() for name in given.only.split(",") if name.strip()], complete=given.complete)
-    known = [part.name for part in [*quick_parts(), *late_parts()]]
+    known = [part.name for part in [*quick_parts(), *([] if given.quick else late_parts())]]
     unknown = [name for name in tests.only if name not in known]
     if unknown:
         sys.exit(f"no part {unknown[0]}; there are {', '.join(known)}")

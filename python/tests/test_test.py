@@ -146,6 +146,13 @@ class Parts(unittest.TestCase):
         self.assertEqual(tool.faults_of(said), "Ran 3 tests in 0.1s\n\nOK (skipped=1)\n")
         self.assertEqual(tool.Result(True, "3 examples ran\n").note(), "")
 
+    def test_parts_that_would_not_run(self) -> None:
+        """Quick checks alone have no late parts, so one that is asked for does not pass."""
+        done = subprocess.run([sys.executable, str(REPOSITORY / "tools" / "test.py"), "--quick", "--only", "style"], stdin=subprocess.DEVNULL,
+                              capture_output=True, text=True, check=False)
+        self.assertEqual((done.returncode, done.stdout), (1, ""))
+        self.assertTrue(done.stderr.startswith("no part style; there are edits apply, "), done.stderr)
+
     def test_a_part_that_does_not_end(self) -> None:
         """It is ended with all that it started, and fails."""
         with tempfile.TemporaryDirectory() as folder:
