@@ -403,6 +403,12 @@ class Growth(unittest.TestCase):
             with self.assertRaisesRegex(ValueError, "line 2"):
                 list(growth_points([json.dumps(lines[0]), line]))
 
+    def test_many_sizes(self) -> None:
+        """Their numbers are as many as have room next to each other."""
+        for last, shown in ((24, range(1, 25)), (25, range(1, 26, 2)), (10 ** 12, range(1, 10 ** 12, 1 + (10 ** 12 - 1) // 24))):
+            texts = re.findall(r'<text x="([0-9.]+)" y="368"[^>]*>([^<]*)<', growth_svg([(1, 2), (last, 3)]))
+            self.assertEqual([number for _, number in texts], list(map(str, shown)))
+
     def test_svg(self) -> None:
         picture = growth_svg([(1, 2), (2, 1), (2, 30), (3, 0)])
         self.assertEqual((count(picture, "circle"), count(picture, "polyline")), (4, 1))

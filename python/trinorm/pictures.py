@@ -256,6 +256,8 @@ def _median(counts: Sequence[int]) -> float:
 class Plane:
     """Where a number of tetrahedra and the length of a list stand in the picture; lengths go by their logarithm."""
     WIDE, HIGH, LEFT, BELOW, EDGE = 720, 400, 70, 50, 20
+    # of more numbers of tetrahedra each second, third .. one has its number
+    MOST_NUMBERS = 24
 
     def __init__(self, points: Sequence[Tuple[int, int]]) -> None:
         self.first, self.last = min(at for at, _ in points), max(at for at, _ in points)
@@ -273,7 +275,7 @@ class Plane:
             y = self.y(10 ** power)
             yield f'<line x1="{self.LEFT}" x2="{self.WIDE - self.EDGE}" y1="{y:.0f}" y2="{y:.0f}" stroke="#ddd"/>'
             yield f'<text x="{self.LEFT - 8}" y="{y + 4:.0f}" text-anchor="end">{10 ** power:,}</text>'
-        for at in range(self.first, self.last + 1):
+        for at in range(self.first, self.last + 1, 1 + (self.last - self.first) // self.MOST_NUMBERS):
             yield f'<text x="{self.x(at):.0f}" y="{self.HIGH - self.BELOW + 18}" text-anchor="middle">{at}</text>'
         legend = "tetrahedra; the line joins the medians"
         yield f'<text x="{(self.LEFT + self.WIDE) / 2:.0f}" y="{self.HIGH - 12}" text-anchor="middle">{legend}</text>'
