@@ -413,6 +413,22 @@ class Shared(Folder):
             self.assertEqual([os.waitpid(child, 0)[1] for child in children], [0] * 5)
             self.assertEqual([it.result() for it in running], self.TEXTS)
 
+    def test_a_child_that_is_forked_while_a_process_is_ended(self) -> None:
+        """By another thread, which has closed its pipes, but has not yet waited for it."""
+        self.echo("one")
+        [process] = self.server._all
+        self.server._calls[process] = Call()
+        for pipe in process.pipes:
+            pipe.close()
+        child = os.fork()
+        if child == 0:
+            try:
+                os._exit(0 if asks((self.server, ["one"])) == ["one"] else 1)
+            finally:
+                os._exit(2)
+        self.assertEqual(os.waitpid(child, 0)[1], 0)
+        process.end()
+
     def test_a_child_leaves_the_processes_of_its_parent(self) -> None:
         before = self.processes()
         child = os.fork()

@@ -101,6 +101,8 @@ class ServerProcess:
         """
         self.run.returncode = 0
         for pipe in self.pipes:
+            if pipe.closed:  # another thread of the parent was ending the process
+                continue
             with contextlib.suppress(OSError):
                 if is_asked:
                     null = os.open(os.devnull, os.O_RDWR | os.O_CLOEXEC)
