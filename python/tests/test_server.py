@@ -272,6 +272,27 @@ class Answers(Folder):
                     found.add(words[0])
         return found
 
+    def test_an_exception_of_a_handler_where_a_call_is_ended(self) -> None:
+        """Raised before the first step of that, or behind the last one."""
+        class Stop(Exception):
+            pass
+        end_call = Server._end_call
+        for steps in (0, 1):
+            asked: List[Call] = []
+
+            def interrupted(of: Server, call: Call, steps: int = steps, asked: List[Call] = asked) -> None:
+                asked.append(call)
+                if steps or len(asked) > 1:
+                    end_call(of, call)
+                if len(asked) == 1:
+                    raise Stop
+            with unittest.mock.patch.object(Server, "_end_call", interrupted), self.assertRaises(Stop):
+                self.echo("one", "sleep", timeout=0.2)
+            self.assertEqual((self.processes(), self.server._calls), ([], {}))
+            self.assertEqual(self.echo("two"), "two")
+            [process] = self.server._all
+            process.end()
+
     def test_no_call_takes_a_process_that_is_ended(self) -> None:
         """Its descriptors may be those of another file by then."""
         self.echo("one")

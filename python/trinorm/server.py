@@ -148,10 +148,14 @@ class Server:
         while True:
             call = Call()
             try:
-                answer = self._ask_one(call, request, given, deadline)
-            except BaseException as fault:  # as KeyboardInterrupt: the answer may still come, to no other request
+                try:
+                    answer = self._ask_one(call, request, given, deadline)
+                except BaseException as fault:  # as KeyboardInterrupt: the answer may still come, to no other request
+                    self._end_call(call)
+                    raise self._failure(fault, words, timeout) from None
+            except BaseException:  # once more, since a handler of a signal may have raised before the process was ended
                 self._end_call(call)
-                raise self._failure(fault, words, timeout) from None
+                raise
             if isinstance(answer, tuple):
                 return answer
             if answer is not None:
