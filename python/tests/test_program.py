@@ -3,6 +3,7 @@ import os
 import pickle
 import signal
 import tempfile
+import threading
 import unittest
 from pathlib import Path
 from typing import Any, Callable, List, Tuple
@@ -11,6 +12,7 @@ from unittest import mock
 import trinorm
 from tests.programs import script
 from trinorm.errors import NO_MEMORY_HERE
+from trinorm.machine import Lock
 from trinorm.program import kind_and_places, run
 
 
@@ -119,6 +121,27 @@ class Finding(unittest.TestCase):
                 self.assertEqual([trinorm.find(), trinorm.find()], [os.path.join(folder, "crates", "trinorm", "out", "trinorm")] * 2)
             with open(os.path.join(folder, "log"), encoding="utf8") as file:
                 self.assertEqual(file.read(), "built\n")
+
+    def test_no_one_waits_for_ever_for_the_lock(self) -> None:
+        """Of the build, or of the library: neither a handler of a signal in the thread that has it, nor a child that was forked while
+        another thread had it."""
+        lock, is_held, is_over = Lock(), threading.Event(), threading.Event()
+
+        def hold() -> None:
+            with lock.held(), lock.held():
+                is_held.set()
+                is_over.wait()
+        other = threading.Thread(target=hold)
+        other.start()
+        is_held.wait()
+        child = os.fork()
+        if child == 0:
+            signal.alarm(10)  # which ends it if it waits
+            with lock.held():
+                os._exit(0)
+        self.assertEqual(os.waitpid(child, 0)[1], 0)
+        is_over.set()
+        other.join()
 
     def test_how_a_process_ended(self) -> None:
         for status, said in ((-9, "killed by signal 9"), (-1, "killed by signal 1"), (0, "status 0"), (1, "status 1"), (6, "standard input could not be read"),

@@ -15,6 +15,7 @@ from typing import Any, Callable, Dict, Generator, List, Optional, Sequence, Tup
 
 from .arguments import AnyPath, as_bytes, checked_memory, checked_timeout, checked_words, joined, path_text, shown
 from .errors import BadArgument, Failed, TimedOut
+from .machine import Lock
 from .outcomes import read_outcome
 
 NAME = {"win32": "trinorm.dll", "darwin": "libtrinorm.dylib"}.get(sys.platform, "libtrinorm.so.1")
@@ -254,7 +255,7 @@ def _checked_path(path: object) -> str:
 
 
 _known: Dict[str, Library] = {}
-_lock = threading.Lock()
+_lock = Lock()
 
 
 def at(path: AnyPath) -> Library:
@@ -276,7 +277,7 @@ def at(path: AnyPath) -> Library:
     True
     """
     path = _checked_path(path)
-    with _lock:
+    with _lock.held():
         if path not in _known:
             _known[path] = Library(path)
         return _known[path]

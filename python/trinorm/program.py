@@ -6,13 +6,13 @@ from __future__ import annotations
 import os
 import shutil
 import subprocess
-import threading
 from pathlib import Path
 from typing import TYPE_CHECKING, Dict, Optional, Protocol, Sequence, Tuple, Union
 
 from .arguments import AnyPath, as_bytes, checked_timeout, checked_words, path_text, shown
 from .errors import BadArgument as BadArgument, Error as Error, Failed as Failed, Place as Place, Refused as Refused  # noqa: F401
 from .errors import TimedOut as TimedOut, how_it_ended as how_it_ended, kind_and_places as kind_and_places  # noqa: F401
+from .machine import Lock
 from .outcomes import read_outcome as read_outcome
 from .processes import Child
 
@@ -21,7 +21,7 @@ if TYPE_CHECKING:
 
 REPOSITORY = Path(__file__).resolve().parents[2]
 
-_build = threading.Lock()
+_build = Lock()
 _is_built = False
 
 
@@ -29,7 +29,7 @@ def _built_in_repository() -> str:
     """The repository's program; where it isn't built, or a source was changed, it is built first, once a process."""
     global _is_built
     program = REPOSITORY / "crates" / "trinorm" / "out" / "trinorm"
-    with _build:
+    with _build.held():
         if not _is_built:
             launcher = str(REPOSITORY / "trinorm")
             done = subprocess.run([launcher, "csig"], input=b"tri 0\n", stdout=subprocess.DEVNULL, check=False)
