@@ -4,8 +4,8 @@
     tools/release.py [--gate FILE] [--out FOLDER]
 
 It needs a clean checkout, and a program of these very sources from one build that proved all crates from scratch
-(`tools/build.py --anew`). --gate names what the gate said (`rt ci`): its last line goes into MANIFEST. Made of that build again, each file is the
-same bit for bit.
+(`tools/build.py --anew`). --gate names what the gate said (`rt ci`): its last line, which must say that nothing failed, goes into
+MANIFEST. Made of that build again, each file is the same bit for bit.
 """
 from __future__ import annotations
 
@@ -18,6 +18,7 @@ from typing import Dict, List, NoReturn, Tuple
 import commands
 import elsewhere
 import packages
+from edits import LAST, last_line
 from kept import Programs
 from manifest import Manifest
 from prove import Kit
@@ -53,9 +54,15 @@ def refuse_without_verdict(manifest: Manifest) -> None:
         refuse("crates on which no program stands have changed since the build: tools/build.py --anew proves all crates")
 
 
-def last_line(path: str) -> str:
-    lines = [line.strip() for line in Path(path).read_text("utf8", "replace").split("\n") if line.strip()]
-    return lines[-1] if lines else ""
+def verdict_of_gate(path: str) -> str:
+    """The last line of a log of the gate. Ends if that is not the line of a gate that passed."""
+    try:
+        last = last_line(Path(path).read_text("utf8", "replace").split("\n"))
+    except OSError as fault:
+        refuse(f"{path}: {fault.strerror}")
+    if not LAST.fullmatch(last):
+        refuse(f"{path} does not end with a line `N passed, 0 failed`, but with: {last or 'nothing'}")
+    return last
 
 
 def release(gate: str) -> List[Tuple[str, bytes]]:
@@ -73,7 +80,7 @@ def release(gate: str) -> List[Tuple[str, bytes]]:
 
 def main() -> None:
     parser = argparse.ArgumentParser(description="Makes a release of the commit.")
-    parser.add_argument("--gate", metavar="FILE", help="the output of the merge gate (rt ci), whose last line goes into MANIFEST")
+    parser.add_argument("--gate", metavar="FILE", help="the output of a merge gate (rt ci) that passed, whose last line goes into MANIFEST")
     parser.add_argument("--out", metavar="FOLDER", default=str(TOP / "dist"), help="the folder of the files (default: dist)")
     given = parser.parse_args()
     if commit(TOP) == "none":
@@ -82,7 +89,7 @@ def main() -> None:
         refuse("the checkout differs from its commit")
     if commands.TABLE.read_text("utf8") != commands.table_of(commands.made()):
         refuse("python/trinorm/commands.txt is stale: tools/commands.py writes it")
-    files = release(last_line(given.gate) if given.gate else "")
+    files = release(verdict_of_gate(given.gate) if given.gate else "")
     out = Path(given.out)
     out.mkdir(parents=True, exist_ok=True)
     for name, data in files:

@@ -392,11 +392,11 @@ def main() -> int:
     parser.add_argument("--quick", action="store_true", help="only the checks before the merge gate")
     parser.add_argument("--complete", action="store_true", help="fail if a test is skipped or a part is left out")
     given = parser.parse_args()
-    tests = Tests([name.strip() for name in given.only.split(",") if name.strip()], complete=given.complete)
+    tests = Tests([name.strip() for name in given.only.split(",")] if given.only else [], complete=given.complete)
     known = [part.name for part in [*quick_parts(), *([] if given.quick else late_parts())]]
     unknown = [name for name in tests.only if name not in known]
     if unknown:
-        sys.exit(f"no part {unknown[0]}; there are {', '.join(known)}")
+        sys.exit(f"no part '{unknown[0]}'; there are {', '.join(known)}")
     tests.run_all(quick_parts())
     if not given.quick:
         there = tests.install(lambda: Gate().build("the gate was not asked for")) if given.without_gate or tests.only else tests.run_gate()

@@ -47,7 +47,7 @@ class Release(unittest.TestCase):
         cls.clone.build()
         cls.partial = cls.clone.run(["tools/release.py"])
         cls.clone.build("--anew")
-        (cls.folder / "gate").write_text("one\nall passed\n\n")
+        (cls.folder / "gate").write_text("one\n12 passed, 0 failed\n\n")
         cls.done = cls.clone.run(["tools/release.py", "--gate", str(cls.folder / "gate")])
 
     def file(self, ending: str) -> Path:
@@ -95,10 +95,19 @@ class Release(unittest.TestCase):
         done = subprocess.run(["sha256sum", "-c", "--quiet", "SHA256SUMS"], cwd=self.clone.top / "dist", check=False)
         self.assertEqual(done.returncode, 0)
 
+    def test_a_gate_that_did_not_pass(self) -> None:
+        log = self.folder / "other-gate"
+        for text, why in (("11 passed, 1 failed\n", "with: 11 passed, 1 failed"), ("", "with: nothing"), (None, "No such file or directory")):
+            if text is not None:
+                log.write_text(text)
+            done = self.clone.run(["tools/release.py", "--gate", str(log if text is not None else self.folder / "none")])
+            self.assertEqual(done.returncode, 1)
+            self.assertIn(why, done.stderr)
+
     def test_manifest(self) -> None:
         lines = self.file("MANIFEST").read_text().splitlines()
         head = subprocess.run(["git", "rev-parse", "HEAD"], cwd=self.clone.top, capture_output=True, text=True, check=True).stdout.strip()
-        for line in (f"commit {head}", "kit made-up-kit-1", "anew yes", "gate all passed", "verdict left logic=proved functions=1 of=left", "verdict beside logic=proved functions=1 of=beside"):
+        for line in (f"commit {head}", "kit made-up-kit-1", "anew yes", "gate 12 passed, 0 failed", "verdict left logic=proved functions=1 of=left", "verdict beside logic=proved functions=1 of=beside"):
             self.assertIn(line, lines)
         written = "\n".join(it for it in lines if it.startswith(("crate ", "source "))) + "\n"
         done = subprocess.run(["sha256sum"], input=written, capture_output=True, text=True, check=True)

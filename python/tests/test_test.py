@@ -148,10 +148,11 @@ class Parts(unittest.TestCase):
 
     def test_parts_that_would_not_run(self) -> None:
         """Quick checks alone have no late parts, so one that is asked for does not pass."""
-        done = subprocess.run([sys.executable, str(REPOSITORY / "tools" / "test.py"), "--quick", "--only", "style"], stdin=subprocess.DEVNULL,
-                              capture_output=True, text=True, check=False)
-        self.assertEqual((done.returncode, done.stdout), (1, ""))
-        self.assertTrue(done.stderr.startswith("no part style; there are edits apply, "), done.stderr)
+        for words, named in ((["--quick", "--only", "style"], "style"), (["--only", ","], "")):
+            done = subprocess.run([sys.executable, str(REPOSITORY / "tools" / "test.py"), *words], stdin=subprocess.DEVNULL,
+                                  capture_output=True, text=True, check=False)
+            self.assertEqual((done.returncode, done.stdout), (1, ""))
+            self.assertTrue(done.stderr.startswith(f"no part '{named}'; there are edits apply, "), done.stderr)
 
     def test_a_part_that_does_not_end(self) -> None:
         """It is ended with all that it started, and fails."""
