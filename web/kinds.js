@@ -4,7 +4,7 @@
 /** A closed vertex link in words. */
 function link_name({kind, euler}) {
     if (kind === 'klein') return 'Klein bottle';
-    if (kind === 'other') return euler === '1' ? 'projective plane' : `closed surface, χ = ${euler}`;
+    if (kind === 'other') return euler === '1' ? 'projective plane' : `closed surface with χ = ${euler}`;
     return kind;
 }
 
@@ -28,7 +28,7 @@ export function kind_of({facts, vertices, edges}) {
 }
 
 function ideal_links({ideal, count, links}) {
-    if (count === 1) return `its only vertex link is not a sphere (${links})`;
+    if (count === 1) return `its only vertex link is a ${links}, not a sphere`;
     return `${ideal} of its ${count} vertex links ${ideal === 1 ? 'is not a sphere' : 'are not spheres'} (${links})`;
 }
 

@@ -1122,11 +1122,11 @@ return [first < 100, rows() < 100, Math.abs(middle - 50000) < 1000, document.act
         verdict = "return [by('view').querySelector('.verdict').textContent, by('view').textContent];"
         holds = "Each connected normal surface of positive Euler characteristic is a vertex link."
         efficient = "0-efficient: each connected normal surface of positive Euler characteristic is a vertex link."
-        closed, ideal = "It is closed (each vertex link is a sphere) and orientable, so it is ", "It is an ideal triangulation: its only vertex link is not a sphere "
+        closed, ideal = "It is closed (each vertex link is a sphere) and orientable, so it is ", "It is an ideal triangulation: its only vertex link is a "
         trials: List[Tuple[str, str, List[str], List[str]]] = [
             ("sig bkaagj", efficient, [closed + self.JACO_AND_RUBINSTEIN], ["ideal", "boundary faces"]),
-            ("sig cPcbbbiht", holds, [ideal + "(torus)", "it contains no normal sphere and no normal projective plane"], [self.JACO_AND_RUBINSTEIN, "closed (each"]),
-            ("tri 1\n0:1203 0:2013 0:0231 0:0312\n", holds, [ideal + "(Klein bottle)", "It is not orientable."], [self.JACO_AND_RUBINSTEIN]),
+            ("sig cPcbbbiht", holds, [ideal + "torus, not a sphere", "it contains no normal sphere and no normal projective plane"], [self.JACO_AND_RUBINSTEIN, "closed (each"]),
+            ("tri 1\n0:1203 0:2013 0:0231 0:0312\n", holds, [ideal + "Klein bottle, not a sphere", "It is not orientable."], [self.JACO_AND_RUBINSTEIN]),
             ("sig eLMkabcddbrrag", "Not 0-efficient: surface [0-9]+ is a projective plane and not a vertex link.", [closed + "not " + self.JACO_AND_RUBINSTEIN, "the double of this projective plane"], []),
             ("sig dLQbcccajqs", "Surface [0-9]+ is a projective plane and not a vertex link.", ["It is closed (each vertex link is a sphere) and not orientable.", "A two-sided projective plane counts here"], [self.JACO_AND_RUBINSTEIN]),
             ("sig bGad", holds, ["The link of vertex 0 has boundary and is not a disc, so this is not a triangulation of a 3-manifold."], [self.JACO_AND_RUBINSTEIN]),
@@ -1145,7 +1145,7 @@ return [first < 100, rows() < 100, Math.abs(middle - 50000) < 1000, document.act
 
     def test_info_says_the_kind(self) -> None:
         self.open()
-        for text, kind in (("bkaagj", "Closed: each vertex link is a sphere."), ("cPcbbbiht", "Ideal: there is no boundary face, and its only vertex link is not a sphere (torus)."),
+        for text, kind in (("bkaagj", "Closed: each vertex link is a sphere."), ("cPcbbbiht", "Ideal: there is no boundary face, and its only vertex link is a torus, not a sphere."),
                            ("tri 1\n- - - -", "With boundary faces.")):
             self.assertEqual(self.ask("info", text, "return by('kind').textContent;"), kind)
         invalid = self.ask("info", (REPOSITORY / "examples" / "with-boundary.txt").read_text(), "return by('view').textContent;")
@@ -1352,7 +1352,7 @@ return [labels('face').length > 0, labels('name').length > 0, Math.min(100, ...l
             shown.append(text)
         eight, gieseking, poincare, klein, contrary, lens = shown
         self.assertRegex(eight, "^1 vertex normal surface; 1 × torus")
-        self.assertIn("its only vertex link is not a sphere (Klein bottle)", gieseking)
+        self.assertIn("its only vertex link is a Klein bottle, not a sphere", gieseking)
         self.assertIn("orientableno", gieseking)
         self.assertIn("0-efficient: each connected normal surface of positive Euler characteristic is a vertex link.", poincare)
         self.assertRegex(klein, "Klein bottle")
