@@ -3,6 +3,7 @@
 
 ghost use Rattle.std.specs.Prelude.{◌≡◌, ◌+◌, ◌/◌, ◌<◌, None, length, IfOk, OnOk, Contains};
 ghost use Rattle.std.specs.List.{All};
+ghost use Rattle.support_table.specs.Narrow.{AreUsed};
 ghost use Rattle.support_table.specs.Parts.{AreAllBelow, AreCommonColumns, IsPart, AreFoundFor};
 
 use crate::blocks::keep_common;
@@ -10,6 +11,7 @@ use crate::chunk::{Chunk, chunk_at};
 use crate::chunks::find_chunk;
 use crate::columns::{Parting, clashing_columns, common_column};
 use crate::masks::CHUNK;
+use crate::narrow::{narrowed_outers, narrowed_table, used_columns};
 use crate::outer::PartSearch;
 use crate::part::Part;
 use out_of_memory::NoMemory;
@@ -148,9 +150,8 @@ fn none_found(alloc: Global, count: usize) -> Result<Vec<Found>, NoMemory>
     Ok(found)
 }
 
-/// For each ray of `search.rays`, if it is one of `search.outers`, the rays adjacent to it that are `true` in
-/// `search.selected`. The contract says only that each list is right, and not which rays have one.
-pub fn find_adjacent(alloc: Global, search: PartSearch) -> Result<Vec<Found>, NoMemory>
+/// As `find_adjacent`, among all columns.
+fn find_all(alloc: Global, search: PartSearch) -> Result<Vec<Found>, NoMemory>
     ensures { IfOk result (λ found.
         AreFoundFor search.entry.rays.now.supports search.entry.outers.now search.entry.selected.now search.entry.most
         found.items) }
@@ -166,4 +167,42 @@ pub fn find_adjacent(alloc: Global, search: PartSearch) -> Result<Vec<Found>, No
     };
     find_parts(alloc, parting, chosen, &part, MOST_PARTINGS, &mut found)?;
     Ok(found)
+}
+
+/// As `find_adjacent`, among the columns `used` alone.
+fn find_narrowed(alloc: Global, search: PartSearch, used: &[u32]) -> Result<Vec<Found>, NoMemory>
+    requires { AreUsed search.rays.now search.outers.now used.now }
+    ensures { IfOk result (λ found.
+        AreFoundFor search.entry.rays.now.supports search.entry.outers.now search.entry.selected.now search.entry.most
+        found.items) }
+{
+    let rays = narrowed_table(alloc, search.rays, used)?;
+    let outers = narrowed_outers(alloc, search, used)?;
+    let narrowed = PartSearch {
+        rays: &rays,
+        selected: search.selected,
+        outers: &outers,
+        most: search.most,
+    };
+    find_all(alloc, narrowed)
+}
+
+/// Whether supports of `used` columns have fewer words than supports of `columns` columns. Affects speed alone.
+fn saves_words(used: usize, columns: u32) -> bool {
+    used.div_ceil(64) < (columns as usize).div_ceil(64)
+}
+
+/// For each ray of `search.rays`, if it is one of `search.outers`, the rays adjacent to it that are `true` in
+/// `search.selected`. The contract says only that each list is right, and not which rays have one.
+pub fn find_adjacent(alloc: Global, search: PartSearch) -> Result<Vec<Found>, NoMemory>
+    ensures { IfOk result (λ found.
+        AreFoundFor search.entry.rays.now.supports search.entry.outers.now search.entry.selected.now search.entry.most
+        found.items) }
+{
+    let rays = search.rays;
+    let used = used_columns(alloc, search)?;
+    if saves_words(used.len(), rays.columns()) {
+        return find_narrowed(alloc, search, &used);
+    }
+    find_all(alloc, search)
 }

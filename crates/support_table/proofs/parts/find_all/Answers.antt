@@ -1,6 +1,6 @@
 use Rattle.std.proofs.Common.{◌∙◌}
 use Rattle.support_table.proofs.PartLemmas.{part_of_all, found_none}
-use Rattle.support_table.proofs.parts.find_adjacent.Goals as goal
+use Rattle.support_table.proofs.parts.find_all.Goals as goal
 
 pub find_parts-requires-clause-part : goal.find_parts-requires-clause-part
 find_parts-requires-clause-part c =
