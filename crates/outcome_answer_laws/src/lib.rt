@@ -40,11 +40,13 @@ pub fn solutions_are_lifted()
     ensures lifted { SolutionsAreLifted }
 {}
 
-/// Theorem: let m be at most 333.
+/// Theorem:
 ///
-/// 1. A run of `make` for any seed and m moves prints a table with a certificate of exactly m moves.
-/// 2. A run of `bulk` for any seed and m moves prints the summary of the standard vertex surfaces of a table that has a
-///    certificate of exactly m moves, or names the first number of their enumeration that exceeds 2^127 - 1.
+/// 1. Let m be at most 333. A run of `make` for any seed and m moves prints a table with a certificate of exactly m
+///    moves.
+/// 2. A run of `bulk` for any seed and m moves, of which at most 5 are accepted, prints the summary of the standard
+///    vertex surfaces of a table that has a certificate of exactly m moves. No number of their enumeration exceeds
+///    2^127 - 1.
 pub fn all_moves_are_made()
     ensures make { AllMovesAreMade }
     ensures bulk { AllMovesAreSummedUp }

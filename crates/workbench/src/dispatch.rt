@@ -243,8 +243,9 @@ pub fn run<S: Source, K: Sink>(alloc: Global, words: &Words, source: &mut S, sin
         → IfSome (S.left source.old) (λ bytes. PrintsVerdicts coords bytes (K.held sink.old) (K.held sink.new)) }
 
     // If each vertex link is a sphere or a disc, `lift` writes the lift of every admissible solution of the quad
-    // equations with small sums. `make` writes, and `bulk` checks, a certificate of exactly as many moves as the
-    // request names, up to 333. `check` ends with `Done` if and only if the moves are a certificate.
+    // equations with small sums. `make` writes a table with a certificate of exactly as many moves as the request
+    // names, up to 333. `bulk` writes the summary of the vertex surfaces of a table with such a certificate, and no
+    // number exceeds the limit. `check` ends with `Done` if and only if the moves are a certificate.
     ensures lifts { accepted_request words.now ≡ Some Request.Lift
         → IfSome (S.left source.old) (λ bytes.
         (rows : List Row) → (vectors : List (List ℕ)) → (equations : List EquationRow) → length bytes ≤ most_bytes
@@ -255,7 +256,6 @@ pub fn run<S: Source, K: Sink>(alloc: Global, words: &Words, source: &mut S, sin
     ensures makes { (seed : ℕ) → (moves : ℕ) → accepted_request words.now ≡ Some (Request.Make seed moves) → moves ≤ 333
         → Writes (IsTableWithMoves moves) result (K.held sink.old) (K.held sink.new) }
     ensures sums_up { (seed : ℕ) → (moves : ℕ) → accepted_request words.now ≡ Some (Request.Bulk seed moves)
-        → moves ≤ 333
         → Writes (IsSummaryWithMoves seed moves) result (K.held sink.old) (K.held sink.new) }
     ensures checks { IsAnswered result → accepted_request words.now ≡ Some Request.Check
         → IfSome (S.left source.old) (λ bytes. (rows : List Row) → (moves : List Move) → length bytes ≤ most_bytes

@@ -1,5 +1,6 @@
 -- What holds of each run, and what follows for each command.
 use Rattle.std.proofs.Common.{refl}
+use Rattle.command_definitions.proofs.Accepted.{accepted_in_range}
 use Rattle.command_definitions.specs.declared.Request.TheVariants.{Play, Same, Group, Make, Bulk, Decompose, Addup, Cover, Csame}
 use Rattle.text_document_definitions.specs.Documents.{table_document, two_tables_document, tables_document, vectors_document, steps_document}
 use Rattle.text_document_definitions.specs.Blocks.{blocks_document}
@@ -94,7 +95,8 @@ returns-clause-makes g c = λ seed moves e limited.
     alone_told (IsTableWithMoves moves) (Make seed moves) refl (λ p. made_with_moves seed moves p limited) c.run_request.result _ _ (c.run_request.ensures.words_alone (Make seed moves) e refl)
 
 pub returns-clause-sums_up : goal.returns-clause-sums_up
-returns-clause-sums_up g c = λ seed moves e limited.
+returns-clause-sums_up g c = λ seed moves e.
+    let limited = accepted_in_range c.args.words.now (Bulk seed moves) e in
     alone_told (IsSummaryWithMoves seed moves) (Bulk seed moves) refl (λ p. summed_up_with_moves seed moves p limited) c.run_request.result _ _ (c.run_request.ensures.words_alone (Bulk seed moves) e refl)
 
 pub returns-clause-checks : goal.returns-clause-checks
