@@ -2,24 +2,14 @@
 
 ghost use Rattle.std.specs.Prelude.{◌≡◌, ◌+◌, ◌/◌, ◌<◌, ◌^◌, length, map, IfOk};
 ghost use Rattle.std.specs.List.{All};
-ghost use Rattle.support_bits.specs.Words.{AreEither, bit_of};
+ghost use Rattle.support_bits.specs.Words.{bit_of};
 ghost use Rattle.support_table.specs.Narrow.{columns_of, narrowed_outer, narrowed_table, AreColumnsBelow, AreColumnsMarked, AreUsed, IsMarkedIn};
 
 use crate::outer::{Outer, PartSearch};
 use crate::table::SupportTable;
 use out_of_memory::NoMemory;
 use std::alloc::Global;
-use support_bits::{Support, is_set};
-
-/// Sets in `words` each bit that is set in `other`, of equal length.
-fn add_words(words: &mut Vec<u64>, other: &[u64])
-    requires { length other.now ≡ length words.old.items }
-    ensures { AreEither words.old.items other.now words.new.items }
-{
-    for (k, word) in other.iter().enumerate() {
-        words[k] |= *word;
-    }
-}
+use support_bits::{Support, add_bits, is_set};
 
 /// The words of the columns that a ray of `rays` contains.
 fn words_of_rays(alloc: Global, rays: &SupportTable) -> Result<Vec<u64>, NoMemory>
@@ -27,7 +17,7 @@ fn words_of_rays(alloc: Global, rays: &SupportTable) -> Result<Vec<u64>, NoMemor
 {
     let mut words = vec![in alloc; 0u64; (rays.columns() as usize).div_ceil(64)]?;
     for place in 0..rays.len() {
-        add_words(&mut words, rays.words_at(place));
+        add_bits(&mut words, rays.words_at(place));
     }
     Ok(words)
 }
@@ -41,7 +31,7 @@ fn add_outers(search: PartSearch, words: &mut Vec<u64>)
 {
     for outer in search.outers {
         let support = &outer.support;
-        add_words(words, support.words());
+        add_bits(words, support.words());
     }
 }
 

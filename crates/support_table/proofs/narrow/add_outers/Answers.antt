@@ -22,11 +22,11 @@ loop-outer-preserved c =
     let it = c.outer-item.result in
     let old = c.loop-outer.words.items in
     let added = c.words.result.now in
-    let new = c.add_words.new.words.items in
+    let new = c.add_bits.new.words.items in
     let wide = ap (λ (o : Outer). length o.support) c.outer-item.is ∙ search.are_outers.supports i it c.loop-outer-test.true in
     let at : outer_at outers i ≡ it = get_or_default outers i (record { place = 0; support = []; joined = [] }) it c.loop-outer-test.true ∙ sym c.outer-item.is in record {
-      rays = rays_still_marked columns search.rays.now.supports old added new c.loop-outer.invariant.rays c.add_words.ensures;
-      outers = marked_more columns (λ k. (outer_at outers k).support) i old added new c.loop-outer.invariant.outers c.add_words.ensures
+      rays = rays_still_marked columns search.rays.now.supports old added new c.loop-outer.invariant.rays c.add_bits.ensures;
+      outers = marked_more columns (λ k. (outer_at outers k).support) i old added new c.loop-outer.invariant.outers c.add_bits.ensures
           (subst (λ (o : Outer). AreWordsOf o.support added) (sym at) c.words.ensures) (ap (λ (o : Outer). length o.support) at ∙ wide);
     }
 
