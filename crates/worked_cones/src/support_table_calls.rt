@@ -260,7 +260,8 @@ fn scattered(seed: u64) -> u128 {
     bits
 }
 
-/// 300 outer rays are separated by columns, and handled 64 at a time. The second word of a support has four columns.
+/// 300 outer rays are separated by columns, and handled 64 at a time. They have 16 of 68 columns, for which a support
+/// needs one word; one more ray has all columns.
 #[test]
 fn many_at_once(rt: HostRuntime) -> Result<(), NoMemory> {
     let alloc = rt.alloc();
@@ -270,11 +271,20 @@ fn many_at_once(rt: HostRuntime) -> Result<(), NoMemory> {
         rows.push(scattered(seed + 1))?;
         selected.push(seed % 5 != 0)?;
     }
-    let given = Given {
+    let pairs = [(0, 1), (2, 3), (4, 66), (61, 62)];
+    let sparse = Given {
         columns: 68,
         rows: &rows,
-        pairs: &[(0, 1), (2, 3), (4, 66), (61, 62)],
+        pairs: &pairs,
     };
-    find_all(&rt, alloc, given, &selected, 7)?;
+    find_all(&rt, alloc, sparse, &selected, 7)?;
+    rows.push((1 << 68) - 1)?;
+    selected.push(true)?;
+    let full = Given {
+        columns: 68,
+        rows: &rows,
+        pairs: &pairs,
+    };
+    find_all(&rt, alloc, full, &selected, 7)?;
     Ok(())
 }
