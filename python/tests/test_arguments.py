@@ -55,8 +55,10 @@ class Arguments(unittest.TestCase):
         """The program reads any number of zeros before a number, so the package does."""
         for zeros in (1, 20, 5000):
             text = f"tri {'0' * zeros}1\n0:1023 0:1023 0:1230 0:3012\n"
-            for more, call, words in ((f"sig {SPHERE}", trinorm.same, [""]), ("14 0", trinorm.check, [["41 3 3"]]), ("vec 1 1 1 1 0 0 0", trinorm.describe, [[TORUS]])):
-                self.is_none("more text after it", call, f"{text}{more}\n", *words)
+            calls: List[Tuple[str, Callable[..., object], object]] = [
+                (f"sig {SPHERE}", trinorm.same, ""), ("14 0", trinorm.check, ["41 3 3"]), ("vec 1 1 1 1 0 0 0", trinorm.describe, [TORUS])]
+            for more, call, second in calls:
+                self.is_none("more text after it", call, f"{text}{more}\n", second)
             self.assertEqual(trinorm.same(text, SPHERE), trinorm.same(SPHERE, SPHERE))
             with self.assertRaisesRegex(trinorm.Refused, "refused: input 2 8 bad-word"):
                 trinorm.sig(text.replace("0:1023 0:1023", "0:1023 x"))

@@ -52,8 +52,9 @@ class Questions(unittest.TestCase):
         self.assertFalse(trinorm.zero_efficient(["- - - -"]))
 
     def test_kinds(self) -> None:
-        for t, kind, orientable in ((SPHERE, "closed", True), ("cPcbbbiht", "ideal", True), (["- - - -"], "bounded", True),
-                                     ("bkaagb", "closed", True), ("bGad", "invalid", False)):
+        for t, kind, orientable in (
+                (SPHERE, "closed", True), ("cPcbbbiht", "ideal", True), (["- - - -"], "bounded", True), ("bkaagb", "closed", True),
+                ("bGad", "invalid", False)):
             found = trinorm.zero_efficient(t)
             self.assertEqual((found.kind, found.orientable), (kind, orientable), t)
 
