@@ -273,7 +273,7 @@ class Answers(Folder):
         return found
 
     def test_an_exception_of_a_handler_where_a_call_is_ended(self) -> None:
-        """Raised before the first step of that, or behind the last one."""
+        """Raised before the first step of that, or after the last one."""
         class Stop(Exception):
             pass
         end_call = Server._end_call

@@ -34,7 +34,7 @@ def whole_number(value: object) -> Optional[int]:
 
 
 def read_number(word: str) -> Optional[int]:
-    """The whole number that a word of an input spells, also with zeros before it; None for any other word, and for a number of more
+    """The whole number that a word of an input is, also with zeros before it; None for any other word, and for a number of more
     than 20 digits, which is no number of lines."""
     digits = word.lstrip("0")
     return int(digits or "0") if word.isascii() and word.isdecimal() and len(digits) <= 20 else None

@@ -32,7 +32,7 @@ def _checked(table: Table) -> Table:
 
 
 def _has_inverse(table: Table, tet: int, face: int, gluing: Gluing) -> bool:
-    """Whether the gluing of a face leads to another face, whose gluing leads back."""
+    """Whether a face is glued to another face, whose gluing is the inverse."""
     if gluing.tet >= len(table) or sorted(gluing.images) != [0, 1, 2, 3] or (gluing.tet, gluing.images[face]) == (tet, face):
         return False
     back = table.rows[gluing.tet][gluing.images[face]]
