@@ -1,14 +1,14 @@
 -- Groups of candidates: their columns, and the ranges of their indices.
 use Rattle.std.proofs.Common.{◌≡◌, ◌≢◌, ℕ, suc, ◌+◌, ◌-◌, ◌*◌, ◌^◌, ◌<◌, ◌≤◌, ◌⊎◌, inl, inr, min, List, Bool, eqb, [], ◌∷◌, ◌++◌, length, get_or, set, length-set, get_or-set_same, get_or-set_other, w64, bit_and, subst, sym, ap, ◌∙◌, arith}
 use native.Mathlib.Numerals.{unary_clauses}
-use Rattle.std.specs.Int.{bit_at, bit_not, leading_zeros}
+use Rattle.std.specs.Int.{bit_at, bit_not, leading_zeros, trailing_zeros}
 use Rattle.std.specs.List.{All}
 use Rattle.std.specs.List.Sorted.{IsPermutation}
 use Rattle.std.proofs.lemmas.Bool.{cases_eq, cases_lt, eq-eqb, false≢true}
 use Rattle.std.proofs.lemmas.List.Elements.{All-push, Contains-push, Contains-append_left, Contains-get_or}
 use Rattle.std.proofs.lemmas.List.Sorted.{All-permutation, Contains-permutation}
 use Rattle.std.proofs.lemmas.Nat.{leading_top, div_below, le-div, and_le_l}
-use Rattle.std.proofs.lemmas.Nat.Bits.{bit_at-lt, bit_at_and, bit_at_not}
+use Rattle.std.proofs.lemmas.Nat.Bits.{bit_at-lt, bit_at_and, bit_at_not, bit_at-trailing_zeros}
 use Rattle.support_bits.specs.Columns.{HasColumn}
 use Rattle.support_bits.specs.Words.{AreWordsOf}
 use Rattle.support_bits.proofs.WordLemmas.{bit_of-column}
@@ -18,6 +18,7 @@ use Rattle.support_table.specs.declared.candidates.Candidate.{Candidate}
 use Rattle.support_table.specs.Residuals.{support_at}
 use Rattle.support_table.specs.Candidates.{HasPlace}
 use Rattle.support_table.specs.Groups.{IsColumnOutside, IsGroup, IsGrouped, AreGrouped, grouped_at, AreRanges}
+use Rattle.support_table.proofs.BitLemmas.{bit_within}
 use Rattle.support_table.proofs.SizeLemmas.{column_within}
 
 -- ---- the last bit of a word
@@ -52,6 +53,17 @@ column_beside words outer k n group outer_fits words_fit n_is some is =
     let less : i < 64 = omega arith in
     let both = beside_bits (get_or words k 0) (get_or outer k 0) i outer_fits less (ap (λ m. bit_at m i) (sym n_is) ∙ t.1) in
     inr (64 * k + i, (let l = t.0 in omega (arith, is)), bit_of-column words k i less ∙ eq-eqb _ 1 both.0, bit_of-column outer k i less ∙ ap (λ b. eqb b 1) both.1)
+
+pub column_first : (words outer : List ℕ) (k n group : ℕ) → get_or outer k 0 < 2 ^ 64 → get_or words k 0 < 2 ^ 64 → n ≡ bit_and (get_or words k 0) (bit_not w64 (get_or outer k 0)) → 0 < n →
+    group ≡ 64 * k + trailing_zeros w64 n + 1 → IsColumnOutside words outer group
+column_first words outer k n group outer_fits words_fit n_is some is =
+    let least = and_le_l (get_or words k 0) (bit_not w64 (get_or outer k 0)) in
+    let fits : n < 2 ^ 64 = omega (arith, n_is, least, words_fit) in
+    let one = (bit_at-trailing_zeros w64 n some fits).1 in
+    let i : ℕ = trailing_zeros w64 n in
+    let less = bit_within n 64 i fits one in
+    let both = beside_bits (get_or words k 0) (get_or outer k 0) i outer_fits less (ap (λ m. bit_at m i) (sym n_is) ∙ one) in
+    inr (64 * k + i, omega (arith, is), bit_of-column words k i less ∙ eq-eqb _ 1 both.0, bit_of-column outer k i less ∙ ap (λ b. eqb b 1) both.1)
 
 pub group_from_words : (outer s : List Bool) (words outer_words : List ℕ) (group : ℕ) → AreWordsOf s words → AreWordsOf outer outer_words → IsColumnOutside words outer_words group → IsGroup outer s group
 group_from_words outer s words outer_words group of_s of_outer h column is = elim h [

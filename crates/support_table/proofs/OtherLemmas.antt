@@ -1,24 +1,22 @@
 -- Whether a residual contains that of another candidate, by groups, and the candidates that contain none.
-use Rattle.std.proofs.Common.{◌≡◌, ℕ, suc, ◌+◌, ◌-◌, ◌*◌, ◌/◌, ◌%◌, ◌^◌, ◌<◌, ◌≤◌, min, inl, inr, List, Bool, true, false, eqb, [], ◌∷◌, ◌++◌, Contains, length, get_or, w64, bit_and, refl, subst, sym, ap, ◌∙◌, arith}
+use Rattle.std.proofs.Common.{◌≡◌, ℕ, suc, ◌+◌, ◌-◌, ◌*◌, ◌/◌, ◌%◌, ◌^◌, ◌<◌, ◌≤◌, min, inl, inr, List, Bool, true, false, eqb, [], ◌∷◌, ◌++◌, Contains, length, get_or, w64, bit_and, subst, sym, ap, ◌∙◌, arith}
 use Rattle.std.specs.Int.{bit_at, bit_not, trailing_zeros}
 use Rattle.std.specs.List.{All}
 use Rattle.std.proofs.lemmas.Bool.{cases_eq, cases_lt, cases_Bool, false≢true}
-use Rattle.std.proofs.lemmas.List.{get_or_default}
-use Rattle.std.proofs.lemmas.List.Elements.{All-contains, All-push, Contains-push, Contains-get_or, Contains-append_left}
+use Rattle.std.proofs.lemmas.List.Elements.{All-contains, All-push, Contains-push, Contains-append_left}
 use Rattle.std.proofs.lemmas.List.Quantifiers.{all_pairs_push}
 use Rattle.std.proofs.lemmas.Nat.Bits.{bit_at-lt, bit_at-zero, bit_at_and, bit_at_not, bit_at-trailing_zeros}
-use Rattle.support_bits.specs.Columns.{HasColumn, IsInsideUnionOf}
+use Rattle.support_bits.specs.Columns.{HasColumn}
 use Rattle.support_bits.specs.Words.{bit_of, AreWordsOf}
 use Rattle.support_bits.proofs.WordLemmas.{bit_after, is_one, within_words}
 use Rattle.support_table.specs.Counts.{columns_in_either}
 use Rattle.support_table.specs.declared.groups.Grouped.{Grouped}
 use Rattle.support_table.specs.declared.groups.Ranges.{Ranges}
 use Rattle.support_table.specs.declared.candidates.Candidate.{Candidate}
-use Rattle.support_table.specs.Residuals.{support_at, IsCandidate, IsMinimal, AreMinimalOf}
-use Rattle.support_table.specs.Candidates.{HasPlace, IsSized, AreCandidates}
-use Rattle.support_table.specs.Groups.{HasEntry, AreGrouped, grouped_at, AreFamily, IsOtherInside, HasOtherInside, HasNoneOfGroup, IsSelectedAlone, AreSelectedAlone}
+use Rattle.support_table.specs.Residuals.{support_at, AreMinimalOf}
+use Rattle.support_table.specs.Candidates.{AreCandidates}
+use Rattle.support_table.specs.Groups.{grouped_at, AreFamily, IsOtherInside, HasOtherInside, HasNoneOfGroup, IsSelectedAlone, AreSelectedAlone}
 use Rattle.support_table.proofs.SizeLemmas.{size_within}
-use Rattle.support_table.proofs.CandidateLemmas.{inside_union, inside_residual}
 
 module _ (supports : List (List Bool)) (outer : List Bool) (list : List Grouped) (place : ℕ) where
   -- a group above all has no entry
@@ -142,8 +140,8 @@ module _ (supports : List (List Bool)) (outer : List Bool) (list : List Grouped)
   abbrev From : ℕ → ℕ → Type 0
   From n place = (k : ℕ) × (k < n) × (k < length candidates) × ((d : Candidate) → (get_or candidates k d).place ≡ place)
 
-  pub wanted_none : AreSelectedAlone supports outer list selected candidates 0 []
-  wanted_none = record {
+  pub alone_none : AreSelectedAlone supports outer list selected candidates 0 []
+  alone_none = record {
     each = λ k d within. absurd (omega arith);
     from = λ k d within. absurd (omega arith);
     ascending = λ up i j d less within. absurd (omega arith);
@@ -154,8 +152,8 @@ module _ (supports : List (List Bool)) (outer : List Bool) (list : List Grouped)
     still_from : All (From (n + 1)) places
     still_from k d within = let s = h.from k d within in (s.0, omega (arith, s.1), s.2, s.3)
 
-    pub wanted_push : (place : ℕ) → n < length candidates → ((d : Candidate) → (get_or candidates n d).place ≡ place) → IsSelectedAlone supports outer list selected place → AreSelectedAlone supports outer list selected candidates (n + 1) (places ++ place ∷ [])
-    wanted_push place within is alone = record {
+    pub alone_push : (place : ℕ) → n < length candidates → ((d : Candidate) → (get_or candidates n d).place ≡ place) → IsSelectedAlone supports outer list selected place → AreSelectedAlone supports outer list selected candidates (n + 1) (places ++ place ∷ [])
+    alone_push place within is alone = record {
       each = All-push (IsSelectedAlone supports outer list selected) places place h.each alone;
       from = All-push (From (n + 1)) places place still_from (n, omega arith, within, is);
       ascending = λ up. all_pairs_push (λ p q. p < q) places place (h.ascending up) (λ k d inside.
@@ -167,8 +165,8 @@ module _ (supports : List (List Bool)) (outer : List Bool) (list : List Grouped)
       ];
     }
 
-    pub wanted_skip : (place : ℕ) → ((d : Candidate) → (get_or candidates n d).place ≡ place) → ¬ IsSelectedAlone supports outer list selected place → AreSelectedAlone supports outer list selected candidates (n + 1) places
-    wanted_skip place is none = record {
+    pub alone_skip : (place : ℕ) → ((d : Candidate) → (get_or candidates n d).place ≡ place) → ¬ IsSelectedAlone supports outer list selected place → AreSelectedAlone supports outer list selected candidates (n + 1) places
+    alone_skip place is none = record {
       each = h.each;
       from = still_from;
       ascending = h.ascending;
@@ -182,57 +180,10 @@ module _ (supports : List (List Bool)) (outer : List Bool) (list : List Grouped)
 
 module _ (supports : List (List Bool)) (outer joined : List Bool) (own most : ℕ) (candidates : List Candidate) (c : AreCandidates supports outer joined own most candidates) where
   -- if no candidate has the flag `true`, no minimal one has it
-  pub none_wanted : (selected : List Bool) → All (λ (r : Candidate). get_or selected r.place false ≡ false) candidates → AreMinimalOf supports outer joined own most selected []
-  none_wanted selected none = record {
+  pub none_selected : (selected : List Bool) → All (λ (r : Candidate). get_or selected r.place false ≡ false) candidates → AreMinimalOf supports outer joined own most selected []
+  none_selected selected none = record {
     each = λ k d within. absurd (omega arith);
     ascending = λ i j d less within. absurd (omega arith);
     complete = λ place minimal is. absurd (let t = c.complete place minimal in
         false≢true (sym (All-contains (λ (r : Candidate). get_or selected r.place false ≡ false) candidates t.0 none t.1) ∙ ap (λ k. get_or selected k false) t.2 ∙ is));
   }
-
-  module _ (list : List Grouped) (g : AreGrouped supports outer candidates (length candidates) list) where
-    entry_at : (it : Grouped) → (t : Contains list it) → grouped_at list t.0 ≡ it
-    entry_at it t = get_or_default list t.0 (record { place = 0; group = 0; size = 0 }) it t.1 ∙ t.2
-
-    has_entry : (place : ℕ) → HasPlace candidates place → HasEntry list place
-    has_entry place t = let e = g.complete t.1.0 t.0 t.1.1 t.1.1 in (e.0, e.1, e.2 ∙ ap (λ (r : Candidate). r.place) t.1.2 ∙ t.2)
-
-    minimal_from_alone : (place : ℕ) → HasPlace candidates place → ¬ HasOtherInside supports outer list place → IsMinimal supports outer joined own most place
-    minimal_from_alone place t alone = record {
-      candidate = subst (λ k. IsCandidate supports outer joined own most k) t.2 (All-contains (IsSized supports outer joined own most) candidates t.0 c.each t.1).candidate;
-      minimal = λ k candidate inside. elim (cases_eq k place) [
-        | inl e ↦ e
-        | inr differ ↦ absurd (let covered = inside_union outer (support_at supports k) (support_at supports place) inside in
-            let s = c.closed t.0 k t.1 candidate (λ e. differ (e ∙ t.2)) (subst (λ j. IsInsideUnionOf (support_at supports k) outer (support_at supports j)) (sym t.2) covered) in
-            let e = has_entry s.0.place (s.0, s.1, refl) in
-            let at = ap (λ (it : Grouped). it.place) (entry_at e.0 e.1) ∙ e.2 in
-            alone (
-              e.1.0,
-              record {
-                in_range = e.1.1;
-                other = λ same. s.2 (sym at ∙ same ∙ sym t.2);
-                inside = subst (λ j. IsInsideUnionOf (support_at supports j) outer (support_at supports place)) (sym at)
-                    (subst (λ j. IsInsideUnionOf (support_at supports s.0.place) outer (support_at supports j)) t.2 s.3);
-              },
-            ))
-      ];
-    }
-
-    alone_if_minimal : (place : ℕ) → IsMinimal supports outer joined own most place → ¬ HasOtherInside supports outer list place
-    alone_if_minimal place minimal other =
-        let z : Grouped = record { place = 0; group = 0; size = 0 } in
-        let t = g.from other.0 z other.1.in_range in
-        other.1.other (minimal.minimal (grouped_at list other.0).place
-        (subst (λ k. IsCandidate supports outer joined own most k) t.2 (All-contains (IsSized supports outer joined own most) candidates t.0 c.each t.1).candidate)
-        (inside_residual outer (support_at supports (grouped_at list other.0).place) (support_at supports place) other.1.inside))
-
-    pub minimal_of : (selected : List Bool) (places : List ℕ) → AreSelectedAlone supports outer list selected candidates (length candidates) places → AreMinimalOf supports outer joined own most selected places
-    minimal_of selected places h = record {
-      each = λ k d within. let s = h.each k d within in let f = h.from k d within in let z : Candidate = record { place = 0; size = 0 } in
-          (minimal_from_alone (get_or places k d) (get_or candidates f.0 z, Contains-get_or candidates f.0 z f.2, f.3 z) s.alone, s.is_selected);
-      ascending = h.ascending c.ascending;
-      complete = λ place minimal is. let t = c.complete place minimal in
-          let at = ap (λ (r : Candidate). r.place) t.1.2 ∙ t.2 in
-          subst (Contains places) at (h.complete t.1.0 t.0 t.1.1 t.1.1
-          (subst (IsSelectedAlone supports outer list selected) (sym at) (record { is_selected = is; alone = alone_if_minimal place minimal })));
-    }

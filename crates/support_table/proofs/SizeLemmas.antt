@@ -1,6 +1,6 @@
 -- The number of columns of a residual, by the size of the union with the outer ray.
-use Rattle.std.proofs.Common.{◌≡◌, ◌≢◌, ℕ, ◌+◌, ◌<◌, ◌≤◌, ◌||◌, ◌⊎◌, inl, inr, Bool, true, false, eqb, List, length, get_or, refl, subst, sym, ap, ap₂, ◌∙◌, arith}
-use Rattle.std.specs.List.{range_with_len}
+use Rattle.std.proofs.Common.{◌≡◌, ◌≢◌, ℕ, ◌+◌, ◌<◌, ◌≤◌, ◌||◌, ◌⊎◌, inl, inr, Bool, true, false, eqb, List, length, get_or, set, length-set, get_or-set_same, get_or-set_other, refl, subst, sym, ap, ap₂, ◌∙◌, arith}
+use Rattle.std.specs.List.{count_by, range_with_len}
 use Rattle.std.proofs.lemmas.Bool.{cases_eq, cases_lt, cases_Bool, false≢true, or_left, or_right, eqb-true, eq-eqb}
 use Rattle.std.proofs.lemmas.List.{get_or_past}
 use Rattle.std.proofs.lemmas.List.Sums.{count_by-le-length}
@@ -64,6 +64,59 @@ single_column outer s column other wide limited has outside other_has other_outs
         let second = count_stronger q r 0 (length outer) other to_r (omega arith) (let less = column_within s other other_has in omega (arith, wide))
         (ap₂ (λ x y. (x || x) || y) is_out (not_equal (eqb other column) (λ e. separate (eqb-true other column e)))) (or_right (get_or outer other false) (get_or s other false) other_has) in
         omega (arith, limited, first, second)
+
+-- a residual of at most two columns has no third
+pub two_columns : (outer s : List Bool) (one other column : ℕ) → length s ≡ length outer → columns_in_either outer s ≤ columns_in_either outer outer + 2 → HasColumn s one → ¬ HasColumn outer one →
+    HasColumn s other → ¬ HasColumn outer other → one ≢ other → HasColumn s column → ¬ HasColumn outer column → (column ≡ one) ⊎ (column ≡ other)
+two_columns outer s one other column wide limited has outside other_has other_outside differ column_has column_outside = elim (cases_eq column one) [
+  | inl e ↦ inl e
+  | inr separate ↦ inr (single_column more s other column (wide ∙ sym same) small other_has (beside other (λ e. differ (sym e)) other_outside) column_has (beside column separate column_outside))
+]
+  where
+    more : List Bool
+    more = set outer one true
+
+    same : length more ≡ length outer
+    same = length-set outer one true
+
+    within : one < length outer
+    within = let less = column_within s one has in omega (arith, less, wide)
+
+    beside : (k : ℕ) → k ≢ one → ¬ HasColumn outer k → ¬ HasColumn more k
+    beside k apart lacks is = lacks (sym (get_or-set_other outer one k true false apart) ∙ is)
+
+    at_one : get_or more one false ≡ true
+    at_one = get_or-set_same outer one true false within
+
+    lacks_one : get_or outer one false ≡ false
+    lacks_one = elim (cases_Bool (get_or outer one false)) [ inl e ↦ absurd (outside e) | inr e ↦ e ]
+
+    kept : (k : ℕ) → get_or outer k false ≡ true → get_or more k false ≡ true
+    kept k is = elim (cases_eq k one) [
+      | inl e ↦ ap (λ j. get_or more j false) e ∙ at_one
+      | inr apart ↦ get_or-set_other outer one k true false apart ∙ is
+    ]
+
+    either_kept : (k : ℕ) → (get_or outer k false || get_or outer k false) ≡ true → (get_or more k false || get_or more k false) ≡ true
+    either_kept k is = elim (cases_Bool (get_or outer k false)) [
+      | inl e ↦ or_left (get_or more k false) (get_or more k false) (kept k e)
+      | inr lacks ↦ absurd (false≢true (sym (ap (λ x. x || x) lacks) ∙ is))
+    ]
+
+    covered : (k : ℕ) → (get_or more k false || get_or s k false) ≡ true → (get_or outer k false || get_or s k false) ≡ true
+    covered k is = elim (cases_eq k one) [
+      | inl e ↦ or_right (get_or outer k false) (get_or s k false) (ap (λ j. get_or s j false) e ∙ has)
+      | inr apart ↦ ap (λ b. b || get_or s k false) (sym (get_or-set_other outer one k true false apart)) ∙ is
+    ]
+
+    small : columns_in_either more s ≤ columns_in_either more more + 1
+    small =
+        let grown = count_stronger (λ k. get_or outer k false || get_or outer k false) (λ k. get_or more k false || get_or more k false) 0 (length outer) one either_kept (omega arith) (omega (arith, within))
+        (ap (λ x. x || x) lacks_one) (or_left (get_or more one false) (get_or more one false) at_one) in
+        let least = count_weaker (λ k. get_or more k false || get_or s k false) (λ k. get_or outer k false || get_or s k false) 0 (length outer) (λ k _ is. covered k is) in
+        let first = ap (λ n. count_by (λ k. get_or more k false || get_or s k false) (range_with_len 0 n)) same in
+        let second = ap (λ n. count_by (λ k. get_or more k false || get_or more k false) (range_with_len 0 n)) same in
+        omega (arith, grown, least, first, second, limited)
 
 -- a residual of a single column lies inside each that contains it
 pub single_inside : (outer s t : List Bool) (column : ℕ) → length s ≡ length outer → columns_in_either outer s ≤ columns_in_either outer outer + 1 →

@@ -80,3 +80,9 @@ pub record AreSelectedAlone (supports : List (List Bool)) (outer : List Bool) (l
   pub ascending : AllPairs (λ r s. r.place < s.place) candidates → AllPairs (λ one other. one < other) places
   pub complete : (k : ℕ) (d : Candidate) → k < n → k < length candidates → IsSelectedAlone supports outer list selected (slice_index_or candidates k d).place →
       Contains places (slice_index_or candidates k d).place
+
+-- the same, for all candidates and some list of the kept ones in groups
+pub record AreAloneAmong (supports : List (List Bool)) (outer : List Bool) (kept : List Candidate) (selected : List Bool) (candidates : List Candidate) (places : List ℕ) : Type 0 where
+  pub list : List Grouped
+  pub grouped : AreGrouped supports outer kept (length kept) list
+  pub alone : AreSelectedAlone supports outer list selected candidates (length candidates) places

@@ -43,10 +43,10 @@ fn push_candidate(
     ensures { OnOk result (IsCandidatePushed ray.entry.rays.now.supports ray.entry.support.now ray.entry.joined.now
         ray.entry.own ray.entry.most (slice_index part.now.places.items k) list.old.items list.new.items) }
 {
-    let place = part.places[k];
-    if place != ray.own {
-        let size = part.table.union_count(k, ray.support);
-        if size <= ray.most {
+    let size = part.table.union_count(k, ray.support);
+    if size <= ray.most {
+        let place = part.places[k];
+        if place != ray.own {
             list.push(Candidate { place, size })?;
         }
     }

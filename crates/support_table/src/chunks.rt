@@ -5,7 +5,7 @@ ghost use Rattle.support_table.specs.Parts.{AreFoundFor, IsPart};
 
 use crate::candidates::candidates_of;
 use crate::chunk::{Chunk, ray_at};
-use crate::groups::GroupMemory;
+use crate::groups::SearchMemory;
 use crate::minimal::minimal_of;
 use crate::parts::Found;
 use out_of_memory::NoMemory;
@@ -21,7 +21,7 @@ pub fn find_chunk(alloc: Global, chunk: Chunk, found: &mut Vec<Found>) -> Result
 {
     let search = chunk.search;
     let lists = candidates_of(alloc, chunk)?;
-    let mut memory = GroupMemory::new(alloc);
+    let mut memory = SearchMemory::new(alloc);
     for (bit, list) in lists.iter().enumerate() {
         let ray = ray_at(chunk, bit);
         let places = minimal_of(alloc, ray, search.selected, list, &mut memory)?;

@@ -5,6 +5,7 @@ ghost use Rattle.std.specs.List.{All};
 ghost use Rattle.std.specs.List.Sorted.{IsPermutation};
 ghost use Rattle.support_table.specs.Groups.{IsColumnOutside, AreGrouped, AreRanges};
 
+use crate::candidates::Candidate;
 use crate::lists::{FoundCandidates, GroupedList};
 use out_of_memory::NoMemory;
 use std::alloc::Global;
@@ -25,22 +26,42 @@ pub struct Ranges {
     pub ends: Vec<usize>,
 }
 
-/// Memory for the candidates of one outer ray in groups, and for the ranges of these, that is used again for the next
-/// outer ray.
+/// Memory for candidates in groups, and for the ranges of these.
 #[derive(Drop)]
 pub struct GroupMemory {
     pub by_group: Vec<Grouped>,
     pub ranges: Ranges,
 }
 
-impl GroupMemory {
+/// Memory for the candidates of one outer ray that are tested, for those that are kept, and for these in groups.
+#[derive(Drop)]
+pub struct ListMemory {
+    pub tested: Vec<Candidate>,
+    pub kept: Vec<Candidate>,
+    pub groups: GroupMemory,
+}
+
+/// Memory for the partners of columns and the candidates of one outer ray, that is used again for the next.
+#[derive(Drop)]
+pub struct SearchMemory {
+    pub partners: Vec<u64>,
+    pub lists: ListMemory,
+}
+
+impl SearchMemory {
     /// Memory that holds nothing.
-    pub fn new(alloc: Global) -> GroupMemory {
-        GroupMemory {
-            by_group: Vec::new(alloc),
-            ranges: Ranges {
-                starts: Vec::new(alloc),
-                ends: Vec::new(alloc),
+    pub fn new(alloc: Global) -> SearchMemory {
+        let ranges = Ranges {
+            starts: Vec::new(alloc),
+            ends: Vec::new(alloc),
+        };
+        let by_group = Vec::new(alloc);
+        SearchMemory {
+            partners: Vec::new(alloc),
+            lists: ListMemory {
+                tested: Vec::new(alloc),
+                kept: Vec::new(alloc),
+                groups: GroupMemory { by_group, ranges },
             },
         }
     }
@@ -60,6 +81,21 @@ pub fn group_of(words: &[u64], outer: &[u64]) -> usize
         }
     }
     group
+}
+
+/// One more than the first column that is set in `words` but not in `outer`, or 0 if there is none.
+pub fn first_of(words: &[u64], outer: &[u64]) -> usize
+    requires lengths { length outer.now ≡ length words.now }
+    requires short { length words.now < 2 ^ 32 }
+    ensures { IsColumnOutside words.now outer.now result }
+{
+    for (k, word) in words.iter().enumerate() {
+        let left = *word & !outer[k];
+        if left != 0 {
+            return 64 * k + left.trailing_zeros() as usize + 1;
+        }
+    }
+    0
 }
 
 /// Replaces the entries of `grouped` by the candidates of `found` with their groups, in order.
