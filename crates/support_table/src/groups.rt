@@ -83,7 +83,7 @@ pub fn group_of(words: &[u64], outer: &[u64]) -> usize
     group
 }
 
-/// One more than the first column that is set in `words` but not in `outer`, or 0 if there is none.
+/// One more than the first column that is set in `words` but not in `outer`, or 0 if `outer` has all of them.
 pub fn first_of(words: &[u64], outer: &[u64]) -> usize
     requires lengths { length outer.now ≡ length words.now }
     requires short { length words.now < 2 ^ 32 }

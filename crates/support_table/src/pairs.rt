@@ -170,7 +170,7 @@ pub fn fill_tested(
     Ok(())
 }
 
-/// The greatest size of a candidate of `list`, or 0 if there is none.
+/// The greatest size of a candidate of `list`, or 0 if `list` is empty.
 pub fn greatest_size(list: &[Candidate]) -> u64
     ensures { All (λ r. r.size ≤ result) list.now }
 {
