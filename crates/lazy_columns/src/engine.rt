@@ -1,6 +1,9 @@
 //! Runs all steps, in the order of the rows.
 
-ghost use Rattle.std.specs.Prelude.{◌≡◌, ℕ, List, IfOk, IfErr, IfSome, IfNone};
+ghost use Rattle.std.specs.Prelude.{◌≡◌, ℕ, List, IfOk, OnOk, IfErr, IfSome, IfNone};
+ghost use Rattle.std.specs.Ordering.{nat_cmp};
+ghost use Rattle.std.specs.Cmp.Lexicographic.{slice_cmp};
+ghost use Rattle.std.specs.List.Sorted.{IsPermutation, IsSorted};
 ghost use Rattle.cone_definitions.specs.Rows.{Row};
 ghost use Rattle.cone_definitions.specs.Surfaces.{Clash, IsSurfaceList};
 ghost use Rattle.cone_definitions.specs.Unordered.{HasSurfaces};
@@ -18,10 +21,8 @@ use crate::raising::raised_rays;
 use crate::row_step::RowStep;
 use cone_arithmetic::{PackedRay, System};
 use out_of_memory::NoMemory;
-use ray_steps::{
-    Clashes, Compatible, RayWithSupport, StepFault, StepInput, sort_rays, without_supports,
-};
-use std::alloc::Global;
+use ray_steps::{Clashes, Compatible, RayWithSupport, StepFault, StepInput, without_supports};
+use std::alloc::{AllocError, Global};
 
 /// Processes the row of `step`, all of whose columns enter before. Fails with `Large` at a ray or pair at which a number
 /// exceeds `MAX_ENTRY`.
@@ -141,13 +142,22 @@ fn all_rows<C: Compatible>(
     Ok(ray_list)
 }
 
-/// The rays of `ray_list` in lexicographic order, without their supports.
-fn ascending(alloc: Global, mut ray_list: Vec<RayWithSupport>) -> Result<Vec<PackedRay>, NoMemory>
+/// Sorts `rays` in lexicographic order.
+fn sort(rays: &mut Vec<PackedRay>) -> Result<(), AllocError>
+    ensures permutation { IsPermutation rays.old.items rays.new.items }
+    ensures sorted { OnOk result (IsSorted (slice_cmp nat_cmp) rays.new.items) }
+{
+    rays.sort_by(|a, b| a.compare(b))
+}
+
+/// The rays of `ray_list` in lexicographic order, without their supports. These are dropped before the sort, which then
+/// moves half of the bytes.
+fn ascending(alloc: Global, ray_list: Vec<RayWithSupport>) -> Result<Vec<PackedRay>, NoMemory>
     ensures { IfOk result (λ rays. (columns : ℕ) (rows : List Row) (pairs : List Clash)
         → HasSurfaces columns rows pairs (rays_of ray_list.items) → IsSurfaceList columns rows pairs rays.items) }
 {
-    sort_rays(&mut ray_list)?;
-    let rays = without_supports(alloc, ray_list)?;
+    let mut rays = without_supports(alloc, ray_list)?;
+    sort(&mut rays)?;
     Ok(rays)
 }
 

@@ -1,2 +1,1 @@
-pub mod Four
 pub mod ViewEntries

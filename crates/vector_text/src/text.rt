@@ -1,8 +1,8 @@
 //! Vectors as text: a line for each, `vec` and its entries.
 
-ghost use Rattle.std.specs.Prelude.{◌≡◌, ◌<◌, ◌≤◌, ◌+◌, [], ◌∷◌, ◌++◌, decimal, length, OnOk, OnErr, IfOk};
+ghost use Rattle.std.specs.Prelude.{◌≡◌, ◌<◌, ◌∷◌, ◌++◌, decimal, IsTrue, OnOk, OnErr, IfOk};
+ghost use Rattle.std.specs.List.{All};
 ghost use Rattle.cone_text_definitions.specs.VectorText.{vector_text, entries_text, list_text};
-ghost use Rattle.vector_text.specs.Four.{four_from};
 ghost use Rattle.vector_text.specs.ViewEntries.{view_numbers};
 
 use crate::view::EntryView;
@@ -23,65 +23,92 @@ fn push_entry(alloc: Global, text: &mut Vec<u8>, entry: u128) -> Result<(), NoMe
     }
 }
 
-/// Appends the digits `a`, `b`, `c` and `d`, each after a space.
-fn push_digits(text: &mut Vec<u8>, a: u8, b: u8, c: u8, d: u8) -> Result<(), NoMemory>
-    requires { (a < 10) × (b < 10) × (c < 10) × (d < 10) }
-    ensures { OnOk result (text.new.items ≡ text.old.items ++ entries_text (a ∷ b ∷ c ∷ d ∷ [])) }
+/// Appends the digits `x`, each after a space.
+fn push_digits(text: &mut Vec<u8>, x: &[u8; 8]) -> Result<(), NoMemory>
+    requires { All (λ digit. digit < 10) x.now }
+    ensures { OnOk result (text.new.items ≡ text.old.items ++ entries_text x.now) }
 {
     append(
         text,
         &[
             b' ',
-            b'0' + a,
+            b'0' + x[0],
             b' ',
-            b'0' + b,
+            b'0' + x[1],
             b' ',
-            b'0' + c,
+            b'0' + x[2],
             b' ',
-            b'0' + d,
+            b'0' + x[3],
+            b' ',
+            b'0' + x[4],
+            b' ',
+            b'0' + x[5],
+            b' ',
+            b'0' + x[6],
+            b' ',
+            b'0' + x[7],
         ],
     )
 }
 
-/// Appends the four entries of `x` from `column` on, each after a space; with one call if all have one digit, as most
-/// do.
-fn push_four(
-    alloc: Global,
-    text: &mut Vec<u8>,
-    x: EntryView<'_>,
-    column: usize,
-) -> Result<(), NoMemory>
-    requires { column + 4 ≤ length (view_numbers x) }
-    ensures { OnOk result (text.new.items ≡ text.old.items ++ entries_text (four_from (view_numbers x.entry) column)) }
+/// Whether each of `x` is a digit.
+fn are_digits(x: &[u8; 8]) -> bool
+    ensures { IsTrue result → All (λ digit. digit < 10) x.now }
 {
-    let a = x.at(column);
-    let b = x.at(column + 1);
-    let c = x.at(column + 2);
-    let d = x.at(column + 3);
-    if a < 10 && b < 10 && c < 10 && d < 10 {
-        return push_digits(text, a as u8, b as u8, c as u8, d as u8);
+    x.iter().all(|digit| *digit < 10)
+}
+
+/// Appends the entries of `x`, each after a space.
+fn push_each(alloc: Global, text: &mut Vec<u8>, x: &[u8]) -> Result<(), NoMemory>
+    ensures { OnOk result (text.new.items ≡ text.old.items ++ entries_text x.now) }
+{
+    for entry in x {
+        push_entry(alloc, text, u128::from(*entry))?;
     }
-    push_entry(alloc, text, a)?;
-    push_entry(alloc, text, b)?;
-    push_entry(alloc, text, c)?;
-    push_entry(alloc, text, d)
+    Ok(())
+}
+
+/// Appends the eight entries of `x`, each after a space; with one call if all have one digit, as most do.
+fn push_eight(alloc: Global, text: &mut Vec<u8>, x: &[u8; 8]) -> Result<(), NoMemory>
+    ensures { OnOk result (text.new.items ≡ text.old.items ++ entries_text x.now) }
+{
+    if are_digits(x) {
+        push_digits(text, x)
+    } else {
+        push_each(alloc, text, x)
+    }
+}
+
+/// Appends the entries of `x`, each after a space.
+fn push_bytes(alloc: Global, text: &mut Vec<u8>, x: &[u8]) -> Result<(), NoMemory>
+    ensures { OnOk result (text.new.items ≡ text.old.items ++ entries_text x.now) }
+{
+    let mut rest = x;
+    while let Some((eight, after)) = rest.split_first_chunk::<8>() {
+        push_eight(alloc, text, eight)?;
+        rest = after;
+    }
+    push_each(alloc, text, rest)
+}
+
+/// Appends the entries of `x`, each after a space.
+fn push_wide(alloc: Global, text: &mut Vec<u8>, x: &[u128]) -> Result<(), NoMemory>
+    ensures { OnOk result (text.new.items ≡ text.old.items ++ entries_text x.now) }
+{
+    for entry in x {
+        push_entry(alloc, text, *entry)?;
+    }
+    Ok(())
 }
 
 /// Appends the entries of `x`, each after a space.
 fn push_entries(alloc: Global, text: &mut Vec<u8>, x: EntryView<'_>) -> Result<(), NoMemory>
     ensures { OnOk result (text.new.items ≡ text.old.items ++ entries_text (view_numbers x.entry)) }
 {
-    let mut column = 0;
-    while column < x.len() {
-        if x.len() - column >= 4 {
-            push_four(alloc, text, x, column)?;
-            column += 4;
-        } else {
-            push_entry(alloc, text, x.at(column))?;
-            column += 1;
-        }
+    match x {
+        EntryView::Bytes(bytes) => push_bytes(alloc, text, bytes),
+        EntryView::Wide(wide) => push_wide(alloc, text, wide),
     }
-    Ok(())
 }
 
 /// Appends the entries of `ray`, each after a space. If memory runs out `out` is unchanged.

@@ -1,10 +1,9 @@
--- The digits are the text of the four numbers.
+-- The digits are the text of the eight numbers.
 use Rattle.std.proofs.Common.{◌≡◌, ◌++◌, sym, subst}
 use Rattle.std.specs.Prelude.{OnOk}
-use Rattle.vector_text.proofs.FourLemmas.{digits_text}
+use Rattle.vector_text.proofs.EightLemmas.{digits_text}
 use Rattle.vector_text.proofs.text.push_digits.Goals as goal
 
 pub returns : goal.returns
 returns c =
-    let r = c.requires in
-    subst (λ digits. OnOk c.append.result (c.append.new.out.items ≡ c.args.text.now.items ++ digits)) (sym (digits_text c.args.a c.args.b c.args.c c.args.d r.0 r.1 r.2 r.3)) c.append.ensures.ok
+    subst (λ digits. OnOk c.append.result (c.append.new.out.items ≡ c.args.text.now.items ++ digits)) (sym (digits_text c.args.x.now c.type_inv.x.1.1.0.1 c.requires)) c.append.ensures.ok
